@@ -1,0 +1,14 @@
+pub mod RowLemmas
+pub mod Totals
+pub mod DenseRows
+pub mod Products
+pub mod Distinct
+pub mod Listed
+pub mod Duality
+pub mod Matchings
+pub mod DensePairs
+pub mod Tried
+pub mod HallSets
+pub mod HallReach
+pub mod SparseRows
+pub mod SparseColumns

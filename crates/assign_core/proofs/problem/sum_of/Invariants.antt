@@ -1,0 +1,11 @@
+use Rattle.std.proofs.Common.{◌≡◌, pos, ◌+ℤ◌, ◌≤ℤ◌, ◌*◌, drop, map}
+use Rattle.assign_core.specs.Assignment.{total}
+use Rattle.assign_core.proofs.problem.sum_of.Given as goal
+
+-- the sum so far and the total of what is left are the whole total
+abbrev pub invariant-loop-i : goal.invariant-loop-i
+invariant-loop-i l = record {
+  whole : l.sum +ℤ total (drop l.i (map (λ r. r.items) l.rows)) (drop l.i l.objects) ≡ total (map (λ r. r.items) l.rows) l.objects;
+  low : pos 0 ≤ℤ (l.sum +ℤ pos (1000000000000 * l.i));
+  high : l.sum ≤ℤ pos (1000000000000 * l.i);
+}

@@ -1,0 +1,27 @@
+-- Assignments and their costs.
+use Rattle.std.specs.Prelude.{ℕ, ℤ, pos, ◌+ℤ◌, ◌≤ℤ◌, List, [], ◌∷◌, IsSome, nat_eq}
+use Rattle.std.specs.List.{AllZip, IsDistinct}
+use Rattle.assign_core.specs.declared.sense.Sense.{Sense}
+use Rattle.assign_core.specs.declared.sense.Sense.TheVariants.{Min, Max}
+use Rattle.assign_core.specs.Rows.{Row, listed_in, listed_or_zero}
+
+-- each person has one listed object, and no object is given twice
+pub record IsAssignment (rows : List Row) (xs : List ℕ) : Type 0 where
+  pub listed : AllZip (λ row j. IsSome (listed_in row j)) rows xs
+  pub apart : IsDistinct nat_eq xs
+
+-- the sum of the pairs' costs
+abbrev pub total : List Row → List ℕ → ℤ
+total [] xs = pos 0
+total (row ∷ rows) [] = pos 0
+total (row ∷ rows) (j ∷ xs) = listed_or_zero row j +ℤ total rows xs
+
+-- a cost that is wanted as much as another, or more
+abbrev pub IsNoWorse : Sense → ℤ → ℤ → Type 0
+IsNoWorse Min cost other = cost ≤ℤ other
+IsNoWorse Max cost other = other ≤ℤ cost
+
+-- under Min no assignment costs less, under Max none costs more
+pub record IsBest (sense : Sense) (rows : List Row) (xs : List ℕ) : Type 0 where
+  pub assigned : IsAssignment rows xs
+  pub best : (ys : List ℕ) → IsAssignment rows ys → IsNoWorse sense (total rows xs) (total rows ys)

@@ -1,0 +1,12 @@
+pub mod Numbered
+pub mod Rows
+pub mod Dense
+pub mod Sparse
+pub mod Assignment
+pub mod Benefits
+pub mod Prices
+pub mod Slackness
+pub mod Matching
+pub mod Plain
+pub mod Reach
+pub mod Hall

@@ -1,0 +1,28 @@
+//! The linear assignment problem: persons, objects, listed pairs with their costs, and answers
+//! that prove themselves.
+#![tactic(auto)]
+
+mod assignment;
+mod certificate;
+mod hall;
+mod law;
+mod numbers;
+mod outcome;
+mod plain;
+mod prices;
+mod problem;
+mod sense;
+mod sparse;
+#[cfg(test)]
+mod tests;
+
+pub use assignment::Assignment;
+pub use certificate::Certificate;
+pub use hall::{HallSet, hall_set_forbids, paths_are_open, reach_is_least};
+pub use law::{dense_pairs, owners_make_an_assignment, price_order, slack_means_best};
+pub use numbers::{Benefit, Cost, GREATEST_COST, MOST_PERSONS, Object, PRICE_END, Person, Price};
+pub use outcome::{Outcome, SolveFault};
+pub use plain::plain_best;
+pub use prices::Prices;
+pub use problem::Problem;
+pub use sense::Sense;

@@ -1,0 +1,131 @@
+// A problem: for each person the listed objects, rising, each with its cost.
+ghost use Rattle.std.specs.Prelude.{◌≡◌, ℕ, ℤ, ◌+◌, ◌-◌, ◌*◌, ◌<◌, ◌≤◌, List, [], ◌++◌, length, map, All, IfOk};
+ghost use Rattle.assign_core.specs.Rows.{Row, IsProblem, IsRow, IsCost, IsSize, HasCosts, listed_in, row_of};
+ghost use Rattle.assign_core.specs.Dense.{dense_rows, row_from, rows_cut};
+ghost use Rattle.assign_core.specs.Assignment.{IsAssignment, total};
+
+use super::assignment::Assignment;
+use super::numbers::{Cost, Object, Person};
+use std::alloc::{AllocError, Global};
+use std::marker::Model;
+
+/// For each person a list of (object, cost), rising by object; from 1 to `MOST_PERSONS` persons
+/// and as many objects, both numbered from 1.
+#[derive(Debug, Drop)]
+pub struct Problem {
+    rows: Vec<Vec<(Object, Cost)>>,
+}
+
+impl Model for Problem {
+    ghost Value = { List (List (ℕ × ℤ)) };
+
+    ghost view = { λ p. map (λ r. r.items) p.rows.items };
+
+    ghost invariant = { λ p. IsProblem (map (λ r. r.items) p.rows.items) };
+}
+
+// What a row gives for an object.
+fn find(row: &[(Object, Cost)], object: Object) -> Option<Cost>
+    ensures { result ≡ listed_in row.now object }
+{
+    for (other, cost) in row {
+        if *other == object {
+            return Some(*cost);
+        }
+    }
+    None
+}
+
+// The sum of the costs of the objects, one for each row.
+fn sum_of(rows: &[Vec<(Object, Cost)>], objects: &[Object]) -> Cost
+    requires few { length rows.now ≤ 8192 }
+    requires same { length rows.now ≡ length objects.now }
+    requires costs { All HasCosts (map (λ r. r.items) rows.now) }
+    ensures { result ≡ total (map (λ r. r.items) rows.now) objects.now }
+{
+    let mut sum: Cost = 0;
+    for (i, row) in rows.iter().enumerate() {
+        let cost = find(row.as_slice(), objects[i]).unwrap_or(0);
+        sum += cost;
+    }
+    sum
+}
+
+// A person's row: the costs to objects 1, 2, ..
+fn row_of_costs(alloc: Global, costs: &[Cost]) -> Result<Vec<(Object, Cost)>, AllocError>
+    requires { length costs.now ≤ 8192 }
+    ensures { IfOk result (λ row. row.items ≡ row_from 1 costs.now) }
+{
+    let mut row = Vec::with_capacity(alloc, costs.len())?;
+    for (i, cost) in costs.iter().enumerate() {
+        row.push((Object(i as u16 + 1), *cost))?;
+    }
+    Ok(row)
+}
+
+impl Problem {
+    /// The problem of these rows.
+    pub fn from_rows(rows: Vec<Vec<(Object, Cost)>>) -> Problem
+        requires { IsProblem (map (λ r. r.items) rows.items) }
+        ensures { result ≡ map (λ r. r.items) rows.items }
+    {
+        Problem { rows }
+    }
+
+    /// The problem of `n` persons and `n` objects in which each person lists each object: the
+    /// first `n` costs are those of person 1 to objects 1, 2, .., the next `n` those of person 2,
+    /// and so on.
+    ///
+    /// # Errors
+    /// Only where memory is refused.
+    pub fn dense(alloc: Global, n: u16, costs: &[Cost]) -> Result<Problem, AllocError>
+        requires size { IsSize n }
+        requires count { length costs.now ≡ n * n }
+        requires costs { All IsCost costs.now }
+        ensures { IfOk result (λ problem. problem ≡ dense_rows n costs.now) }
+    {
+        let mut rows = Vec::with_capacity(alloc, n as usize)?;
+        let mut left = costs;
+        for _ in 0..n {
+            let (front, rest) = left.split_at(n as usize);
+            rows.push(row_of_costs(alloc, front)?)?;
+            left = rest;
+        }
+        Ok(Problem { rows })
+    }
+
+    /// How many persons there are, and how many objects.
+    pub fn n(&self) -> u16
+        ensures count { result ≡ length self.now }
+        ensures problem { IsProblem self.now }
+    {
+        self.rows.len() as u16
+    }
+
+    /// What a person lists, rising by object.
+    pub fn row(&self, person: Person) -> &[(Object, Cost)]
+        requires first { 0 < person }
+        requires last { person ≤ length self.now }
+        ensures row { result.now ≡ row_of self.now person }
+        ensures rule { IsRow (length self.now) result.now }
+    {
+        self.rows[person.0 as usize - 1].as_slice()
+    }
+
+    /// What a pair costs, if it is listed.
+    pub fn cost_of(&self, person: Person, object: Object) -> Option<Cost>
+        requires first { 0 < person }
+        requires last { person ≤ length self.now }
+        ensures { result ≡ listed_in (row_of self.now person) object }
+    {
+        find(self.row(person), object)
+    }
+
+    /// The sum of the costs of an assignment's pairs.
+    pub fn total(&self, assignment: &Assignment) -> Cost
+        requires { IsAssignment self.now assignment.now }
+        ensures { result ≡ total self.now assignment.now }
+    {
+        sum_of(self.rows.as_slice(), assignment.objects())
+    }
+}

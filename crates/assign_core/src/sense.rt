@@ -1,0 +1,32 @@
+// Which costs are wanted.
+ghost use Rattle.std.specs.Prelude.{◌≡◌};
+ghost use Rattle.assign_core.specs.Rows.{IsCost, IsSize};
+ghost use Rattle.assign_core.specs.Benefits.{benefit, IsBenefit};
+
+use super::numbers::{Benefit, Cost};
+
+/// Whether the least cost is wanted or the greatest.
+#[derive(Clone, Copy, Debug, PartialEq, Eq)]
+pub enum Sense {
+    Min,
+    Max,
+}
+
+impl Sense {
+    /// The benefit of a cost among `n` persons: the cost times `n + 1`, negated under `Min`.
+    ///
+    /// Scaled so, an assignment with slackness 1 is best (Bertsekas, Network Optimization, 1998,
+    /// section 7.1).
+    pub fn benefit(self, n: u16, cost: Cost) -> Benefit
+        requires size { IsSize n }
+        requires cost { IsCost cost }
+        ensures value { result ≡ benefit self n cost }
+        ensures range { IsBenefit result }
+    {
+        let scale = i64::from(n) + 1;
+        match self {
+            Sense::Min => -scale * cost,
+            Sense::Max => scale * cost,
+        }
+    }
+}
