@@ -1,0 +1,5 @@
+pub mod Kept
+pub mod Streams
+pub mod Numbers
+pub mod Grammar
+pub mod Gathered

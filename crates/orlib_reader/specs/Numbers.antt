@@ -1,0 +1,69 @@
+-- What number a token is, and which numbers may stand where.
+use Rattle.std.specs.Prelude.{ℕ, ◌+◌, ◌-◌, ◌*◌, ◌^◌, ℤ, pos, negsuc, neg_ℤ, List, [], ◌∷◌, Option, None, Some, Result, Ok, Err, nat_lt, nat_le, ◌==◌, ◌&&◌, ◌||◌, if◌then◌else◌, Bool, false, option_map}
+use Rattle.orlib_reader.specs.Tokens.{Token}
+use Rattle.orlib_reader.specs.declared.fault.InputFault.{InputFault}
+use Rattle.orlib_reader.specs.declared.fault.InputFault.TheVariants as faults
+use Rattle.orlib_reader.specs.declared.layout.Wanted.{Wanted}
+use Rattle.orlib_reader.specs.declared.layout.Wanted.TheVariants as wanted
+
+abbrev pub is_digit : ℕ → Bool
+is_digit b = nat_le 48 b && nat_le b 57
+
+-- + or -
+abbrev pub is_sign : ℕ → Bool
+is_sign b = (b == 43) || (b == 45)
+
+-- whether a token begins with -
+abbrev pub is_negative : List ℕ → Bool
+is_negative [] = false
+is_negative (b ∷ bytes) = b == 45
+
+-- what stands behind the sign, if there is one
+abbrev pub unsigned : List ℕ → List ℕ
+unsigned [] = []
+unsigned (b ∷ bytes) = if is_sign b then bytes else b ∷ bytes
+
+-- the value of digits behind those of value v, if they are all digits
+abbrev pub digits_from : ℕ → List ℕ → Option ℕ
+digits_from v [] = Some v
+digits_from v (b ∷ bytes) = if is_digit b then digits_from (v * 10 + (b - 48)) bytes else None
+
+-- the value of one or more digits
+abbrev pub digits_value : List ℕ → Option ℕ
+digits_value [] = None
+digits_value (b ∷ bytes) = digits_from 0 (b ∷ bytes)
+
+abbrev pub signed : Bool → ℕ → ℤ
+signed negative v = if negative then neg_ℤ (pos v) else pos v
+
+-- a number is an optional sign and then one or more digits, of any length
+abbrev pub number_of : List ℕ → Option ℤ
+number_of bytes = option_map (signed (is_negative bytes)) (digits_value (unsigned bytes))
+
+-- from 1 to n
+abbrev pub is_among : ℕ → ℤ → Bool
+is_among n (pos k) = nat_le 1 k && nat_le k n
+is_among n (negsuc k) = false
+
+-- from -10^12 to 10^12
+abbrev pub is_cost : ℤ → Bool
+is_cost (pos k) = nat_le k (10 ^ 12)
+is_cost (negsuc k) = nat_lt k (10 ^ 12)
+
+-- a number at this place, where this is wanted
+abbrev pub in_range : Wanted → ℕ → ℤ → Result ℤ InputFault
+in_range wanted.Size place v = if is_among 8192 v then Ok v else Err faults.Size
+in_range wanted.Cost place v = if is_cost v then Ok v else Err (faults.Cost place)
+in_range (wanted.Index n) place v = if is_among n v then Ok v else Err (faults.Index place)
+in_range wanted.Nothing place v = Err (faults.Extra place)
+
+abbrev pub judged_number : Wanted → ℕ → Option ℤ → Result ℤ InputFault
+judged_number w place None = Err (faults.BadToken place)
+judged_number w place (Some v) = in_range w place v
+
+-- what a token gives where this is wanted: its number, or its fault
+abbrev pub judged : Wanted → Token → Result ℤ InputFault
+judged wanted.Nothing t = Err (faults.Extra t.place)
+judged wanted.Size t = judged_number wanted.Size t.place (number_of t.bytes)
+judged wanted.Cost t = judged_number wanted.Cost t.place (number_of t.bytes)
+judged (wanted.Index n) t = judged_number (wanted.Index n) t.place (number_of t.bytes)

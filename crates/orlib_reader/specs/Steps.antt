@@ -1,0 +1,86 @@
+-- The same texts, taken byte by byte.
+use Rattle.std.specs.Prelude.{ℕ, ◌+◌, ◌-◌, ◌*◌, ◌^◌, ℤ, List, [], ◌∷◌, ◌++◌, Option, None, Some, Result, Ok, Err, nat_le, ◌==◌, if◌then◌else◌, true, false, min, IfSome, ◌≤◌, length}
+use Rattle.orlib_reader.specs.Tokens.{is_space, text_limit}
+use Rattle.orlib_reader.specs.Numbers.{is_digit, is_sign, signed, judged_number}
+use Rattle.orlib_reader.specs.Texts.{wanted_in, ended, and_then}
+use Rattle.orlib_reader.specs.declared.fault.InputFault.{InputFault}
+use Rattle.orlib_reader.specs.declared.fault.InputFault.TheVariants as faults
+use Rattle.orlib_reader.specs.declared.layout.Layout.{Layout}
+use Rattle.orlib_reader.specs.declared.layout.Wanted.{Wanted}
+use Rattle.orlib_reader.specs.declared.layout.Wanted.TheVariants as wanted
+use Rattle.orlib_reader.specs.declared.token.OpenToken.{OpenToken}
+
+-- where the reader is: bytes so far, the token that is open, the numbers before it
+pub record State : Type 0 where
+  pub layout : Layout
+  pub at : ℕ
+  pub token : Option OpenToken
+  pub found : List ℤ
+
+-- greater values are kept as this one, which is out of each range
+abbrev pub saturated : ℕ → ℕ
+saturated v = min v (10 ^ 18)
+
+-- a token that begins with this byte
+abbrev pub begun : ℕ → ℕ → OpenToken
+begun at b =
+    if is_digit b then record { place = at; is_negative = false; has_digits = true; is_bad = false; value = b - 48 }
+    else record { place = at; is_negative = b == 45; has_digits = false; is_bad = if is_sign b then false else true; value = 0 }
+
+-- a token with one byte more
+abbrev pub continued : OpenToken → ℕ → OpenToken
+continued t b =
+    if is_digit b then record { place = t.place; is_negative = t.is_negative; has_digits = true; is_bad = t.is_bad; value = saturated (t.value * 10 + (b - 48)) }
+    else record { place = t.place; is_negative = t.is_negative; has_digits = t.has_digits; is_bad = true; value = t.value }
+
+-- the number of a token
+abbrev pub token_number : OpenToken → Option ℤ
+token_number t = if t.is_bad then None else if t.has_digits then Some (signed t.is_negative t.value) else None
+
+-- the open token, if there is one, ends
+abbrev pub with_token : Layout → Option OpenToken → List ℤ → Result (List ℤ) InputFault
+with_token layout None found = Ok found
+with_token layout (Some t) found = and_then (judged_number (wanted_in layout found) t.place (token_number t)) (λ v. Ok (found ++ v ∷ []))
+
+abbrev pub begun_where : Wanted → ℕ → ℕ → Result OpenToken InputFault
+begun_where wanted.Nothing at b = Err (faults.Extra at)
+begun_where wanted.Size at b = Ok (begun at b)
+begun_where wanted.Cost at b = Ok (begun at b)
+begun_where (wanted.Index n) at b = Ok (begun at b)
+
+-- a byte that is no white space
+abbrev pub in_token : Layout → ℕ → Option OpenToken → List ℤ → ℕ → Result OpenToken InputFault
+in_token layout at None found b = begun_where (wanted_in layout found) at b
+in_token layout at (Some t) found b = Ok (continued t b)
+
+-- one byte more
+abbrev pub step : State → ℕ → Result State InputFault
+step s b =
+    if nat_le text_limit s.at then Err faults.TooLong
+    else if is_space b then and_then (with_token s.layout s.token s.found) (λ found. Ok (record { layout = s.layout; at = s.at + 1; token = None; found = found }))
+    else and_then (in_token s.layout s.at s.token s.found b) (λ t. Ok (record { layout = s.layout; at = s.at + 1; token = Some t; found = s.found }))
+
+-- after these bytes
+abbrev pub after : Result State InputFault → List ℕ → Result State InputFault
+after r [] = r
+after (Ok s) (b ∷ bytes) = after (step s b) bytes
+after (Err e) (b ∷ bytes) = Err e
+
+abbrev pub start : Layout → State
+start layout = record { layout = layout; at = 0; token = None; found = [] }
+
+-- the numbers, at the end of the text
+abbrev pub finished : Result State InputFault → Result (List ℤ) InputFault
+finished (Ok s) = and_then (with_token s.layout s.token s.found) (λ found. ended s.layout found)
+finished (Err e) = Err e
+
+-- how many tokens are open
+abbrev pub open_count : Option OpenToken → ℕ
+open_count None = 0
+open_count (Some t) = 1
+
+-- what is always so: each number took a byte
+pub record IsUnderway (at : ℕ) (token : Option OpenToken) (found : List ℤ) : Type 0 where
+  pub near : at ≤ text_limit
+  pub value : IfSome token (λ t. t.value ≤ 10 ^ 18)
+  pub count : length found + open_count token ≤ at

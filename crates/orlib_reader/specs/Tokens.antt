@@ -1,0 +1,49 @@
+-- First step: from the bytes of a text to its tokens.
+use Rattle.std.specs.Prelude.{ℕ, ◌+◌, ◌^◌, List, [], ◌∷◌, ◌++◌, Option, None, Some, nat_le, ◌==◌, ◌&&◌, ◌||◌, if◌then◌else◌, Bool}
+
+-- space, TAB, LF, VT, FF and CR
+abbrev pub is_space : ℕ → Bool
+is_space b = (b == 32) || (nat_le 9 b && nat_le b 13)
+
+-- a longest run of bytes that are no white space, with the place of its first byte
+pub record Token : Type 0 where
+  pub place : ℕ
+  pub bytes : List ℕ
+
+-- what a text is cut into
+pub data Piece : Type 0 where
+  -- a token that ends, by white space or by the text's end
+  whole : Token → Piece
+  -- a token, begun at this place, that is still open where the text goes past the limit
+  open_at : ℕ → Piece
+  -- the text goes past the limit
+  beyond : Piece
+
+-- at most so many bytes are read
+abbrev pub text_limit : ℕ
+text_limit = 2 ^ 30
+
+-- the token that has begun, or a new one at this place, with one byte more
+abbrev pub grown : ℕ → Option Token → ℕ → Token
+grown at None b = record { place = at; bytes = b ∷ [] }
+grown at (Some t) b = record { place = t.place; bytes = t.bytes ++ b ∷ [] }
+
+abbrev pub closed : Option Token → List Piece
+closed None = []
+closed (Some t) = whole t ∷ []
+
+abbrev pub left_open : Option Token → List Piece
+left_open None = []
+left_open (Some t) = open_at t.place ∷ []
+
+-- the pieces of a text from a place on, behind a token that has begun
+abbrev pub cut : ℕ → Option Token → List ℕ → List Piece
+cut at begun [] = closed begun
+cut at begun (b ∷ bytes) =
+    if nat_le text_limit at then left_open begun ++ beyond ∷ []
+    else if is_space b then closed begun ++ cut (at + 1) None bytes
+    else cut (at + 1) (Some (grown at begun b)) bytes
+
+-- the pieces of a whole text
+abbrev pub pieces_of : List ℕ → List Piece
+pieces_of bytes = cut 0 None bytes

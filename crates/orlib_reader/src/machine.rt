@@ -1,0 +1,101 @@
+// Takes a text byte by byte.
+ghost use Rattle.std.specs.Prelude.{◌≡◌, ◌^◌, ◌≤◌, ◌+◌, [], Ok, OnOk, length};
+ghost use Rattle.orlib_reader.specs.Texts.{Gives, Meets};
+ghost use Rattle.orlib_reader.specs.Steps.{State, step, after, start, finished};
+ghost use Rattle.orlib_reader.specs.Held.{layout_in, found_in};
+
+use super::fault::InputFault;
+use super::layout::Wanted;
+use super::pairs::Pairs;
+use super::token::{OpenToken, is_white};
+use assign_core::Problem;
+use std::marker::Model;
+
+const TEXT_LIMIT: u64 = 1 << 30;
+
+// How far a text has come: bytes, the token that is open, and the numbers before it.
+#[derive(Drop)]
+pub struct Machine {
+    at: u64,
+    token: Option<OpenToken>,
+    pairs: Pairs,
+}
+
+impl Model for Machine {
+    ghost use Rattle.orlib_reader.specs.Steps.{State, IsUnderway};
+    ghost use Rattle.orlib_reader.specs.Held.{layout_in, found_in};
+
+    ghost Value = { State };
+
+    ghost view = { λ m. record { layout = layout_in m.pairs; at = m.at; token = m.token; found = found_in m.pairs } };
+
+    ghost invariant = { λ m. IsUnderway m.at m.token (found_in m.pairs) };
+}
+
+impl Machine {
+    pub fn new(pairs: Pairs) -> Machine
+        requires { found_in pairs ≡ [] }
+        ensures { result ≡ start (layout_in pairs) }
+    {
+        Machine {
+            at: 0,
+            token: None,
+            pairs,
+        }
+    }
+
+    // Takes one byte more.
+    pub fn feed(&mut self, b: u8) -> Result<(), InputFault>
+        ensures step { Gives (λ _. self.new) result (step self.old b) }
+        ensures layout { OnOk result (self.new.layout ≡ self.old.layout) }
+        ensures at { OnOk result (self.new.at ≡ self.old.at + 1) }
+        ensures bound { self.new.at ≤ 2 ^ 30 }
+    {
+        if self.at >= TEXT_LIMIT {
+            return Err(InputFault::TooLong);
+        }
+        if is_white(b) {
+            if let Some(token) = self.token {
+                self.pairs.end_token(token)?;
+            }
+            self.token = None;
+        } else if let Some(token) = self.token {
+            self.token = Some(token.go_on(b));
+        } else {
+            if let Wanted::Nothing = self.pairs.wanted() {
+                return Err(InputFault::Extra(self.at));
+            }
+            self.token = Some(OpenToken::begin(self.at, b));
+        }
+        self.at += 1;
+        Ok(())
+    }
+
+    // Takes these bytes, one after the other.
+    pub fn feed_all(&mut self, bytes: &[u8]) -> Result<(), InputFault>
+        ensures after { Gives (λ _. self.new) result (after (Ok self.old) bytes.now) }
+        ensures layout { OnOk result (self.new.layout ≡ self.old.layout) }
+        ensures at { OnOk result (self.new.at ≡ self.old.at + length bytes.now) }
+        ensures bound { self.new.at ≤ 2 ^ 30 }
+    {
+        let _ = &self.at;
+        for b in bytes {
+            match self.feed(*b) {
+                Ok(()) => {}
+                Err(fault) => return Err(fault),
+            }
+        }
+        Ok(())
+    }
+
+    // The problem, at the end of the text.
+    pub fn finish(self) -> Result<Problem, InputFault>
+        ensures { Meets self.layout result (finished (Ok self)) }
+    {
+        let mut pairs = self.pairs;
+        if let Some(token) = self.token {
+            pairs.end_token(token)?;
+        }
+        pairs.finish()
+    }
+}
