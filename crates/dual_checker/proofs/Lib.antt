@@ -1,0 +1,10 @@
+pub mod Firsts
+pub mod Pairs
+pub mod Givings
+pub mod Tallies
+pub mod Worths
+pub mod Differences
+pub mod HallMarking
+pub mod HallFirsts
+pub mod HallDifferences
+pub mod HallFaults

@@ -1,0 +1,7 @@
+use Rattle.std.proofs.Common.{ℕ, ℤ, ◌<◌, slice_index_or}
+use Rattle.dual_checker.specs.HallMarks.{IsMarked}
+use Rattle.dual_checker.proofs.hall_marks.first_unnamed.Given as goal
+
+-- the objects that were passed are marked
+abbrev pub invariant-loop-object : goal.invariant-loop-object
+invariant-loop-object l = (k : ℕ) (e : ℕ × ℤ) → k < l.object-index → IsMarked l.named (slice_index_or l.object-items k e).0

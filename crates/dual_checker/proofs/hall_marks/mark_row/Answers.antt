@@ -1,0 +1,23 @@
+use Rattle.std.proofs.Common.{pos, get_or, arith, ap, subst, ◌∙◌, IsSome}
+use Rattle.std.proofs.lemmas.List.{get_or_default}
+use Rattle.assign_core.specs.Rows.{listed_in}
+use Rattle.dual_checker.specs.HallMarks.{AddsMarks}
+use Rattle.dual_checker.proofs.HallFirsts.{row_places}
+use Rattle.dual_checker.proofs.HallMarking.{adds_item, adds_same}
+use Rattle.dual_checker.proofs.hall_marks.mark_row.Goals as goal
+
+pub loop-object-preserved : goal.loop-object-preserved
+loop-object-preserved c =
+    let row = c.row-object-items.result.now in
+    let i = c.loop-object.object-index in
+    let lt = c.loop-object-test.true in
+    let at = c.object.view_is ∙ ap (λ e. e.0) (c.loop-object-item.is ∙ get_or_default row i c.loop-object-item.result (0, pos 0) lt) in
+    let within = c.row-object-items.ensures.rule.within i (0, pos 0) lt in
+    adds_item (λ k. (get_or row k (0, pos 0)).0) i c.object.inside.0 c.args.marks.now c.loop-object.marks at (omega (arith, within.1, c.requires.long)) c.loop-object.invariant
+
+pub returns : goal.returns
+returns c =
+    let row = c.row-object-items.result.now in
+    let rising = c.row-object-items.ensures.rule.rising in
+    subst (λ q. AddsMarks c.args.marks.now (λ j. IsSome (listed_in q j)) c.loop-object.marks) c.row-object-items.ensures.row
+    (adds_same _ (λ j. IsSome (listed_in row j)) c.args.marks.now c.loop-object.marks (λ j. row_places row c.loop-object.object-index j rising (omega arith)) c.loop-object.invariant)

@@ -1,0 +1,5 @@
+pub mod Counts
+pub mod Faults
+pub mod Verdicts
+pub mod HallMarks
+pub mod HallVerdicts

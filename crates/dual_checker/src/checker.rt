@@ -1,0 +1,69 @@
+// The checker: the first fault of the verdicts' order.
+ghost use Rattle.std.specs.Prelude.{◌≡◌, ◌+◌, ◌↔◌, length, replicate, IfOk};
+ghost use Rattle.assign_core.specs.Assignment.{IsBest};
+ghost use Rattle.assign_core.specs.Slackness.{IsCertificate};
+ghost use Rattle.dual_checker.specs.Verdicts.{IsVerdict};
+
+use super::counts::first_given_twice;
+use super::listed::first_unlisted;
+use super::priced::first_out_of_range;
+use super::slack::first_short;
+use super::verdict::Verdict;
+use assign_core::{Object, Price, Problem, Sense};
+use std::alloc::{AllocError, Global};
+
+// The first fault, told by counts that are 0 at first.
+fn first_fault(
+    counts: &mut [u16],
+    problem: &Problem,
+    sense: Sense,
+    objects: &[Object],
+    prices: &[Price],
+) -> Verdict
+    requires { counts.old ≡ replicate (length problem.now + 1) 0 }
+    ensures { IsVerdict sense problem.now objects.now prices.now result }
+{
+    let n = problem.n() as usize;
+    if objects.len() != n || prices.len() != n {
+        return Verdict::Length;
+    }
+    if let Some(person) = first_unlisted(problem, objects) {
+        return Verdict::Unlisted(person);
+    }
+    if let Some(object) = first_given_twice(counts, objects) {
+        return Verdict::Twice(object);
+    }
+    if let Some(object) = first_out_of_range(prices) {
+        return Verdict::PriceRange(object);
+    }
+    if let Some((person, object)) = first_short(problem, sense, objects, prices) {
+        return Verdict::Slack(person, object);
+    }
+    Verdict::Yes
+}
+
+/// Whether the objects of persons 1, 2, .. and the prices of objects 1, 2, .. are a certificate
+/// under this sense, and if not, the first fault in the order of `Verdict`, by its lowest number.
+///
+/// Yes proves the assignment best: slackness 1 at benefits scaled by one more than the number of
+/// persons (Bertsekas, Network Optimization, 1998, section 7.1). The lists may be of any length
+/// and hold any numbers. The time is linear in the listed pairs.
+///
+/// # Errors
+/// Only where memory is refused, before anything is looked at.
+pub fn check(
+    alloc: Global,
+    problem: &Problem,
+    sense: Sense,
+    objects: &[Object],
+    prices: &[Price],
+) -> Result<Verdict, AllocError>
+    ensures verdict { IfOk result (λ v. IsVerdict sense problem.now objects.now prices.now v) }
+    ensures yes { IfOk result (λ v.
+        (v ≡ Verdict.Yes) ↔ IsCertificate sense problem.now objects.now prices.now) }
+    ensures best { IfOk result (λ v. v ≡ Verdict.Yes → IsBest sense problem.now objects.now) }
+{
+    let n = problem.n() as usize;
+    let mut counts = vec![in alloc; 0u16; n + 1]?;
+    Ok(first_fault(counts.as_mut_slice(), problem, sense, objects, prices))
+}

@@ -1,0 +1,22 @@
+//! Checks certificates and Hall sets. Whoever made them is not trusted.
+#![tactic(auto)]
+
+mod checker;
+mod counts;
+mod hall;
+mod hall_lists;
+mod hall_marks;
+#[cfg(test)]
+mod hall_tests;
+mod hall_verdict;
+mod listed;
+mod priced;
+mod slack;
+#[cfg(test)]
+mod tests;
+mod verdict;
+
+pub use checker::check;
+pub use hall::check_hall;
+pub use hall_verdict::{HallVerdict, one_hall_verdict};
+pub use verdict::{Verdict, one_verdict};

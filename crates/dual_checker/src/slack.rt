@@ -1,0 +1,109 @@
+// Whether each person has slackness 1.
+ghost use Rattle.std.specs.Prelude.{◌≡◌, ℕ, ℤ, pos, ◌+◌, ◌*◌, ◌^◌, ◌<◌, ◌≤◌, ◌≤ℤ◌, ◌-ℤ◌, length, All, MatchOption};
+ghost use Rattle.assign_core.specs.Rows.{IsCost, IsRow, IsSize, IsListed, listed_or_zero, row_of};
+ghost use Rattle.assign_core.specs.Benefits.{benefit, benefit_row, benefit_rows};
+ghost use Rattle.assign_core.specs.Prices.{IsPrice, price_of};
+ghost use Rattle.assign_core.specs.Slackness.{AllSlack, HasSlack};
+ghost use Rattle.dual_checker.specs.Faults.{BreaksSlack, BreaksSlackOf, IsFirst, IsShort};
+ghost use Rattle.dual_checker.specs.Verdicts.{AreListed};
+
+use assign_core::{Cost, Object, Person, Price, Problem, Sense};
+
+// An object's price.
+fn price_at(prices: &[Price], object: Object) -> Price
+    requires first { 0 < object }
+    requires last { object ≤ length prices.now }
+    requires in_range { All IsPrice prices.now }
+    ensures value { result ≡ price_of prices.now object }
+    ensures range { IsPrice result }
+{
+    prices[object.0 as usize - 1]
+}
+
+// What an object is worth: the benefit of its cost among `n` persons, less its price.
+fn worth(sense: Sense, n: u16, cost: Cost, price: Price) -> Price
+    requires size { IsSize n }
+    requires cost { IsCost cost }
+    requires price { IsPrice price }
+    ensures value { result ≡ (benefit sense n cost -ℤ price) }
+    ensures most { result ≤ℤ pos (8193 * 10 ^ 12) }
+{
+    i128::from(sense.benefit(n, cost)) - price
+}
+
+// What a person's own object is worth to it.
+fn own_worth(
+    problem: &Problem,
+    sense: Sense,
+    person: Person,
+    object: Object,
+    prices: &[Price],
+) -> Price
+    requires first { 0 < person }
+    requires last { person ≤ length problem.now }
+    requires listed { IsListed problem.now person object }
+    requires priced { length prices.now ≡ length problem.now }
+    requires in_range { All IsPrice prices.now }
+    ensures value { let cost = listed_or_zero (row_of problem.now person) object in
+        result ≡ (benefit sense (length problem.now) cost -ℤ price_of prices.now object) }
+    ensures most { result ≤ℤ pos (8193 * 10 ^ 12) }
+{
+    let n = problem.n();
+    let _row = problem.row(person);
+    let cost = problem.cost_of(person, object).unwrap_or(0);
+    worth(sense, n, cost, price_at(prices, object))
+}
+
+// The lowest object of a row that is worth more than a person's own object by over 1.
+fn first_broken(
+    row: &[(Object, Cost)],
+    sense: Sense,
+    prices: &[Price],
+    own: Object,
+    own_worth: Price,
+) -> Option<Object>
+    requires size { IsSize (length prices.now) }
+    requires row { IsRow (length prices.now) row.now }
+    requires in_range { All IsPrice prices.now }
+    requires own { let cost = listed_or_zero row.now own in
+        own_worth ≡ (benefit sense (length prices.now) cost -ℤ price_of prices.now own) }
+    requires most { own_worth ≤ℤ pos (8193 * 10 ^ 12) }
+    ensures { let benefits = benefit_row sense (length prices.now) row.now in
+        MatchOption result (HasSlack (pos 1) prices.now benefits own)
+        (λ k. IsFirst (BreaksSlack (pos 1) prices.now benefits own) (length prices.now) k) }
+{
+    let n = prices.len() as u16;
+    for (object, cost) in row {
+        if worth(sense, n, *cost, price_at(prices, *object)) > own_worth + 1 {
+            return Some(*object);
+        }
+    }
+    None
+}
+
+// The lowest person without slackness 1, and the lowest object that breaks it.
+pub fn first_short(
+    problem: &Problem,
+    sense: Sense,
+    objects: &[Object],
+    prices: &[Price],
+) -> Option<(Person, Object)>
+    requires long { length objects.now ≡ length problem.now }
+    requires listed { AreListed problem.now objects.now }
+    requires priced { length prices.now ≡ length problem.now }
+    requires in_range { All IsPrice prices.now }
+    ensures { MatchOption result (AllSlack (pos 1) prices.now (benefit_rows sense problem.now) objects.now)
+        (λ p. IsFirst (IsShort sense problem.now objects.now prices.now) (length problem.now) p.0
+        × IsFirst (BreaksSlackOf sense problem.now objects.now prices.now p.0) (length problem.now) p.1) }
+{
+    let _n = problem.n();
+    for (i, object) in objects.iter().enumerate() {
+        let person = Person(i as u16 + 1);
+        let row = problem.row(person);
+        let own_worth = own_worth(problem, sense, person, *object, prices);
+        if let Some(other) = first_broken(row, sense, prices, *object, own_worth) {
+            return Some((person, other));
+        }
+    }
+    None
+}
