@@ -1,0 +1,147 @@
+-- Benefits are in range, and so are the least, the greatest and the spread.
+use Rattle.std.proofs.Common.{◌≡◌, ℕ, ℤ, pos, negsuc, ◌≤ℤ◌, ◌≤◌, ◌+◌, ◌*◌, ◌⊎◌, inl, inr, List, [], ◌∷◌, length, map, refl, arith, sym, subst}
+use Rattle.std.specs.List.{All, Contains}
+use Rattle.std.specs.Int.RustNames.{unsigned_abs}
+use Rattle.std.proofs.lemmas.Int.{ints, unsigned_abs-mul, fold-int_min_bounds, fold-int_min_reached, fold-int_max_bounds, fold-int_max_reached}
+use Rattle.std.proofs.lemmas.List.Elements.{All-nil, All-cons, All-head, All-tail, All-append, All-map, All-weaker, All-contains, Contains-append_right, Contains-get_or}
+use Rattle.assign_core.specs.declared.sense.Sense.{Sense}
+use Rattle.assign_core.specs.declared.sense.Sense.TheVariants.{Min, Max}
+use Rattle.assign_core.specs.Rows.{Row, IsCost, IsRow, IsSize, IsProblem, HasCosts}
+use Rattle.assign_core.specs.Benefits.{factor, benefit, benefit_row, IsBenefit}
+use Rattle.scaled_values.specs.Scaled.{ScaledProblem, benefits_of, values_in, least_of, greatest_of, least_benefit, greatest_benefit, spread, IsLeastOf, IsGreatestOf}
+use Rattle.scaled_values.specs.declared.row.StoredRow.{StoredRow}
+use Rattle.scaled_values.specs.Stored.{IsStored}
+
+abs_factor : (sense : Sense) (n : ℕ) → unsigned_abs (factor sense n) ≡ n + 1
+abs_factor Min n = omega arith
+abs_factor Max n = refl
+
+product_below : (m k : ℕ) → m ≤ 8193 → k ≤ 1000000000000 → m * k ≤ 8193000000000000
+product_below m k h l = grind arith
+
+abs_cost : (c : ℤ) → IsCost c → unsigned_abs c ≤ 1000000000000
+abs_cost (pos k) h = let g = h.greatest in omega (arith, ints)
+abs_cost (negsuc k) h = let g = h.least in omega (arith, ints)
+
+from_abs : (a : ℤ) → unsigned_abs a ≤ 8193000000000000 → IsBenefit a
+from_abs (pos k) h = record { least = omega (arith, ints); greatest = omega (arith, ints) }
+from_abs (negsuc k) h = record { least = omega (arith, ints); greatest = omega (arith, ints) }
+
+pub IsBenefit-benefit : (sense : Sense) (n : ℕ) (c : ℤ) → IsSize n → IsCost c → IsBenefit (benefit sense n c)
+IsBenefit-benefit sense n c size cost =
+    let f = abs_factor sense n in
+    let m = unsigned_abs-mul (factor sense n) c in
+    let few : n + 1 ≤ 8193 = let s = size.few in omega arith in
+    from_abs (benefit sense n c) (rw (m, f) (product_below (n + 1) (unsigned_abs c) few (abs_cost c cost)))
+
+row_in_range : (sense : Sense) (n : ℕ) (row : Row) → IsSize n → HasCosts row → All IsBenefit (map (λ e. e.1) (benefit_row sense n row))
+row_in_range sense n row size h =
+    All-map IsBenefit (λ e. e.1) (benefit_row sense n row)
+    (All-map (λ e. IsBenefit e.1) (λ e. (e.0, benefit sense n e.1)) row (All-weaker (λ e. IsCost e.1) (λ e. IsBenefit (benefit sense n e.1)) (λ e k. IsBenefit-benefit sense n e.1 size k) row h))
+
+rows_in_range : (sense : Sense) (n : ℕ) (rows : List Row) → IsSize n → All (IsRow n) rows → All IsBenefit (values_in (map (benefit_row sense n) rows))
+rows_in_range sense n [] size h = All-nil IsBenefit
+rows_in_range sense n (row ∷ rows) size h =
+    All-append IsBenefit (map (λ e. e.1) (benefit_row sense n row)) (values_in (map (benefit_row sense n) rows))
+    (row_in_range sense n row size (All-head (IsRow n) row rows h).costs)
+    (rows_in_range sense n rows size (All-tail (IsRow n) row rows h))
+
+-- each benefit of a problem is in range
+pub all_in_range : (s : ScaledProblem) → IsProblem s.problem → All IsBenefit (values_in (benefits_of s))
+all_in_range s h = rows_in_range s.sense (length s.problem) s.problem h.size h.each
+
+zero_in_range : IsBenefit (pos 0)
+zero_in_range = record { least = omega (arith, ints); greatest = omega (arith, ints) }
+
+-- no value is below the least
+pub least_bounds : (xs : List ℤ) → All (λ x. least_of xs ≤ℤ x) xs
+least_bounds [] = All-nil (λ x. least_of [] ≤ℤ x)
+least_bounds (x ∷ xs) =
+    let b = fold-int_min_bounds x xs (least_of (x ∷ xs)) refl in
+    All-cons (λ y. least_of (x ∷ xs) ≤ℤ y) x xs b.0 b.1
+
+pub greatest_bounds : (xs : List ℤ) → All (λ x. x ≤ℤ greatest_of xs) xs
+greatest_bounds [] = All-nil (λ x. x ≤ℤ greatest_of [])
+greatest_bounds (x ∷ xs) =
+    let b = fold-int_max_bounds x xs (greatest_of (x ∷ xs)) refl in
+    All-cons (λ y. y ≤ℤ greatest_of (x ∷ xs)) x xs b.0 b.1
+
+pub least_holds : (P : ℤ → Type 0) (xs : List ℤ) → P (pos 0) → All P xs → P (least_of xs)
+least_holds P [] none h = none
+least_holds P (x ∷ xs) none h = elim (fold-int_min_reached x xs (least_of (x ∷ xs)) refl) [
+  | inl e ↦ subst P (sym e) (All-head P x xs h)
+  | inr k ↦ All-contains P xs (least_of (x ∷ xs)) (All-tail P x xs h) k
+]
+
+pub greatest_holds : (P : ℤ → Type 0) (xs : List ℤ) → P (pos 0) → All P xs → P (greatest_of xs)
+greatest_holds P [] none h = none
+greatest_holds P (x ∷ xs) none h = elim (fold-int_max_reached x xs (greatest_of (x ∷ xs)) refl) [
+  | inl e ↦ subst P (sym e) (All-head P x xs h)
+  | inr k ↦ All-contains P xs (greatest_of (x ∷ xs)) (All-tail P x xs h) k
+]
+
+contains_later : (x : ℤ) (xs : List ℤ) (a : ℤ) → Contains xs a → Contains (x ∷ xs) a
+contains_later x xs a h = Contains-append_right (x ∷ []) xs a h
+
+contains_first : (x : ℤ) (xs : List ℤ) (a : ℤ) → a ≡ x → Contains (x ∷ xs) a
+contains_first x xs a e = subst (Contains (x ∷ xs)) (sym e) (Contains-get_or (x ∷ xs) 0 x (omega arith))
+
+least_held : (xs : List ℤ) → Contains xs (least_of xs) ⊎ ((xs ≡ []) × (least_of xs ≡ pos 0))
+least_held [] = inr (refl, refl)
+least_held (x ∷ xs) = elim (fold-int_min_reached x xs (least_of (x ∷ xs)) refl) [
+  | inl e ↦ inl (contains_first x xs (least_of (x ∷ xs)) e)
+  | inr k ↦ inl (contains_later x xs (least_of (x ∷ xs)) k)
+]
+
+greatest_held : (xs : List ℤ) → Contains xs (greatest_of xs) ⊎ ((xs ≡ []) × (greatest_of xs ≡ pos 0))
+greatest_held [] = inr (refl, refl)
+greatest_held (x ∷ xs) = elim (fold-int_max_reached x xs (greatest_of (x ∷ xs)) refl) [
+  | inl e ↦ inl (contains_first x xs (greatest_of (x ∷ xs)) e)
+  | inr k ↦ inl (contains_later x xs (greatest_of (x ∷ xs)) k)
+]
+
+pub least_is : (xs : List ℤ) → IsLeastOf xs (least_of xs)
+least_is xs = record { bound = least_bounds xs; held = least_held xs }
+
+pub greatest_is : (xs : List ℤ) → IsGreatestOf xs (greatest_of xs)
+greatest_is xs = record { bound = greatest_bounds xs; held = greatest_held xs }
+
+pub least-le-greatest : (xs : List ℤ) → least_of xs ≤ℤ greatest_of xs
+least-le-greatest [] = omega (arith, ints)
+least-le-greatest (x ∷ xs) =
+    let low : least_of (x ∷ xs) ≤ℤ x = All-head (λ y. least_of (x ∷ xs) ≤ℤ y) x xs (least_bounds (x ∷ xs)) in
+    let high : x ≤ℤ greatest_of (x ∷ xs) = All-head (λ y. y ≤ℤ greatest_of (x ∷ xs)) x xs (greatest_bounds (x ∷ xs)) in
+    omega (arith, ints, low, high)
+
+pub IsBenefit-least : (s : ScaledProblem) → IsProblem s.problem → IsBenefit (least_benefit s)
+IsBenefit-least s h = least_holds IsBenefit (values_in (benefits_of s)) zero_in_range (all_in_range s h)
+
+pub IsBenefit-greatest : (s : ScaledProblem) → IsProblem s.problem → IsBenefit (greatest_benefit s)
+IsBenefit-greatest s h = greatest_holds IsBenefit (values_in (benefits_of s)) zero_in_range (all_in_range s h)
+
+-- the spread is from 0 to 16386 * 10^12
+pub record IsSpread (d : ℤ) : Type 0 where
+  pub least : pos 0 ≤ℤ d
+  pub greatest : d ≤ℤ pos 16386000000000000
+
+pub IsSpread-spread : (s : ScaledProblem) → IsProblem s.problem → IsSpread (spread s)
+IsSpread-spread s h =
+    let low = IsBenefit-least s h in
+    let high = IsBenefit-greatest s h in
+    let order = least-le-greatest (values_in (benefits_of s)) in
+    record { least = omega (arith, ints); greatest = omega (arith, ints) }
+
+-- what is kept is in range
+pub record IsKept (low high : ℤ) : Type 0 where
+  pub least : IsBenefit low
+  pub greatest : IsBenefit high
+  pub order : low ≤ℤ high
+
+pub kept : (s : ScaledProblem) (rows : List StoredRow) (low high : ℤ) → IsStored s rows low high → IsKept low high
+kept s rows low high h =
+    let order = least-le-greatest (values_in (benefits_of s)) in
+    record {
+      least = subst IsBenefit (sym h.least) (IsBenefit-least s h.problem);
+      greatest = subst IsBenefit (sym h.greatest) (IsBenefit-greatest s h.problem);
+      order = rw (h.least, h.greatest) order;
+    }

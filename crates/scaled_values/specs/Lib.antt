@@ -1,0 +1,4 @@
+pub mod Scaled
+pub mod Range
+pub mod Held
+pub mod Stored

@@ -1,0 +1,16 @@
+//! A problem with its benefits in whole numbers, and the slackness, the floor and the top of each
+//! phase of an auction over it.
+#![tactic(auto)]
+
+mod law;
+mod phases;
+mod range;
+mod row;
+mod scaled;
+#[cfg(test)]
+mod tests;
+
+pub use law::{eps_in_range, extremes_are_listed, few_phases, last_eps_is_one};
+pub use phases::next_eps;
+pub use row::Row;
+pub use scaled::{Scaled, scale};

@@ -1,0 +1,35 @@
+// The slackness of each phase, and products of a step.
+ghost use Rattle.std.specs.Prelude.{◌≡◌, ℤ, Some, pos, ◌*ℤ◌, ◌≤ℤ◌, ◌≤◌, ◌*◌, ◌^◌};
+ghost use Rattle.scaled_values.specs.Scaled.{ScaledProblem, fifth, next_eps, IsEps};
+
+use assign_core::Price;
+
+// A fifth, and at least 1.
+pub fn fifth(number: i64) -> i64
+    ensures { result ≡ fifth number }
+{
+    (number / 5).max(1)
+}
+
+/// The slackness of the phase after one with slackness `eps`: a fifth of it in whole division,
+/// rounded toward zero, and at least 1. `None` exactly for 1, which is that of the last phase.
+///
+/// Epsilon-scaling (Bertsekas, Network Optimization, 1998, section 7.1.4).
+pub fn next_eps(eps: i64) -> Option<i64>
+    ensures value { result ≡ next_eps eps }
+    ensures listed { (s : ScaledProblem) (next : ℤ) → IsEps s eps → result ≡ Some next → IsEps s next }
+{
+    if eps == 1 { None } else { Some(fifth(eps)) }
+}
+
+// So many steps.
+pub fn steps(count: u16, step: i64) -> Price
+    requires few { count ≤ 8192 }
+    requires least { pos 0 ≤ℤ step }
+    requires greatest { step ≤ℤ pos (2 * 10 ^ 16) }
+    ensures value { result ≡ pos count *ℤ step }
+    ensures least { pos 0 ≤ℤ result }
+    ensures greatest { result ≤ℤ pos (2 * 10 ^ 20) }
+{
+    Price::from(count) * Price::from(step)
+}

@@ -1,0 +1,171 @@
+// A problem with its benefits.
+ghost use Rattle.std.specs.Prelude.{◌≡◌, ℕ, pos, ◌+ℤ◌, ◌≤ℤ◌, ◌*◌, ◌^◌, ◌<◌, ◌≤◌, length, map, All, IfOk};
+ghost use Rattle.assign_core.specs.Rows.{IsProblem, row_of};
+ghost use Rattle.assign_core.specs.Benefits.{benefit_rows, IsBenefit};
+ghost use Rattle.assign_core.specs.Prices.{IsPrice};
+ghost use Rattle.scaled_values.specs.Scaled.{ScaledProblem, benefits_of, least_benefit, greatest_benefit, spread, first_eps, IsEps, floor_of, top_of, IsBenefitRow, IsBetween};
+ghost use Rattle.scaled_values.specs.Held.{entries_of, HasForm, stored_entries, HasStoredForm};
+ghost use Rattle.scaled_values.specs.Stored.{IsStored};
+
+use super::phases::{fifth, steps};
+use super::range::{Range, range_of};
+use super::row::{Row, StoredRow};
+use assign_core::{Benefit, Person, Price, Problem, Sense};
+use std::alloc::{AllocError, Global};
+use std::marker::Model;
+
+/// A problem with the benefits of its pairs: each cost times `n + 1`, negated under `Min`.
+#[derive(Drop)]
+pub struct Scaled {
+    problem: Problem,
+    sense: Sense,
+    rows: Vec<StoredRow>,
+    least: Benefit,
+    greatest: Benefit,
+}
+
+impl Model for Scaled {
+    ghost Value = { ScaledProblem };
+
+    ghost view = { λ s. record { problem = s.problem; sense = s.sense } };
+
+    ghost invariant = { λ s. IsStored (record { problem = s.problem; sense = s.sense }) s.rows.items s.least s.greatest };
+}
+
+// The benefits of all rows.
+fn stored_rows(alloc: Global, problem: &Problem, sense: Sense) -> Result<Vec<StoredRow>, AllocError>
+    ensures entries { IfOk result (λ v. map stored_entries v.items ≡ benefit_rows sense problem.now) }
+    ensures form { IfOk result (λ v. All (HasStoredForm (length problem.now)) v.items) }
+{
+    let n = problem.n();
+    let mut rows = Vec::with_capacity(alloc, n as usize)?;
+    for i in 0..n {
+        rows.push(StoredRow::new(alloc, sense, n, problem.row(Person(i + 1)))?)?;
+    }
+    Ok(rows)
+}
+
+/// The problem with its benefits, for the costs that are wanted.
+///
+/// # Errors
+/// Only where memory is refused.
+pub fn scale(alloc: Global, problem: Problem, sense: Sense) -> Result<Scaled, AllocError>
+    ensures problem { IfOk result (λ s. s.problem ≡ problem) }
+    ensures sense { IfOk result (λ s. s.sense ≡ sense) }
+{
+    let rows = stored_rows(alloc, &problem, sense)?;
+    let range = range_of(&problem, sense).unwrap_or(Range {
+        least: 0,
+        greatest: 0,
+    });
+    Ok(Scaled {
+        problem,
+        sense,
+        rows,
+        least: range.least,
+        greatest: range.greatest,
+    })
+}
+
+impl Scaled {
+    /// The problem.
+    pub fn problem(&self) -> &Problem
+        ensures problem { result.now ≡ self.now.problem }
+        ensures rule { IsProblem self.now.problem }
+    {
+        &self.problem
+    }
+
+    /// Which costs are wanted.
+    pub fn sense(&self) -> Sense
+        ensures { result ≡ self.now.sense }
+    {
+        self.sense
+    }
+
+    /// How many persons there are, and how many objects.
+    pub fn n(&self) -> u16
+        ensures count { result ≡ length self.now.problem }
+        ensures rule { IsProblem self.now.problem }
+    {
+        self.problem.n()
+    }
+
+    /// The benefits of a person's pairs.
+    pub fn row(&self, person: Person) -> Row<'_>
+        requires first { 0 < person }
+        requires last { person ≤ length self.now.problem }
+        ensures entries { entries_of result ≡ row_of (benefits_of self.now) person }
+        ensures form { HasForm (length self.now.problem) result }
+        ensures rule { IsBenefitRow (length self.now.problem) (row_of (benefits_of self.now) person) }
+        ensures bounds { IsBetween (least_benefit self.now) (greatest_benefit self.now) (row_of (benefits_of self.now) person) }
+    {
+        self.rows[person.0 as usize - 1].as_row()
+    }
+
+    /// The least benefit of a listed pair, and 0 if nothing is listed.
+    pub fn least_benefit(&self) -> Benefit
+        ensures value { result ≡ least_benefit self.now }
+        ensures range { IsBenefit result }
+    {
+        self.least
+    }
+
+    /// The greatest benefit of a listed pair, and 0 if nothing is listed.
+    pub fn greatest_benefit(&self) -> Benefit
+        ensures value { result ≡ greatest_benefit self.now }
+        ensures range { IsBenefit result }
+    {
+        self.greatest
+    }
+
+    /// The greatest benefit less the least.
+    pub fn spread(&self) -> Benefit
+        ensures value { result ≡ spread self.now }
+        ensures least { pos 0 ≤ℤ result }
+        ensures greatest { result ≤ℤ pos (16386 * 10 ^ 12) }
+    {
+        self.greatest - self.least
+    }
+
+    /// The slackness of the first phase: a fifth of the spread, and at least 1.
+    pub fn first_eps(&self) -> i64
+        ensures value { result ≡ first_eps self.now }
+        ensures listed { IsEps self.now result }
+    {
+        fifth(self.spread())
+    }
+
+    // The spread and a slackness: the most that the price of a next object may be above that of an
+    // object before it, along a path of owned objects.
+    fn step(&self, eps: i64) -> i64
+        requires { IsEps self.now eps }
+        ensures value { result ≡ spread self.now +ℤ eps }
+        ensures least { pos 0 ≤ℤ result }
+        ensures greatest { result ≤ℤ pos (2 * 10 ^ 16) }
+    {
+        self.spread() + eps
+    }
+
+    /// The floor of a phase with slackness `eps` that starts with greatest price `p0`, in the unit
+    /// of benefits.
+    ///
+    /// A person whose best value is below it has no way to a free object
+    /// (Bertsekas, Network Optimization, 1998, section 7.1.5).
+    pub fn floor(&self, p0: Price, eps: i64) -> Price
+        requires price { IsPrice p0 }
+        requires eps { IsEps self.now eps }
+        ensures { result ≡ floor_of self.now p0 eps }
+    {
+        Price::from(self.least_benefit()) - p0 - steps(self.n() - 1, self.step(eps))
+    }
+
+    /// No price and no level of such a phase is above it.
+    pub fn top(&self, p0: Price, eps: i64) -> Price
+        requires price { IsPrice p0 }
+        requires eps { IsEps self.now eps }
+        ensures { result ≡ top_of self.now p0 eps }
+    {
+        p0 + steps(self.n(), self.step(eps))
+    }
+}
