@@ -1,0 +1,4 @@
+pub mod Scans
+pub mod Once
+pub mod Sound
+pub mod Entries

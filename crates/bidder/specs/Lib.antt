@@ -1,0 +1,2 @@
+pub mod BestTwo
+pub mod Offers

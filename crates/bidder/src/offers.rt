@@ -1,0 +1,144 @@
+// What a person offers under a table of prices.
+ghost use Rattle.std.specs.Prelude.{◌≡◌, ℕ, ℤ, pos, neg_ℤ, ◌+ℤ◌, ◌-ℤ◌, ◌≤ℤ◌, ◌<◌, ◌≤◌, ◌^◌, [], length, MatchOption};
+ghost use Rattle.assign_core.specs.Benefits.{IsBenefit};
+ghost use Rattle.assign_core.specs.Prices.{IsPrice, price_of};
+ghost use Rattle.bidder.specs.BestTwo.{IsBestTwo, best_two};
+ghost use Rattle.bidder.specs.Offers.{IsAsk, IsOffer, IsSoundOffer, benefits_at, bar, offer_of};
+
+use super::scan::{BestTwo, best_two, best_two_full};
+use assign_core::{Object, Person, Price, Prices};
+use scaled_values::{Row, Scaled};
+
+/// What a phase asks of a bid.
+#[derive(Clone, Copy, Debug, PartialEq, Eq)]
+pub struct Ask {
+    /// The phase's number.
+    pub phase: u16,
+    /// By how much a bid goes beyond the second value, in the unit of benefits.
+    pub eps: i64,
+    /// The least value at which a person still bids.
+    pub floor: i128,
+}
+
+/// A bid of a person for an object.
+#[derive(Clone, Copy, Debug, PartialEq, Eq)]
+pub struct Bid {
+    pub person: Person,
+    pub object: Object,
+    /// The price that the person is ready to pay, in the unit of benefits.
+    pub level: Price,
+    /// The phase in which it was made.
+    pub phase: u16,
+    /// The version of the table from which it was made.
+    pub version: u128,
+}
+
+/// No object that the person lists is worth the floor.
+#[derive(Clone, Copy, Debug, PartialEq, Eq)]
+pub struct BelowFloor {
+    pub person: Person,
+    /// The phase in which it was found.
+    pub phase: u16,
+}
+
+/// What a person offers.
+#[derive(Clone, Copy, Debug, PartialEq, Eq)]
+pub enum Offer {
+    Bid(Bid),
+    Below(BelowFloor),
+}
+
+// The best two of what a person lists.
+fn best_of(scaled: &Scaled, prices: &Prices, person: Person) -> Option<BestTwo>
+    requires first { 0 < person }
+    requires last { person ≤ length scaled.now.problem }
+    requires table { length prices.now ≡ length scaled.now.problem }
+    ensures best { MatchOption result (benefits_at scaled.now person ≡ []) (IsBestTwo (benefits_at scaled.now person) prices.now) }
+    ensures only { result ≡ best_two (benefits_at scaled.now person) prices.now }
+{
+    match scaled.row(person) {
+        Row::Full(benefits) => best_two_full(benefits, prices),
+        Row::Pairs(pairs) => best_two(pairs, prices),
+    }
+}
+
+// The benefit of an object: its value and its price.
+fn benefit_of(object: Object, value: i128, prices: &Prices) -> i128
+    requires first { 0 < object }
+    requires last { object ≤ length prices.now }
+    requires benefit { IsBenefit (value +ℤ price_of prices.now object) }
+    ensures value { result ≡ value +ℤ price_of prices.now object }
+    ensures least { value ≤ℤ result }
+{
+    value + prices.as_slice()[object.0 as usize - 1]
+}
+
+// What the best value is measured against.
+fn bar_of(floor: i128, second: Option<i128>) -> i128
+    ensures value { result ≡ bar floor second }
+    ensures least { floor ≤ℤ result }
+{
+    match second {
+        None => floor,
+        Some(second) => second.max(floor),
+    }
+}
+
+// The level at which an object with this benefit is worth the bar less eps.
+fn level_at(benefit: i128, bar: i128, eps: i64) -> Price
+    requires benefit { IsBenefit benefit }
+    requires least { neg_ℤ (pos (10 ^ 24)) ≤ℤ bar }
+    requires greatest { bar ≤ℤ benefit }
+    ensures { result ≡ (benefit -ℤ bar) +ℤ eps }
+{
+    benefit - bar + i128::from(eps)
+}
+
+// The level of a bid for the best object.
+fn level_of(best: BestTwo, prices: &Prices, ask: Ask) -> Price
+    requires first { 0 < best.object }
+    requires last { best.object ≤ length prices.now }
+    requires benefit { IsBenefit (best.best +ℤ price_of prices.now best.object) }
+    requires floor { neg_ℤ (pos (10 ^ 24)) ≤ℤ ask.floor }
+    requires enough { bar ask.floor best.second ≤ℤ best.best }
+    ensures { result ≡ ((best.best +ℤ price_of prices.now best.object) -ℤ bar ask.floor best.second) +ℤ ask.eps }
+{
+    let benefit = benefit_of(best.object, best.best, prices);
+    let bar = bar_of(ask.floor, best.second);
+    level_at(benefit, bar, ask.eps)
+}
+
+/// What a person offers under a table of prices, with this phase's slackness and floor: a bid for
+/// its best object, or `Below` where no object that it lists is worth the floor. The offer carries
+/// the phase and the version that are handed in.
+///
+/// The bid of the auction algorithm (Bertsekas, Network Optimization, 1998, section 7.1), with the
+/// floor in place of a second value that is absent or lower.
+pub fn make_bid(scaled: &Scaled, prices: &Prices, version: u128, ask: Ask, person: Person) -> Offer
+    requires first { 0 < person }
+    requires last { person ≤ length scaled.now.problem }
+    requires table { length prices.now ≡ length scaled.now.problem }
+    requires ask { IsAsk scaled.now ask }
+    ensures offer { IsOffer scaled.now prices.now version ask person result }
+    ensures only { result ≡ offer_of scaled.now prices.now version ask person }
+    ensures sound { IsSoundOffer scaled.now ask prices.now result }
+{
+    let _n = scaled.n();
+    let below = BelowFloor {
+        person,
+        phase: ask.phase,
+    };
+    let Some(best) = best_of(scaled, prices, person) else {
+        return Offer::Below(below);
+    };
+    if best.best < ask.floor {
+        return Offer::Below(below);
+    }
+    Offer::Bid(Bid {
+        person,
+        object: best.object,
+        level: level_of(best, prices, ask),
+        phase: ask.phase,
+        version,
+    })
+}

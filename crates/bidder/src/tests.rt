@@ -1,0 +1,332 @@
+// The best two and offers on worked values, and both ways to give a row against a plain search.
+ghost use Rattle.std.specs.Prelude.{◌≡◌, ◌≤◌, ◌≤ℤ◌, pos, neg_ℤ, length, All, IfOk, IfSome};
+ghost use Rattle.assign_core.specs.Benefits.{IsBenefit};
+ghost use Rattle.assign_core.specs.Prices.{IsPrice};
+ghost use Rattle.scaled_values.specs.Scaled.{IsBenefitRow, IsEps};
+ghost use Rattle.bidder.specs.Offers.{IsAsk};
+
+use super::*;
+use assign_core::{Benefit, Object, PRICE_END, Person, Price, Prices, Problem, Sense};
+use scaled_values::{Scaled, next_eps, scale};
+use std::alloc::{AllocError, Global};
+use std::test::Fail;
+
+// A row of all objects as pairs.
+fn pairs_of(alloc: Global, benefits: &[Benefit]) -> Result<Vec<(Object, Benefit)>, AllocError>
+    requires few { length benefits.now ≤ 8192 }
+    requires range { All IsBenefit benefits.now }
+    ensures { IfOk result (λ row. IsBenefitRow (length benefits.now) row.items) }
+{
+    let mut row = Vec::with_capacity(alloc, benefits.len())?;
+    for (i, benefit) in benefits.iter().enumerate() {
+        row.push((Object(i as u16 + 1), *benefit))?;
+    }
+    Ok(row)
+}
+
+// Prices of n objects, from 0 to 999.
+fn prices_of(alloc: Global, n: u16) -> Result<Prices, AllocError>
+    requires { n ≤ 8192 }
+    ensures { IfOk result (λ prices. length prices ≡ n) }
+{
+    let mut prices = Vec::with_capacity(alloc, n as usize)?;
+    for i in 0..n {
+        prices.push(Price::from(i % 100) * 9)?;
+    }
+    Ok(Prices::new(prices))
+}
+
+// 0 at two places and from -7 to -1 elsewhere.
+fn worth(i: u16, first: u16, second: u16) -> Benefit
+    ensures least { neg_ℤ (pos 7) ≤ℤ result }
+    ensures greatest { result ≤ℤ pos 0 }
+{
+    if i == first || i == second {
+        0
+    } else {
+        -1 - Benefit::from(i % 7)
+    }
+}
+
+// The benefit of an object that is worth as much at the price of `prices_of`.
+fn benefit_of(i: u16, first: u16, second: u16) -> Benefit
+    ensures { IsBenefit result }
+{
+    Benefit::from(i % 100) * 9 + worth(i, first, second)
+}
+
+// Benefits of n objects that are worth 0 at two places and less elsewhere, under those prices.
+fn benefits_of(alloc: Global, n: u16, first: u16, second: u16) -> Result<Vec<Benefit>, AllocError>
+    requires { n ≤ 8192 }
+    ensures long { IfOk result (λ v. length v.items ≡ n) }
+    ensures range { IfOk result (λ v. All IsBenefit v.items) }
+{
+    let mut benefits = Vec::with_capacity(alloc, n as usize)?;
+    for i in 0..n {
+        benefits.push(benefit_of(i, first, second))?;
+    }
+    Ok(benefits)
+}
+
+// What both calls say of a row of all objects.
+fn answers(
+    alloc: Global,
+    benefits: &[Benefit],
+    prices: &Prices,
+) -> Result<[Option<BestTwo>; 2], AllocError>
+    requires few { length benefits.now ≤ 8192 }
+    requires long { length benefits.now ≡ length prices.now }
+    requires range { All IsBenefit benefits.now }
+{
+    let row = pairs_of(alloc, benefits)?;
+    Ok([
+        best_two_full(benefits, prices),
+        best_two(row.as_slice(), prices),
+    ])
+}
+
+// The best two, by a search for the best and one for the second.
+fn searched(benefits: &[Benefit], prices: &[Price]) -> Option<BestTwo> {
+    let mut best: Option<(usize, i128)> = None;
+    for (i, (benefit, price)) in benefits.iter().zip(prices).enumerate() {
+        let value = i128::from(*benefit).wrapping_sub(*price);
+        if best.is_none_or(|(_, other)| value > other) {
+            best = Some((i, value));
+        }
+    }
+    let (at, best) = best?;
+    let mut second: Option<i128> = None;
+    for (i, (benefit, price)) in benefits.iter().zip(prices).enumerate() {
+        let value = i128::from(*benefit).wrapping_sub(*price);
+        if i != at && second.is_none_or(|other| value > other) {
+            second = Some(value);
+        }
+    }
+    Some(BestTwo {
+        object: Object(u16::try_from(at).unwrap_or(0).wrapping_add(1)),
+        best,
+        second,
+    })
+}
+
+#[test]
+fn rows_of_many_lengths(rt: HostRuntime) -> Result<(), Fail> {
+    for n in [0u16, 1, 2, 63, 64, 65, 127, 128, 129, 8192] {
+        let prices = prices_of(rt.alloc(), n)?;
+        for (first, second) in [
+            (0, 0),
+            (n.wrapping_sub(1), 9000),
+            (1, n / 2),
+            (5, 70),
+            (70, 64),
+        ] {
+            let benefits = benefits_of(rt.alloc(), n, first, second)?;
+            let plain = searched(benefits.as_slice(), prices.as_slice());
+            assert_eq!(rt;
+                answers(rt.alloc(), benefits.as_slice(), &prices)?,
+                [plain, plain],
+                "{n} {first} {second}"
+            );
+        }
+    }
+    Ok(())
+}
+
+#[test]
+fn worked_rows(rt: HostRuntime) -> Result<(), Fail> {
+    let third = BestTwo {
+        object: Object(2),
+        best: -8,
+        second: Some(-8),
+    };
+    let prices = Prices::new(vec![in rt.alloc(); 1, 0, 0]?);
+    assert_eq!(rt; best_two_full(&[-8, -8, -8], &prices), Some(third));
+    let row = [(Object(1), -8), (Object(2), -8), (Object(3), -8)];
+    assert_eq!(rt; best_two(&row, &prices), Some(third));
+    let other = BestTwo {
+        object: Object(2),
+        best: -6,
+        second: Some(-11),
+    };
+    let prices = Prices::new(vec![in rt.alloc(); 8, 0]?);
+    assert_eq!(rt; best_two_full(&[-3, -6], &prices), Some(other));
+    let alone = BestTwo {
+        object: Object(1),
+        best: -14,
+        second: None,
+    };
+    let prices = Prices::new(vec![in rt.alloc(); 0]?);
+    assert_eq!(rt; best_two(&[(Object(1), -14)], &prices), Some(alone));
+    assert_eq!(rt; best_two(&[], &prices), None);
+    Ok(())
+}
+
+// The ask of a phase with this slackness that starts with greatest price p0.
+fn ask_of(scaled: &Scaled, phase: u16, p0: Price, eps: i64) -> Ask
+    requires price { IsPrice p0 }
+    requires eps { IsEps scaled.now eps }
+    ensures { IsAsk scaled.now result }
+{
+    Ask {
+        phase,
+        eps,
+        floor: scaled.floor(p0, eps),
+    }
+}
+
+// A price brought into range.
+fn priced(value: Price) -> Price
+    ensures { IsPrice result }
+{
+    value.max(0).min(PRICE_END - 1)
+}
+
+// The slackness of the second phase.
+fn second_eps(scaled: &Scaled) -> Option<i64>
+    ensures { IfSome result (IsEps scaled.now) }
+{
+    next_eps(scaled.first_eps())
+}
+
+// A table with these prices, each brought into range.
+fn table(alloc: Global, values: &[Price]) -> Result<Prices, AllocError>
+    requires { length values.now ≤ 8192 }
+    ensures { IfOk result (λ prices. length prices ≡ length values.now) }
+{
+    let mut prices = Vec::with_capacity(alloc, values.len())?;
+    for value in values {
+        prices.push(priced(*value))?;
+    }
+    Ok(Prices::new(prices))
+}
+
+// A person's offer under these prices, if the person and the prices belong to the problem.
+fn offered(
+    alloc: Global,
+    scaled: &Scaled,
+    values: &[Price],
+    ask: Ask,
+    person: u16,
+) -> Result<Option<Offer>, AllocError>
+    requires { IsAsk scaled.now ask }
+{
+    let n = scaled.n();
+    if values.len() != n as usize || person == 0 || person > n {
+        return Ok(None);
+    }
+    let prices = table(alloc, values)?;
+    Ok(Some(make_bid(scaled, &prices, 7, ask, Person(person))))
+}
+
+// A bid of version 7.
+fn bid(person: u16, object: u16, level: Price, phase: u16) -> Option<Offer> {
+    Some(Offer::Bid(Bid {
+        person: Person(person),
+        object: Object(object),
+        level,
+        phase,
+        version: 7,
+    }))
+}
+
+// No bid.
+fn below(person: u16, phase: u16) -> Option<Offer> {
+    Some(Offer::Below(BelowFloor {
+        person: Person(person),
+        phase,
+    }))
+}
+
+#[test]
+fn offers_of_two_persons(rt: HostRuntime) -> Result<(), Fail> {
+    let problem = Problem::dense(rt.alloc(), 2, &[1, 2, 3, 5])?;
+    let scaled = scale(rt.alloc(), problem, Sense::Min)?;
+    let ask = ask_of(&scaled, 1, 0, scaled.first_eps());
+    assert_eq!(rt; (ask.eps, ask.floor), (2, -29));
+    for (prices, person, offer) in [
+        ([0, 0], 1, bid(1, 1, 5, 1)),
+        ([0, 0], 2, bid(2, 1, 8, 1)),
+        ([8, 0], 1, bid(1, 2, 7, 1)),
+        // the second value is under the floor
+        ([0, 100], 1, bid(1, 1, 28, 1)),
+        // the best value is the floor, and one less
+        ([26, 24], 1, bid(1, 1, 28, 1)),
+        ([27, 24], 1, below(1, 1)),
+    ] {
+        assert_eq!(rt; offered(rt.alloc(), &scaled, &prices, ask, person)?, offer);
+    }
+    let Some(eps) = second_eps(&scaled) else {
+        panic!(rt; "no second phase");
+    };
+    let ask = ask_of(&scaled, 2, 8, eps);
+    assert_eq!(rt; (ask.eps, ask.floor), (1, -36));
+    for (prices, person, offer) in [
+        ([8, 7], 1, bid(1, 1, 11, 2)),
+        ([8, 7], 2, bid(2, 1, 14, 2)),
+        ([14, 7], 1, bid(1, 2, 12, 2)),
+        ([8, 0], 1, bid(1, 2, 6, 2)),
+        ([0, 0], 2, bid(2, 1, 7, 2)),
+        ([11, 7], 2, bid(2, 1, 14, 2)),
+        ([11, 7], 1, bid(1, 2, 9, 2)),
+    ] {
+        assert_eq!(rt; offered(rt.alloc(), &scaled, &prices, ask, person)?, offer);
+    }
+    Ok(())
+}
+
+#[test]
+fn offers_where_much_is_wanted(rt: HostRuntime) -> Result<(), Fail> {
+    let problem = Problem::dense(rt.alloc(), 2, &[1, 2, 3, 5])?;
+    let scaled = scale(rt.alloc(), problem, Sense::Max)?;
+    let ask = ask_of(&scaled, 1, 0, scaled.first_eps());
+    assert_eq!(rt; (ask.eps, ask.floor), (2, -11));
+    for (person, offer) in [(1, bid(1, 2, 5, 1)), (2, bid(2, 2, 8, 1))] {
+        assert_eq!(rt; offered(rt.alloc(), &scaled, &[0, 0], ask, person)?, offer);
+    }
+    Ok(())
+}
+
+#[test]
+fn offers_of_three_persons(rt: HostRuntime) -> Result<(), Fail> {
+    let problem = Problem::from_rows(vec![in rt.alloc();
+        vec![in rt.alloc(); (Object(1), 4)]?,
+        vec![in rt.alloc(); (Object(1), 6)]?,
+        vec![in rt.alloc(); (Object(2), 1), (Object(3), 2)]?,
+    ]?);
+    let scaled = scale(rt.alloc(), problem, Sense::Min)?;
+    let ask = ask_of(&scaled, 1, 0, scaled.first_eps());
+    assert_eq!(rt; (ask.eps, ask.floor), (4, -72));
+    for (prices, person, offer) in [
+        ([0, 0, 0], 1, bid(1, 1, 60, 1)),
+        ([0, 0, 0], 2, bid(2, 1, 52, 1)),
+        ([0, 0, 0], 3, bid(3, 2, 8, 1)),
+        ([60, 8, 0], 2, below(2, 1)),
+    ] {
+        assert_eq!(rt; offered(rt.alloc(), &scaled, &prices, ask, person)?, offer);
+    }
+    Ok(())
+}
+
+#[test]
+fn the_greatest_level(rt: HostRuntime) -> Result<(), Fail> {
+    let problem = Problem::dense(rt.alloc(), 1, &[7])?;
+    let scaled = scale(rt.alloc(), problem, Sense::Min)?;
+    let prices = [PRICE_END - 1];
+    let ask = ask_of(&scaled, 3, PRICE_END - 1, scaled.first_eps());
+    assert_eq!(rt;
+        offered(rt.alloc(), &scaled, &prices, ask, 1)?,
+        bid(1, 1, PRICE_END, 3)
+    );
+    let ask = ask_of(&scaled, 3, PRICE_END - 2, scaled.first_eps());
+    assert_eq!(rt; offered(rt.alloc(), &scaled, &prices, ask, 1)?, below(1, 3));
+    Ok(())
+}
+
+#[test]
+fn a_person_that_lists_nothing(rt: HostRuntime) -> Result<(), Fail> {
+    let problem = Problem::from_rows(vec![in rt.alloc(); Vec::new(rt.alloc())]?);
+    let scaled = scale(rt.alloc(), problem, Sense::Min)?;
+    let ask = ask_of(&scaled, 1, 0, scaled.first_eps());
+    assert_eq!(rt; offered(rt.alloc(), &scaled, &[0], ask, 1)?, below(1, 1));
+    Ok(())
+}
