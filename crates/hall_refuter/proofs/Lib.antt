@@ -1,0 +1,6 @@
+pub mod Marks
+pub mod Growing
+pub mod Climbing
+pub mod Marking
+pub mod Refuting
+pub mod Searching

@@ -1,0 +1,97 @@
+-- Marks of the persons found, and lists of what is marked.
+use Rattle.std.proofs.Common.{◌≡◌, ℕ, ◌+◌, ◌-◌, ◌<◌, ◌≤◌, ◌↔◌, zero, suc, List, [], ◌∷◌, Bool, true, false, Less, length, get_or, set, ap, arith, refl, sym, subst, ◌∙◌, inl, inr, ◌⊎◌}
+use Rattle.std.specs.List.{All, AllByRecursion, Contains}
+use Rattle.std.specs.List.Sorted.{IsStrictlyIncreasing, IsStrictlySortedBy}
+use Rattle.std.specs.Ordering.{nat_cmp}
+use Rattle.std.proofs.lemmas.Bool.Decides.{nat_tests}
+use Rattle.std.proofs.lemmas.Map.Keys.{IsStrictlyIncreasing-from_sorted}
+use Rattle.assign_core.specs.Numbered.{renumbered}
+use Rattle.hall_refuter.specs.declared.reach.Found.{Found}
+use Rattle.hall_refuter.specs.Found.{person_at, IsMarked, IsAmongFirst, marked_from}
+use Rattle.hall_refuter.proofs.Marks.{marked_same, marked_other, marked_kept, is_same}
+use Rattle.hall_refuter.proofs.Growing.{person_read}
+
+set_is : (marks : List Bool) (i j : ℕ) → i ≡ j → 0 < j → set marks (i - 1) true ≡ renumbered marks j true
+set_is marks i zero e some = absurd (omega arith)
+set_is marks i (suc k) e some = let at : i - 1 ≡ k = omega arith in ap (λ q. set marks q true) at
+
+low_or_same : (k i : ℕ) → k < i + 1 → (k < i) ⊎ (k ≡ i)
+low_or_same k i below = grind arith
+
+one_marked : (found : List Found) (marks : List Bool) (h j x : ℕ) → person_at found h ≡ j → 0 < j → j ≤ length marks → (IsMarked marks x ↔ IsAmongFirst found x h) → IsMarked (renumbered marks j true) x ↔ IsAmongFirst found x (h + 1)
+one_marked found marks h j x at some last before = (
+  (λ m. elim (is_same x j) [
+    | inl e ↦ (h, omega arith, at ∙ sym e)
+    | inr ne ↦ let was = before.0 (sym (marked_other marks j x ne) ∙ m) in (was.0, (let lt = was.1 in omega arith), was.2)
+  ]),
+  (λ a. elim (low_or_same a.0 h a.1) [
+    | inl less ↦ marked_kept marks j x some last (before.1 (a.0, less, a.2))
+    | inr same ↦
+        let e : j ≡ x = sym at ∙ ap (person_at found) (sym same) ∙ a.2 in
+        subst (IsMarked (renumbered marks j true)) e (marked_same marks j some last)
+  ]),
+)
+
+-- one more person is marked
+pub marked_more : (found : List Found) (marks : List Bool) (n h i : ℕ) (f : Found) → i ≡ f.person → h < length found → f ≡ get_or found h f → All (λ g. (0 < g.person) × (g.person ≤ n)) found → length marks ≡ n →
+    ((x : ℕ) → IsMarked marks x ↔ IsAmongFirst found x h) → (x : ℕ) → IsMarked (set marks (i - 1) true) x ↔ IsAmongFirst found x (h + 1)
+marked_more found marks n h i f e lt at within long before x =
+    let w : (0 < f.person) × (f.person ≤ n) = subst (λ g. (0 < g.person) × (g.person ≤ n)) (sym at) (within h f lt) in
+    let some = w.0 in
+    let last : f.person ≤ length marks = let l = w.1 in omega arith in
+    rw (set_is marks i f.person e some) (one_marked found marks h f.person x (person_read found h f lt at) some last (before x))
+
+contains_cons : (y : ℕ) (xs : List ℕ) (x : ℕ) → Contains xs x → Contains (y ∷ xs) x
+contains_cons y xs x h = (suc h.0, (let lt = h.1 in omega arith), h.2)
+
+-- a marked number stands in the list
+listed_mark : (j : ℕ) (marks : List Bool) (i x : ℕ) → j + i ≡ x → get_or marks i false ≡ true → Contains (marked_from j marks) x
+listed_mark j [] i x e m = absurd cc
+listed_mark j (true ∷ marks) zero x e m = let at : j ≡ x = omega arith in (0, omega arith, at)
+listed_mark j (false ∷ marks) zero x e m = absurd cc
+listed_mark j (true ∷ marks) (suc i) x e m = contains_cons j (marked_from (j + 1) marks) x (listed_mark (j + 1) marks i x (omega arith) m)
+listed_mark j (false ∷ marks) (suc i) x e m = listed_mark (j + 1) marks i x (omega arith) m
+
+-- a number of the list is marked
+mark_listed : (j : ℕ) (marks : List Bool) (k x : ℕ) → k < length (marked_from j marks) → get_or (marked_from j marks) k x ≡ x → (i : ℕ) × (j + i ≡ x) × (get_or marks i false ≡ true)
+mark_listed j [] k x lt at = absurd (omega arith)
+mark_listed j (true ∷ marks) zero x lt at = (0, omega arith, refl)
+mark_listed j (true ∷ marks) (suc k) x lt at = let r = mark_listed (j + 1) marks k x (omega arith) at in (suc r.0, (let e = r.1 in omega arith), r.2)
+mark_listed j (false ∷ marks) k x lt at = let r = mark_listed (j + 1) marks k x lt at in (suc r.0, (let e = r.1 in omega arith), r.2)
+
+-- just the marked numbers stand in the list
+pub marked_contains : (marks : List Bool) (x : ℕ) → Contains (marked_from 1 marks) x ↔ IsMarked marks x
+marked_contains marks x = (to x, from x) where
+  to : (y : ℕ) → Contains (marked_from 1 marks) y → IsMarked marks y
+  to zero h = let r = mark_listed 1 marks h.0 0 h.1 h.2 in let e = r.1 in absurd (omega arith)
+  to (suc k) h = let r = mark_listed 1 marks h.0 (suc k) h.1 h.2 in let e = r.1 in let same : r.0 ≡ k = omega arith in subst (λ q. get_or marks q false ≡ true) same r.2
+
+  from : (y : ℕ) → IsMarked marks y → Contains (marked_from 1 marks) y
+  from zero m = absurd cc
+  from (suc k) m = listed_mark 1 marks k (suc k) (omega arith) m
+
+all_above : (j k : ℕ) (marks : List Bool) → j < k → AllByRecursion (λ y. nat_cmp j y ≡ Less) (marked_from k marks)
+all_above j k [] lt = tt
+all_above j k (true ∷ marks) lt = (less j k lt, all_above j (k + 1) marks (omega arith)) where
+  less : (a b : ℕ) → a < b → nat_cmp a b ≡ Less
+  less a b h = grind (arith, nat_tests)
+all_above j k (false ∷ marks) lt = all_above j (k + 1) marks (omega arith)
+
+sorted_marks : (j : ℕ) (marks : List Bool) → IsStrictlySortedBy nat_cmp (marked_from j marks)
+unfolding IsStrictlySortedBy
+sorted_marks j [] = tt
+sorted_marks j (true ∷ marks) = (all_above j (j + 1) marks (omega arith), sorted_marks (j + 1) marks)
+sorted_marks j (false ∷ marks) = sorted_marks (j + 1) marks
+
+pub marked_rise : (marks : List Bool) → IsStrictlyIncreasing (marked_from 1 marks)
+marked_rise marks = IsStrictlyIncreasing-from_sorted (marked_from 1 marks) (sorted_marks 1 marks)
+
+-- the list of the marked numbers has just those that the marks say
+pub listed_as : (P : ℕ → Type 0) (xs : List ℕ) (marks given : List Bool) → xs ≡ marked_from 1 given → given ≡ marks → ((x : ℕ) → IsMarked marks x ↔ P x) → (x : ℕ) → Contains xs x ↔ P x
+listed_as P xs marks given e same h x =
+    let at : xs ≡ marked_from 1 marks = e ∙ ap (marked_from 1) same in
+    let c = marked_contains marks x in
+    rw at ((λ k. (h x).0 (c.0 k)), (λ p. c.1 ((h x).1 p)))
+
+pub rising_as : (xs : List ℕ) (marks : List Bool) → xs ≡ marked_from 1 marks → IsStrictlyIncreasing xs
+rising_as xs marks e = subst IsStrictlyIncreasing (sym e) (marked_rise marks)

@@ -1,0 +1,11 @@
+//! For a person who owns nothing: a Hall set, or an alternating path to a free object.
+#![tactic(auto)]
+
+mod lists;
+mod path;
+mod reach;
+mod search;
+#[cfg(test)]
+mod tests;
+
+pub use search::{Search, refute};

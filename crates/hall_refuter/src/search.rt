@@ -1,0 +1,90 @@
+// The search for a Hall set or an alternating path.
+ghost use Rattle.std.specs.Prelude.{◌≡◌, ℕ, ◌<◌, ◌≤◌, ◌↔◌, Some, IfOk, length, All, Contains};
+ghost use Rattle.std.specs.List.Sorted.{IsStrictlyIncreasing};
+ghost use Rattle.assign_core.specs.Matching.{IsMatching, owner_of};
+ghost use Rattle.assign_core.specs.Reach.{IsBlocked};
+ghost use Rattle.hall_refuter.specs.Found.{IsAmongFirst, IsMarked};
+ghost use Rattle.hall_refuter.specs.Search.{IsFound, IsHall};
+
+use super::lists::{marked_objects, marked_persons, marks_of};
+use super::path::path_to;
+use super::reach::{Reach, begin, visit};
+use assign_core::{HallSet, Object, Person, Problem};
+use scaled_values::Scaled;
+use std::alloc::{AllocError, Global};
+
+/// What a search finds: a Hall set of all that a person reaches, or an alternating path from the
+/// person to a free object.
+#[derive(Debug, Drop)]
+pub enum Search {
+    Hall(HallSet),
+    Path(Vec<Object>),
+}
+
+// The persons found and the objects met, both rising.
+fn hall_set(alloc: Global, reach: &Reach) -> Result<HallSet, AllocError>
+    requires few { length reach.now.met.items ≤ 8192 }
+    requires within { All (λ f. (0 < f.person) × (f.person ≤ length reach.now.met.items)) reach.now.found.items }
+    ensures persons { IfOk result (λ hall. (x : ℕ) → Contains hall.persons x ↔ IsAmongFirst reach.now.found.items x (length reach.now.found.items)) }
+    ensures objects { IfOk result (λ hall. (j : ℕ) → Contains hall.objects j ↔ IsMarked reach.now.met.items j) }
+    ensures persons_rise { IfOk result (λ hall. IsStrictlyIncreasing hall.persons) }
+    ensures objects_rise { IfOk result (λ hall. IsStrictlyIncreasing hall.objects) }
+{
+    let n = reach.met.len() as u16;
+    let marks = marks_of(alloc, n, reach.found.as_slice())?;
+    let persons = marked_persons(alloc, marks.as_slice())?;
+    let objects = marked_objects(alloc, reach.met.as_slice())?;
+    Ok(HallSet::new(persons, objects))
+}
+
+// The same as `refute`, of a problem.
+fn search_from(
+    alloc: Global,
+    problem: &Problem,
+    owners: &[Option<Person>],
+    person: Person,
+) -> Result<Search, AllocError>
+    requires matching { IsMatching problem.now owners.now }
+    requires first { 0 < person }
+    requires last { person ≤ length problem.now }
+    requires alone { (j : ℕ) → owner_of owners.now j ≡ Some person → ⊥ }
+    ensures { IfOk result (IsFound problem.now owners.now person) }
+{
+    let mut reach = begin(alloc, problem.n(), person)?;
+    let mut next = 0;
+    while next < reach.found.len() {
+        if let Some(object) = visit(&mut reach, problem, owners, next)? {
+            let path = path_to(alloc, reach.found.as_slice(), next, object)?;
+            return Ok(Search::Path(path));
+        }
+        next += 1;
+    }
+    Ok(Search::Hall(hall_set(alloc, &reach)?))
+}
+
+/// For a person who owns nothing, under a matching along listed pairs: either the Hall set of all
+/// persons that alternating walks reach and of all objects that they list, or an alternating path
+/// to a free object. It is the Hall set exactly where each object that a reached person lists is
+/// owned, and then no assignment exists.
+///
+/// Breadth-first search over what the persons list, in time linear in the pairs of the reached
+/// persons and in `n` (the search for an augmenting path; Burkard, Dell'Amico and Martello,
+/// Assignment Problems, 2009, section 3.2).
+///
+/// # Errors
+/// Only where memory is refused.
+pub fn refute(
+    alloc: Global,
+    scaled: &Scaled,
+    owners: &[Option<Person>],
+    person: Person,
+) -> Result<Search, AllocError>
+    requires matching { IsMatching scaled.now.problem owners.now }
+    requires first { 0 < person }
+    requires last { person ≤ length scaled.now.problem }
+    requires alone { (j : ℕ) → owner_of owners.now j ≡ Some person → ⊥ }
+    ensures found { IfOk result (IsFound scaled.now.problem owners.now person) }
+    ensures which { IfOk result (λ search. IsHall search ↔ IsBlocked scaled.now.problem owners.now person) }
+{
+    search_from(alloc, scaled.problem(), owners, person)
+}
