@@ -3,12 +3,18 @@ use Rattle.std.proofs.Common.{◌≡◌, ℕ, ℤ, pos, ◌<◌, ◌≤◌, ◌+
 use Rattle.std.proofs.lemmas.List.{map-append}
 use Rattle.std.specs.List.{All}
 use Rattle.std.proofs.lemmas.List.Elements.{All-nil, All-cons, All-take, All-drop}
-use Rattle.assign_core.specs.Rows.{Row, IsCost, IsRow, IsSize, IsProblem}
+use Rattle.assign_core.specs.Rows.{Listing, IsCost, IsRow, IsSize, IsProblem}
 use Rattle.assign_core.specs.Dense.{row_from, rows_cut}
 
 pub length-row_from : (j : ℕ) (costs : List ℤ) → length (row_from j costs) ≡ length costs
 length-row_from j [] = refl
 length-row_from j (c ∷ costs) = ap suc (length-row_from (j + 1) costs)
+
+-- one more cost
+pub row_from-push : (j : ℕ) (costs : List ℤ) (c : ℤ) → row_from j (costs ++ c ∷ []) ≡ row_from j costs ++ (j + length costs, c) ∷ []
+row_from-push j [] c = ap (λ k. (k, c) ∷ []) (omega arith)
+row_from-push j (d ∷ costs) c =
+    ap (λ r. (j, d) ∷ r) (row_from-push (j + 1) costs c ∙ ap (λ k. row_from (j + 1) costs ++ (k, c) ∷ []) (omega arith))
 
 -- entry i is of object j + i, at cost number i
 pub row_from-index : (j i : ℕ) (costs : List ℤ) (d : ℕ × ℤ) (z : ℤ) → i < length costs → get_or (row_from j costs) i d ≡ (j + i, get_or costs i z)
@@ -28,7 +34,7 @@ IsRow-row_from n costs few h =
           rw (at, above) (omega arith);
       within = λ k d lt.
           let at = row_from-index 1 k costs d (pos 0) (omega arith) in
-          rw at (omega arith, omega arith);
+          rw at (record { first = omega arith; last = omega arith });
       costs = λ k d lt.
           let at = row_from-index 1 k costs d (pos 0) (omega arith) in
           rw at (h k (pos 0) (omega arith));
@@ -62,7 +68,7 @@ pub rows_cut-step : (n k : ℕ) (costs : List ℤ) → k < n → rows_cut n (n -
 rows_cut-step n k costs lt = let e : n - k ≡ suc (n - (k + 1)) = omega arith in ap (λ m. rows_cut n m costs) e
 
 -- a row goes from those to come to those that stand
-pub rows_moved : {V : Type 0} (f : V → Row) (vs : List V) (v : V) (row : Row) (rest : List Row) → f v ≡ row → map f (vs ++ v ∷ []) ++ rest ≡ map f vs ++ (row ∷ rest)
+pub rows_moved : {V : Type 0} (f : V → Listing) (vs : List V) (v : V) (row : Listing) (rest : List Listing) → f v ≡ row → map f (vs ++ v ∷ []) ++ rest ≡ map f vs ++ (row ∷ rest)
 rows_moved f vs v row rest e =
     ap (λ l. l ++ rest) (map-append f vs (v ∷ []))
     ∙ append_assoc (map f vs) (f v ∷ []) rest

@@ -1,10 +1,11 @@
 -- Lists of different numbers from 1 to m, and sums over them.
-use Rattle.std.proofs.Common.{◌≡◌, ℕ, ℤ, pos, ◌+ℤ◌, ◌<◌, ◌≤◌, ◌+◌, zero, suc, List, [], ◌∷◌, length, nat_eq, cond, true, false, ◌⊎◌, inl, inr, refl, arith, ap, sym, ◌∙◌}
+use Rattle.std.proofs.Common.{◌≡◌, ℕ, ℤ, pos, ◌+ℤ◌, ◌≤◌, ◌+◌, zero, suc, List, [], ◌∷◌, length, nat_eq, cond, true, false, ◌⊎◌, inl, inr, refl, arith, ap, sym, ◌∙◌}
 use Rattle.std.specs.List.{IsDistinct, AllByRecursion}
 use Rattle.std.proofs.lemmas.Bool.{eqb-false, cond-true, cond-false}
 use Rattle.std.proofs.lemmas.Bool.Decides.{eqb_tells}
 use Rattle.std.proofs.lemmas.Map.Keys.{IsDistinct-head, IsDistinct-tail, IsDistinct-cons}
 use Rattle.std.proofs.lemmas.Int.{ints}
+use Rattle.assign_core.specs.Numbered.{IsNumber}
 
 abbrev pub sum_z : (ℕ → ℤ) → List ℕ → ℤ
 sum_z f [] = pos 0
@@ -78,13 +79,13 @@ distinct_without m (x ∷ xs) h = elim (eqb_tells x m) [
 ]
 
 abbrev pub InRange : ℕ → List ℕ → Type 0
-InRange m xs = AllByRecursion (λ j. (0 < j) × (j ≤ m)) xs
+InRange m xs = AllByRecursion (IsNumber m) xs
 
 range_without : (m : ℕ) (xs : List ℕ) → InRange (suc m) xs → InRange m (without (suc m) xs)
 range_without m [] h = tt
 range_without m (x ∷ xs) h = elim (eqb_tells x (suc m)) [
   | inl e ↦ rw (without_same (suc m) x xs e.0) (range_without m xs h.1)
-  | inr e ↦ rw (without_other (suc m) x xs e.0) ((h.0.0, let a = h.0.1 in let b = e.1 in omega arith), range_without m xs h.1)
+  | inr e ↦ rw (without_other (suc m) x xs e.0) (record { first = h.0.first; last = let a = h.0.last in let b = e.1 in omega arith }, range_without m xs h.1)
 ]
 
 -- different numbers from 1 to m are at most m, and where they are m, they are all of them
@@ -94,7 +95,7 @@ pub record IsCounted (f : ℕ → ℤ) (m : ℕ) (xs : List ℕ) : Type 0 where
 
 counted_zero : (f : ℕ → ℤ) (xs : List ℕ) → InRange 0 xs → IsCounted f 0 xs
 counted_zero f [] r = record { few = omega arith; whole = λ _. refl }
-counted_zero f (x ∷ xs) r = let a = r.0.0 in let b = r.0.1 in absurd (omega arith)
+counted_zero f (x ∷ xs) r = let a = r.0.first in let b = r.0.last in absurd (omega arith)
 
 counted_none : (f : ℕ → ℤ) (m : ℕ) (xs : List ℕ) → IsNowhere f (suc m) xs → IsCounted f m (without (suc m) xs) → IsCounted f (suc m) xs
 counted_none f m xs o c = record { few = let a = o.long in let b = c.few in omega arith; whole = λ e. let a = o.long in let b = c.few in absurd (omega arith) }

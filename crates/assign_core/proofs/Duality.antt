@@ -1,6 +1,5 @@
 -- Weak duality: no assignment is better than one with slackness, by as much as eps for each person.
 use Rattle.std.proofs.Common.{◌≡◌, ℕ, ℤ, pos, ◌+ℤ◌, ◌*ℤ◌, ◌≤ℤ◌, ◌<ℤ◌, ◌≤◌, ◌+◌, ◌-◌, ◌*◌, suc, List, [], ◌∷◌, unwrap_or, IsSome, length, map, refl, arith, rules, ap, sym, ◌∙◌, subst, inl, inr, add-one}
-use Rattle.std.specs.List.{AllZip}
 use Rattle.std.proofs.lemmas.Int.{ints, by_lt_z}
 use Rattle.std.proofs.lemmas.List.Elements.{All-weaker}
 use Rattle.std.proofs.lemmas.Bool.Decides.{eqb_tells}
@@ -9,8 +8,8 @@ use borrow.Author.Differences.{up, down}
 use Rattle.std.proofs.lemmas.Slice.Zip.{AllZip-long}
 use Rattle.assign_core.specs.declared.sense.Sense.{Sense}
 use Rattle.assign_core.specs.declared.sense.Sense.TheVariants.{Min, Max}
-use Rattle.assign_core.specs.Rows.{Row, listed_in, listed_or_zero, IsProblem, IsRow, IsWithin}
-use Rattle.assign_core.specs.Assignment.{IsAssignment, IsBest, IsNoWorse, total}
+use Rattle.assign_core.specs.Rows.{Listing, listed_in, listed_or_zero, IsProblem, IsRow, IsWithin}
+use Rattle.assign_core.specs.Assignment.{AreListed, IsAssignment, IsBest, IsNoWorse, total}
 use Rattle.assign_core.specs.Benefits.{factor, benefit, benefit_row, benefit_rows}
 use Rattle.assign_core.specs.Slackness.{AllSlack, IsWorth}
 use Rattle.assign_core.specs.Prices.{price_of}
@@ -19,7 +18,7 @@ use Rattle.assign_core.proofs.Distinct.{sum_z, sums_agree}
 use Rattle.assign_core.proofs.Listed.{all_listed, listed_here, listed_later, objects_within}
 
 -- an object is listed with a benefit where it is listed with a cost
-pub benefit_listed : (sense : Sense) (n : ℕ) (row : Row) (j : ℕ) → IsSome (listed_in row j) → IsSome (listed_in (benefit_row sense n row) j)
+pub benefit_listed : (sense : Sense) (n : ℕ) (row : Listing) (j : ℕ) → IsSome (listed_in row j) → IsSome (listed_in (benefit_row sense n row) j)
 benefit_listed sense n [] j s = s
 benefit_listed sense n (e ∷ row) j s = elim (eqb_tells e.0 j) [
   | inl t ↦ rw (listed_here (e.0, benefit sense n e.1) (benefit_row sense n row) j t.0) (search rules)
@@ -28,7 +27,7 @@ benefit_listed sense n (e ∷ row) j s = elim (eqb_tells e.0 j) [
       (benefit_listed sense n row j (rw (listed_later e row j t.0) at s))
 ]
 
-pub benefit_value : (sense : Sense) (n : ℕ) (row : Row) (j : ℕ) → listed_or_zero (benefit_row sense n row) j ≡ factor sense n *ℤ listed_or_zero row j
+pub benefit_value : (sense : Sense) (n : ℕ) (row : Listing) (j : ℕ) → listed_or_zero (benefit_row sense n row) j ≡ factor sense n *ℤ listed_or_zero row j
 benefit_value sense n [] j = sym (*ℤ-zero (factor sense n))
 benefit_value sense n (e ∷ row) j = elim (eqb_tells e.0 j) [
   | inl t ↦
@@ -40,15 +39,15 @@ benefit_value sense n (e ∷ row) j = elim (eqb_tells e.0 j) [
       ∙ ap (λ o. factor sense n *ℤ unwrap_or o (pos 0)) (sym (listed_later e row j t.0))
 ]
 
-all_benefit_listed : (sense : Sense) (n : ℕ) (rows : List Row) (xs : List ℕ) → AllZip (λ row j. IsSome (listed_in row j)) rows xs →
-    AllZip (λ row j. IsSome (listed_in row j)) (map (benefit_row sense n) rows) xs
+all_benefit_listed : (sense : Sense) (n : ℕ) (rows : List Listing) (xs : List ℕ) → AreListed rows xs →
+    AreListed (map (benefit_row sense n) rows) xs
 all_benefit_listed sense n [] [] h = tt
 all_benefit_listed sense n [] (x ∷ xs) h = absurd h
 all_benefit_listed sense n (row ∷ rows) [] h = absurd h
 all_benefit_listed sense n (row ∷ rows) (x ∷ xs) h = (benefit_listed sense n row x h.0, all_benefit_listed sense n rows xs h.1)
 
 -- the sum of the benefits is the sum of the costs times the factor
-pub benefit_total : (sense : Sense) (n : ℕ) (rows : List Row) (xs : List ℕ) → total (map (benefit_row sense n) rows) xs ≡ factor sense n *ℤ total rows xs
+pub benefit_total : (sense : Sense) (n : ℕ) (rows : List Listing) (xs : List ℕ) → total (map (benefit_row sense n) rows) xs ≡ factor sense n *ℤ total rows xs
 benefit_total sense n [] xs = sym (*ℤ-zero (factor sense n))
 benefit_total sense n (row ∷ rows) [] = sym (*ℤ-zero (factor sense n))
 benefit_total sense n (row ∷ rows) (x ∷ xs) =
@@ -58,13 +57,13 @@ benefit_total sense n (row ∷ rows) (x ∷ xs) =
     ap (λ z. z +ℤ total (map (benefit_row sense n) rows) xs) b ∙ ap (λ z. (factor sense n *ℤ listed_or_zero row x) +ℤ z) t ∙ sym d
 
 -- eps for each row
-abbrev sum_eps : ℤ → List Row → ℤ
+abbrev sum_eps : ℤ → List Listing → ℤ
 sum_eps eps [] = pos 0
 sum_eps eps (row ∷ rows) = sum_eps eps rows +ℤ eps
 
 -- the sum over the rows
-weak : (eps : ℤ) (prices : List ℤ) (rows : List Row) (xs ys : List ℕ) → AllSlack eps prices rows xs →
-    AllZip (λ row j. IsSome (listed_in row j)) rows ys →
+weak : (eps : ℤ) (prices : List ℤ) (rows : List Listing) (xs ys : List ℕ) → AllSlack eps prices rows xs →
+    AreListed rows ys →
     (total rows ys +ℤ sum_z (price_of prices) xs) ≤ℤ (total rows xs +ℤ sum_z (price_of prices) ys +ℤ sum_eps eps rows)
 weak eps prices [] [] [] k g = omega (arith, ints)
 weak eps prices [] [] (y ∷ ys) k g = absurd g
@@ -76,7 +75,7 @@ weak eps prices (row ∷ rows) (x ∷ xs) (y ∷ ys) k g =
     let i = weak eps prices rows xs ys k.1 g.1 in
     omega (arith, ints)
 
-sum_eps_one : (sense : Sense) (n : ℕ) (rows : List Row) → sum_eps (pos 1) (map (benefit_row sense n) rows) ≡ pos (length rows)
+sum_eps_one : (sense : Sense) (n : ℕ) (rows : List Listing) → sum_eps (pos 1) (map (benefit_row sense n) rows) ≡ pos (length rows)
 sum_eps_one sense n [] = refl
 sum_eps_one sense n (row ∷ rows) = let i = sum_eps_one sense n rows in omega (arith, ints)
 
@@ -101,14 +100,14 @@ ordered Min n a b h =
     least_step n a b (omega (arith, ints))
 ordered Max n a b h = least_step n b a (subst (λ s. (s *ℤ b) ≤ℤ (s *ℤ a +ℤ pos n)) (ap pos (add-one n)) h)
 
-pub no_better : (sense : Sense) (rows : List Row) (xs : List ℕ) (prices : List ℤ) → IsProblem rows → IsAssignment rows xs →
+pub no_better : (sense : Sense) (rows : List Listing) (xs : List ℕ) (prices : List ℤ) → IsProblem rows → IsAssignment rows xs →
     AllSlack (pos 1) prices (benefit_rows sense rows) xs → (ys : List ℕ) → IsAssignment rows ys → IsNoWorse sense (total rows xs) (total rows ys)
 no_better sense rows xs prices p f k ys g =
     let n : ℕ = length rows in
     let w = All-weaker (IsRow n) (IsWithin n) (λ r h. h.within) rows p.each in
     let a = objects_within n rows xs w f.listed in
     let b = objects_within n rows ys w g.listed in
-    let listed = λ (row : Row) (j : ℕ). IsSome (listed_in row j) in
+    let listed = λ (row : Listing) (j : ℕ). IsSome (listed_in row j) in
     let la : length xs ≡ n = AllZip-long listed rows xs f.listed in
     let lb : length ys ≡ n = AllZip-long listed rows ys g.listed in
     let same = sums_agree (price_of prices) n xs ys f.apart g.apart a b la lb in
@@ -119,6 +118,6 @@ no_better sense rows xs prices p f k ys g =
     ordered sense n (total rows xs) (total rows ys) (omega (arith, ints))
 
 -- slackness gives best
-pub best_by_slack : (sense : Sense) (rows : List Row) (xs : List ℕ) (prices : List ℤ) → IsProblem rows → IsAssignment rows xs →
+pub best_by_slack : (sense : Sense) (rows : List Listing) (xs : List ℕ) (prices : List ℤ) → IsProblem rows → IsAssignment rows xs →
     AllSlack (pos 1) prices (benefit_rows sense rows) xs → IsBest sense rows xs
 best_by_slack sense rows xs prices p f k = record { assigned = f; best = no_better sense rows xs prices p f k }

@@ -10,5 +10,12 @@ pub mod DensePairs
 pub mod Tried
 pub mod HallSets
 pub mod HallReach
+pub mod NumberedLemmas
+pub mod Narrowed
+pub mod NumbersOf
+pub mod Zips
+pub mod BenefitRows
+pub mod RaisedPrices
+pub mod LeastCosts
 pub mod SparseRows
-pub mod SparseColumns
+pub mod Gathering

@@ -1,5 +1,5 @@
 -- The search that tries each assignment: a best one is found among those with each next object.
-use Rattle.std.proofs.Common.{◌≡◌, ℕ, ℤ, pos, ◌<◌, ◌≤◌, ◌+◌, zero, suc, List, [], ◌∷◌, ◌++◌, Option, None, Some, IsSome, MatchOption, length, take, get_or, nat_eq, false, refl, arith, rules, ap, sym, ◌∙◌, subst, ◌⊎◌, inl, inr, add-one, length-append}
+use Rattle.std.proofs.Common.{◌≡◌, ℕ, ℤ, pos, ◌<◌, ◌≤◌, ◌+◌, List, [], ◌∷◌, ◌++◌, Option, None, Some, IsSome, MatchOption, length, take, get_or, nat_eq, false, refl, arith, ap, sym, ◌∙◌, subst, ◌⊎◌, inl, inr, add-one, length-append}
 use Rattle.std.specs.Cmp.{IsEquivalence}
 use Rattle.std.specs.List.{AllZip, IsDistinct, Contains, list_any}
 use Rattle.std.proofs.lemmas.Int.{ints}
@@ -11,10 +11,11 @@ use Rattle.std.proofs.lemmas.Map.Views.{Contains-from_any}
 use Rattle.std.proofs.lemmas.Slice.Zip.{AllZip-long, all_zipped_more}
 use Rattle.assign_core.specs.declared.sense.Sense.{Sense}
 use Rattle.assign_core.specs.declared.sense.Sense.TheVariants.{Min, Max}
-use Rattle.assign_core.specs.Rows.{Row, listed_in, row_of}
+use Rattle.assign_core.specs.Rows.{Listing, listed_in, row_of}
 use Rattle.assign_core.specs.Assignment.{IsAssignment, IsBest, IsNoWorse, total}
 use Rattle.assign_core.specs.Plain.{IsFront, Begins, IsBestIn, IsBetterOf}
-use Rattle.assign_core.proofs.Listed.{listed_here, listed_later}
+use Rattle.assign_core.proofs.Listed.{entry_listed, place_of}
+use Rattle.assign_core.proofs.Zips.{zip_at}
 
 no_worse_itself : (sense : Sense) (a : ℤ) → IsNoWorse sense a a
 no_worse_itself Min a = omega (arith, ints)
@@ -25,13 +26,13 @@ no_worse_through Min a b c h k = omega (arith, ints)
 no_worse_through Max a b c h k = omega (arith, ints)
 
 -- a best one of some lists is one of the same lists described otherwise
-pub bests_same : (sense : Sense) (rows : List Row) (P Q : List ℕ → Type 0) (answer : Option (List ℕ)) →
+pub bests_same : (sense : Sense) (rows : List Listing) (P Q : List ℕ → Type 0) (answer : Option (List ℕ)) →
     ((ys : List ℕ) → P ys → Q ys) → ((ys : List ℕ) → Q ys → P ys) → IsBestIn sense rows P answer → IsBestIn sense rows Q answer
 bests_same sense rows P Q None to back h = λ ys q. h ys (back ys q)
 bests_same sense rows P Q (Some xs) to back h = (to xs h.0, λ ys q. h.1 ys (back ys q))
 
 -- the better one of two best ones is a best one of all
-merged : (sense : Sense) (rows : List Row) (P Q R : List ℕ → Type 0) (a b : Option (List ℕ)) (c : Option (List ℕ)) →
+merged : (sense : Sense) (rows : List Listing) (P Q R : List ℕ → Type 0) (a b : Option (List ℕ)) (c : Option (List ℕ)) →
     ((ys : List ℕ) → P ys → R ys) → ((ys : List ℕ) → Q ys → R ys) → ((ys : List ℕ) → R ys → P ys ⊎ Q ys) →
     IsBestIn sense rows P a → IsBestIn sense rows Q b → IsBetterOf sense rows a b c → IsBestIn sense rows R c
 merged sense rows P Q R None b c p q r ha hb e =
@@ -56,27 +57,27 @@ merged sense rows P Q R (Some xs) (Some zs) c p q r ha hb e = elim e [
 ]
 
 -- an assignment that begins so, with one of the first k objects of a row next
-pub record IsAmong (rows : List Row) (front : List ℕ) (row : Row) (k : ℕ) (xs : List ℕ) : Type 0 where
+pub record IsAmong (rows : List Listing) (front : List ℕ) (row : Listing) (k : ℕ) (xs : List ℕ) : Type 0 where
   pub begins : Begins rows front xs
   pub place : ℕ
   pub below : place < k
   pub next : (get_or row place (0, pos 0)).0 ≡ get_or xs (length front) 0
 
-abbrev pub IsBestSoFar : Sense → List Row → List ℕ → Row → ℕ → Option (List ℕ) → Type 0
+abbrev pub IsBestSoFar : Sense → List Listing → List ℕ → Listing → ℕ → Option (List ℕ) → Type 0
 IsBestSoFar sense rows front row k answer = IsBestIn sense rows (IsAmong rows front row k) answer
 
-pub none_yet : (sense : Sense) (rows : List Row) (front : List ℕ) (row : Row) → IsBestSoFar sense rows front row 0 None
+pub none_yet : (sense : Sense) (rows : List Listing) (front : List ℕ) (row : Listing) → IsBestSoFar sense rows front row 0 None
 none_yet sense rows front row = λ ys a. let b = a.below in absurd (omega arith)
 
-assignment_length : (rows : List Row) (xs : List ℕ) → IsAssignment rows xs → length xs ≡ length rows
+assignment_length : (rows : List Listing) (xs : List ℕ) → IsAssignment rows xs → length xs ≡ length rows
 assignment_length rows xs a = AllZip-long (λ row j. IsSome (listed_in row j)) rows xs a.listed
 
 -- one more object may come next
-wider : (rows : List Row) (front : List ℕ) (row : Row) (k : ℕ) (ys : List ℕ) → IsAmong rows front row k ys → IsAmong rows front row (k + 1) ys
+wider : (rows : List Listing) (front : List ℕ) (row : Listing) (k : ℕ) (ys : List ℕ) → IsAmong rows front row k ys → IsAmong rows front row (k + 1) ys
 wider rows front row k ys a = record { begins = a.begins; place = a.place; below = let b = a.below in omega arith; next = a.next }
 
 -- the object at place k comes next, or one before it
-narrower : (rows : List Row) (front : List ℕ) (row : Row) (k : ℕ) (ys : List ℕ) → IsAmong rows front row (k + 1) ys →
+narrower : (rows : List Listing) (front : List ℕ) (row : Listing) (k : ℕ) (ys : List ℕ) → IsAmong rows front row (k + 1) ys →
     IsAmong rows front row k ys ⊎ ((get_or row k (0, pos 0)).0 ≡ get_or ys (length front) 0)
 narrower rows front row k ys a = elim (eqb_tells a.place k) [
   | inl e ↦ inr (ap (λ i. (get_or row i (0, pos 0)).0) (sym e.1) ∙ a.next)
@@ -84,7 +85,7 @@ narrower rows front row k ys a = elim (eqb_tells a.place k) [
 ]
 
 -- no assignment gives the next person an object of those before
-not_again : (rows : List Row) (front ys : List ℕ) (j : ℕ) → length front < length rows → Begins rows front ys → Contains front j → j ≡ get_or ys (length front) 0 → ⊥
+not_again : (rows : List Listing) (front ys : List ℕ) (j : ℕ) → length front < length rows → Begins rows front ys → Contains front j → j ≡ get_or ys (length front) 0 → ⊥
 not_again rows front ys j short b c e =
     let n : ℕ = length front in
     let long = assignment_length rows ys b.assigned in
@@ -99,11 +100,11 @@ not_again rows front ys j short b c e =
     eqb-false (get_or ys c.0 j) (get_or ys n j) apart (one ∙ sym other)
 
 -- the object of an entry, as a loop over a row reads it
-pub object_at : (row : Row) (k : ℕ) (e : ℕ × ℤ) → k < length row → e ≡ get_or row k e → e.0 ≡ (get_or row k (0, pos 0)).0
+pub object_at : (row : Listing) (k : ℕ) (e : ℕ × ℤ) → k < length row → e ≡ get_or row k e → e.0 ≡ (get_or row k (0, pos 0)).0
 object_at row k e lt h = ap (λ f. f.0) (h ∙ get_or_default row k e (0, pos 0) lt)
 
 -- an object that is taken already adds nothing
-pub step_taken : (sense : Sense) (rows : List Row) (front : List ℕ) (row : Row) (k j : ℕ) (answer : Option (List ℕ)) → length front < length rows →
+pub step_taken : (sense : Sense) (rows : List Listing) (front : List ℕ) (row : Listing) (k j : ℕ) (answer : Option (List ℕ)) → length front < length rows →
     j ≡ (get_or row k (0, pos 0)).0 → Contains front j → IsBestSoFar sense rows front row k answer → IsBestSoFar sense rows front row (k + 1) answer
 step_taken sense rows front row k j answer short e c h =
     bests_same sense rows (IsAmong rows front row k) (IsAmong rows front row (k + 1)) answer (wider rows front row k)
@@ -111,7 +112,7 @@ step_taken sense rows front row k j answer short e c h =
     h
 
 -- to begin with one object more is to begin so, with this object next
-begins_more : (rows : List Row) (front ys : List ℕ) (j : ℕ) → length front < length rows → Begins rows front ys → j ≡ get_or ys (length front) 0 → Begins rows (front ++ j ∷ []) ys
+begins_more : (rows : List Listing) (front ys : List ℕ) (j : ℕ) → length front < length rows → Begins rows front ys → j ≡ get_or ys (length front) 0 → Begins rows (front ++ j ∷ []) ys
 begins_more rows front ys j short b e =
     let long = assignment_length rows ys b.assigned in
     let n : length (front ++ j ∷ []) ≡ length front + 1 = length-append front (j ∷ []) in
@@ -121,11 +122,11 @@ begins_more rows front ys j short b e =
       same = ap (λ i. take i ys) n ∙ take_more ys (length front) 0 lt ∙ ap (λ l. l ++ get_or ys (length front) 0 ∷ []) b.same ∙ ap (λ x. front ++ x ∷ []) (sym e);
     }
 
-record IsNext (rows : List Row) (front ys : List ℕ) (j : ℕ) : Type 0 where
+record IsNext (rows : List Listing) (front ys : List ℕ) (j : ℕ) : Type 0 where
   pub begins : Begins rows front ys
   pub next : j ≡ get_or ys (length front) 0
 
-begins_less : (rows : List Row) (front ys : List ℕ) (j : ℕ) → Begins rows (front ++ j ∷ []) ys → IsNext rows front ys j
+begins_less : (rows : List Listing) (front ys : List ℕ) (j : ℕ) → Begins rows (front ++ j ∷ []) ys → IsNext rows front ys j
 begins_less rows front ys j b =
     let n : length (front ++ j ∷ []) ≡ length front + 1 = length-append front (j ∷ []) in
     let z : length front ≡ length front + 0 = omega arith in
@@ -145,7 +146,7 @@ begins_less rows front ys j b =
           ∙ get_or-take (length front + 1) ys (length front) 0 (omega arith);
     }
 
-pub step_tried : (sense : Sense) (rows : List Row) (front : List ℕ) (row : Row) (k j : ℕ) (answer found better : Option (List ℕ)) → length front < length rows →
+pub step_tried : (sense : Sense) (rows : List Listing) (front : List ℕ) (row : Listing) (k j : ℕ) (answer found better : Option (List ℕ)) → length front < length rows →
     j ≡ (get_or row k (0, pos 0)).0 → IsBestSoFar sense rows front row k answer → IsBestIn sense rows (Begins rows (front ++ j ∷ [])) found →
     IsBetterOf sense rows answer found better → IsBestSoFar sense rows front row (k + 1) better
 step_tried sense rows front row k j answer found better short e h f m =
@@ -155,37 +156,8 @@ step_tried sense rows front row k j answer found better short e h f m =
     (λ ys a. elim (narrower rows front row k ys a) [ inl g ↦ inl g | inr g ↦ inr (begins_more rows front ys j short a.begins (e ∙ g)) ])
     h f m
 
--- where a row lists an object
-record IsPlace (row : Row) (j : ℕ) : Type 0 where
-  pub place : ℕ
-  pub below : place < length row
-  pub object : (get_or row place (0, pos 0)).0 ≡ j
-
-place_of : (row : Row) (j : ℕ) → IsSome (listed_in row j) → IsPlace row j
-place_of [] j s = absurd (search rules)
-place_of (e ∷ row) j s = elim (eqb_tells e.0 j) [
-  | inl t ↦ record { place = 0; below = omega arith; object = t.1 }
-  | inr t ↦
-      let p = place_of row j (rw (listed_later e row j t.0) at s) in
-      record { place = suc p.place; below = let b = p.below in omega arith; object = p.object }
-]
-
-entry_listed : (row : Row) (k : ℕ) → k < length row → IsSome (listed_in row (get_or row k (0, pos 0)).0)
-entry_listed [] k lt = absurd (omega arith)
-entry_listed (e ∷ row) zero lt = rw (listed_here e row e.0 (eq-eqb e.0 e.0 refl)) (search rules)
-entry_listed (e ∷ row) (suc k) lt = elim (eqb_tells e.0 (get_or row k (0, pos 0)).0) [
-  | inl t ↦ rw (listed_here e row (get_or row k (0, pos 0)).0 t.0) (search rules)
-  | inr t ↦ rw (listed_later e row (get_or row k (0, pos 0)).0 t.0) (entry_listed row k (omega arith))
-]
-
-zip_at : {A B : Type 0} (R : A → B → Type 0) (xs : List A) (ys : List B) (k : ℕ) (d : A) (e : B) → AllZip R xs ys → k < length xs → R (get_or xs k d) (get_or ys k e)
-zip_at R [] ys k d e h lt = absurd (omega arith)
-zip_at R (x ∷ xs) [] k d e h lt = absurd h
-zip_at R (x ∷ xs) (y ∷ ys) zero d e h lt = h.0
-zip_at R (x ∷ xs) (y ∷ ys) (suc k) d e h lt = zip_at R xs ys k d e h.1 (omega arith)
-
 -- all objects of the next person's row have been tried
-pub all_tried : (sense : Sense) (rows : List Row) (front : List ℕ) (row : Row) (k : ℕ) (answer : Option (List ℕ)) → length front < length rows →
+pub all_tried : (sense : Sense) (rows : List Listing) (front : List ℕ) (row : Listing) (k : ℕ) (answer : Option (List ℕ)) → length front < length rows →
     row ≡ row_of rows (length front + 1) → length row ≤ k → IsBestSoFar sense rows front row k answer → IsBestIn sense rows (Begins rows front) answer
 all_tried sense rows front row k answer short e end h =
     bests_same sense rows (IsAmong rows front row k) (Begins rows front) answer (λ ys a. a.begins)
@@ -193,7 +165,7 @@ all_tried sense rows front row k answer short e end h =
     let listed : IsSome (listed_in (get_or rows (length front) []) (get_or ys (length front) 0)) = zip_at (λ row j. IsSome (listed_in row j)) rows ys (length front) [] 0 b.assigned.listed short in
     let this : row ≡ get_or rows (length front) [] = e ∙ ap (row_of rows) (add-one (length front)) in
     let p = place_of row (get_or ys (length front) 0) (rw this listed) in
-    record { begins = b; place = p.place; below = let l = p.below in omega arith; next = p.object })
+    record { begins = b; place = p.place; below = let l = p.below in omega arith; next = p.object (0, pos 0) })
     h
 
 same_numbers : IsEquivalence nat_eq
@@ -212,12 +184,12 @@ pushed_apart xs j d fresh =
     IsDistinct-push {eq = nat_eq} same_numbers xs j d none
 
 -- an object that isn't taken makes the front longer
-pub longer_front : (rows : List Row) (front : List ℕ) (row : Row) (k j : ℕ) → length front < length rows → IsFront rows front →
+pub longer_front : (rows : List Listing) (front : List ℕ) (row : Listing) (k j : ℕ) → length front < length rows → IsFront rows front →
     row ≡ row_of rows (length front + 1) → k < length row → j ≡ (get_or row k (0, pos 0)).0 → (Contains front j → ⊥) → IsFront rows (front ++ j ∷ [])
 longer_front rows front row k j short f e lt o fresh =
     let n : length (front ++ j ∷ []) ≡ length front + 1 = length-append front (j ∷ []) in
     let this : row ≡ get_or rows (length front) [] = e ∙ ap (row_of rows) (add-one (length front)) in
-    let listed : IsSome (listed_in row j) = rw o (entry_listed row k lt) in
+    let listed : IsSome (listed_in row j) = rw o (entry_listed row k (0, pos 0) lt) in
     record {
       short = omega arith;
       listed =
@@ -228,7 +200,7 @@ longer_front rows front row k j short f e lt o fresh =
     }
 
 -- the objects of all persons are the one assignment that begins so
-pub whole_front : (sense : Sense) (rows : List Row) (front : List ℕ) → length front ≡ length rows → IsFront rows front → IsBestIn sense rows (Begins rows front) (Some front)
+pub whole_front : (sense : Sense) (rows : List Listing) (front : List ℕ) → length front ≡ length rows → IsFront rows front → IsBestIn sense rows (Begins rows front) (Some front)
 whole_front sense rows front long f =
     let all : take (length front) rows ≡ rows = take_all (length front) rows (omega arith) in (
       record {
@@ -242,15 +214,15 @@ whole_front sense rows front long f =
     )
 
 -- what begins with no object is any assignment
-pub from_none : (sense : Sense) (rows : List Row) (answer : Option (List ℕ)) → IsBestIn sense rows (Begins rows []) answer →
+pub from_none : (sense : Sense) (rows : List Listing) (answer : Option (List ℕ)) → IsBestIn sense rows (Begins rows []) answer →
     MatchOption answer ((xs : List ℕ) → IsAssignment rows xs → ⊥) (IsBest sense rows)
 from_none sense rows None h = λ xs a. h xs (record { assigned = a; same = refl })
 from_none sense rows (Some xs) h = record { assigned = h.0.assigned; best = λ ys a. h.1 ys (record { assigned = a; same = refl }) }
 
-pub best_assigned : (sense : Sense) (rows : List Row) (P : List ℕ → Type 0) (answer : Option (List ℕ)) → ((ys : List ℕ) → P ys → IsAssignment rows ys) →
+pub best_assigned : (sense : Sense) (rows : List Listing) (P : List ℕ → Type 0) (answer : Option (List ℕ)) → ((ys : List ℕ) → P ys → IsAssignment rows ys) →
     IsBestIn sense rows P answer → MatchOption answer (Unit {0}) (IsAssignment rows)
 best_assigned sense rows P None p h = tt
 best_assigned sense rows P (Some xs) p h = p xs h.0
 
-pub empty_front : (rows : List Row) → IsFront rows []
+pub empty_front : (rows : List Listing) → IsFront rows []
 empty_front rows = record { short = omega arith; listed = tt; apart = IsDistinct-from_apart nat_eq [] (λ i j d lt below. absurd (omega arith)) }

@@ -1,8 +1,9 @@
 -- Benefits: costs scaled by one more than the persons, and negated where little cost is wanted.
-use Rattle.std.specs.Prelude.{ℕ, ℤ, pos, negsuc, neg_ℤ, ◌*ℤ◌, ◌≤ℤ◌, ◌+◌, ◌*◌, ◌^◌, List, length, map}
+use Rattle.std.specs.Prelude.{ℕ, ℤ, pos, negsuc, neg_ℤ, ◌*ℤ◌, ◌≤ℤ◌, ◌+◌, List, length, map}
 use Rattle.assign_core.specs.declared.sense.Sense.{Sense}
 use Rattle.assign_core.specs.declared.sense.Sense.TheVariants.{Min, Max}
-use Rattle.assign_core.specs.Rows.{Row}
+use Rattle.assign_core.specs.declared.numbers.TheConstants.{MOST_PERSONS, GREATEST_COST}
+use Rattle.assign_core.specs.Rows.{Listing}
 
 -- n + 1 where much is wanted, -(n + 1) where little is
 abbrev pub factor : Sense → ℕ → ℤ
@@ -14,13 +15,13 @@ abbrev pub benefit : Sense → ℕ → ℤ → ℤ
 benefit sense n cost = factor sense n *ℤ cost
 
 -- a row with benefits in place of costs
-abbrev pub benefit_row : Sense → ℕ → Row → Row
+abbrev pub benefit_row : Sense → ℕ → Listing → Listing
 benefit_row sense n row = map (λ e. (e.0, benefit sense n e.1)) row
 
-abbrev pub benefit_rows : Sense → List Row → List Row
+abbrev pub benefit_rows : Sense → List Listing → List Listing
 benefit_rows sense rows = map (benefit_row sense (length rows)) rows
 
--- from -8193 * 10^12 to 8193 * 10^12
+-- at most the greatest cost times one more than the most persons, either way
 pub record IsBenefit (a : ℤ) : Type 0 where
-  pub least : neg_ℤ (pos (8193 * 10 ^ 12)) ≤ℤ a
-  pub greatest : a ≤ℤ pos (8193 * 10 ^ 12)
+  pub least : neg_ℤ (pos (MOST_PERSONS + 1) *ℤ GREATEST_COST) ≤ℤ a
+  pub greatest : a ≤ℤ (pos (MOST_PERSONS + 1) *ℤ GREATEST_COST)

@@ -1,28 +1,30 @@
 -- A best one among some assignments.
-use Rattle.std.specs.Prelude.{◌≡◌, ℕ, ◌≤◌, ◌⊎◌, List, Option, None, Some, IsSome, MatchOption, length, take, nat_eq}
-use Rattle.std.specs.List.{AllZip, IsDistinct}
+use Rattle.std.specs.Prelude.{◌≡◌, ℕ, ◌≤◌, ◌⊎◌, List, Option, None, Some, MatchOption, length, take, nat_eq}
+use Rattle.std.specs.List.{IsDistinct}
 use Rattle.assign_core.specs.declared.sense.Sense.{Sense}
-use Rattle.assign_core.specs.Rows.{Row, listed_in}
-use Rattle.assign_core.specs.Assignment.{IsAssignment, IsNoWorse, total}
+use Rattle.assign_core.specs.Rows.{Listing}
+use Rattle.assign_core.specs.Assignment.{AreListed, IsAssignment, IsNoWorse, total}
 
 -- the first persons have one listed object each, and no object is given twice
-pub record IsFront (rows : List Row) (front : List ℕ) : Type 0 where
+pub record IsFront (rows : List Listing) (front : List ℕ) : Type 0 where
   pub short : length front ≤ length rows
-  pub listed : AllZip (λ row j. IsSome (listed_in row j)) (take (length front) rows) front
+  pub listed : AreListed (take (length front) rows) front
   pub apart : IsDistinct nat_eq front
 
 -- an assignment that gives the first persons these objects
-pub record Begins (rows : List Row) (front xs : List ℕ) : Type 0 where
+pub record Begins (rows : List Listing) (front xs : List ℕ) : Type 0 where
   pub assigned : IsAssignment rows xs
   pub same : take (length front) xs ≡ front
 
 -- one of the lists with property P, no worse than any of them, and none where there is no such list
-abbrev pub IsBestIn : Sense → List Row → (List ℕ → Type 0) → Option (List ℕ) → Type 0
+abbrev pub IsBestIn : Sense → List Listing → (List ℕ → Type 0) → Option (List ℕ) → Type 0
 IsBestIn sense rows P answer =
-    MatchOption answer ((ys : List ℕ) → P ys → ⊥) (λ xs. P xs × ((ys : List ℕ) → P ys → IsNoWorse sense (total rows xs) (total rows ys)))
+    MatchOption answer ((ys : List ℕ) → P ys → ⊥)
+    (λ xs. P xs × ((ys : List ℕ) → P ys → IsNoWorse sense (total rows xs) (total rows ys)))
 
 -- the third answer is one of the first two, and no worse than both
-abbrev pub IsBetterOf : Sense → List Row → Option (List ℕ) → Option (List ℕ) → Option (List ℕ) → Type 0
+abbrev pub IsBetterOf : Sense → List Listing → Option (List ℕ) → Option (List ℕ) → Option (List ℕ) →
+    Type 0
 IsBetterOf sense rows None second result = result ≡ second
 IsBetterOf sense rows (Some xs) None result = result ≡ Some xs
 IsBetterOf sense rows (Some xs) (Some ys) result =

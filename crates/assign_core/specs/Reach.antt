@@ -1,29 +1,33 @@
 -- Alternating walks: from person to object as listed, from object to person as owned.
 use Rattle.std.specs.Prelude.{◌≡◌, ℕ, List, [], ◌∷◌, Option, None, Some, IsSome, nat_eq}
 use Rattle.std.specs.List.{IsDistinct}
-use Rattle.assign_core.specs.Rows.{Row, IsListed}
+use Rattle.assign_core.specs.Rows.{Listing, IsListed}
 use Rattle.assign_core.specs.Matching.{owner_of}
 
 -- from person i, each object listed by the person at hand and owned by the next, to person x
-abbrev pub Walks : List Row → List (Option ℕ) → ℕ → List ℕ → ℕ → Type 0
+abbrev pub Walks : List Listing → List (Option ℕ) → ℕ → List ℕ → ℕ → Type 0
 Walks rows owners i [] x = i ≡ x
-Walks rows owners i (j ∷ js) x = IsListed rows i j × (v : ℕ) × (owner_of owners j ≡ Some v) × Walks rows owners v js x
+Walks rows owners i (j ∷ js) x =
+    IsListed rows i j × (v : ℕ) × (owner_of owners j ≡ Some v) × Walks rows owners v js x
 
 -- person x is reached from person i
-abbrev pub IsReached : List Row → List (Option ℕ) → ℕ → ℕ → Type 0
+abbrev pub IsReached : List Listing → List (Option ℕ) → ℕ → ℕ → Type 0
 IsReached rows owners i x = (js : List ℕ) × Walks rows owners i js x
 
 -- each object that a reached person lists is owned
-abbrev pub IsBlocked : List Row → List (Option ℕ) → ℕ → Type 0
-IsBlocked rows owners i = (x j : ℕ) → IsReached rows owners i x → IsListed rows x j → IsSome (owner_of owners j)
+abbrev pub IsBlocked : List Listing → List (Option ℕ) → ℕ → Type 0
+IsBlocked rows owners i =
+    (x j : ℕ) → IsReached rows owners i x → IsListed rows x j → IsSome (owner_of owners j)
 
--- the first object is listed by person i, each next one by the owner of the one before, and the last is free
-abbrev pub Alternates : List Row → List (Option ℕ) → ℕ → List ℕ → Type 0
+-- the first object is listed by person i, each next one by the owner of the one before, and the
+-- last is free
+abbrev pub Alternates : List Listing → List (Option ℕ) → ℕ → List ℕ → Type 0
 Alternates rows owners i [] = ⊥
 Alternates rows owners i (j ∷ []) = IsListed rows i j × (owner_of owners j ≡ None)
-Alternates rows owners i (j ∷ k ∷ js) = IsListed rows i j × (v : ℕ) × (owner_of owners j ≡ Some v) × Alternates rows owners v (k ∷ js)
+Alternates rows owners i (j ∷ k ∷ js) =
+    IsListed rows i j × (v : ℕ) × (owner_of owners j ≡ Some v) × Alternates rows owners v (k ∷ js)
 
 -- an alternating path from person i to a free object, which meets no object twice
-pub record IsPath (rows : List Row) (owners : List (Option ℕ)) (i : ℕ) (js : List ℕ) : Type 0 where
+pub record IsPath (rows : List Listing) (owners : List (Option ℕ)) (i : ℕ) (js : List ℕ) : Type 0 where
   pub alternates : Alternates rows owners i js
   pub apart : IsDistinct nat_eq js

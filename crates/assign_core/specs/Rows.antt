@@ -1,56 +1,59 @@
 -- What the persons list.
-use Rattle.std.specs.Prelude.{ℕ, ℤ, pos, neg_ℤ, ◌≤ℤ◌, ◌<◌, ◌≤◌, ◌^◌, List, [], ◌∷◌, Option, None, Some, ◌==◌, if◌then◌else◌, IsSome, unwrap_or, length, All, slice_index_or}
-use Rattle.assign_core.specs.Numbered.{numbered}
+use Rattle.std.specs.Prelude.{ℕ, ℤ, pos, neg_ℤ, ◌≤ℤ◌, ◌<◌, ◌≤◌, List, [], ◌∷◌, Option, None, Some, ◌==◌, if◌then◌else◌, IsSome, unwrap_or, length, All, slice_index_or}
+use Rattle.assign_core.specs.declared.numbers.TheConstants.{MOST_PERSONS, GREATEST_COST}
+use Rattle.assign_core.specs.Numbered.{IsNumber, numbered}
 
 -- what a person lists: objects, each with its cost (or its benefit)
-abbrev pub Row : Type 0
-Row = List (ℕ × ℤ)
+abbrev pub Listing : Type 0
+Listing = List (ℕ × ℤ)
 
 -- what a row gives for an object, if it lists the object
-abbrev pub listed_in : Row → ℕ → Option ℤ
+abbrev pub listed_in : Listing → ℕ → Option ℤ
 listed_in [] j = None
 listed_in (e ∷ row) j = if e.0 == j then Some e.1 else listed_in row j
 
 -- the same, and 0 for an object that isn't listed
-abbrev pub listed_or_zero : Row → ℕ → ℤ
+abbrev pub listed_or_zero : Listing → ℕ → ℤ
 listed_or_zero row j = unwrap_or (listed_in row j) (pos 0)
 
 -- what person i lists
-abbrev pub row_of : List Row → ℕ → Row
+abbrev pub row_of : List Listing → ℕ → Listing
 row_of rows i = numbered rows i []
 
 -- person i lists object j
-abbrev pub IsListed : List Row → ℕ → ℕ → Type 0
+abbrev pub IsListed : List Listing → ℕ → ℕ → Type 0
 IsListed rows i j = IsSome (listed_in (row_of rows i) j)
 
 -- each object is above those before it
-abbrev pub IsRising : Row → Type 0
-IsRising row = (i k : ℕ) (d : ℕ × ℤ) → i < k → k < length row → (slice_index_or row i d).0 < (slice_index_or row k d).0
+abbrev pub IsRising : Listing → Type 0
+IsRising row =
+    (i k : ℕ) (d : ℕ × ℤ) → i < k → k < length row →
+    (slice_index_or row i d).0 < (slice_index_or row k d).0
 
 -- the objects are numbered from 1 to n
-abbrev pub IsWithin : ℕ → Row → Type 0
-IsWithin n row = All (λ e. (0 < e.0) × (e.0 ≤ n)) row
+abbrev pub IsWithin : ℕ → Listing → Type 0
+IsWithin n row = All (λ e. IsNumber n e.0) row
 
--- from -10^12 to 10^12
+-- at most the greatest cost, either way
 pub record IsCost (c : ℤ) : Type 0 where
-  pub least : neg_ℤ (pos (10 ^ 12)) ≤ℤ c
-  pub greatest : c ≤ℤ pos (10 ^ 12)
+  pub least : neg_ℤ GREATEST_COST ≤ℤ c
+  pub greatest : c ≤ℤ GREATEST_COST
 
-abbrev pub HasCosts : Row → Type 0
+abbrev pub HasCosts : Listing → Type 0
 HasCosts row = All (λ e. IsCost e.1) row
 
 -- what a row is among n objects
-pub record IsRow (n : ℕ) (row : Row) : Type 0 where
+pub record IsRow (n : ℕ) (row : Listing) : Type 0 where
   pub rising : IsRising row
   pub within : IsWithin n row
   pub costs : HasCosts row
 
--- from 1 to 8192 persons, and as many objects
+-- at least one person, and at most so many; and as many objects
 pub record IsSize (n : ℕ) : Type 0 where
   pub some : 0 < n
-  pub few : n ≤ 8192
+  pub few : n ≤ MOST_PERSONS
 
 -- a row for each person, among as many objects
-pub record IsProblem (rows : List Row) : Type 0 where
+pub record IsProblem (rows : List Listing) : Type 0 where
   pub size : IsSize (length rows)
   pub each : All (IsRow (length rows)) rows

@@ -2,26 +2,28 @@
 use Rattle.std.specs.Prelude.{◌≡◌, ℕ, ℤ, pos, ◌+ℤ◌, ◌≤ℤ◌, List, length, All}
 use Rattle.std.specs.List.{AllZip}
 use Rattle.assign_core.specs.declared.sense.Sense.{Sense}
-use Rattle.assign_core.specs.Rows.{Row, listed_or_zero}
+use Rattle.assign_core.specs.Rows.{Listing, listed_or_zero}
 use Rattle.assign_core.specs.Assignment.{IsAssignment}
 use Rattle.assign_core.specs.Benefits.{benefit_rows}
 use Rattle.assign_core.specs.Prices.{price_of, IsPrice}
 
--- with benefits a and prices p, object j is worth to its person what entry e is worth, less eps, or more:
+-- with benefits a and prices p, object j is worth to its person what entry e is worth, less eps,
+-- or more:
 -- a_j - p_j >= a_e - p_e - eps
-abbrev pub IsWorth : ℤ → List ℤ → Row → ℕ → ℕ × ℤ → Type 0
-IsWorth eps prices row j e = (e.1 +ℤ price_of prices j) ≤ℤ (listed_or_zero row j +ℤ price_of prices e.0 +ℤ eps)
+abbrev pub IsWorth : ℤ → List ℤ → Listing → ℕ → ℕ × ℤ → Type 0
+IsWorth eps prices row j e =
+    (e.1 +ℤ price_of prices j) ≤ℤ (listed_or_zero row j +ℤ price_of prices e.0 +ℤ eps)
 
 -- no object of a row of benefits is worth more than object j by over eps
-abbrev pub HasSlack : ℤ → List ℤ → Row → ℕ → Type 0
+abbrev pub HasSlack : ℤ → List ℤ → Listing → ℕ → Type 0
 HasSlack eps prices row j = All (IsWorth eps prices row j) row
 
 -- each person with its object
-abbrev pub AllSlack : ℤ → List ℤ → List Row → List ℕ → Type 0
+abbrev pub AllSlack : ℤ → List ℤ → List Listing → List ℕ → Type 0
 AllSlack eps prices rows xs = AllZip (HasSlack eps prices) rows xs
 
 -- an assignment with prices that prove it best
-pub record IsCertificate (sense : Sense) (rows : List Row) (xs : List ℕ) (prices : List ℤ) : Type 0 where
+pub record IsCertificate (sense : Sense) (rows : List Listing) (xs : List ℕ) (prices : List ℤ) : Type 0 where
   pub assigned : IsAssignment rows xs
   pub priced : length prices ≡ length rows
   pub in_range : All IsPrice prices

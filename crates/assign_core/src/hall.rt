@@ -1,7 +1,7 @@
 // Hall sets, and why they leave no assignment.
 ghost use Rattle.std.specs.Prelude.{◌≡◌, ℕ, List, Option, None, Some, Bool, IsTrue, IfOk};
 ghost use Rattle.std.specs.List.Sorted.{IsStrictlyIncreasing};
-ghost use Rattle.assign_core.specs.Rows.{Row, IsListed};
+ghost use Rattle.assign_core.specs.Rows.{Listing, IsListed};
 ghost use Rattle.assign_core.specs.Matching.{owner_of};
 ghost use Rattle.assign_core.specs.Assignment.{IsAssignment};
 ghost use Rattle.assign_core.specs.Hall.{HallLists, IsHallSet, IsInOrder};
@@ -70,21 +70,27 @@ impl HallSet {
 /// Where there is a Hall set there is no assignment: its persons would need different objects out
 /// of fewer (P. Hall, On representatives of subsets, 1935: the easy half).
 pub fn hall_set_forbids()
-    ensures { (rows : List Row) (persons objects xs : List ℕ) → IsHallSet rows persons objects → IsAssignment rows xs → ⊥ }
+    ensures { (rows : List Listing) (persons objects xs : List ℕ)
+        → IsHallSet rows persons objects → IsAssignment rows xs → ⊥ }
 {}
 
 /// The persons reached from a person by alternating walks are the least set that has that person
 /// and, for each object that a member lists, the object's owner.
 pub fn reach_is_least()
-    ensures itself { (rows : List Row) (owners : List (Option ℕ)) (i : ℕ) → IsReached rows owners i i }
-    ensures on { (rows : List Row) (owners : List (Option ℕ)) (i x j v : ℕ) → IsReached rows owners i x
+    ensures itself { (rows : List Listing) (owners : List (Option ℕ)) (i : ℕ)
+        → IsReached rows owners i i }
+    ensures on { (rows : List Listing) (owners : List (Option ℕ)) (i x j v : ℕ)
+        → IsReached rows owners i x
         → IsListed rows x j → owner_of owners j ≡ Some v → IsReached rows owners i v }
-    ensures least { (rows : List Row) (owners : List (Option ℕ)) (members : ℕ → Bool) (i x : ℕ) → IsTrue (members i)
-        → ((y j v : ℕ) → IsTrue (members y) → IsListed rows y j → owner_of owners j ≡ Some v → IsTrue (members v))
+    ensures least { (rows : List Listing) (owners : List (Option ℕ)) (members : ℕ → Bool) (i x : ℕ)
+        → IsTrue (members i)
+        → ((y j v : ℕ) → IsTrue (members y) → IsListed rows y j → owner_of owners j ≡ Some v
+        → IsTrue (members v))
         → IsReached rows owners i x → IsTrue (members x) }
 {}
 
 /// Where there is an alternating path from a person, some reached person lists a free object.
 pub fn paths_are_open()
-    ensures { (rows : List Row) (owners : List (Option ℕ)) (i : ℕ) (js : List ℕ) → IsPath rows owners i js → IsBlocked rows owners i → ⊥ }
+    ensures { (rows : List Listing) (owners : List (Option ℕ)) (i : ℕ) (js : List ℕ)
+        → IsPath rows owners i js → IsBlocked rows owners i → ⊥ }
 {}

@@ -19,8 +19,14 @@ mod tests;
 pub use assignment::Assignment;
 pub use certificate::Certificate;
 pub use hall::{HallSet, hall_set_forbids, paths_are_open, reach_is_least};
-pub use law::{dense_pairs, owners_make_an_assignment, price_order, slack_means_best};
-pub use numbers::{Benefit, Cost, GREATEST_COST, MOST_PERSONS, Object, PRICE_END, Person, Price};
+pub use law::{
+    dense_pairs, least_given_counts, limits, owners_make_an_assignment, price_order,
+    slack_means_best,
+};
+pub use numbers::{
+    Benefit, Cost, GREATEST_COST, GREATEST_FIRST_PRICE, MOST_PERSONS, NARROW_END, Numbered, Object,
+    PRICE_END, Person, Price,
+};
 pub use outcome::{Outcome, SolveFault};
 pub use plain::plain_best;
 pub use prices::Prices;

@@ -1,5 +1,5 @@
 // Number types and limits, and the numbers of persons and objects.
-ghost use Rattle.std.specs.Prelude.{ℕ};
+ghost use Rattle.std.specs.Prelude.{◌≡◌, ℕ, ◌-◌, ◌<◌};
 
 use std::marker::Model;
 
@@ -21,6 +21,12 @@ pub const GREATEST_COST: Cost = 1_000_000_000_000;
 
 /// Prices are at least 0 and below this.
 pub const PRICE_END: Price = 10_000_000_000_000_000_000_000;
+
+/// The first prices of a run are at most this, so that all later ones stay below `PRICE_END`.
+pub const GREATEST_FIRST_PRICE: Price = 1_000_000_000_000_000_000_000;
+
+/// Where prices are kept in 64 bits too, a price from here on is kept as this.
+pub const NARROW_END: i64 = 1 << 62;
 
 /// A person's number, from 1.
 #[derive(Clone, Copy, Debug, PartialEq, Eq, PartialOrd, Ord)]
@@ -44,4 +50,63 @@ impl Model for Object {
     ghost view = { λ o. o.0 };
 
     ghost inverse = { λ n. record { 0 = n } };
+}
+
+/// What has a number, from 1: a person or an object.
+///
+/// For functions that do the same with persons as with objects.
+pub trait Numbered: Copy {
+    ghost number_of: { Self → ℕ };
+
+    /// Its number.
+    fn number(self) -> u16
+        ensures { result ≡ number_of self };
+
+    /// The one with this number.
+    fn with_number(number: u16) -> Self
+        ensures { number_of result ≡ number };
+}
+
+impl Numbered for Person {
+    ghost number_of = { λ p. p };
+
+    fn number(self) -> u16 {
+        self.0
+    }
+
+    fn with_number(number: u16) -> Person {
+        Person(number)
+    }
+}
+
+impl Numbered for Object {
+    ghost number_of = { λ o. o };
+
+    fn number(self) -> u16 {
+        self.0
+    }
+
+    fn with_number(number: u16) -> Object {
+        Object(number)
+    }
+}
+
+impl Person {
+    /// The place of this number in a list of persons, from 0.
+    pub fn place(self) -> usize
+        requires { 0 < self }
+        ensures { result ≡ self - 1 }
+    {
+        self.0 as usize - 1
+    }
+}
+
+impl Object {
+    /// The place of this number in a list of objects, from 0.
+    pub fn place(self) -> usize
+        requires { 0 < self }
+        ensures { result ≡ self - 1 }
+    {
+        self.0 as usize - 1
+    }
 }

@@ -96,7 +96,8 @@ pub fn plain_best(
     problem: &Problem,
     sense: Sense,
 ) -> Result<Option<Assignment>, AllocError>
-    ensures { IfOk result (λ answer. MatchOption answer ((xs : List ℕ) → IsAssignment problem.now xs → ⊥) (IsBest sense problem.now)) }
+    ensures { IfOk result (λ answer. MatchOption answer
+        ((xs : List ℕ) → IsAssignment problem.now xs → ⊥) (IsBest sense problem.now)) }
 {
     best_after(alloc, problem, sense, &[])
 }

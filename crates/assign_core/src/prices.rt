@@ -1,16 +1,20 @@
 // A table of prices.
-ghost use Rattle.std.specs.Prelude.{◌≡◌, ℤ, ◌<◌, ◌≤◌, List, length, IfOk};
-ghost use Rattle.assign_core.specs.Numbered.{renumbered};
-ghost use Rattle.assign_core.specs.Prices.{IsPrice, IsTable};
+ghost use Rattle.std.specs.Prelude.{◌≡◌, ℤ, ◌<◌, ◌≤◌, ◌≤ℤ◌, List, length, pos, replicate, IfOk};
+ghost use Rattle.assign_core.specs.Numbered.{IsNumber, renumbered};
+ghost use Rattle.assign_core.specs.Prices.{IsPrice, IsTable, IsNarrow, IsNarrowed, IsPair, price_of};
 
-use super::numbers::{Object, Price};
+use super::numbers::{MOST_PERSONS, NARROW_END, Object, Price};
 use std::alloc::{AllocError, Global};
 use std::marker::Model;
 
 /// The prices of objects 1, 2, .., at most `MOST_PERSONS` of them, each in `0..PRICE_END`.
+///
+/// Beside each price stands the price in 64 bits, so that a scan that finds all prices small needs
+/// no wider sums.
 #[derive(Debug, Drop)]
 pub struct Prices {
     values: Vec<Price>,
+    narrow: Vec<i64>,
 }
 
 impl Model for Prices {
@@ -18,16 +22,57 @@ impl Model for Prices {
 
     ghost view = { λ p. p.values.items };
 
-    ghost invariant = { λ p. IsTable p.values.items };
+    ghost invariant = { λ p. IsPair p.values.items p.narrow.items };
+}
+
+// A price in 64 bits, or what stands for one that is too great.
+fn narrow_of(price: Price) -> i64
+    requires { IsPrice price }
+    ensures below { result ≤ℤ price }
+    ensures range { IsNarrow result }
+{
+    if price < Price::from(NARROW_END) {
+        price as i64
+    } else {
+        NARROW_END
+    }
+}
+
+// The prices in 64 bits.
+fn narrowed(alloc: Global, prices: &[Price]) -> Result<Vec<i64>, AllocError>
+    requires { IsTable prices.now }
+    ensures { IfOk result (λ narrow. IsNarrowed narrow.items prices.now) }
+{
+    let mut narrow = Vec::with_capacity(alloc, prices.len())?;
+    for i in 0..prices.len() {
+        narrow.push(narrow_of(prices[i]))?;
+    }
+    Ok(narrow)
 }
 
 impl Prices {
     /// The table with these prices.
-    pub fn new(values: Vec<Price>) -> Prices
+    ///
+    /// # Errors
+    /// Only where memory is refused.
+    pub fn new(alloc: Global, values: Vec<Price>) -> Result<Prices, AllocError>
         requires { IsTable values.items }
-        ensures { result ≡ values.items }
+        ensures { IfOk result (λ prices. prices ≡ values.items) }
     {
-        Prices { values }
+        let narrow = narrowed(alloc, values.as_slice())?;
+        Ok(Prices { values, narrow })
+    }
+
+    /// The table of `n` prices of 0.
+    ///
+    /// # Errors
+    /// Only where memory is refused.
+    pub fn zeros(alloc: Global, n: u16) -> Result<Prices, AllocError>
+        requires { n ≤ MOST_PERSONS }
+        ensures { IfOk result (λ prices. prices ≡ replicate n (pos 0)) }
+    {
+        let values: Vec<Price> = vec![in alloc; 0; n as usize]?;
+        Prices::new(alloc, values)
     }
 
     /// The prices of objects 1, 2, ..
@@ -38,14 +83,41 @@ impl Prices {
         self.values.as_slice()
     }
 
+    /// The prices of objects 1, 2, .. in 64 bits, none above its own price: a price of `NARROW_END`
+    /// or more is given as `NARROW_END`.
+    pub fn narrow(&self) -> &[i64]
+        ensures { IsNarrowed result.now self.now }
+    {
+        self.narrow.as_slice()
+    }
+
+    /// The price of an object.
+    pub fn price(&self, object: Object) -> Price
+        requires { IsNumber (length self.now) object }
+        ensures price { result ≡ price_of self.now object }
+        ensures range { IsPrice result }
+    {
+        self.values[object.place()]
+    }
+
     /// Gives an object another price.
     pub fn set(&mut self, object: Object, price: Price)
-        requires first { 0 < object }
-        requires last { object ≤ length self.old }
+        requires object { IsNumber (length self.old) object }
         requires price { IsPrice price }
         ensures { self.new ≡ renumbered self.old object price }
     {
-        self.values[object.0 as usize - 1] = price;
+        let place = object.place();
+        self.values[place] = price;
+        self.narrow[place] = narrow_of(price);
+    }
+
+    /// Gives all objects the prices of another table.
+    pub fn copy_from(&mut self, other: &Prices)
+        requires { length self.old ≡ length other.now }
+        ensures { self.new ≡ other.now }
+    {
+        self.values.copy_from_slice(other.values.as_slice());
+        self.narrow.copy_from_slice(other.narrow.as_slice());
     }
 
     /// The same prices once more.
@@ -56,6 +128,7 @@ impl Prices {
         ensures { IfOk result (λ copy. copy ≡ self.now) }
     {
         let values = self.values.as_slice().to_vec(alloc)?;
-        Ok(Prices { values })
+        let narrow = self.narrow.as_slice().to_vec(alloc)?;
+        Ok(Prices { values, narrow })
     }
 }

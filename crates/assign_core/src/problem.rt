@@ -1,11 +1,12 @@
 // A problem: for each person the listed objects, rising, each with its cost.
 ghost use Rattle.std.specs.Prelude.{◌≡◌, ℕ, ℤ, ◌+◌, ◌-◌, ◌*◌, ◌<◌, ◌≤◌, List, [], ◌++◌, length, map, All, IfOk};
-ghost use Rattle.assign_core.specs.Rows.{Row, IsProblem, IsRow, IsCost, IsSize, HasCosts, listed_in, row_of};
+ghost use Rattle.assign_core.specs.Numbered.{IsNumber};
+ghost use Rattle.assign_core.specs.Rows.{Listing, IsProblem, IsRow, IsCost, IsSize, HasCosts, listed_in, row_of};
 ghost use Rattle.assign_core.specs.Dense.{dense_rows, row_from, rows_cut};
 ghost use Rattle.assign_core.specs.Assignment.{IsAssignment, total};
 
 use super::assignment::Assignment;
-use super::numbers::{Cost, Object, Person};
+use super::numbers::{Cost, MOST_PERSONS, Object, Person};
 use std::alloc::{AllocError, Global};
 use std::marker::Model;
 
@@ -38,7 +39,7 @@ fn find(row: &[(Object, Cost)], object: Object) -> Option<Cost>
 
 // The sum of the costs of the objects, one for each row.
 fn sum_of(rows: &[Vec<(Object, Cost)>], objects: &[Object]) -> Cost
-    requires few { length rows.now ≤ 8192 }
+    requires few { length rows.now ≤ MOST_PERSONS }
     requires same { length rows.now ≡ length objects.now }
     requires costs { All HasCosts (map (λ r. r.items) rows.now) }
     ensures { result ≡ total (map (λ r. r.items) rows.now) objects.now }
@@ -53,7 +54,7 @@ fn sum_of(rows: &[Vec<(Object, Cost)>], objects: &[Object]) -> Cost
 
 // A person's row: the costs to objects 1, 2, ..
 fn row_of_costs(alloc: Global, costs: &[Cost]) -> Result<Vec<(Object, Cost)>, AllocError>
-    requires { length costs.now ≤ 8192 }
+    requires { length costs.now ≤ MOST_PERSONS }
     ensures { IfOk result (λ row. row.items ≡ row_from 1 costs.now) }
 {
     let mut row = Vec::with_capacity(alloc, costs.len())?;
@@ -75,6 +76,8 @@ impl Problem {
     /// The problem of `n` persons and `n` objects in which each person lists each object: the
     /// first `n` costs are those of person 1 to objects 1, 2, .., the next `n` those of person 2,
     /// and so on.
+    ///
+    /// It reads each cost once, and takes 16 bytes for it.
     ///
     /// # Errors
     /// Only where memory is refused.
@@ -104,24 +107,27 @@ impl Problem {
 
     /// What a person lists, rising by object.
     pub fn row(&self, person: Person) -> &[(Object, Cost)]
-        requires first { 0 < person }
-        requires last { person ≤ length self.now }
+        requires { IsNumber (length self.now) person }
         ensures row { result.now ≡ row_of self.now person }
         ensures rule { IsRow (length self.now) result.now }
     {
-        self.rows[person.0 as usize - 1].as_slice()
+        self.rows[person.place()].as_slice()
     }
 
-    /// What a pair costs, if it is listed.
+    /// What a pair costs, if it is listed; `None` too where there is no such person.
+    ///
+    /// It reads the person's list from its beginning up to the object.
     pub fn cost_of(&self, person: Person, object: Object) -> Option<Cost>
-        requires first { 0 < person }
-        requires last { person ≤ length self.now }
         ensures { result ≡ listed_in (row_of self.now person) object }
     {
-        find(self.row(person), object)
+        let place = person.0.checked_sub(1)?;
+        let row = self.rows.get(place as usize)?;
+        find(row.as_slice(), object)
     }
 
     /// The sum of the costs of an assignment's pairs.
+    ///
+    /// It reads each person's list up to its object, so at most all listed pairs.
     pub fn total(&self, assignment: &Assignment) -> Cost
         requires { IsAssignment self.now assignment.now }
         ensures { result ≡ total self.now assignment.now }

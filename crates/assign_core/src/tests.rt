@@ -1,5 +1,10 @@
 // Each public function on a small problem, with ample memory.
+ghost use Rattle.std.specs.Prelude.{◌≡◌, IfOk, length, map};
+ghost use Rattle.std.specs.List.{range_with_len};
+ghost use Rattle.assign_core.specs.Rows.{IsSize};
+
 use super::*;
+use std::alloc::{AllocError, Global};
 use std::test::Fail;
 
 #[test]
@@ -20,7 +25,7 @@ fn a_dense_problem_and_its_answers(rt: HostRuntime) -> Result<(), Fail> {
     assert_eq!(rt; problem.total(&crossed), 5);
     let certificate = Certificate {
         assignment: crossed,
-        prices: Prices::new(vec![in rt.alloc(); 14, 12]?),
+        prices: Prices::new(rt.alloc(), vec![in rt.alloc(); 14, 12]?)?,
     };
     let copy = certificate.copy(rt.alloc())?;
     assert_eq!(rt;
@@ -51,4 +56,76 @@ fn a_hall_set_and_its_copy(rt: HostRuntime) -> Result<(), Fail> {
     assert_eq!(rt; copy.persons(), [Person(1), Person(2)].as_slice());
     assert_eq!(rt; copy.objects(), [Object(1)].as_slice());
     Ok(())
+}
+
+// The persons or the objects from 1 on.
+fn first<T: Numbered + Drop>(alloc: Global, count: u16) -> Result<Vec<T>, AllocError>
+    ensures { IfOk result
+        (λ numbers. map T.number_of numbers.items ≡ map (λ i. i) (range_with_len 1 count)) }
+{
+    let mut numbers = Vec::new(alloc);
+    for i in 0..count {
+        numbers.push(T::with_number(i + 1))?;
+    }
+    Ok(numbers)
+}
+
+#[test]
+fn a_hall_set_of_all_persons(rt: HostRuntime) -> Result<(), Fail> {
+    let persons: Vec<Person> = first(rt.alloc(), 8192)?;
+    let objects: Vec<Object> = first(rt.alloc(), 8191)?;
+    let copy = HallSet::new(persons, objects).copy(rt.alloc())?;
+    assert_eq!(rt; copy.persons().len(), 8192);
+    assert_eq!(rt; copy.persons().last(), Some(&Person(8192)));
+    assert_eq!(rt; copy.objects().len(), 8191);
+    Ok(())
+}
+
+// A dense problem in which each pair costs 7.
+fn all_alike(alloc: Global, n: u16) -> Result<Problem, AllocError>
+    requires { IsSize n }
+    ensures { IfOk result (λ problem. length problem ≡ n) }
+{
+    let costs: Vec<Cost> = vec![in alloc; 7; n as usize * n as usize]?;
+    Problem::dense(alloc, n, costs.as_slice())
+}
+
+#[test]
+fn a_dense_problem_of_many_persons(rt: HostRuntime) -> Result<(), Fail> {
+    let problem = all_alike(rt.alloc(), 2000)?;
+    assert_eq!(rt; problem.n(), 2000);
+    assert_eq!(rt; problem.row(Person(2000)).len(), 2000);
+    assert_eq!(rt; problem.cost_of(Person(2000), Object(2000)), Some(7));
+    assert_eq!(rt; problem.cost_of(Person(0), Object(1)), None);
+    assert_eq!(rt; problem.cost_of(Person(2001), Object(1)), None);
+    Ok(())
+}
+
+#[test]
+fn prices_and_their_changes(rt: HostRuntime) -> Result<(), Fail> {
+    let mut prices = Prices::zeros(rt.alloc(), 3)?;
+    prices.set(Object(2), 1 << 63);
+    assert_eq!(rt; prices.price(Object(2)), 1 << 63);
+    assert_eq!(rt; prices.as_slice(), [0, 1 << 63, 0].as_slice());
+    assert_eq!(rt; prices.narrow(), [0, NARROW_END, 0].as_slice());
+    let mut others = Prices::zeros(rt.alloc(), 3)?;
+    others.set(Object(3), 5);
+    prices.copy_from(&others);
+    assert_eq!(rt; prices.as_slice(), [0, 0, 5].as_slice());
+    assert_eq!(rt; prices.narrow(), [0, 0, 5].as_slice());
+    Ok(())
+}
+
+fn first_number<T: Numbered>(numbers: &[T]) -> u16 {
+    numbers.iter().next().map_or(0, |one| one.number())
+}
+
+#[test]
+fn numbers_of_persons_and_objects(rt: HostRuntime) {
+    assert_eq!(rt; first_number(&[Person(3), Person(1)]), 3);
+    assert_eq!(rt; first_number(&[Object(2)]), 2);
+    assert_eq!(rt; Person::with_number(3), Person(3));
+    assert_eq!(rt; Object::with_number(8192), Object(8192));
+    assert_eq!(rt; Person(3).place(), 2);
+    assert_eq!(rt; Object(1).place(), 0);
 }

@@ -1,4 +1,5 @@
-use Rattle.std.proofs.Common.{◌≡◌, pos, ◌+ℤ◌, ◌≤ℤ◌, ◌*◌, drop, map}
+use Rattle.std.proofs.Common.{◌≡◌, pos, ◌+ℤ◌, ◌*ℤ◌, ◌≤ℤ◌, drop, map}
+use Rattle.assign_core.specs.declared.numbers.TheConstants.{GREATEST_COST}
 use Rattle.assign_core.specs.Assignment.{total}
 use Rattle.assign_core.proofs.problem.sum_of.Given as goal
 
@@ -6,6 +7,6 @@ use Rattle.assign_core.proofs.problem.sum_of.Given as goal
 abbrev pub invariant-loop-i : goal.invariant-loop-i
 invariant-loop-i l = record {
   whole : l.sum +ℤ total (drop l.i (map (λ r. r.items) l.rows)) (drop l.i l.objects) ≡ total (map (λ r. r.items) l.rows) l.objects;
-  low : pos 0 ≤ℤ (l.sum +ℤ pos (1000000000000 * l.i));
-  high : l.sum ≤ℤ pos (1000000000000 * l.i);
+  low : pos 0 ≤ℤ (l.sum +ℤ (pos l.i *ℤ GREATEST_COST));
+  high : l.sum ≤ℤ (pos l.i *ℤ GREATEST_COST);
 }

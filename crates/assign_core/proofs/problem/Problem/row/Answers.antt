@@ -1,12 +1,12 @@
-use Rattle.std.proofs.Common.{◌≡◌, length, arith, ◌∙◌, ap}
+use Rattle.std.proofs.Common.{◌≡◌, length, get_or, ◌∙◌, ap}
 use Rattle.assign_core.specs.Rows.{row_of}
 use Rattle.assign_core.proofs.RowLemmas.{row_of-mapped, IsRow-row_of}
 use Rattle.assign_core.proofs.problem.Problem.row.Goals as goal
 
 row_is : (c : goal.After-as_slice) → c.as_slice.result.now ≡ row_of c.args.self.now c.args.person
 row_is c =
-    row_of-mapped (λ r. r.items) c.self.inside.rows.items c.args.self.now c.person.inside.0 c.index.result.now c.as_slice.result.now c.self.view_is (omega (arith, c.requires.first)) (omega (arith, c.requires.last)) c.index.ensures c.as_slice.ensures.value
-    ∙ ap (row_of c.args.self.now) c.person.view_is
+    row_of-mapped (λ r. r.items) c.self.inside.rows.items c.args.self.now c.args.person c.index.result.now c.as_slice.result.now c.self.view_is c.requires.first c.requires.last
+    (c.index.ensures ∙ ap (λ k. get_or c.self.inside.rows.items k c.index.result.now) c.place.ensures) c.as_slice.ensures.value
 
 pub returns-clause-row : goal.returns-clause-row
 returns-clause-row c = row_is c
