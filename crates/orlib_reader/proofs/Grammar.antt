@@ -1,10 +1,12 @@
 -- The bytes of a text, taken one by one, give what its tokens give.
 use Rattle.std.proofs.Common.{◌≡◌, ℕ, ◌+◌, ◌*◌, ◌%◌, ◌≤◌, ℤ, pos, negsuc, List, [], ◌∷◌, ◌++◌, Option, Some, None, Ok, Err, Result, IfSome, true, refl, ◌⊎◌, inl, inr, rules, length, sym, ap, ◌∙◌, nat_lt, nat_le, nat_eq, nat_abs}
-use Rattle.std.proofs.lemmas.Bool.{and_parts, leb-true}
-use Rattle.assign_core.specs.Rows.{Row}
+use Rattle.std.proofs.lemmas.Bool.{cases_Bool, and_parts, leb-true}
+use Rattle.assign_core.specs.declared.numbers.TheConstants.{MOST_PERSONS}
+use Rattle.assign_core.specs.Rows.{Listing}
+use Rattle.orlib_reader.specs.declared.machine.TheConstants.{TEXT_LIMIT}
 use Rattle.orlib_reader.proofs.Streams.{after_err, fails_along}
-use Rattle.orlib_reader.proofs.Numbers.{either, IsRead, IsBounded, read_begun, read_on, judged_same}
-use Rattle.orlib_reader.specs.Tokens.{Token, Piece, beyond, text_limit, grown, closed, left_open, cut, is_space}
+use Rattle.orlib_reader.proofs.Numbers.{IsRead, IsBounded, read_begun, read_on, judged_same}
+use Rattle.orlib_reader.specs.Tokens.{Token, Piece, beyond, grown, closed, left_open, cut, is_space}
 use Rattle.orlib_reader.specs.Numbers.{is_digit, judged, judged_number, number_of, is_among}
 use Rattle.orlib_reader.specs.Texts.{wanted_in, ended, and_then, judged_open, numbers_from, numbers_in, dense_problem, dense_reading, sparse_list, sparse_reading, Answers, SparseAnswers, Meets}
 use Rattle.orlib_reader.specs.Steps.{State, begun, continued, begun_where, in_token, with_token, token_number, after, start, finished}
@@ -12,8 +14,8 @@ use Rattle.orlib_reader.specs.declared.fault.InputFault.{InputFault}
 use Rattle.orlib_reader.specs.declared.fault.InputFault.TheVariants as faults
 use Rattle.orlib_reader.specs.declared.layout.Layout.{Layout}
 use Rattle.orlib_reader.specs.declared.layout.Layout.TheVariants as layouts
-use Rattle.orlib_reader.specs.declared.layout.Wanted.{Wanted}
-use Rattle.orlib_reader.specs.declared.layout.Wanted.TheVariants as wanted
+use Rattle.orlib_reader.specs.Wanted.{Wanted}
+use Rattle.orlib_reader.specs.Wanted as wanted
 use Rattle.orlib_reader.specs.declared.token.OpenToken.{OpenToken}
 
 -- a token may stand here
@@ -32,11 +34,10 @@ begun_is wanted.Cost at b h = refl
 begun_is (wanted.Index n) at b h = refl
 begun_is wanted.Nothing at b h = absurd (h refl)
 
-judged_is : (w : Wanted) (t : Token) → IsOpen w → judged w t ≡ judged_number w t.place (number_of t.bytes)
-judged_is wanted.Size t h = refl
-judged_is wanted.Cost t h = refl
-judged_is (wanted.Index n) t h = refl
-judged_is wanted.Nothing t h = absurd (h refl)
+-- where no token may stand, none is judged otherwise
+extra_is : (place : ℕ) (o : Option ℤ) → judged_number wanted.Nothing place o ≡ Err (faults.Extra place)
+extra_is place None = refl
+extra_is place (Some v) = refl
 
 open_is : (w : Wanted) (place : ℕ) → IsOpen w → judged_open w place ≡ faults.TooLong
 open_is wanted.Size place h = refl
@@ -47,13 +48,13 @@ open_is wanted.Nothing place h = absurd (h refl)
 -- the size found, if there is one, is in range
 abbrev pub IsSized : List ℤ → Type 0
 IsSized [] = Unit {0}
-IsSized (n ∷ others) = nat_abs n ≤ 8192
+IsSized (n ∷ others) = nat_abs n ≤ MOST_PERSONS
 
 bounded : (layout : Layout) (found : List ℤ) → IsSized found → IsBounded (wanted_in layout found)
 bounded layouts.Dense [] h = tt
 bounded layouts.Sparse [] h = tt
-bounded layouts.Dense (n ∷ costs) h = elim (either (nat_lt (length costs) (nat_abs n * nat_abs n))) [ inl t ↦ simp t tt | inr t ↦ simp t tt ]
-bounded layouts.Sparse (n ∷ triples) h = elim (either (nat_eq (length triples % 3) 2)) [ inl t ↦ simp t tt | inr t ↦ simp t h ]
+bounded layouts.Dense (n ∷ costs) h = elim (cases_Bool (nat_lt (length costs) (nat_abs n * nat_abs n))) [ inl t ↦ simp t tt | inr t ↦ simp t tt ]
+bounded layouts.Sparse (n ∷ triples) h = elim (cases_Bool (nat_eq (length triples % 3) 2)) [ inl t ↦ simp t tt | inr t ↦ simp t h ]
 
 size_is : (layout : Layout) → wanted_in layout [] ≡ wanted.Size
 size_is layouts.Dense = refl
@@ -63,10 +64,10 @@ among_small : (n : ℕ) (v : ℤ) → is_among n v ≡ true → nat_abs v ≤ n
 among_small n (pos k) h = leb-true k n (and_parts (nat_le 1 k) (nat_le k n) h).1
 among_small n (negsuc k) h = absurd cc
 
-size_small : (place : ℕ) (o : Option ℤ) (v : ℤ) → judged_number wanted.Size place o ≡ Ok v → nat_abs v ≤ 8192
+size_small : (place : ℕ) (o : Option ℤ) (v : ℤ) → judged_number wanted.Size place o ≡ Ok v → nat_abs v ≤ MOST_PERSONS
 size_small place None v h = absurd cc
-size_small place (Some k) v h = elim (either (is_among 8192 k)) [
-  | inl t ↦ let e : Ok k ≡ Ok v = simp t at h in let same : k ≡ v = cc in rw (sym same) (among_small 8192 k t)
+size_small place (Some k) v h = elim (cases_Bool (is_among MOST_PERSONS k)) [
+  | inl t ↦ let e : Ok k ≡ Ok v = simp t at h in let same : k ≡ v = cc in rw (sym same) (among_small MOST_PERSONS k t)
   | inr t ↦ absurd (let e : Err faults.Size ≡ Ok v = simp t at h in cc)
 ]
 
@@ -93,8 +94,7 @@ with_is layout found (Some t) None z h = absurd h
 with_is layout found (Some t) (Some p) z h =
     ap (λ r. and_then r (λ v. Ok (found ++ v ∷ [])))
     (ap (λ place. judged_number (wanted_in layout found) place (token_number p)) h.0
-    ∙ judged_same (wanted_in layout found) t.place t.bytes p (bounded layout found z) h.1
-    ∙ sym (judged_is (wanted_in layout found) t h.2))
+    ∙ judged_same (wanted_in layout found) t.place t.bytes p (bounded layout found z) h.1)
 
 sized_with : (layout : Layout) (found : List ℤ) (o : Option OpenToken) (new : List ℤ) → IsSized found → with_token layout o found ≡ Ok new → IsSized new
 sized_with layout found None new z e = let same : found ≡ new = cc in rw (sym same) z
@@ -121,11 +121,11 @@ closed_last layout found (Some t) = assoc (judged (wanted_in layout found) t) (�
 -- where no token may stand, one that has begun is the fault, whatever its bytes
 extra_stays : (layout : Layout) (found : List ℤ) (at : ℕ) (t : Token) (bytes : List ℕ) → wanted_in layout found ≡ wanted.Nothing →
     numbers_from layout found (cut at (Some t) bytes) ≡ Err (faults.Extra t.place)
-extra_stays layout found at t [] h = simp h refl
-extra_stays layout found at t (b ∷ bytes) h = elim (either (nat_le text_limit at)) [
+extra_stays layout found at t [] h = simp (h, extra_is) refl
+extra_stays layout found at t (b ∷ bytes) h = elim (cases_Bool (nat_le TEXT_LIMIT at)) [
   | inl far ↦ simp (far, h) refl
-  | inr near ↦ elim (either (is_space b)) [
-    | inl s ↦ simp (near, s, h) refl
+  | inr near ↦ elim (cases_Bool (is_space b)) [
+    | inl s ↦ simp (near, s, h, extra_is) refl
     | inr s ↦ simp (near, s) (extra_stays layout found (at + 1) (grown at (Some t) b) bytes h)
   ]
 ]
@@ -143,10 +143,10 @@ abbrev held : State → OpenToken → State
 held s p = record { layout = s.layout; at = s.at + 1; token = Some p; found = s.found }
 
 place_on : (p : OpenToken) (t : Token) (x : ℕ) → p.place ≡ t.place → (continued p x).place ≡ t.place
-place_on p t x h = elim (either (is_digit x)) [ inl d ↦ simp d h | inr d ↦ simp d h ]
+place_on p t x h = elim (cases_Bool (is_digit x)) [ inl d ↦ simp d h | inr d ↦ simp d h ]
 
 place_first : (at x : ℕ) → (begun at x).place ≡ at
-place_first at x = elim (either (is_digit x)) [ inl d ↦ simp d refl | inr d ↦ simp d refl ]
+place_first at x = elim (cases_Bool (is_digit x)) [ inl d ↦ simp d refl | inr d ↦ simp d refl ]
 
 -- white space
 space_is : (bytes : List ℕ) (s : State) (b : Option Token) → IsSized s.found → IsBegun s.layout s.found b s.token →
@@ -186,9 +186,9 @@ token_is x bytes s (Some p) (Some t) h first next = next t p (place_on p t x h.0
 pub reads : (bytes : List ℕ) (s : State) (b : Option Token) → IsSized s.found → IsBegun s.layout s.found b s.token →
     finished (after (Ok s) bytes) ≡ numbers_from s.layout s.found (cut s.at b bytes)
 reads [] s b z h = ap (λ r. and_then r (λ new. ended s.layout new)) (with_is s.layout s.found b s.token z h) ∙ closed_last s.layout s.found b
-reads (x ∷ bytes) s b z h = elim (either (nat_le text_limit s.at)) [
+reads (x ∷ bytes) s b z h = elim (cases_Bool (nat_le TEXT_LIMIT s.at)) [
   | inl far ↦ simp far (ap finished (after_err faults.TooLong bytes) ∙ sym (beyond_is s.layout s.found b s.token h))
-  | inr near ↦ elim (either (is_space x)) [
+  | inr near ↦ elim (cases_Bool (is_space x)) [
     | inl space ↦ simp (near, space) (space_is bytes s b z h (λ new sized. reads bytes (passed s new) None sized tt))
     | inr black ↦ simp (near, black) (token_is x bytes s s.token b h
         (λ some. reads bytes (held s (begun s.at x)) (Some (grown s.at None x)) z (place_first s.at x, read_begun s.at x, some))
@@ -204,20 +204,20 @@ weaker : (o : Option (List ℕ)) (P Q : List ℕ → Type 0) → IfSome o P → 
 weaker None P Q h f = search rules
 weaker (Some x) P Q h f = f x h
 
-dense_meets : (result : Result (List Row) InputFault) (numbers : Result (List ℤ) InputFault) → Meets layouts.Dense result numbers → Answers result (and_then numbers (λ ns. Ok (dense_problem ns)))
+dense_meets : (result : Result (List Listing) InputFault) (numbers : Result (List ℤ) InputFault) → Meets layouts.Dense result numbers → Answers result (and_then numbers (λ ns. Ok (dense_problem ns)))
 dense_meets (Ok rows) (Ok numbers) h = ap Ok h
 dense_meets (Ok rows) (Err e) h = absurd h
 dense_meets (Err e) numbers h = fails_along (λ r. and_then r (λ ns. Ok (dense_problem ns))) (λ _. refl) e numbers h
 
-pub by_tokens : (o : Option (List ℕ)) (result : Result (List Row) InputFault) → IfSome o (λ bytes. Meets layouts.Dense result (finished (after (Ok (start layouts.Dense)) bytes))) →
+pub by_tokens : (o : Option (List ℕ)) (result : Result (List Listing) InputFault) → IfSome o (λ bytes. Meets layouts.Dense result (finished (after (Ok (start layouts.Dense)) bytes))) →
     IfSome o (λ bytes. Answers result (dense_reading bytes))
 by_tokens o result h = weaker o _ _ h (λ bytes g. dense_meets result (numbers_in layouts.Dense bytes) (rw (sym (reads_whole layouts.Dense bytes)) g))
 
-sparse_meets : (result : Result (List Row) InputFault) (numbers : Result (List ℤ) InputFault) → Meets layouts.Sparse result numbers → SparseAnswers result (and_then numbers (λ ns. Ok (sparse_list ns)))
+sparse_meets : (result : Result (List Listing) InputFault) (numbers : Result (List ℤ) InputFault) → Meets layouts.Sparse result numbers → SparseAnswers result (and_then numbers (λ ns. Ok (sparse_list ns)))
 sparse_meets (Ok rows) (Ok numbers) h = h
 sparse_meets (Ok rows) (Err e) h = absurd h
 sparse_meets (Err e) numbers h = fails_along (λ r. and_then r (λ ns. Ok (sparse_list ns))) (λ _. refl) e numbers h
 
-pub by_triples : (o : Option (List ℕ)) (result : Result (List Row) InputFault) → IfSome o (λ bytes. Meets layouts.Sparse result (finished (after (Ok (start layouts.Sparse)) bytes))) →
+pub by_triples : (o : Option (List ℕ)) (result : Result (List Listing) InputFault) → IfSome o (λ bytes. Meets layouts.Sparse result (finished (after (Ok (start layouts.Sparse)) bytes))) →
     IfSome o (λ bytes. SparseAnswers result (sparse_reading bytes))
 by_triples o result h = weaker o _ _ h (λ bytes g. sparse_meets result (numbers_in layouts.Sparse bytes) (rw (sym (reads_whole layouts.Sparse bytes)) g))

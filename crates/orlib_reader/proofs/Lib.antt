@@ -3,3 +3,4 @@ pub mod Streams
 pub mod Numbers
 pub mod Grammar
 pub mod Gathered
+pub mod Taking

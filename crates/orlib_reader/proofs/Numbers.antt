@@ -1,15 +1,13 @@
 -- A token that is taken byte by byte is the number that its bytes are.
-use Rattle.std.proofs.Common.{◌≡◌, ℕ, zero, suc, ◌+◌, ◌-◌, ◌*◌, ◌^◌, ◌≤◌, ◌<◌, List, [], ◌∷◌, ◌++◌, Option, Some, None, Bool, true, false, cond, refl, ◌⊎◌, inl, inr, arith, length, length-append, sym, ap, ◌∙◌, nat_le, nat_eq, option_map}
-use Rattle.std.proofs.lemmas.Bool.{cond-true, cond-false, lt-leb, le-ltb, leb-true, leb-false, ne_eqb, and_right, and_parts, or_from}
+use Rattle.std.proofs.Common.{◌≡◌, ℕ, zero, suc, ◌+◌, ◌-◌, ◌*◌, ◌≤◌, ◌<◌, List, [], ◌∷◌, ◌++◌, Option, Some, None, Bool, true, false, cond, refl, ◌⊎◌, inl, inr, arith, length, length-append, sym, ap, ◌∙◌, nat_abs, nat_le, nat_eq, option_map}
+use Rattle.std.proofs.lemmas.Bool.{cases_Bool, cond-true, cond-false, lt-leb, le-ltb, leb-true, leb-false, ne_eqb, and_right, and_parts, or_from}
+use Rattle.assign_core.specs.declared.numbers.TheConstants.{MOST_PERSONS, GREATEST_COST}
+use Rattle.orlib_reader.specs.declared.token.TheConstants.{VALUE_LIMIT}
 use Rattle.orlib_reader.specs.Numbers.{is_digit, is_sign, is_negative, unsigned, digits_from, digits_value, signed, number_of, is_among, is_cost, in_range, judged_number}
 use Rattle.orlib_reader.specs.Steps.{saturated, begun, continued, token_number}
-use Rattle.orlib_reader.specs.declared.layout.Wanted.{Wanted}
-use Rattle.orlib_reader.specs.declared.layout.Wanted.TheVariants as wanted
+use Rattle.orlib_reader.specs.Wanted.{Wanted}
+use Rattle.orlib_reader.specs.Wanted as wanted
 use Rattle.orlib_reader.specs.declared.token.OpenToken.{OpenToken}
-
-pub either : (b : Bool) → (b ≡ true) ⊎ (b ≡ false)
-either true = inl refl
-either false = inr refl
 
 abbrev pub is_some_list : List ℕ → Bool
 is_some_list [] = false
@@ -22,10 +20,10 @@ pub record IsRead (bytes : List ℕ) (p : OpenToken) : Type 0 where
   pub value : option_map saturated (digits_from 0 (unsigned bytes)) ≡ cond p.is_bad None (Some p.value)
   pub digits : p.is_bad ≡ false → p.has_digits ≡ is_some_list (unsigned bytes)
 
-saturated_small : (v : ℕ) → v ≤ 10 ^ 18 → saturated v ≡ v
+saturated_small : (v : ℕ) → v ≤ VALUE_LIMIT → saturated v ≡ v
 saturated_small v h = omega arith
 
-saturated_great : (v : ℕ) → 10 ^ 18 ≤ v → saturated v ≡ 10 ^ 18
+saturated_great : (v : ℕ) → VALUE_LIMIT ≤ v → saturated v ≡ VALUE_LIMIT
 saturated_great v h = omega arith
 
 saturated_on : (v d : ℕ) → saturated (v * 10 + d) ≡ saturated (saturated v * 10 + d)
@@ -40,7 +38,7 @@ digit_no_sign b d = let low = digit_bounds b d in let m = ne_eqb b 45 (omega ari
 -- one byte more behind a token's first
 unsigned_more : (bytes : List ℕ) (b : ℕ) → 0 < length bytes → unsigned (bytes ++ b ∷ []) ≡ unsigned bytes ++ b ∷ []
 unsigned_more [] b h = absurd (omega arith)
-unsigned_more (c ∷ bytes) b h = elim (either (is_sign c)) [ inl s ↦ simp s refl | inr s ↦ simp s refl ]
+unsigned_more (c ∷ bytes) b h = elim (cases_Bool (is_sign c)) [ inl s ↦ simp s refl | inr s ↦ simp s refl ]
 
 negative_more : (bytes : List ℕ) (b : ℕ) → 0 < length bytes → is_negative (bytes ++ b ∷ []) ≡ is_negative bytes
 negative_more [] b h = absurd (omega arith)
@@ -56,14 +54,14 @@ then_digit (Some v) b = digits_from v (b ∷ [])
 
 digits_more : (v : ℕ) (bytes : List ℕ) (b : ℕ) → digits_from v (bytes ++ b ∷ []) ≡ then_digit (digits_from v bytes) b
 digits_more v [] b = refl
-digits_more v (c ∷ bytes) b = elim (either (is_digit c)) [ inl d ↦ simp d (digits_more (v * 10 + (c - 48)) bytes b) | inr d ↦ simp d refl ]
+digits_more v (c ∷ bytes) b = elim (cases_Bool (is_digit c)) [ inl d ↦ simp d (digits_more (v * 10 + (c - 48)) bytes b) | inr d ↦ simp d refl ]
 
 pub read_begun : (at b : ℕ) → IsRead (b ∷ []) (begun at b)
-read_begun at b = elim (either (is_digit b)) [
+read_begun at b = elim (cases_Bool (is_digit b)) [
   | inl d ↦ let no = digit_no_sign b d in let low = digit_bounds b d in
       let s = no.0 in let m = no.1 in
       simp d record { begun = omega arith; negative = sym m; value = simp (s, d) (ap Some (omega arith)); digits = λ _. simp s refl }
-  | inr d ↦ elim (either (is_sign b)) [
+  | inr d ↦ elim (cases_Bool (is_sign b)) [
     | inl s ↦ simp (d, s) record { begun = omega arith; negative = refl; value = simp s refl; digits = λ _. simp s refl }
     | inr s ↦ simp (d, s) record { begun = omega arith; negative = refl; value = simp (s, d) refl; digits = λ e. absurd cc }
   ]
@@ -72,11 +70,11 @@ read_begun at b = elim (either (is_digit b)) [
 -- the value of digits with one byte more, saturated
 digit_next : (o : Option ℕ) (p : OpenToken) (b : ℕ) → is_digit b ≡ true → option_map saturated o ≡ cond p.is_bad None (Some p.value) →
     option_map saturated (then_digit o b) ≡ cond p.is_bad None (Some (saturated (p.value * 10 + (b - 48))))
-digit_next None p b d h = elim (either p.is_bad) [
+digit_next None p b d h = elim (cases_Bool p.is_bad) [
   | inl t ↦ simp t refl
   | inr f ↦ absurd (let e : None ≡ Some p.value = h ∙ cond-false p.is_bad None (Some p.value) f in cc)
 ]
-digit_next (Some v) p b d h = elim (either p.is_bad) [
+digit_next (Some v) p b d h = elim (cases_Bool p.is_bad) [
   | inl t ↦ absurd (let e : Some (saturated v) ≡ None = h ∙ cond-true p.is_bad None (Some p.value) t in cc)
   | inr f ↦ let e : Some (saturated v) ≡ Some p.value = h ∙ cond-false p.is_bad None (Some p.value) f in
       let same : saturated v ≡ p.value = cc in
@@ -88,7 +86,7 @@ bad_next None b d = refl
 bad_next (Some v) b d = simp d refl
 
 pub read_on : (bytes : List ℕ) (p : OpenToken) (b : ℕ) → IsRead bytes p → IsRead (bytes ++ b ∷ []) (continued p b)
-read_on bytes p b h = elim (either (is_digit b)) [
+read_on bytes p b h = elim (cases_Bool (is_digit b)) [
   | inl d ↦ simp d record {
     begun = rw length-append (omega arith);
     negative = h.negative ∙ sym (negative_more bytes b h.begun);
@@ -106,33 +104,31 @@ read_on bytes p b h = elim (either (is_digit b)) [
 
 -- an index may not be as great as what is kept of a great value
 abbrev pub IsBounded : Wanted → Type 0
-IsBounded wanted.Size = Unit {0}
-IsBounded wanted.Cost = Unit {0}
-IsBounded (wanted.Index n) = n ≤ 8192
-IsBounded wanted.Nothing = Unit {0}
+IsBounded (wanted.Index n) = n ≤ MOST_PERSONS
+IsBounded w = Unit {0}
 
-among_great : (n : ℕ) (negative : Bool) (v : ℕ) → n ≤ 8192 → 10 ^ 18 ≤ v → is_among n (signed negative v) ≡ false
+among_great : (n : ℕ) (negative : Bool) (v : ℕ) → n ≤ MOST_PERSONS → VALUE_LIMIT ≤ v → is_among n (signed negative v) ≡ false
 among_great n true zero few h = absurd (omega arith)
 among_great n true (suc v) few h = refl
 among_great n false v few h = and_right (nat_le 1 v) (nat_le v n) (lt-leb v n (omega arith))
 
-cost_great : (negative : Bool) (v : ℕ) → 10 ^ 18 ≤ v → is_cost (signed negative v) ≡ false
+cost_great : (negative : Bool) (v : ℕ) → VALUE_LIMIT ≤ v → is_cost (signed negative v) ≡ false
 cost_great true zero h = absurd (omega arith)
-cost_great true (suc v) h = le-ltb v (10 ^ 12) (omega arith)
-cost_great false v h = lt-leb v (10 ^ 12) (omega arith)
+cost_great true (suc v) h = le-ltb v (nat_abs GREATEST_COST) (omega arith)
+cost_great false v h = lt-leb v (nat_abs GREATEST_COST) (omega arith)
 
-range_great : (w : Wanted) (place : ℕ) (negative : Bool) (v : ℕ) → IsBounded w → 10 ^ 18 ≤ v → in_range w place (signed negative v) ≡ in_range w place (signed negative (10 ^ 18))
-range_great wanted.Size place negative v bound h = simp (among_great 8192 negative v (omega arith) h, among_great 8192 negative (10 ^ 18) (omega arith) (omega arith)) refl
-range_great wanted.Cost place negative v bound h = simp (cost_great negative v h, cost_great negative (10 ^ 18) (omega arith)) refl
-range_great (wanted.Index n) place negative v bound h = simp (among_great n negative v bound h, among_great n negative (10 ^ 18) bound (omega arith)) refl
+range_great : (w : Wanted) (place : ℕ) (negative : Bool) (v : ℕ) → IsBounded w → VALUE_LIMIT ≤ v → in_range w place (signed negative v) ≡ in_range w place (signed negative (VALUE_LIMIT))
+range_great wanted.Size place negative v bound h = simp (among_great MOST_PERSONS negative v (omega arith) h, among_great MOST_PERSONS negative (VALUE_LIMIT) (omega arith) (omega arith)) refl
+range_great wanted.Cost place negative v bound h = simp (cost_great negative v h, cost_great negative (VALUE_LIMIT) (omega arith)) refl
+range_great (wanted.Index n) place negative v bound h = simp (among_great n negative v bound h, among_great n negative (VALUE_LIMIT) bound (omega arith)) refl
 range_great wanted.Nothing place negative v bound h = refl
 
 -- what is kept of a great value is out of range where the value is
 range_saturated : (w : Wanted) (place : ℕ) (negative : Bool) (v : ℕ) → IsBounded w → in_range w place (signed negative (saturated v)) ≡ in_range w place (signed negative v)
-range_saturated w place negative v bound = elim (either (nat_le (10 ^ 18) v)) [
-  | inl g ↦ let great : 10 ^ 18 ≤ v = leb-true (10 ^ 18) v g in
+range_saturated w place negative v bound = elim (cases_Bool (nat_le (VALUE_LIMIT) v)) [
+  | inl g ↦ let great : VALUE_LIMIT ≤ v = leb-true (VALUE_LIMIT) v g in
       ap (λ k. in_range w place (signed negative k)) (saturated_great v great) ∙ sym (range_great w place negative v bound great)
-  | inr s ↦ ap (λ k. in_range w place (signed negative k)) (saturated_small v (let low = leb-false (10 ^ 18) v s in omega arith))
+  | inr s ↦ ap (λ k. in_range w place (signed negative k)) (saturated_small v (let low = leb-false (VALUE_LIMIT) v s in omega arith))
 ]
 
 value_or : (bytes : List ℕ) → (is_some_list bytes ≡ true) → digits_value bytes ≡ digits_from 0 bytes
@@ -157,11 +153,11 @@ some_value (Some v) k h = (v, refl, cc)
 
 -- what is kept of a token is judged as the token is
 pub judged_same : (w : Wanted) (place : ℕ) (bytes : List ℕ) (p : OpenToken) → IsBounded w → IsRead bytes p → judged_number w place (token_number p) ≡ judged_number w place (number_of bytes)
-judged_same w place bytes p bound h = elim (either p.is_bad) [
+judged_same w place bytes p bound h = elim (cases_Bool p.is_bad) [
   | inl t ↦
       let none = value_none (unsigned bytes) (no_value (digits_from 0 (unsigned bytes)) (h.value ∙ cond-true p.is_bad None (Some p.value) t)) in
       simp (t, none) refl
-  | inr f ↦ elim (either p.has_digits) [
+  | inr f ↦ elim (cases_Bool p.has_digits) [
     | inl some ↦
         let read = some_value (digits_from 0 (unsigned bytes)) p.value (h.value ∙ cond-false p.is_bad None (Some p.value) f) in
         let is = value_or (unsigned bytes) (sym (h.digits f) ∙ some) ∙ read.1 in

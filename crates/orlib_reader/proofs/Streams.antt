@@ -23,14 +23,7 @@ after-append (Err e) (x ∷ xs) ys = sym (after_err e ys)
 pub fails_along : {X Y : Type 0} (f : Result X InputFault → Result Y InputFault) (same : (e : InputFault) → f (Err e) ≡ Err e) (e : InputFault) (w : Result X InputFault) → Fails e w → Fails e (f w)
 fails_along f same faults.Memory w h = tt
 fails_along f same faults.Read w h = tt
-fails_along f same faults.Empty w h = ap f h ∙ same faults.Empty
-fails_along f same (faults.BadToken p) w h = ap f h ∙ same (faults.BadToken p)
-fails_along f same faults.Size w h = ap f h ∙ same faults.Size
-fails_along f same (faults.Cost p) w h = ap f h ∙ same (faults.Cost p)
-fails_along f same (faults.Index p) w h = ap f h ∙ same (faults.Index p)
-fails_along f same (faults.Truncated p) w h = ap f h ∙ same (faults.Truncated p)
-fails_along f same (faults.Extra p) w h = ap f h ∙ same (faults.Extra p)
-fails_along f same faults.TooLong w h = ap f h ∙ same faults.TooLong
+fails_along f same fault w h = ap f h ∙ same fault
 
 -- a fault stays, whatever comes after it
 pub err_more : (e : InputFault) (w : Result State InputFault) (ys : List ℕ) → Fails e w → Fails e (after w ys)

@@ -1,26 +1,36 @@
 -- How the numbers of a sparse text are kept: pieces of triples, and the triple that has begun.
-use Rattle.std.specs.Prelude.{◌≡◌, ℕ, ◌≤◌, ℤ, pos, List, [], ◌∷◌, ◌++◌, All, flat_map, length, ◌==◌, if◌then◌else◌}
+use Rattle.std.specs.Prelude.{◌≡◌, ℕ, ℤ, pos, List, [], ◌∷◌, ◌++◌, All, flat_map, length}
+use Rattle.assign_core.specs.Numbered.{IsNumber}
+use Rattle.assign_core.specs.Rows.{IsSize}
 use Rattle.assign_core.specs.Sparse.{Triple, IsTriple}
+use Rattle.orlib_reader.specs.declared.sparse.TheConstants.{PIECE_LENGTH}
+use Rattle.orlib_reader.specs.declared.sparse.Begun.{Begun}
+use Rattle.orlib_reader.specs.declared.sparse.Begun.TheVariants.{Nothing, Person, Pair}
 
--- pieces of 4096 triples each, and the triples behind them
+-- pieces of one length, and the triples behind them
 abbrev pub gathered : List (List Triple) → List Triple → List Triple
 gathered pieces piece = flat_map (λ p. p) pieces ++ piece
 
 abbrev pub numbers_of : Triple → List ℤ
 numbers_of t = pos t.0 ∷ pos t.1 ∷ t.2 ∷ []
 
--- a person or an object that hasn't come is kept as 0
-abbrev pub begun_triple : ℕ → ℕ → List ℤ
-begun_triple person object = if person == 0 then [] else if object == 0 then pos person ∷ [] else pos person ∷ pos object ∷ []
+-- the numbers of the triple that has begun
+abbrev pub begun_numbers : Begun → List ℤ
+begun_numbers Nothing = []
+begun_numbers (Person i) = pos i ∷ []
+begun_numbers (Pair i j) = pos i ∷ pos j ∷ []
 
--- no size is kept as 0
-abbrev pub sparse_numbers : ℕ → List Triple → ℕ → ℕ → List ℤ
-sparse_numbers n triples person object = if n == 0 then [] else pos n ∷ (flat_map numbers_of triples ++ begun_triple person object)
+abbrev pub sparse_numbers : ℕ → List Triple → Begun → List ℤ
+sparse_numbers n triples begun = pos n ∷ (flat_map numbers_of triples ++ begun_numbers begun)
 
-pub record IsGathered (n : ℕ) (pieces : List (List Triple)) (piece : List Triple) (i j : ℕ) : Type 0 where
-  pub size : n ≤ 8192
-  pub person : i ≤ n
-  pub object : j ≤ n
-  pub order : i ≡ 0 → j ≡ 0
-  pub full : All (λ p. length p ≡ 4096) pieces
+-- they are numbers from 1 to n
+abbrev pub AreWithin : ℕ → Begun → Type 0
+AreWithin n Nothing = Unit {0}
+AreWithin n (Person i) = IsNumber n i
+AreWithin n (Pair i j) = IsNumber n i × IsNumber n j
+
+pub record IsGathered (n : ℕ) (pieces : List (List Triple)) (piece : List Triple) (begun : Begun) : Type 0 where
+  pub size : IsSize n
+  pub within : AreWithin n begun
+  pub full : All (λ p. length p ≡ PIECE_LENGTH) pieces
   pub triples : All (IsTriple n) (gathered pieces piece)

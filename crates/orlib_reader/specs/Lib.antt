@@ -1,7 +1,9 @@
 pub mod Tokens
+pub mod Wanted
 pub mod Numbers
 pub mod Texts
 pub mod Steps
 pub mod Kept
 pub mod Held
 pub mod Gathered
+pub mod FaultText

@@ -1,10 +1,11 @@
 -- What number a token is, and which numbers may stand where.
-use Rattle.std.specs.Prelude.{ℕ, ◌+◌, ◌-◌, ◌*◌, ◌^◌, ℤ, pos, negsuc, neg_ℤ, List, [], ◌∷◌, Option, None, Some, Result, Ok, Err, nat_lt, nat_le, ◌==◌, ◌&&◌, ◌||◌, if◌then◌else◌, Bool, false, option_map}
+use Rattle.std.specs.Prelude.{◌≡◌, ℕ, ◌+◌, ◌-◌, ◌*◌, ℤ, pos, negsuc, neg_ℤ, List, [], ◌∷◌, Option, None, Some, Result, Ok, Err, nat_lt, nat_le, nat_abs, ◌==◌, ◌&&◌, ◌||◌, if◌then◌else◌, Bool, false, option_map}
+use Rattle.assign_core.specs.declared.numbers.TheConstants.{MOST_PERSONS, GREATEST_COST}
 use Rattle.orlib_reader.specs.Tokens.{Token}
 use Rattle.orlib_reader.specs.declared.fault.InputFault.{InputFault}
 use Rattle.orlib_reader.specs.declared.fault.InputFault.TheVariants as faults
-use Rattle.orlib_reader.specs.declared.layout.Wanted.{Wanted}
-use Rattle.orlib_reader.specs.declared.layout.Wanted.TheVariants as wanted
+use Rattle.orlib_reader.specs.Wanted.{Wanted}
+use Rattle.orlib_reader.specs.Wanted as wanted
 
 abbrev pub is_digit : ℕ → Bool
 is_digit b = nat_le 48 b && nat_le b 57
@@ -45,25 +46,32 @@ abbrev pub is_among : ℕ → ℤ → Bool
 is_among n (pos k) = nat_le 1 k && nat_le k n
 is_among n (negsuc k) = false
 
--- from -10^12 to 10^12
+-- at most the greatest cost, either way
 abbrev pub is_cost : ℤ → Bool
-is_cost (pos k) = nat_le k (10 ^ 12)
-is_cost (negsuc k) = nat_lt k (10 ^ 12)
+is_cost (pos k) = nat_le k (nat_abs GREATEST_COST)
+is_cost (negsuc k) = nat_lt k (nat_abs GREATEST_COST)
 
 -- a number at this place, where this is wanted
 abbrev pub in_range : Wanted → ℕ → ℤ → Result ℤ InputFault
-in_range wanted.Size place v = if is_among 8192 v then Ok v else Err faults.Size
+in_range wanted.Size place v = if is_among MOST_PERSONS v then Ok v else Err faults.Size
 in_range wanted.Cost place v = if is_cost v then Ok v else Err (faults.Cost place)
 in_range (wanted.Index n) place v = if is_among n v then Ok v else Err (faults.Index place)
 in_range wanted.Nothing place v = Err (faults.Extra place)
 
+-- a token at this place that is no number, where this is wanted
+abbrev pub no_number : Wanted → ℕ → InputFault
+no_number wanted.Nothing place = faults.Extra place
+no_number w place = faults.BadToken place
+
 abbrev pub judged_number : Wanted → ℕ → Option ℤ → Result ℤ InputFault
-judged_number w place None = Err (faults.BadToken place)
+judged_number w place None = Err (no_number w place)
 judged_number w place (Some v) = in_range w place v
 
 -- what a token gives where this is wanted: its number, or its fault
 abbrev pub judged : Wanted → Token → Result ℤ InputFault
-judged wanted.Nothing t = Err (faults.Extra t.place)
-judged wanted.Size t = judged_number wanted.Size t.place (number_of t.bytes)
-judged wanted.Cost t = judged_number wanted.Cost t.place (number_of t.bytes)
-judged (wanted.Index n) t = judged_number (wanted.Index n) t.place (number_of t.bytes)
+judged w t = judged_number w t.place (number_of t.bytes)
+
+-- what came is the number that was to come, or its fault
+abbrev pub Tells : {X : Type 0} → (X → ℤ) → Result X InputFault → Result ℤ InputFault → Type 0
+Tells view (Ok x) number = number ≡ Ok (view x)
+Tells view (Err fault) number = number ≡ Err fault

@@ -1,13 +1,15 @@
 -- The same texts, taken byte by byte.
-use Rattle.std.specs.Prelude.{ℕ, ◌+◌, ◌-◌, ◌*◌, ◌^◌, ℤ, List, [], ◌∷◌, ◌++◌, Option, None, Some, Result, Ok, Err, nat_le, ◌==◌, if◌then◌else◌, true, false, min, IfSome, ◌≤◌, length}
-use Rattle.orlib_reader.specs.Tokens.{is_space, text_limit}
+use Rattle.std.specs.Prelude.{ℕ, ◌+◌, ◌-◌, ◌*◌, ℤ, List, [], ◌∷◌, ◌++◌, Option, None, Some, Result, Ok, Err, nat_le, ◌==◌, if◌then◌else◌, true, false, min, IfSome, ◌≤◌, length}
+use Rattle.orlib_reader.specs.Tokens.{is_space}
 use Rattle.orlib_reader.specs.Numbers.{is_digit, is_sign, signed, judged_number}
 use Rattle.orlib_reader.specs.Texts.{wanted_in, ended, and_then}
 use Rattle.orlib_reader.specs.declared.fault.InputFault.{InputFault}
 use Rattle.orlib_reader.specs.declared.fault.InputFault.TheVariants as faults
+use Rattle.orlib_reader.specs.declared.machine.TheConstants.{TEXT_LIMIT}
+use Rattle.orlib_reader.specs.declared.token.TheConstants.{VALUE_LIMIT}
 use Rattle.orlib_reader.specs.declared.layout.Layout.{Layout}
-use Rattle.orlib_reader.specs.declared.layout.Wanted.{Wanted}
-use Rattle.orlib_reader.specs.declared.layout.Wanted.TheVariants as wanted
+use Rattle.orlib_reader.specs.Wanted.{Wanted}
+use Rattle.orlib_reader.specs.Wanted as wanted
 use Rattle.orlib_reader.specs.declared.token.OpenToken.{OpenToken}
 
 -- where the reader is: bytes so far, the token that is open, the numbers before it
@@ -19,7 +21,7 @@ pub record State : Type 0 where
 
 -- greater values are kept as this one, which is out of each range
 abbrev pub saturated : ℕ → ℕ
-saturated v = min v (10 ^ 18)
+saturated v = min v VALUE_LIMIT
 
 -- a token that begins with this byte
 abbrev pub begun : ℕ → ℕ → OpenToken
@@ -44,9 +46,7 @@ with_token layout (Some t) found = and_then (judged_number (wanted_in layout fou
 
 abbrev pub begun_where : Wanted → ℕ → ℕ → Result OpenToken InputFault
 begun_where wanted.Nothing at b = Err (faults.Extra at)
-begun_where wanted.Size at b = Ok (begun at b)
-begun_where wanted.Cost at b = Ok (begun at b)
-begun_where (wanted.Index n) at b = Ok (begun at b)
+begun_where w at b = Ok (begun at b)
 
 -- a byte that is no white space
 abbrev pub in_token : Layout → ℕ → Option OpenToken → List ℤ → ℕ → Result OpenToken InputFault
@@ -56,7 +56,7 @@ in_token layout at (Some t) found b = Ok (continued t b)
 -- one byte more
 abbrev pub step : State → ℕ → Result State InputFault
 step s b =
-    if nat_le text_limit s.at then Err faults.TooLong
+    if nat_le TEXT_LIMIT s.at then Err faults.TooLong
     else if is_space b then and_then (with_token s.layout s.token s.found) (λ found. Ok (record { layout = s.layout; at = s.at + 1; token = None; found = found }))
     else and_then (in_token s.layout s.at s.token s.found b) (λ t. Ok (record { layout = s.layout; at = s.at + 1; token = Some t; found = s.found }))
 
@@ -81,6 +81,6 @@ open_count (Some t) = 1
 
 -- what is always so: each number took a byte
 pub record IsUnderway (at : ℕ) (token : Option OpenToken) (found : List ℤ) : Type 0 where
-  pub near : at ≤ text_limit
-  pub value : IfSome token (λ t. t.value ≤ 10 ^ 18)
+  pub near : at ≤ TEXT_LIMIT
+  pub value : IfSome token (λ t. t.value ≤ VALUE_LIMIT)
   pub count : length found + open_count token ≤ at

@@ -1,6 +1,6 @@
 -- Second and third step: from the tokens of a text to its numbers, or to its first fault, and from the numbers to a problem.
 use Rattle.std.specs.Prelude.{◌≡◌, ℕ, ◌*◌, ◌%◌, ℤ, List, [], ◌∷◌, ◌++◌, Result, Ok, Err, nat_lt, ◌==◌, if◌then◌else◌, Bool, false, length, nat_abs}
-use Rattle.assign_core.specs.Rows.{Row}
+use Rattle.assign_core.specs.Rows.{Listing}
 use Rattle.assign_core.specs.Dense.{dense_rows}
 use Rattle.assign_core.specs.Sparse.{Triple, IsSparse}
 use Rattle.orlib_reader.specs.Tokens.{Piece, whole, open_at, beyond, pieces_of}
@@ -9,14 +9,16 @@ use Rattle.orlib_reader.specs.declared.fault.InputFault.{InputFault}
 use Rattle.orlib_reader.specs.declared.fault.InputFault.TheVariants as faults
 use Rattle.orlib_reader.specs.declared.layout.Layout.{Layout}
 use Rattle.orlib_reader.specs.declared.layout.Layout.TheVariants as layouts
-use Rattle.orlib_reader.specs.declared.layout.Wanted.{Wanted}
-use Rattle.orlib_reader.specs.declared.layout.Wanted.TheVariants as wanted
+use Rattle.orlib_reader.specs.Wanted.{Wanted}
+use Rattle.orlib_reader.specs.Wanted as wanted
 
 -- what is wanted behind the numbers found so far: dense texts are n and then n * n costs, sparse ones n and then triples
 abbrev pub wanted_in : Layout → List ℤ → Wanted
 wanted_in layout [] = wanted.Size
-wanted_in layouts.Dense (n ∷ costs) = if nat_lt (length costs) (nat_abs n * nat_abs n) then wanted.Cost else wanted.Nothing
-wanted_in layouts.Sparse (n ∷ triples) = if length triples % 3 == 2 then wanted.Cost else wanted.Index (nat_abs n)
+wanted_in layouts.Dense (n ∷ costs) =
+    if nat_lt (length costs) (nat_abs n * nat_abs n) then wanted.Cost else wanted.Nothing
+wanted_in layouts.Sparse (n ∷ triples) =
+    if length triples % 3 == 2 then wanted.Cost else wanted.Index (nat_abs n)
 
 -- whether a text may end behind these numbers
 abbrev pub may_end : Layout → List ℤ → Bool
@@ -32,9 +34,7 @@ ended layout (n ∷ others) = if may_end layout (n ∷ others) then Ok (n ∷ ot
 -- a token that goes past the limit is judged only where none may stand
 abbrev pub judged_open : Wanted → ℕ → InputFault
 judged_open wanted.Nothing place = faults.Extra place
-judged_open wanted.Size place = faults.TooLong
-judged_open wanted.Cost place = faults.TooLong
-judged_open (wanted.Index n) place = faults.TooLong
+judged_open w place = faults.TooLong
 
 abbrev pub and_then : {X Y : Type 0} → Result X InputFault → (X → Result Y InputFault) → Result Y InputFault
 and_then (Ok x) f = f x
@@ -51,12 +51,12 @@ abbrev pub numbers_in : Layout → List ℕ → Result (List ℤ) InputFault
 numbers_in layout bytes = numbers_from layout [] (pieces_of bytes)
 
 -- n, and then the costs
-abbrev pub dense_problem : List ℤ → List Row
+abbrev pub dense_problem : List ℤ → List Listing
 dense_problem [] = []
 dense_problem (n ∷ costs) = dense_rows (nat_abs n) costs
 
 -- the problem of a dense text, or its first fault
-abbrev pub dense_reading : List ℕ → Result (List Row) InputFault
+abbrev pub dense_reading : List ℕ → Result (List Listing) InputFault
 dense_reading bytes = and_then (numbers_in layouts.Dense bytes) (λ numbers. Ok (dense_problem numbers))
 
 -- a person, an object and a cost each
@@ -79,14 +79,7 @@ sparse_reading bytes = and_then (numbers_in layouts.Sparse bytes) (λ numbers. O
 abbrev pub Fails : {Y : Type 0} → InputFault → Result Y InputFault → Type 0
 Fails faults.Memory reading = Unit {0}
 Fails faults.Read reading = Unit {0}
-Fails faults.Empty reading = reading ≡ Err faults.Empty
-Fails (faults.BadToken place) reading = reading ≡ Err (faults.BadToken place)
-Fails faults.Size reading = reading ≡ Err faults.Size
-Fails (faults.Cost place) reading = reading ≡ Err (faults.Cost place)
-Fails (faults.Index place) reading = reading ≡ Err (faults.Index place)
-Fails (faults.Truncated count) reading = reading ≡ Err (faults.Truncated count)
-Fails (faults.Extra place) reading = reading ≡ Err (faults.Extra place)
-Fails faults.TooLong reading = reading ≡ Err faults.TooLong
+Fails fault reading = reading ≡ Err fault
 
 -- what came is what was to come
 abbrev pub Gives : {X Y : Type 0} → (X → Y) → Result X InputFault → Result Y InputFault → Type 0
@@ -97,18 +90,18 @@ abbrev pub Answers : {X : Type 0} → Result X InputFault → Result X InputFaul
 Answers result reading = Gives (λ x. x) result reading
 
 -- the rows list just the pairs that the text gives, each at its least cost
-abbrev pub SparseAnswers : Result (List Row) InputFault → Result (ℕ × List Triple) InputFault → Type 0
+abbrev pub SparseAnswers : Result (List Listing) InputFault → Result (ℕ × List Triple) InputFault → Type 0
 SparseAnswers (Ok rows) (Ok given) = IsSparse given.0 given.1 rows
 SparseAnswers (Ok rows) (Err e) = ⊥
 SparseAnswers (Err e) reading = Fails e reading
 
 -- the rows are those of the numbers
-abbrev pub IsProblemOf : Layout → List ℤ → List Row → Type 0
+abbrev pub IsProblemOf : Layout → List ℤ → List Listing → Type 0
 IsProblemOf layouts.Dense numbers rows = dense_problem numbers ≡ rows
 IsProblemOf layouts.Sparse numbers rows = IsSparse (sparse_list numbers).0 (sparse_list numbers).1 rows
 
 -- what came is the problem of the numbers, or their fault
-abbrev pub Meets : Layout → Result (List Row) InputFault → Result (List ℤ) InputFault → Type 0
+abbrev pub Meets : Layout → Result (List Listing) InputFault → Result (List ℤ) InputFault → Type 0
 Meets layout (Ok rows) (Ok numbers) = IsProblemOf layout numbers rows
 Meets layout (Ok rows) (Err e) = ⊥
 Meets layout (Err e) numbers = Fails e numbers

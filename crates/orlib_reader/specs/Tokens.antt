@@ -1,5 +1,6 @@
 -- First step: from the bytes of a text to its tokens.
-use Rattle.std.specs.Prelude.{ℕ, ◌+◌, ◌^◌, List, [], ◌∷◌, ◌++◌, Option, None, Some, nat_le, ◌==◌, ◌&&◌, ◌||◌, if◌then◌else◌, Bool}
+use Rattle.std.specs.Prelude.{ℕ, ◌+◌, List, [], ◌∷◌, ◌++◌, Option, None, Some, nat_le, ◌==◌, ◌&&◌, ◌||◌, if◌then◌else◌, Bool}
+use Rattle.orlib_reader.specs.declared.machine.TheConstants.{TEXT_LIMIT}
 
 -- space, TAB, LF, VT, FF and CR
 abbrev pub is_space : ℕ → Bool
@@ -19,10 +20,6 @@ pub data Piece : Type 0 where
   -- the text goes past the limit
   beyond : Piece
 
--- at most so many bytes are read
-abbrev pub text_limit : ℕ
-text_limit = 2 ^ 30
-
 -- the token that has begun, or a new one at this place, with one byte more
 abbrev pub grown : ℕ → Option Token → ℕ → Token
 grown at None b = record { place = at; bytes = b ∷ [] }
@@ -40,7 +37,7 @@ left_open (Some t) = open_at t.place ∷ []
 abbrev pub cut : ℕ → Option Token → List ℕ → List Piece
 cut at begun [] = closed begun
 cut at begun (b ∷ bytes) =
-    if nat_le text_limit at then left_open begun ++ beyond ∷ []
+    if nat_le TEXT_LIMIT at then left_open begun ++ beyond ∷ []
     else if is_space b then closed begun ++ cut (at + 1) None bytes
     else cut (at + 1) (Some (grown at begun b)) bytes
 

@@ -1,12 +1,14 @@
 // The numbers of a dense text, kept as rows.
-ghost use Rattle.std.specs.Prelude.{◌≡◌, ℤ, pos, ◌<◌, ◌≤◌, List, [], ◌∷◌, ◌++◌, map, length, OnOk, OnErr};
-ghost use Rattle.assign_core.specs.Rows.{IsCost};
-ghost use Rattle.orlib_reader.specs.Texts.{wanted_in, ended, Meets};
-ghost use Rattle.orlib_reader.specs.Kept.{IsAllowed, IsKept, kept_costs, kept_numbers};
+ghost use Rattle.std.specs.Prelude.{◌≡◌, ℤ, pos, ◌<◌, ◌≤◌, List, [], ◌∷◌, ◌++◌, Some, map, length, IfOk, OnOk, OnErr, if◌then◌else◌};
+ghost use Rattle.assign_core.specs.Rows.{IsCost, IsSize};
+ghost use Rattle.orlib_reader.specs.Texts.{wanted_in, ended, Gives, Meets};
+ghost use Rattle.orlib_reader.specs.Steps.{with_token};
+ghost use Rattle.orlib_reader.specs.Wanted;
+ghost use Rattle.orlib_reader.specs.Kept.{IsKept, kept_costs, kept_numbers};
 ghost use Rattle.orlib_reader.specs.declared.layout.Layout.TheVariants.{Dense};
 
 use super::fault::InputFault;
-use super::layout::Wanted;
+use super::token::{OpenToken, VALUE_LIMIT};
 use assign_core::{Cost, Object, Problem};
 use std::alloc::{AllocError, Global};
 use std::marker::Model;
@@ -14,7 +16,8 @@ use std::mem;
 
 type Row = Vec<(Object, Cost)>;
 
-// Whole rows, and the row that is being filled. Each takes its room when its first cost comes.
+// The size, whole rows, and the row that is being filled. Each takes its room when its first cost
+// comes.
 #[derive(Drop)]
 pub struct DenseRows {
     alloc: Global,
@@ -55,7 +58,8 @@ fn add_cost(
     ensures kept { IsKept n (map (λ r. r.items) rows.new.items) row.new.items }
     ensures costs { OnOk result (kept_costs (map (λ r. r.items) rows.new.items) row.new.items
         ≡ kept_costs (map (λ r. r.items) rows.old.items) row.old.items ++ cost ∷ []) }
-    ensures err { OnErr result (length (kept_costs (map (λ r. r.items) rows.new.items) row.new.items)
+    ensures err { OnErr result (
+        length (kept_costs (map (λ r. r.items) rows.new.items) row.new.items)
         ≤ length (kept_costs (map (λ r. r.items) rows.old.items) row.old.items)) }
 {
     take_room(alloc, n, row)?;
@@ -68,43 +72,24 @@ fn add_cost(
 }
 
 impl DenseRows {
-    // No number yet.
-    pub fn new(alloc: Global) -> DenseRows
-        ensures { result ≡ [] }
+    // The size alone.
+    pub fn new(alloc: Global, n: u16) -> Result<DenseRows, AllocError>
+        requires { IsSize n }
+        ensures { IfOk result (λ rows. rows ≡ pos n ∷ []) }
     {
-        DenseRows {
+        Ok(DenseRows {
             alloc,
-            n: 0,
-            rows: Vec::new(alloc),
+            n,
+            rows: Vec::with_capacity(alloc, n as usize)?,
             row: Vec::new(alloc),
-        }
+        })
     }
 
-    // What is wanted next.
-    pub fn wanted(&self) -> Wanted
-        ensures { result ≡ wanted_in Dense self.now }
+    // Whether all costs have come.
+    pub fn are_full(&self) -> bool
+        ensures { wanted_in Dense self.now ≡ (if result then Wanted.Nothing else Wanted.Cost) }
     {
-        if self.n == 0 {
-            Wanted::Size
-        } else if self.rows.len() < self.n as usize {
-            Wanted::Cost
-        } else {
-            Wanted::Nothing
-        }
-    }
-
-    // Takes the size.
-    fn take_size(&mut self, n: u16) -> Result<(), AllocError>
-        requires first { self.old ≡ [] }
-        requires some { 0 < n }
-        requires few { n ≤ 8192 }
-        ensures ok { OnOk result (self.new ≡ pos n ∷ []) }
-        ensures err { OnErr result (length self.new ≤ length self.old) }
-    {
-        self.rows = Vec::with_capacity(self.alloc, n as usize)?;
-        self.row = Vec::new(self.alloc);
-        self.n = n;
-        Ok(())
+        self.rows.len() >= self.n as usize
     }
 
     // Takes a cost.
@@ -117,38 +102,31 @@ impl DenseRows {
         add_cost(self.alloc, self.n, &mut self.rows, &mut self.row, cost)
     }
 
-    // Takes the number that comes next.
-    pub fn take(&mut self, wanted: Wanted, number: i64) -> Result<(), AllocError>
-        requires wanted { wanted ≡ wanted_in Dense self.old }
-        requires allowed { IsAllowed wanted number }
-        ensures ok { OnOk result (self.new ≡ self.old ++ number ∷ []) }
+    // Takes the token that ends.
+    pub fn take(&mut self, token: OpenToken) -> Result<(), InputFault>
+        requires { token.value ≤ VALUE_LIMIT }
+        ensures found { Gives (λ _. self.new) result (with_token Dense (Some token) self.old) }
         ensures err { OnErr result (length self.new ≤ length self.old) }
     {
-        match wanted {
-            Wanted::Size => self.take_size(number as u16),
-            Wanted::Cost => self.take_cost(number),
-            Wanted::Index(_) | Wanted::Nothing => unreachable!(),
+        if self.are_full() {
+            return Err(InputFault::Extra(token.place));
         }
+        let cost = token.cost()?;
+        self.take_cost(cost)?;
+        Ok(())
     }
 
     // How many numbers have come.
     fn count(&self) -> u64
         ensures { result ≡ length self.now }
     {
-        if self.n == 0 {
-            0
-        } else {
-            1 + self.rows.len() as u64 * u64::from(self.n) + self.row.len() as u64
-        }
+        1 + self.rows.len() as u64 * u64::from(self.n) + self.row.len() as u64
     }
 
     // The problem, at the end of the text.
     pub fn finish(self) -> Result<Problem, InputFault>
         ensures { Meets Dense result (ended Dense self) }
     {
-        if self.n == 0 {
-            return Err(InputFault::Empty);
-        }
         if self.rows.len() < self.n as usize {
             return Err(InputFault::Truncated(self.count()));
         }

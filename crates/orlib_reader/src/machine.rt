@@ -1,17 +1,17 @@
 // Takes a text byte by byte.
-ghost use Rattle.std.specs.Prelude.{◌≡◌, ◌^◌, ◌≤◌, ◌+◌, [], Ok, OnOk, length};
+ghost use Rattle.std.specs.Prelude.{◌≡◌, ◌≤◌, ◌+◌, [], Ok, OnOk, length};
 ghost use Rattle.orlib_reader.specs.Texts.{Gives, Meets};
 ghost use Rattle.orlib_reader.specs.Steps.{State, step, after, start, finished};
 ghost use Rattle.orlib_reader.specs.Held.{layout_in, found_in};
 
 use super::fault::InputFault;
-use super::layout::Wanted;
 use super::pairs::Pairs;
 use super::token::{OpenToken, is_white};
 use assign_core::Problem;
 use std::marker::Model;
 
-const TEXT_LIMIT: u64 = 1 << 30;
+/// A text has at most so many bytes.
+pub const TEXT_LIMIT: u64 = 1 << 30;
 
 // How far a text has come: bytes, the token that is open, and the numbers before it.
 #[derive(Drop)]
@@ -27,7 +27,12 @@ impl Model for Machine {
 
     ghost Value = { State };
 
-    ghost view = { λ m. record { layout = layout_in m.pairs; at = m.at; token = m.token; found = found_in m.pairs } };
+    ghost view = { λ m. record {
+      layout = layout_in m.pairs;
+      at = m.at;
+      token = m.token;
+      found = found_in m.pairs;
+    } };
 
     ghost invariant = { λ m. IsUnderway m.at m.token (found_in m.pairs) };
 }
@@ -49,20 +54,20 @@ impl Machine {
         ensures step { Gives (λ _. self.new) result (step self.old b) }
         ensures layout { OnOk result (self.new.layout ≡ self.old.layout) }
         ensures at { OnOk result (self.new.at ≡ self.old.at + 1) }
-        ensures bound { self.new.at ≤ 2 ^ 30 }
+        ensures bound { self.new.at ≤ TEXT_LIMIT }
     {
         if self.at >= TEXT_LIMIT {
             return Err(InputFault::TooLong);
         }
         if is_white(b) {
             if let Some(token) = self.token {
-                self.pairs.end_token(token)?;
+                self.pairs.take(token)?;
             }
             self.token = None;
         } else if let Some(token) = self.token {
             self.token = Some(token.go_on(b));
         } else {
-            if let Wanted::Nothing = self.pairs.wanted() {
+            if self.pairs.are_complete() {
                 return Err(InputFault::Extra(self.at));
             }
             self.token = Some(OpenToken::begin(self.at, b));
@@ -76,14 +81,13 @@ impl Machine {
         ensures after { Gives (λ _. self.new) result (after (Ok self.old) bytes.now) }
         ensures layout { OnOk result (self.new.layout ≡ self.old.layout) }
         ensures at { OnOk result (self.new.at ≡ self.old.at + length bytes.now) }
-        ensures bound { self.new.at ≤ 2 ^ 30 }
+        ensures bound { self.new.at ≤ TEXT_LIMIT }
     {
-        let _ = &self.at;
+        // That the bytes so far are within the limit, also before the first of these, follows from
+        // this look at them.
+        let _bytes_so_far = self.at;
         for b in bytes {
-            match self.feed(*b) {
-                Ok(()) => {}
-                Err(fault) => return Err(fault),
-            }
+            self.feed(*b)?;
         }
         Ok(())
     }
@@ -94,7 +98,7 @@ impl Machine {
     {
         let mut pairs = self.pairs;
         if let Some(token) = self.token {
-            pairs.end_token(token)?;
+            pairs.take(token)?;
         }
         pairs.finish()
     }

@@ -1,15 +1,16 @@
 // The numbers of a sparse text, kept as triples. A triple takes 16 bytes. They stand in pieces of
 // one size, since a single list would hold the old and the new triples while it grows.
-ghost use Rattle.std.specs.Prelude.{◌≡◌, ℤ, pos, ◌<◌, ◌≤◌, ◌^◌, List, [], ◌∷◌, ◌++◌, All, map, length, OnOk, OnErr, IfOk};
+ghost use Rattle.std.specs.Prelude.{◌≡◌, ℤ, pos, ◌≤◌, List, [], ◌∷◌, ◌++◌, Some, All, map, length, OnOk, OnErr, IfOk};
 ghost use Rattle.assign_core.specs.Rows.{IsCost, IsSize};
 ghost use Rattle.assign_core.specs.Sparse.{IsTriple, IsSparse};
-ghost use Rattle.orlib_reader.specs.Texts.{wanted_in, ended, Meets};
-ghost use Rattle.orlib_reader.specs.Kept.{IsAllowed};
+ghost use Rattle.orlib_reader.specs.Texts.{ended, Gives, Meets};
+ghost use Rattle.orlib_reader.specs.Steps.{with_token};
 ghost use Rattle.orlib_reader.specs.Gathered.{gathered, sparse_numbers, IsGathered};
 ghost use Rattle.orlib_reader.specs.declared.layout.Layout.TheVariants.{Sparse};
 
 use super::fault::InputFault;
-use super::layout::Wanted;
+use super::machine::TEXT_LIMIT;
+use super::token::{OpenToken, VALUE_LIMIT};
 use assign_core::{Cost, Object, Person, Problem};
 use std::alloc::{AllocError, Global};
 use std::collections::VecDeque;
@@ -20,23 +21,33 @@ const PIECE_LENGTH: usize = 4096;
 
 type Triple = (Person, Object, Cost);
 
-// Whole triples, and the person and the object of the one that has begun.
+// What has come of the triple behind the whole ones: nothing, the number of a person, or those of
+// a person and an object.
+#[derive(Clone, Copy)]
+enum Begun {
+    Nothing,
+    Person(u16),
+    Pair(u16, u16),
+}
+
+// The size, whole triples, and the one that has begun.
 #[derive(Drop)]
 pub struct Triples {
     alloc: Global,
     n: u16,
     pieces: VecDeque<Vec<Triple>>,
     piece: Vec<Triple>,
-    person: u16,
-    object: u16,
+    begun: Begun,
 }
 
 impl Model for Triples {
     ghost Value = { List ℤ };
 
-    ghost view = { λ t. sparse_numbers t.n (gathered (map (λ p. p.items) t.pieces.items) t.piece.items) t.person t.object };
+    ghost view = { λ t.
+        sparse_numbers t.n (gathered (map (λ p. p.items) t.pieces.items) t.piece.items) t.begun };
 
-    ghost invariant = { λ t. IsGathered t.n (map (λ p. p.items) t.pieces.items) t.piece.items t.person t.object };
+    ghost invariant = { λ t.
+        IsGathered t.n (map (λ p. p.items) t.pieces.items) t.piece.items t.begun };
 }
 
 // Begins a new piece.
@@ -45,9 +56,11 @@ fn move_piece(
     pieces: &mut VecDeque<Vec<Triple>>,
     piece: &mut Vec<Triple>,
 ) -> Result<(), AllocError>
-    ensures pieces { OnOk result (map (λ p. p.items) pieces.new.items ≡ map (λ p. p.items) pieces.old.items ++ piece.old.items ∷ []) }
+    ensures pieces { OnOk result (map (λ p. p.items) pieces.new.items
+        ≡ map (λ p. p.items) pieces.old.items ++ piece.old.items ∷ []) }
     ensures piece { OnOk result (piece.new.items ≡ []) }
-    ensures kept { OnErr result (map (λ p. p.items) pieces.new.items ≡ map (λ p. p.items) pieces.old.items) }
+    ensures kept { OnErr result (map (λ p. p.items) pieces.new.items
+        ≡ map (λ p. p.items) pieces.old.items) }
     ensures same { OnErr result (piece.new.items ≡ piece.old.items) }
 {
     let fresh = Vec::with_capacity(alloc, PIECE_LENGTH)?;
@@ -66,8 +79,8 @@ fn add_triple(
     piece: &mut Vec<Triple>,
     triple: Triple,
 ) -> Result<(), AllocError>
-    requires { All (λ p. length p ≡ 4096) (map (λ p. p.items) pieces.old.items) }
-    ensures full { All (λ p. length p ≡ 4096) (map (λ p. p.items) pieces.new.items) }
+    requires { All (λ p. length p ≡ PIECE_LENGTH) (map (λ p. p.items) pieces.old.items) }
+    ensures full { All (λ p. length p ≡ PIECE_LENGTH) (map (λ p. p.items) pieces.new.items) }
     ensures ok { OnOk result (gathered (map (λ p. p.items) pieces.new.items) piece.new.items
         ≡ gathered (map (λ p. p.items) pieces.old.items) piece.old.items ++ triple ∷ []) }
     ensures err { OnErr result (gathered (map (λ p. p.items) pieces.new.items) piece.new.items
@@ -82,8 +95,8 @@ fn add_triple(
 
 // How many triples there are.
 fn total(pieces: &VecDeque<Vec<Triple>>, piece: &Vec<Triple>) -> usize
-    requires full { All (λ p. length p ≡ 4096) (map (λ p. p.items) pieces.now.items) }
-    requires few { length (gathered (map (λ p. p.items) pieces.now.items) piece.now.items) ≤ 2 ^ 30 }
+    requires full { All (λ p. length p ≡ PIECE_LENGTH) (map (λ p. p.items) pieces.now.items) }
+    requires few { length (gathered (map (λ p. p.items) pieces.now.items) piece.now.items) ≤ TEXT_LIMIT }
     ensures { result ≡ length (gathered (map (λ p. p.items) pieces.now.items) piece.now.items) }
 {
     pieces.len() * PIECE_LENGTH + piece.len()
@@ -117,117 +130,62 @@ fn made(
 ) -> Result<Problem, AllocError>
     requires size { IsSize n }
     requires triples { All (IsTriple n) (gathered (map (λ p. p.items) pieces.items) last.items) }
-    ensures { IfOk result (λ problem. IsSparse n (gathered (map (λ p. p.items) pieces.items) last.items) problem) }
+    ensures { IfOk result (λ problem.
+        IsSparse n (gathered (map (λ p. p.items) pieces.items) last.items) problem) }
 {
     let triples = joined(alloc, count, pieces, last)?;
     Problem::sparse(alloc, n, triples.as_slice())
 }
 
 impl Triples {
-    // No number yet.
-    pub fn new(alloc: Global) -> Triples
-        ensures { result ≡ [] }
+    // The size alone.
+    pub fn new(alloc: Global, n: u16) -> Triples
+        requires { IsSize n }
+        ensures { result ≡ pos n ∷ [] }
     {
         Triples {
             alloc,
-            n: 0,
+            n,
             pieces: VecDeque::new(alloc),
             piece: Vec::new(alloc),
-            person: 0,
-            object: 0,
+            begun: Begun::Nothing,
         }
     }
 
-    // What is wanted next.
-    pub fn wanted(&self) -> Wanted
-        ensures { result ≡ wanted_in Sparse self.now }
-    {
-        if self.n == 0 {
-            Wanted::Size
-        } else if self.object == 0 {
-            Wanted::Index(self.n)
-        } else {
-            Wanted::Cost
-        }
-    }
-
-    // Takes the size.
-    fn take_size(&mut self, n: u16)
-        requires first { self.old ≡ [] }
-        requires some { 0 < n }
-        requires few { n ≤ 8192 }
-        ensures { self.new ≡ pos n ∷ [] }
-    {
-        self.pieces = VecDeque::new(self.alloc);
-        self.piece = Vec::new(self.alloc);
-        self.person = 0;
-        self.object = 0;
-        self.n = n;
-    }
-
-    // Takes a person, or an object.
-    fn take_index(&mut self, most: u16, number: u16)
-        requires wanted { wanted_in Sparse self.old ≡ Wanted.Index most }
-        requires some { 0 < number }
-        requires few { number ≤ most }
-        ensures { self.new ≡ self.old ++ pos number ∷ [] }
-    {
-        let _ = most;
-        if self.person == 0 {
-            self.person = number;
-        } else {
-            self.object = number;
-        }
-    }
-
-    // Takes a cost.
-    fn take_cost(&mut self, cost: Cost) -> Result<(), AllocError>
-        requires wanted { wanted_in Sparse self.old ≡ Wanted.Cost }
-        requires cost { IsCost cost }
-        ensures ok { OnOk result (self.new ≡ self.old ++ cost ∷ []) }
+    // Takes the token that ends.
+    pub fn take(&mut self, token: OpenToken) -> Result<(), InputFault>
+        requires { token.value ≤ VALUE_LIMIT }
+        ensures found { Gives (λ _. self.new) result (with_token Sparse (Some token) self.old) }
         ensures err { OnErr result (length self.new ≤ length self.old) }
     {
-        let triple = (Person(self.person), Object(self.object), cost);
-        add_triple(self.alloc, &mut self.pieces, &mut self.piece, triple)?;
-        self.person = 0;
-        self.object = 0;
-        Ok(())
-    }
-
-    // Takes the number that comes next.
-    pub fn take(&mut self, wanted: Wanted, number: i64) -> Result<(), AllocError>
-        requires wanted { wanted ≡ wanted_in Sparse self.old }
-        requires allowed { IsAllowed wanted number }
-        ensures ok { OnOk result (self.new ≡ self.old ++ number ∷ []) }
-        ensures err { OnErr result (length self.new ≤ length self.old) }
-    {
-        match wanted {
-            Wanted::Size => self.take_size(number as u16),
-            Wanted::Index(most) => self.take_index(most, number as u16),
-            Wanted::Cost => self.take_cost(number)?,
-            Wanted::Nothing => unreachable!(),
+        match self.begun {
+            Begun::Nothing => {
+                let person = token.index(self.n)?;
+                self.begun = Begun::Person(person);
+            }
+            Begun::Person(person) => {
+                let object = token.index(self.n)?;
+                self.begun = Begun::Pair(person, object);
+            }
+            Begun::Pair(person, object) => {
+                let triple = (Person(person), Object(object), token.cost()?);
+                add_triple(self.alloc, &mut self.pieces, &mut self.piece, triple)?;
+                self.begun = Begun::Nothing;
+            }
         }
         Ok(())
     }
 
     // The problem, at the end of the text.
     pub fn finish(self) -> Result<Problem, InputFault>
-        requires { length self ≤ 2 ^ 30 }
+        requires { length self ≤ TEXT_LIMIT }
         ensures { Meets Sparse result (ended Sparse self) }
     {
-        if self.n == 0 {
-            return Err(InputFault::Empty);
-        }
         let count = total(&self.pieces, &self.piece);
-        if self.object != 0 {
-            return Err(InputFault::Truncated(count as u64 * 3 + 3));
-        }
-        if self.person != 0 {
-            return Err(InputFault::Truncated(count as u64 * 3 + 2));
-        }
-        match made(self.alloc, self.n, count, self.pieces, self.piece) {
-            Ok(problem) => Ok(problem),
-            Err(_) => Err(InputFault::Memory),
+        match self.begun {
+            Begun::Nothing => Ok(made(self.alloc, self.n, count, self.pieces, self.piece)?),
+            Begun::Person(_) => Err(InputFault::Truncated(count as u64 * 3 + 2)),
+            Begun::Pair(_, _) => Err(InputFault::Truncated(count as u64 * 3 + 3)),
         }
     }
 }

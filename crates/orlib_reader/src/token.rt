@@ -1,18 +1,18 @@
 // A token, taken byte by byte, and the number that it is.
-ghost use Rattle.std.specs.Prelude.{◌≡◌, ◌^◌, ◌≤◌, ◌≤ℤ◌, pos, IfOk, IsTrue};
-ghost use Rattle.assign_core.specs.Rows.{IsCost};
-ghost use Rattle.orlib_reader.specs.Kept.{IsAllowed};
+ghost use Rattle.std.specs.Prelude.{◌≡◌, ◌≤◌, pos, true, false, IfOk, IsTrue, MatchOption, MatchResult};
+ghost use Rattle.assign_core.specs.Numbered.{IsNumber};
+ghost use Rattle.assign_core.specs.Rows.{IsCost, IsSize};
 ghost use Rattle.orlib_reader.specs.Tokens.{is_space};
-ghost use Rattle.orlib_reader.specs.Numbers.{judged_number, in_range};
+ghost use Rattle.orlib_reader.specs.Numbers.{Tells, is_among, judged_number};
 ghost use Rattle.orlib_reader.specs.Numbers;
+ghost use Rattle.orlib_reader.specs.Wanted;
 ghost use Rattle.orlib_reader.specs.Steps.{begun, continued, token_number};
 
 use super::fault::InputFault;
-use super::layout::Wanted;
-use assign_core::{GREATEST_COST, MOST_PERSONS};
+use assign_core::{Cost, GREATEST_COST, MOST_PERSONS};
 
 // Greater values are kept as this one, which is out of each range.
-const VALUE_LIMIT: u64 = 1_000_000_000_000_000_000;
+pub const VALUE_LIMIT: u64 = 1_000_000_000_000_000_000;
 
 // What has been read of a token.
 #[derive(Clone, Copy)]
@@ -34,7 +34,7 @@ impl OpenToken {
     // A token that begins with this byte.
     pub fn begin(place: u64, b: u8) -> OpenToken
         ensures token { result ≡ begun place b }
-        ensures bound { result.value ≤ 10 ^ 18 }
+        ensures bound { result.value ≤ VALUE_LIMIT }
     {
         let is_digit = b.is_ascii_digit();
         OpenToken {
@@ -48,9 +48,9 @@ impl OpenToken {
 
     // The token with one byte more.
     pub fn go_on(self, b: u8) -> OpenToken
-        requires { self.value ≤ 10 ^ 18 }
+        requires { self.value ≤ VALUE_LIMIT }
         ensures token { result ≡ continued self b }
-        ensures bound { result.value ≤ 10 ^ 18 }
+        ensures bound { result.value ≤ VALUE_LIMIT }
     {
         if b.is_ascii_digit() {
             let value = self.value * 10 + u64::from(b - b'0');
@@ -72,39 +72,69 @@ impl OpenToken {
         }
     }
 
-    // The number that the token is, if it is one.
-    fn number(self) -> Option<i64>
-        requires { self.value ≤ 10 ^ 18 }
-        ensures { result ≡ token_number self }
+    // The number that the token is, or that it is none.
+    fn number(self) -> Result<i64, InputFault>
+        requires { self.value ≤ VALUE_LIMIT }
+        ensures { MatchResult result (λ v. token_number self ≡ Some v)
+            (λ e. (token_number self ≡ None) × (e ≡ InputFault.BadToken self.place)) }
     {
         if self.is_bad || !self.has_digits {
-            None
+            Err(InputFault::BadToken(self.place))
         } else if self.is_negative {
-            Some(-(self.value as i64))
+            Ok(-(self.value as i64))
         } else {
-            Some(self.value as i64)
+            Ok(self.value as i64)
         }
     }
 
-    // The token's number, or its fault, where this is wanted.
-    pub fn judge(self, wanted: Wanted) -> Result<i64, InputFault>
-        requires { self.value ≤ 10 ^ 18 }
-        ensures gives { result ≡ judged_number wanted self.place (token_number self) }
-        ensures allowed { IfOk result (λ number. IsAllowed wanted number) }
+    // The token as the number of persons.
+    pub fn size(self) -> Result<u16, InputFault>
+        requires { self.value ≤ VALUE_LIMIT }
+        ensures gives { Tells (λ n. pos n) result
+            (judged_number Wanted.Size self.place (token_number self)) }
+        ensures range { IfOk result (λ n. IsSize n) }
     {
-        let Some(number) = self.number() else {
-            return Err(InputFault::BadToken(self.place));
-        };
-        judge_number(wanted, self.place, number)
+        let number = self.number()?;
+        among(MOST_PERSONS, number).ok_or(InputFault::Size)
+    }
+
+    // The token as the number of a person or an object, from 1 to n.
+    pub fn index(self, n: u16) -> Result<u16, InputFault>
+        requires { self.value ≤ VALUE_LIMIT }
+        ensures gives { Tells (λ k. pos k) result
+            (judged_number (Wanted.Index n) self.place (token_number self)) }
+        ensures range { IfOk result (λ k. IsNumber n k) }
+    {
+        let number = self.number()?;
+        among(n, number).ok_or(InputFault::Index(self.place))
+    }
+
+    // The token as a cost.
+    pub fn cost(self) -> Result<Cost, InputFault>
+        requires { self.value ≤ VALUE_LIMIT }
+        ensures gives { Tells (λ c. c) result
+            (judged_number Wanted.Cost self.place (token_number self)) }
+        ensures range { IfOk result (λ c. IsCost c) }
+    {
+        let number = self.number()?;
+        if is_cost(number) {
+            Ok(number)
+        } else {
+            Err(InputFault::Cost(self.place))
+        }
     }
 }
 
-// Whether a number is from 1 to n.
-fn is_among(n: u16, number: i64) -> bool
-    ensures value { result ≡ Numbers.is_among n number }
-    ensures range { IsTrue result → (pos 1 ≤ℤ number) × (number ≤ℤ pos n) }
+// The number, where it is one of 1 to n.
+fn among(n: u16, number: i64) -> Option<u16>
+    ensures { MatchOption result (is_among n number ≡ false)
+        (λ k. (is_among n number ≡ true) × (number ≡ pos k) × IsNumber n k) }
 {
-    number >= 1 && number <= i64::from(n)
+    if number >= 1 && number <= i64::from(n) {
+        Some(number as u16)
+    } else {
+        None
+    }
 }
 
 // Whether a number is within the range of costs.
@@ -113,19 +143,4 @@ fn is_cost(number: i64) -> bool
     ensures range { IsTrue result → IsCost number }
 {
     number >= -GREATEST_COST && number <= GREATEST_COST
-}
-
-fn judge_number(wanted: Wanted, place: u64, number: i64) -> Result<i64, InputFault>
-    ensures gives { result ≡ in_range wanted place number }
-    ensures allowed { IfOk result (λ v. IsAllowed wanted v) }
-{
-    match wanted {
-        Wanted::Size if is_among(MOST_PERSONS, number) => Ok(number),
-        Wanted::Size => Err(InputFault::Size),
-        Wanted::Cost if is_cost(number) => Ok(number),
-        Wanted::Cost => Err(InputFault::Cost(place)),
-        Wanted::Index(n) if is_among(n, number) => Ok(number),
-        Wanted::Index(_) => Err(InputFault::Index(place)),
-        Wanted::Nothing => Err(InputFault::Extra(place)),
-    }
 }

@@ -1,0 +1,10 @@
+-- What may stand next in a text.
+use Rattle.std.specs.Prelude.{ℕ}
+
+pub data Wanted : Type 0 where
+  Size : Wanted
+  Cost : Wanted
+  -- a number from 1 to n
+  Index : ℕ → Wanted
+  -- no token any more
+  Nothing : Wanted
