@@ -2,36 +2,39 @@
 use Rattle.std.proofs.Common.{◌≡◌, ℕ, ℤ, pos, List, [], length, nat_eq, All, arith, ap, ◌∙◌, sym, refl, subst, IsSome}
 use Rattle.std.specs.List.{IsDistinct}
 use Rattle.assign_core.specs.declared.sense.Sense.{Sense}
-use Rattle.assign_core.specs.Rows.{Row, listed_in, row_of}
+use Rattle.assign_core.specs.Rows.{Listing, listed_in, row_of}
+use Rattle.assign_core.specs.Assignment.{AreListed}
 use Rattle.assign_core.specs.Benefits.{benefit_rows}
 use Rattle.assign_core.specs.Prices.{IsPrice}
 use Rattle.assign_core.specs.Slackness.{AllSlack, HasSlack, IsCertificate}
 use Rattle.assign_core.proofs.Listed.{length_zip}
+use Rattle.assign_core.proofs.NumberedLemmas.{All-numbered}
+use Rattle.assign_core.proofs.Zips.{pair_number}
+use Rattle.assign_core.proofs.BenefitRows.{length-benefit_rows}
 use Rattle.dual_checker.specs.declared.verdict.Verdict.TheVariants.{Length, Unlisted, Twice, PriceRange, Slack, Yes}
-use Rattle.dual_checker.specs.Faults.{IsFirst, AreLong, IsUnlisted, IsGivenTwice, IsOutOfRange, BreaksSlackOf, IsShort, object_of}
-use Rattle.dual_checker.specs.Verdicts.{AreListed, VerdictsDiffer}
+use Rattle.dual_checker.specs.Faults.{IsFirst, AreLong, IsUnlisted, IsGivenTwice, IsOutOfRange, BreaksSlackOf, IsShort, own_object}
+use Rattle.dual_checker.specs.Verdicts.{VerdictsDiffer}
 use Rattle.dual_checker.proofs.Firsts.{firsts_agree}
-use Rattle.dual_checker.proofs.Pairs.{All-numbered, pair_number}
 use Rattle.dual_checker.proofs.Givings.{once_at_most}
-use Rattle.dual_checker.proofs.Worths.{slack_unbroken, length-benefit_rows}
+use Rattle.dual_checker.proofs.Worths.{slack_unbroken}
 
-long : (sense : Sense) (rows : List Row) (xs : List ℕ) (prices : List ℤ) → IsCertificate sense rows xs prices → AreLong rows xs prices
+long : (sense : Sense) (rows : List Listing) (xs : List ℕ) (prices : List ℤ) → IsCertificate sense rows xs prices → AreLong rows xs prices
 long sense rows xs prices c = record { objects = sym (length_zip _ rows xs c.assigned.listed); prices_too = c.priced }
 
-not_unlisted : (rows : List Row) (xs : List ℕ) (i : ℕ) → AreListed rows xs → IsFirst (IsUnlisted rows xs) (length rows) i → ⊥
-not_unlisted rows xs i h f = f.here (pair_number (λ row j. IsSome (listed_in row j)) rows xs i [] 0 h f.some f.last)
+not_unlisted : (rows : List Listing) (xs : List ℕ) (i : ℕ) → AreListed rows xs → IsFirst (IsUnlisted rows xs) (length rows) i → ⊥
+not_unlisted rows xs i h f = f.here (pair_number (λ row j. IsSome (listed_in row j)) rows xs i [] 0 h f.number.first f.number.last)
 
 not_twice : (xs : List ℕ) (n j : ℕ) → IsDistinct nat_eq xs → IsFirst (IsGivenTwice xs) n j → ⊥
 not_twice xs n j h f = let a = once_at_most xs j h in let b = f.here in omega arith
 
 not_out : (prices : List ℤ) (n j : ℕ) → length prices ≡ n → All IsPrice prices → IsFirst (IsOutOfRange prices) n j → ⊥
-not_out prices n j l h f = f.here (All-numbered IsPrice prices j (pos 0) h f.some (let b = f.last in omega arith))
+not_out prices n j l h f = f.here (All-numbered IsPrice prices j (pos 0) h f.number.first (let b = f.number.last in omega arith))
 
-not_short : (sense : Sense) (rows : List Row) (xs : List ℕ) (prices : List ℤ) (i : ℕ) → AllSlack (pos 1) prices (benefit_rows sense rows) xs → IsFirst (IsShort sense rows xs prices) (length rows) i → ⊥
+not_short : (sense : Sense) (rows : List Listing) (xs : List ℕ) (prices : List ℤ) (i : ℕ) → AllSlack (pos 1) prices (benefit_rows sense rows) xs → IsFirst (IsShort sense rows xs prices) (length rows) i → ⊥
 not_short sense rows xs prices i h f =
     let e = length-benefit_rows sense rows in
-    let slack = pair_number (HasSlack (pos 1) prices) (benefit_rows sense rows) xs i [] 0 h f.some (let b = f.last in omega arith) in
-    slack_unbroken (pos 1) prices (row_of (benefit_rows sense rows) i) (object_of xs i) f.here.0 slack f.here.1
+    let slack = pair_number (HasSlack (pos 1) prices) (benefit_rows sense rows) xs i [] 0 h f.number.first (let b = f.number.last in omega arith) in
+    slack_unbroken (pos 1) prices (row_of (benefit_rows sense rows) i) (own_object xs i) f.here.0 slack f.here.1
 
 pub differ : VerdictsDiffer
 differ s r x p Length Length a b = refl

@@ -1,34 +1,35 @@
 -- Each verdict on a Hall set excludes the others.
 use Rattle.std.proofs.Common.{ℕ, ◌<◌, ◌≤◌, List, length, arith, ap, ◌∙◌, refl, subst, get_or}
-use Rattle.std.specs.List.{Contains}
+use Rattle.std.specs.List.{All, Contains}
 use Rattle.std.proofs.lemmas.List.Elements.{All-contains, Contains-get_or}
-use Rattle.assign_core.specs.Rows.{Row, IsProblem, row_of}
+use Rattle.assign_core.specs.Numbered.{IsNumber}
+use Rattle.assign_core.specs.Rows.{Listing, IsProblem, row_of}
 use Rattle.assign_core.specs.Hall.{IsHallSet}
 use Rattle.assign_core.proofs.Listed.{object_within}
 use Rattle.assign_core.proofs.RowLemmas.{IsRow-row_of}
 use Rattle.dual_checker.specs.declared.hall_verdict.HallVerdict.TheVariants.{Range, Order, Missing, Extra, Count, Yes}
 use Rattle.dual_checker.specs.Faults.{IsFirst}
-use Rattle.dual_checker.specs.HallVerdicts.{AreInRange, AreNeighbours, AreNumbers, AreRising, HasNeighbours, HallVerdictsDiffer, IsExtra, Lacks, ListsUnnamed}
+use Rattle.dual_checker.specs.HallVerdicts.{AreInRange, AreNeighbours, AreRising, HasNeighbours, HallVerdictsDiffer, IsExtra, Lacks, ListsUnnamed}
 use Rattle.dual_checker.proofs.Firsts.{firsts_agree}
 
 -- the persons and the objects of a Hall set are persons and objects of the problem
-hall_in_range : (rows : List Row) (persons objects : List ℕ) → IsProblem rows → IsHallSet rows persons objects → AreInRange rows persons objects
+hall_in_range : (rows : List Listing) (persons objects : List ℕ) → IsProblem rows → IsHallSet rows persons objects → AreInRange rows persons objects
 hall_in_range rows persons objects q h =
     let n : ℕ = length rows in
-    let objects_in : AreNumbers n objects = λ k d lt.
+    let objects_in : All (IsNumber n) objects = λ k d lt.
     let near = (h.neighbours (get_or objects k d)).0 (Contains-get_or objects k d lt) in
-    let person = All-contains (λ i. (0 < i) × (i ≤ n)) persons near.0 h.within near.1 in
-    let row = IsRow-row_of n rows near.0 q.each person.0 person.1 in
+    let person = All-contains (IsNumber n) persons near.0 h.within near.1 in
+    let row = IsRow-row_of n rows near.0 q.each person.first person.last in
     object_within n (row_of rows near.0) (get_or objects k d) row.within near.2 in
     (h.within, objects_in)
 
-hall_rising : (rows : List Row) (persons objects : List ℕ) → IsHallSet rows persons objects → AreRising persons objects
+hall_rising : (rows : List Listing) (persons objects : List ℕ) → IsHallSet rows persons objects → AreRising persons objects
 hall_rising rows persons objects h = (h.persons_rise, h.objects_rise)
 
-not_lacking : (rows : List Row) (persons objects : List ℕ) (i : ℕ) → HasNeighbours rows persons (Contains objects) → IsFirst (Lacks rows persons (Contains objects)) (length rows) i → ⊥
+not_lacking : (rows : List Listing) (persons objects : List ℕ) (i : ℕ) → HasNeighbours rows persons (Contains objects) → IsFirst (Lacks rows persons (Contains objects)) (length rows) i → ⊥
 not_lacking rows persons objects i h f = let lack = f.here.1 in lack.1.1 (h lack.0 (i, f.here.0, lack.1.0))
 
-not_extra : (rows : List Row) (persons objects : List ℕ) (j : ℕ) → AreNeighbours rows persons objects → IsFirst (IsExtra rows persons objects) (length rows) j → ⊥
+not_extra : (rows : List Listing) (persons objects : List ℕ) (j : ℕ) → AreNeighbours rows persons objects → IsFirst (IsExtra rows persons objects) (length rows) j → ⊥
 not_extra rows persons objects j h f = f.here.1 ((h j).0 f.here.0)
 
 pub halls_differ : HallVerdictsDiffer

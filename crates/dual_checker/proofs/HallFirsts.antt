@@ -5,31 +5,28 @@ use Rattle.std.specs.List.Sorted.{IsStrictlyIncreasing}
 use Rattle.std.proofs.lemmas.Bool.{cases_order}
 use Rattle.std.proofs.lemmas.List.{get_or_default}
 use Rattle.std.proofs.lemmas.Map.Keys.{below_from_sorted, sorted_from_strictly_increasing}
-use Rattle.assign_core.specs.Rows.{Row, IsRow, IsRising, IsListed, listed_in, row_of}
-use Rattle.assign_core.proofs.Listed.{all_listed}
+use Rattle.assign_core.specs.Numbered.{IsNumber}
+use Rattle.assign_core.specs.Rows.{Listing, IsRow, IsRising, IsListed, listed_in, row_of}
+use Rattle.assign_core.proofs.Listed.{all_listed, rising_listed}
 use Rattle.dual_checker.specs.Faults.{IsFirst}
 use Rattle.dual_checker.specs.HallMarks.{IsMarked}
-use Rattle.dual_checker.specs.HallVerdicts.{AreNumbers, ListsUnnamed}
+use Rattle.dual_checker.specs.HallVerdicts.{ListsUnnamed}
 use Rattle.dual_checker.proofs.HallMarking.{Earlier}
-use Rattle.dual_checker.proofs.Worths.{listed_at}
 
 pub first_same : (F G : ℕ → Type 0) (n m k : ℕ) → ((j : ℕ) → F j ↔ G j) → k ≤ m → IsFirst F n k → IsFirst G m k
 first_same F G n m k same last f = record {
-  some = f.some;
-  last = last;
+  number = record { first = f.number.first; last = last };
   here = (same k).0 f.here;
   none_below = λ i some below g. f.none_below i some below ((same i).1 g);
 }
 
 -- the first number of a rising list that has a fault is its lowest
-pub first_named : (F : ℕ → Type 0) (xs : List ℕ) (n i x : ℕ) → IsStrictlyIncreasing xs → AreNumbers n xs → i < length xs → x ≡ get_or xs i x →
+pub first_named : (F : ℕ → Type 0) (xs : List ℕ) (n i x : ℕ) → IsStrictlyIncreasing xs → All (IsNumber n) xs → i < length xs → x ≡ get_or xs i x →
     ((k : ℕ) → k < i → ¬ F (get_or xs k 0)) → F x → IsFirst (λ j. Contains xs j × F j) n x
 first_named F xs n i x rise within lt is before here =
     let zero : get_or xs i x ≡ get_or xs i 0 = get_or_default xs i x 0 lt in
-    let range = within i x lt in
     record {
-      some = let a = range.0 in omega arith;
-      last = let a = range.1 in omega arith;
+      number = subst (IsNumber n) (sym is) (within i x lt);
       here = ((i, lt, sym is), here);
       none_below = λ k some below g.
           let at = g.0.2 in
@@ -45,7 +42,7 @@ first_named F xs n i x rise within lt is before here =
     }
 
 -- an object is listed just where an entry of the row has it
-pub row_places : (row : Row) (i j : ℕ) → IsRising row → i ≡ length row → Earlier (λ k x. (get_or row k (0, pos 0)).0 ≡ x) i j ↔ IsSome (listed_in row j)
+pub row_places : (row : Listing) (i j : ℕ) → IsRising row → i ≡ length row → Earlier (λ k x. (get_or row k (0, pos 0)).0 ≡ x) i j ↔ IsSome (listed_in row j)
 row_places row i j rising end =
     let P : ℕ × ℤ → Type 0 = λ e. Earlier (λ k x. (get_or row k (0, pos 0)).0 ≡ x) i e.0 in
     let each : All P row = λ k d lt. (k, omega arith, ap (λ e. e.0) (get_or_default row k (0, pos 0) d lt)) in (
@@ -53,18 +50,18 @@ row_places row i j rising end =
           let at = h.2 in
           let low = h.1 in
           let lt : h.0 < length row = omega arith in
-          let found = listed_at row h.0 (0, pos 0) rising lt in
+          let found = rising_listed row h.0 (0, pos 0) rising lt in
           subst (λ x. IsSome (listed_in row x)) at (rw found refl)),
       (λ s. all_listed P row j each s),
     )
 
 -- the first entry of a row whose object isn't marked has the lowest such object
-pub first_unmarked_entry : (rows : List Row) (person n i : ℕ) (marks : List Bool) (row : Row) (entry : ℕ × ℤ) → row ≡ row_of rows person → IsRow n row → i < length row → entry ≡ get_or row i entry →
+pub first_unmarked_entry : (rows : List Listing) (person n i : ℕ) (marks : List Bool) (row : Listing) (entry : ℕ × ℤ) → row ≡ row_of rows person → IsRow n row → i < length row → entry ≡ get_or row i entry →
     ((k : ℕ) (e : ℕ × ℤ) → k < i → IsMarked marks (get_or row k e).0) → ¬ IsMarked marks entry.0 → IsFirst (ListsUnnamed rows (IsMarked marks) person) n entry.0
 first_unmarked_entry rows person n i marks row entry this r lt is before not =
     let number : entry.0 ≡ (get_or row i entry).0 = ap (λ f. f.0) is in
     let range = r.within i entry lt in
-    let found = ap (listed_in row) number ∙ listed_at row i entry r.rising lt in
+    let found = ap (listed_in row) number ∙ rising_listed row i entry r.rising lt in
     let seen : IsSome (listed_in row entry.0) = rw found refl in
     let P : ℕ × ℤ → Type 0 = λ e. e.0 < entry.0 → IsMarked marks e.0 in
     let each : All P row = λ m f l. elim (cases_order m i) [
@@ -75,14 +72,13 @@ first_unmarked_entry rows person n i marks row entry this r lt is before not =
       ]
     ] in
     record {
-      some = let a = range.0 in omega arith;
-      last = let a = range.1 in omega arith;
+      number = subst (IsNumber n) (sym number) range;
       here = (subst (λ q. IsSome (listed_in q entry.0)) this seen, not);
       none_below = λ k some below g. g.1 (all_listed P row k each (subst (λ q. IsSome (listed_in q k)) (sym this) g.0) below);
     }
 
 -- where each entry's object is marked, each listed object is
-pub all_marked : (rows : List Row) (person i : ℕ) (marks : List Bool) (row : Row) → row ≡ row_of rows person → length row ≤ i → ((k : ℕ) (e : ℕ × ℤ) → k < i → IsMarked marks (get_or row k e).0) →
+pub all_marked : (rows : List Listing) (person i : ℕ) (marks : List Bool) (row : Listing) → row ≡ row_of rows person → length row ≤ i → ((k : ℕ) (e : ℕ × ℤ) → k < i → IsMarked marks (get_or row k e).0) →
     (j : ℕ) → IsListed rows person j → IsMarked marks j
 all_marked rows person i marks row this end before j s =
     let each : All (λ e. IsMarked marks e.0) row = λ k e lt. before k e (omega arith) in

@@ -1,15 +1,14 @@
 -- Marks that are added one after another.
-use Rattle.std.proofs.Common.{◌≡◌, ℕ, ◌<◌, ◌+◌, ◌↔◌, zero, suc, List, Bool, true, false, length, get_or, replicate, set, inl, inr, arith, refl, ap, subst, sym, ◌∙◌, get_or-set_same, get_or-set_other}
+use Rattle.std.proofs.Common.{◌≡◌, ℕ, ◌<◌, ◌+◌, ◌-◌, ◌↔◌, zero, suc, List, Bool, true, false, length, get_or, replicate, set, inl, inr, arith, refl, ap, subst, sym, ◌∙◌}
 use Rattle.std.proofs.lemmas.Bool.{cases_lt}
 use Rattle.std.proofs.lemmas.Bool.Decides.{eqb_tells}
+use Rattle.assign_core.specs.Numbered.{IsNumber, numbered, renumbered}
+use Rattle.assign_core.proofs.NumberedLemmas.{numbered-same, numbered-other, renumber-set}
 use Rattle.dual_checker.specs.HallMarks.{IsMarked, AddsMarks}
 
 -- j stands in relation R to one of the first i places
 abbrev pub Earlier : (ℕ → ℕ → Type 0) → ℕ → ℕ → Type 0
 Earlier R i j = (k : ℕ) × (k < i) × R k j
-
-pub adds_none : (R : ℕ → ℕ → Type 0) (marks : List Bool) → AddsMarks marks (Earlier R 0) marks
-adds_none R marks j = ((λ m. inl m), (λ h. elim h [ inl m ↦ m | inr e ↦ (let lt = e.1 in absurd (omega arith)) ]))
 
 pub adds_same : (P Q : ℕ → Type 0) (before after : List Bool) → ((j : ℕ) → P j ↔ Q j) → AddsMarks before P after → AddsMarks before Q after
 adds_same P Q before after same h j = (
@@ -36,34 +35,40 @@ adds_more R i start marks after h more j = (
 )
 
 -- what marking one number does
-pub adds_one : (marks : List Bool) (x : ℕ) → x < length marks → AddsMarks marks (λ j. x ≡ j) (set marks x true)
-adds_one marks x lt j = (
+pub adds_one : (marks : List Bool) (x : ℕ) → IsNumber (length marks) x → AddsMarks marks (λ j. x ≡ j) (renumbered marks x true)
+adds_one marks x within j = (
   (λ m. elim (eqb_tells x j) [
     | inl t ↦ inr t.1
-    | inr t ↦ inl (sym (get_or-set_other marks x j true _ (λ s. t.1 (sym s))) ∙ m)
+    | inr t ↦ inl (sym (numbered-other marks x j true false (λ s. t.1 (sym s))) ∙ m)
   ]),
   (λ o. elim (eqb_tells x j) [
-    | inl t ↦ subst (IsMarked (set marks x true)) t.1 (get_or-set_same marks x true _ lt)
-    | inr t ↦ elim o [ inl b ↦ get_or-set_other marks x j true _ (λ s. t.1 (sym s)) ∙ b | inr e ↦ absurd (t.1 e) ]
+    | inl t ↦ subst (IsMarked (renumbered marks x true)) t.1 (numbered-same marks x true false within.first within.last)
+    | inr t ↦ elim o [ inl b ↦ numbered-other marks x j true false (λ s. t.1 (sym s)) ∙ b | inr e ↦ absurd (t.1 e) ]
   ]),
 )
 
 -- one number more
-pub adds_item : (f : ℕ → ℕ) (i x : ℕ) (start marks : List Bool) → x ≡ f i → x < length marks → AddsMarks start (Earlier (λ k j. f k ≡ j) i) marks → AddsMarks start (Earlier (λ k j. f k ≡ j) (i + 1)) (set marks x true)
-adds_item f i x start marks at lt h =
-    adds_more (λ k j. f k ≡ j) i start marks (set marks x true) h
-    (adds_same (λ j. x ≡ j) (λ j. f i ≡ j) marks (set marks x true) (λ j. ((λ e. sym at ∙ e), (λ e. at ∙ e))) (adds_one marks x lt))
+pub adds_item : (f : ℕ → ℕ) (i x k : ℕ) (start marks : List Bool) → x ≡ f i → IsNumber (length marks) x → k ≡ x - 1 → AddsMarks start (Earlier (λ k j. f k ≡ j) i) marks →
+    AddsMarks start (Earlier (λ k j. f k ≡ j) (i + 1)) (set marks k true)
+adds_item f i x k start marks at within place h =
+    subst (AddsMarks start (Earlier (λ k j. f k ≡ j) (i + 1))) (renumber-set marks x true within.first ∙ ap (λ m. set marks m true) (sym place))
+    (adds_more (λ k j. f k ≡ j) i start marks (renumbered marks x true) h
+    (adds_same (λ j. x ≡ j) (λ j. f i ≡ j) marks (renumbered marks x true) (λ j. ((λ e. sym at ∙ e), (λ e. at ∙ e))) (adds_one marks x within)))
 
-none_set : (m j : ℕ) → get_or (replicate m false) j false ≡ false
-none_set zero j = refl
-none_set (suc m) zero = refl
-none_set (suc m) (suc j) = none_set m j
+none_at : (m i : ℕ) → get_or (replicate m false) i false ≡ false
+none_at zero i = refl
+none_at (suc m) zero = refl
+none_at (suc m) (suc i) = none_at m i
+
+none_set : (m j : ℕ) → numbered (replicate m false) j false ≡ false
+none_set m zero = refl
+none_set m (suc i) = none_at m i
 
 -- where none was set at first, the marks tell who has property P
 pub just_added : (m : ℕ) (before after : List Bool) (P : ℕ → Type 0) → before ≡ replicate m false → AddsMarks before P after → (j : ℕ) → IsMarked after j ↔ P j
 just_added m before after P none h j = (
   (λ k. elim ((h j).0 k) [
-    | inl b ↦ let no = ap (λ l. get_or l j false) none ∙ none_set m j in absurd (false_not_true (sym no ∙ b))
+    | inl b ↦ let no = ap (λ l. numbered l j false) none ∙ none_set m j in absurd (false_not_true (sym no ∙ b))
     | inr p ↦ p
   ]),
   (λ p. (h j).1 (inr p)),

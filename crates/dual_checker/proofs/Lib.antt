@@ -1,5 +1,5 @@
 pub mod Firsts
-pub mod Pairs
+pub mod Places
 pub mod Givings
 pub mod Tallies
 pub mod Worths

@@ -1,73 +1,87 @@
 -- Tables of counts, one more at a time.
-use Rattle.std.proofs.Common.{◌≡◌, ℕ, ◌<◌, ◌≤◌, ◌+◌, List, [], length, take, set, replicate, nat_eq, true, false, get_or, arith, inl, inr, sym, ◌∙◌, ap, subst, ◌==◌, ◌≢◌, All, Option, None, Some, MatchOption, slice_index}
+use Rattle.std.proofs.Common.{◌≡◌, ℕ, zero, suc, ◌<◌, ◌≤◌, ◌+◌, ◌-◌, List, [], length, take, set, replicate, nat_eq, true, false, get_or, arith, inl, inr, sym, ◌∙◌, ap, subst, ◌==◌, ◌≢◌, All, Option, None, Some, MatchOption}
 use Rattle.std.specs.List.{IsDistinct}
-use Rattle.std.proofs.lemmas.List.{get_or-set_same, get_or-set_other, get_or-replicate, length-set, length-replicate, length-take-le}
+use Rattle.std.proofs.lemmas.List.{get_or-replicate, length-replicate, length-take-le}
 use Rattle.std.proofs.lemmas.List.Sums.{count_by_more_yes, count_by_more_no, count_by-le-length}
 use Rattle.std.proofs.lemmas.Bool.Decides.{eqb_tells}
 use Rattle.std.proofs.lemmas.Bool.{cases_lt}
 use Rattle.std.proofs.lemmas.List.Elements.{All-weaker}
+use Rattle.assign_core.specs.Numbered.{IsNumber, numbered, renumbered}
+use Rattle.assign_core.proofs.NumberedLemmas.{numbered-same, numbered-other, length-renumbered, renumber-set}
 use Rattle.dual_checker.specs.Faults.{IsFirst, IsGivenTwice}
-use Rattle.dual_checker.specs.Counts.{AreCounts, IsFirstOverOne}
+use Rattle.dual_checker.specs.Counts.{AreCounts}
+use Rattle.dual_checker.proofs.Places.{at_place}
 use Rattle.dual_checker.proofs.Givings.{count_of, nowhere, distinct_from}
 
+numbered-replicate : (n j : ℕ) → IsNumber n j → numbered (replicate {A = ℕ} n 0) j 0 ≡ 0
+numbered-replicate n zero h = let some = h.first in absurd (omega arith)
+numbered-replicate n (suc i) h = let last = h.last in get_or-replicate n i 0 0 (omega arith)
+
 pub none_counted : (n : ℕ) (counts : List ℕ) → counts ≡ replicate n 0 → AreCounts counts []
-none_counted n counts e j lt =
+none_counted n counts e j h =
     let zeros : length (replicate {A = ℕ} n 0) ≡ n = simp length-replicate in
     let long : length counts ≡ n = ap length e ∙ zeros in
-    ap (λ l. get_or l j 0) e ∙ get_or-replicate n j 0 0 (omega arith)
+    ap (λ l. numbered l j 0) e ∙ numbered-replicate n j (subst (λ m. IsNumber m j) long h)
 
-pub few_counted : (counts xs : List ℕ) (i x : ℕ) → AreCounts counts (take i xs) → i ≤ length xs → x < length counts → get_or counts x 0 ≤ i
-few_counted counts xs i x h le lt =
-    let e : get_or counts x 0 ≡ count_of (take i xs) x = h x lt in
+pub few_counted : (counts xs : List ℕ) (i x : ℕ) → AreCounts counts (take i xs) → i ≤ length xs → IsNumber (length counts) x → numbered counts x 0 ≤ i
+few_counted counts xs i x h le within =
+    let e : numbered counts x 0 ≡ count_of (take i xs) x = h x within in
     let few : count_of (take i xs) x ≤ length (take i xs) = count_by-le-length (λ y. y == x) (take i xs) in
     let long : length (take i xs) ≡ i = length-take-le i xs le in
     omega arith
 
-pub one_counted : (counts xs : List ℕ) (i x : ℕ) → AreCounts counts (take i xs) → i < length xs → x ≡ get_or xs i x → x < length counts → AreCounts (set counts x (get_or counts x 0 + 1)) (take (i + 1) xs)
-one_counted counts xs i x h lt e within j inside =
-    let long : length (set counts x (get_or counts x 0 + 1)) ≡ length counts = simp length-set in
-    let at : get_or counts j 0 ≡ count_of (take i xs) j = h j (omega arith) in
+one_renumbered : (counts xs : List ℕ) (i x : ℕ) → AreCounts counts (take i xs) → i < length xs → x ≡ get_or xs i x → IsNumber (length counts) x →
+    AreCounts (renumbered counts x (numbered counts x 0 + 1)) (take (i + 1) xs)
+one_renumbered counts xs i x h lt e within j inside =
+    let at : numbered counts j 0 ≡ count_of (take i xs) j = h j (subst (λ m. IsNumber m j) (length-renumbered counts x (numbered counts x 0 + 1)) inside) in
     elim (eqb_tells x j) [
       | inl t ↦
-          let here = ap (λ k. get_or counts k 0) t.1 in
-          let same = get_or-set_same counts x (get_or counts x 0 + 1) 0 within in
-          let read = ap (λ k. get_or (set counts x (get_or counts x 0 + 1)) k 0) t.1 in
+          let here = ap (λ k. numbered counts k 0) t.1 in
+          let same = numbered-same counts x (numbered counts x 0 + 1) 0 within.first within.last in
+          let read = ap (λ k. numbered (renumbered counts x (numbered counts x 0 + 1)) k 0) t.1 in
           let more : count_of (take (i + 1) xs) j ≡ count_of (take i xs) j + 1 = count_by_more_yes (λ y. y == j) xs i x lt (subst (λ y. nat_eq y j ≡ true) e t.0) in
           sym read ∙ same ∙ ap (λ n. n + 1) (here ∙ at) ∙ sym more
       | inr t ↦
-          let other = get_or-set_other counts x j (get_or counts x 0 + 1) 0 (λ s. t.1 (sym s)) in
+          let other = numbered-other counts x j (numbered counts x 0 + 1) 0 (λ s. t.1 (sym s)) in
           let same : count_of (take (i + 1) xs) j ≡ count_of (take i xs) j = count_by_more_no (λ y. y == j) xs i x lt (subst (λ y. nat_eq y j ≡ false) e t.0) in
           other ∙ at ∙ sym same
     ]
 
--- an element is what it was read as
-pub read_at : (xs : List ℕ) (i x y : ℕ) → x ≡ y → y ≡ get_or xs i y → x ≡ get_or xs i x
-read_at xs i x y e h = rw e h
+-- one more at an object's place
+pub one_counted : (counts xs : List ℕ) (i x k : ℕ) → AreCounts counts (take i xs) → i < length xs → x ≡ get_or xs i x → IsNumber (length counts) x → k ≡ x - 1 →
+    AreCounts (set counts k (get_or counts k 0 + 1)) (take (i + 1) xs)
+one_counted counts xs i x k h lt e within at =
+    let write : renumbered counts x (numbered counts x 0 + 1) ≡ set counts k (get_or counts k 0 + 1) =
+    renumber-set counts x (numbered counts x 0 + 1) within.first ∙ ap (λ m. set counts m (numbered counts x 0 + 1)) (sym at)
+    ∙ ap (λ m. set counts k (m + 1)) (sym (at_place counts x k 0 within at)) in
+    subst (λ c. AreCounts c (take (i + 1) xs)) write (one_renumbered counts xs i x h lt e within)
 
-below_first : (xs : List ℕ) → All (λ x. (0 < x) × (x ≤ length xs)) xs → count_of xs 0 ≡ 0
-below_first xs h = nowhere xs 0 (All-weaker (λ x. (0 < x) × (x ≤ length xs)) (λ x. x ≢ 0) (λ x w e. let some = w.0 in omega arith) xs h)
+-- a number that isn't one of 1 to n isn't in a list of such numbers
+none_outside : (xs : List ℕ) (n j : ℕ) → (IsNumber n j → ⊥) → All (IsNumber n) xs → count_of xs j ≡ 0
+none_outside xs n j out h = nowhere xs j (All-weaker (IsNumber n) (λ x. x ≢ j) (λ x w e. out (subst (IsNumber n) e w)) xs h)
 
-past_last : (xs : List ℕ) (j : ℕ) → length xs < j → All (λ x. (0 < x) × (x ≤ length xs)) xs → count_of xs j ≡ 0
-past_last xs j lt h = nowhere xs j (All-weaker (λ x. (0 < x) × (x ≤ length xs)) (λ x. x ≢ j) (λ x w e. let last = w.1 in omega arith) xs h)
-
-none_twice : (counts xs : List ℕ) → AreCounts counts xs → length counts ≡ length xs + 1 → All (λ x. (0 < x) × (x ≤ length xs)) xs → ((j : ℕ) → slice_index counts j ≤ 1) → IsDistinct nat_eq xs
-none_twice counts xs h long within few = distinct_from xs (λ j. elim (cases_lt j (length counts)) [
-  | inl lt ↦ let e = h j lt in let f = few j in omega arith
-  | inr out ↦ let e = past_last xs j (omega arith) within in omega arith
+none_twice : (counts xs : List ℕ) (n : ℕ) → AreCounts counts xs → length counts ≡ n → All (IsNumber n) xs → ((j : ℕ) → IsNumber (length counts) j → numbered counts j 0 ≤ 1) → IsDistinct nat_eq xs
+none_twice counts xs n h long within few = distinct_from xs (λ j. elim (cases_lt 0 j) [
+  | inl some ↦ elim (cases_lt n j) [
+    | inl past ↦ let none = none_outside xs n j (λ w. let last = w.last in omega arith) within in omega arith
+    | inr last ↦ let at : IsNumber (length counts) j = record { first = some; last = omega arith } in let e = h j at in let f = few j at in omega arith
+  ]
+  | inr zero_or ↦ let none = none_outside xs n j (λ w. let some = w.first in omega arith) within in omega arith
 ])
 
-some_twice : (counts xs : List ℕ) (j : ℕ) → AreCounts counts xs → length counts ≡ length xs + 1 → All (λ x. (0 < x) × (x ≤ length xs)) xs → IsFirstOverOne counts j → IsFirst (IsGivenTwice xs) (length xs) j
-some_twice counts xs j h long within f =
-    let last = f.last in
-    let here : 1 < count_of xs j = let e = h j last in let over = f.over in omega arith in
-    let some : 0 < j = elim (cases_lt 0 j) [
-      | inl lt ↦ lt
-      | inr upto ↦ let none = below_first xs within in let e : count_of xs j ≡ count_of xs 0 = ap (count_of xs) (omega arith) in absurd (omega arith)
-    ] in
-    record { some = some; last = omega arith; here = here; none_below = λ i low below. let e = h i (omega arith) in let few = f.none_below i below in λ twice. omega arith }
+some_twice : (counts xs : List ℕ) (n j : ℕ) → AreCounts counts xs → length counts ≡ n → IsFirst (λ k. 1 < numbered counts k 0) (length counts) j → IsFirst (IsGivenTwice xs) n j
+some_twice counts xs n j h long f = record {
+  number = subst (λ m. IsNumber m j) long f.number;
+  here = let e = h j f.number in let over = f.here in omega arith;
+  none_below = λ i some below twice.
+      let last = f.number.last in
+      let e = h i (record { first = some; last = omega arith }) in
+      f.none_below i some below (omega arith);
+}
 
 -- what the table tells of the list
-pub told : (counts xs : List ℕ) (first : Option ℕ) → AreCounts counts xs → length counts ≡ length xs + 1 → All (λ x. (0 < x) × (x ≤ length xs)) xs →
-    MatchOption first ((j : ℕ) → slice_index counts j ≤ 1) (λ j. IsFirstOverOne counts j) → MatchOption first (IsDistinct nat_eq xs) (λ j. IsFirst (IsGivenTwice xs) (length xs) j)
-told counts xs None h long within few = none_twice counts xs h long within few
-told counts xs (Some j) h long within f = some_twice counts xs j h long within f
+pub told : (counts xs : List ℕ) (n : ℕ) (first : Option ℕ) → AreCounts counts xs → length counts ≡ n → All (IsNumber n) xs →
+    MatchOption first ((j : ℕ) → IsNumber (length counts) j → numbered counts j 0 ≤ 1) (λ j. IsFirst (λ k. 1 < numbered counts k 0) (length counts) j) →
+    MatchOption first (IsDistinct nat_eq xs) (λ j. IsFirst (IsGivenTwice xs) n j)
+told counts xs n None h long within few = none_twice counts xs n h long within few
+told counts xs n (Some j) h long within f = some_twice counts xs n j h long f

@@ -8,39 +8,27 @@ use Rattle.std.proofs.lemmas.Bool.Decides.{eqb_tells}
 use Rattle.std.proofs.lemmas.List.{length-map, get_or_default}
 use Rattle.std.proofs.lemmas.List.Elements.{All-map}
 use Rattle.assign_core.specs.declared.sense.Sense.{Sense}
-use Rattle.assign_core.specs.Rows.{Row, IsRow, IsRising, listed_in, listed_or_zero, row_of}
+use Rattle.assign_core.specs.Numbered.{IsNumber}
+use Rattle.assign_core.specs.Rows.{Listing, IsRow, IsRising, listed_in, listed_or_zero, row_of}
 use Rattle.assign_core.specs.Benefits.{benefit, benefit_row, benefit_rows}
 use Rattle.assign_core.specs.Prices.{price_of}
 use Rattle.assign_core.specs.Slackness.{HasSlack, IsWorth}
-use Rattle.assign_core.proofs.Listed.{all_listed, listed_here, listed_later}
+use Rattle.assign_core.proofs.Listed.{all_listed, rising_listed}
+use Rattle.assign_core.proofs.BenefitRows.{row_of-benefits}
 use Rattle.assign_core.proofs.Duality.{benefit_listed, benefit_value}
-use Rattle.dual_checker.specs.Faults.{IsFirst, BreaksSlack, object_of}
+use Rattle.dual_checker.specs.Faults.{IsFirst, BreaksSlack, own_object}
 
-pub length-benefit_rows : (sense : Sense) (rows : List Row) → length (benefit_rows sense rows) ≡ length rows
-length-benefit_rows sense rows = length-map rows (benefit_row sense (length rows))
-
-pub slack_unbroken : (eps : ℤ) (prices : List ℤ) (row : Row) (j k : ℕ) → HasSlack eps prices row j → BreaksSlack eps prices row j k → ⊥
+pub slack_unbroken : (eps : ℤ) (prices : List ℤ) (row : Listing) (j k : ℕ) → HasSlack eps prices row j → BreaksSlack eps prices row j k → ⊥
 slack_unbroken eps prices row j k h b =
     let worth = all_listed (IsWorth eps prices row j) row k h b.listed in
     let more = b.more in
     absurd (omega (arith, ints))
 
--- an entry of a rising row is what the row gives for its object
-pub listed_at : (row : Row) (i : ℕ) (d : ℕ × ℤ) → IsRising row → i < length row → listed_in row (get_or row i d).0 ≡ Some (get_or row i d).1
-listed_at [] i d h lt = absurd (omega arith)
-listed_at (e ∷ row) zero d h lt = elim (eqb_tells e.0 e.0) [ inl t ↦ listed_here e row e.0 t.0 | inr t ↦ absurd (t.1 refl) ]
-listed_at (e ∷ row) (suc i) d h lt =
-    let above : e.0 < (get_or row i d).0 = h 0 (suc i) d (omega arith) lt in
-    elim (eqb_tells e.0 (get_or row i d).0) [
-      | inl t ↦ let same = t.1 in absurd (omega arith)
-      | inr t ↦ listed_later e row (get_or row i d).0 t.0 ∙ listed_at row i d (λ a b f l m. h (suc a) (suc b) f (omega arith) (omega arith)) (omega arith)
-    ]
-
 -- entry e, with its cost, is worth at most 1 more than own
 abbrev pub IsUnder : Sense → ℕ → List ℤ → ℤ → ℕ × ℤ → Type 0
 IsUnder sense n prices own e = (benefit sense n e.1 -ℤ price_of prices e.0) ≤ℤ (own +ℤ pos 1)
 
-pub slack_from : (sense : Sense) (n : ℕ) (prices : List ℤ) (row : Row) (j : ℕ) (own : ℤ) → own ≡ benefit sense n (listed_or_zero row j) -ℤ price_of prices j →
+pub slack_from : (sense : Sense) (n : ℕ) (prices : List ℤ) (row : Listing) (j : ℕ) (own : ℤ) → own ≡ benefit sense n (listed_or_zero row j) -ℤ price_of prices j →
     All (IsUnder sense n prices own) row → HasSlack (pos 1) prices (benefit_row sense n row) j
 slack_from sense n prices row j own e h =
     let value : listed_or_zero (benefit_row sense n row) j ≡ benefit sense n (listed_or_zero row j) = benefit_value sense n row j in
@@ -48,7 +36,7 @@ slack_from sense n prices row j own e h =
     (λ k d lt. let under = h k d lt in omega (arith, ints))
 
 -- no listed object below the one at place i breaks slackness, if none of the entries before it does
-none_under : (sense : Sense) (n : ℕ) (prices : List ℤ) (row : Row) (j i : ℕ) (own : ℤ) (d : ℕ × ℤ) → IsRising row → i < length row →
+none_under : (sense : Sense) (n : ℕ) (prices : List ℤ) (row : Listing) (j i : ℕ) (own : ℤ) (d : ℕ × ℤ) → IsRising row → i < length row →
     own ≡ benefit sense n (listed_or_zero row j) -ℤ price_of prices j → ((k : ℕ) (f : ℕ × ℤ) → k < i → IsUnder sense n prices own (get_or row k f)) →
     (k : ℕ) → k < (get_or row i d).0 → BreaksSlack (pos 1) prices (benefit_row sense n row) j k → ⊥
 none_under sense n prices row j i own d rising lt e before k below b =
@@ -65,31 +53,26 @@ none_under sense n prices row j i own d rising lt e before k below b =
     let more = b.more in
     absurd (omega (arith, ints))
 
-pub first_break : (sense : Sense) (n : ℕ) (prices : List ℤ) (row : Row) (j i : ℕ) (own : ℤ) (entry : ℕ × ℤ) → IsRow n row → i < length row → entry ≡ get_or row i entry →
+pub first_break : (sense : Sense) (n : ℕ) (prices : List ℤ) (row : Listing) (j i : ℕ) (own : ℤ) (entry : ℕ × ℤ) → IsRow n row → i < length row → entry ≡ get_or row i entry →
     own ≡ benefit sense n (listed_or_zero row j) -ℤ price_of prices j → ((k : ℕ) (f : ℕ × ℤ) → k < i → IsUnder sense n prices own (get_or row k f)) →
     (own +ℤ pos 1) <ℤ (benefit sense n entry.1 -ℤ price_of prices entry.0) → IsFirst (BreaksSlack (pos 1) prices (benefit_row sense n row) j) n entry.0
 first_break sense n prices row j i own entry r lt is e before over =
     let number : entry.0 ≡ (get_or row i entry).0 = ap (λ f. f.0) is in
     let cost : entry.1 ≡ (get_or row i entry).1 = ap (λ f. f.1) is in
     let range = r.within i entry lt in
-    let found : listed_in row entry.0 ≡ Some entry.1 = ap (listed_in row) number ∙ listed_at row i entry r.rising lt ∙ ap Some (sym cost) in
+    let found : listed_in row entry.0 ≡ Some entry.1 = ap (listed_in row) number ∙ rising_listed row i entry r.rising lt ∙ ap Some (sym cost) in
     let seen : IsSome (listed_in row entry.0) = rw found refl in
     let own_value : listed_or_zero (benefit_row sense n row) j ≡ benefit sense n (listed_or_zero row j) = benefit_value sense n row j in
     let value : listed_or_zero (benefit_row sense n row) entry.0 ≡ benefit sense n entry.1 = benefit_value sense n row entry.0 ∙ ap (λ o. benefit sense n (unwrap_or o (pos 0))) found in
     record {
-      some = let a = range.0 in omega arith;
-      last = let a = range.1 in omega arith;
+      number = subst (IsNumber n) (sym number) range;
       here = record { listed = benefit_listed sense n row entry.0 seen; more = omega (arith, ints) };
       none_below = λ k some below. none_under sense n prices row j i own entry r.rising lt e before k (omega arith);
     }
 
-row_of-benefits : (sense : Sense) (rows : List Row) (i : ℕ) → row_of (benefit_rows sense rows) i ≡ benefit_row sense (length rows) (row_of rows i)
-row_of-benefits sense rows zero = refl
-row_of-benefits sense rows (suc i) = get_or-map (benefit_row sense (length rows)) rows i []
-
 -- what holds of a row as it was read, with as many persons as prices, and of an object as it was read, holds of them by the person's number
-pub by_number : (Q : Row → ℕ → Type 0) (sense : Sense) (rows : List Row) (xs : List ℕ) (row : Row) (n i j : ℕ) → n ≡ length rows → row ≡ row_of rows i → j ≡ object_of xs i →
-    Q (benefit_row sense n row) j → Q (row_of (benefit_rows sense rows) i) (object_of xs i)
+pub by_number : (Q : Listing → ℕ → Type 0) (sense : Sense) (rows : List Listing) (xs : List ℕ) (row : Listing) (n i j : ℕ) → n ≡ length rows → row ≡ row_of rows i → j ≡ own_object xs i →
+    Q (benefit_row sense n row) j → Q (row_of (benefit_rows sense rows) i) (own_object xs i)
 by_number Q sense rows xs row n i j long read object h =
-    let e : benefit_row sense n row ≡ row_of (benefit_rows sense rows) i = ap (λ m. benefit_row sense m row) long ∙ ap (benefit_row sense (length rows)) read ∙ sym (row_of-benefits sense rows i) in
-    subst (λ r. Q r (object_of xs i)) e (subst (Q (benefit_row sense n row)) object h)
+    let e : benefit_row sense n row ≡ row_of (benefit_rows sense rows) i = ap (λ m. benefit_row sense m row) long ∙ ap (benefit_row sense (length rows)) read ∙ sym (row_of-benefits sense (length rows) rows i) in
+    subst (λ r. Q r (own_object xs i)) e (subst (Q (benefit_row sense n row)) object h)

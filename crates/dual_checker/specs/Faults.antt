@@ -1,48 +1,47 @@
 -- What may be wrong with two lists, one of objects and one of prices.
-use Rattle.std.specs.Prelude.{◌≡◌, ℕ, ℤ, pos, ◌+ℤ◌, ◌<ℤ◌, ◌<◌, ◌≤◌, ◌==◌, List, length, IsSome, count_by}
-use Rattle.assign_core.specs.Numbered.{numbered}
-use Rattle.assign_core.specs.Rows.{Row, IsListed, listed_in, listed_or_zero, row_of}
+use Rattle.std.specs.Prelude.{◌≡◌, ℕ, ℤ, pos, ◌+ℤ◌, ◌<ℤ◌, ◌<◌, ◌==◌, List, length, IsSome, count_by}
+use Rattle.assign_core.specs.Numbered.{IsNumber, numbered}
+use Rattle.assign_core.specs.Rows.{Listing, IsListed, listed_in, listed_or_zero, row_of}
 use Rattle.assign_core.specs.Benefits.{benefit_rows}
 use Rattle.assign_core.specs.Prices.{price_of, IsPrice}
 use Rattle.assign_core.specs.declared.sense.Sense.{Sense}
 
 -- k is the lowest of the numbers 1 to n that has the fault
 pub record IsFirst (Fault : ℕ → Type 0) (n k : ℕ) : Type 0 where
-  pub some : 0 < k
-  pub last : k ≤ n
+  pub number : IsNumber n k
   pub here : Fault k
   pub none_below : (i : ℕ) → 0 < i → i < k → ¬ Fault i
 
 -- an object and a price for each person
-pub record AreLong (rows : List Row) (xs : List ℕ) (prices : List ℤ) : Type 0 where
+pub record AreLong (rows : List Listing) (xs : List ℕ) (prices : List ℤ) : Type 0 where
   pub objects : length xs ≡ length rows
   pub prices_too : length prices ≡ length rows
 
 -- the object of person i
-abbrev pub object_of : List ℕ → ℕ → ℕ
-object_of xs i = numbered xs i 0
+abbrev pub own_object : List ℕ → ℕ → ℕ
+own_object xs i = numbered xs i 0
 
 -- person i doesn't list its object
-abbrev pub IsUnlisted : List Row → List ℕ → ℕ → Type 0
-IsUnlisted rows xs i = ¬ IsListed rows i (object_of xs i)
+abbrev pub IsUnlisted : List Listing → List ℕ → ℕ → Type 0
+IsUnlisted rows xs i = ¬ IsListed rows i (own_object xs i)
 
 -- object j is given twice, or more often
 abbrev pub IsGivenTwice : List ℕ → ℕ → Type 0
 IsGivenTwice xs j = 1 < count_by (λ x. x == j) xs
 
--- the price of object j isn't in 0 to 10^22 - 1
+-- the price of object j isn't in the range of prices
 abbrev pub IsOutOfRange : List ℤ → ℕ → Type 0
 IsOutOfRange prices j = ¬ IsPrice (price_of prices j)
 
 -- with these benefits, object k is listed and worth more than object j by over eps: a_k - p_k > a_j - p_j + eps
-pub record BreaksSlack (eps : ℤ) (prices : List ℤ) (row : Row) (j k : ℕ) : Type 0 where
+pub record BreaksSlack (eps : ℤ) (prices : List ℤ) (row : Listing) (j k : ℕ) : Type 0 where
   pub listed : IsSome (listed_in row k)
   pub more : (listed_or_zero row j +ℤ price_of prices k +ℤ eps) <ℤ (listed_or_zero row k +ℤ price_of prices j)
 
 -- object k breaks the slackness 1 of person i
-abbrev pub BreaksSlackOf : Sense → List Row → List ℕ → List ℤ → ℕ → ℕ → Type 0
-BreaksSlackOf sense rows xs prices i k = BreaksSlack (pos 1) prices (row_of (benefit_rows sense rows) i) (object_of xs i) k
+abbrev pub BreaksSlackOf : Sense → List Listing → List ℕ → List ℤ → ℕ → ℕ → Type 0
+BreaksSlackOf sense rows xs prices i k = BreaksSlack (pos 1) prices (row_of (benefit_rows sense rows) i) (own_object xs i) k
 
 -- some object breaks the slackness 1 of person i
-abbrev pub IsShort : Sense → List Row → List ℕ → List ℤ → ℕ → Type 0
+abbrev pub IsShort : Sense → List Listing → List ℕ → List ℤ → ℕ → Type 0
 IsShort sense rows xs prices i = (k : ℕ) × BreaksSlackOf sense rows xs prices i k

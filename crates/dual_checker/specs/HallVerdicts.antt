@@ -1,46 +1,43 @@
 -- What each verdict says of a list of persons and a list of objects.
-use Rattle.std.specs.Prelude.{◌≡◌, ℕ, ◌<◌, ◌≤◌, ◌↔◌, List, length, All, Contains}
+use Rattle.std.specs.Prelude.{◌≡◌, ℕ, ◌≤◌, ◌↔◌, List, length, All, Contains}
 use Rattle.std.specs.List.Sorted.{IsStrictlyIncreasing}
-use Rattle.assign_core.specs.Rows.{Row, IsListed, IsProblem}
+use Rattle.assign_core.specs.Numbered.{IsNumber}
+use Rattle.assign_core.specs.Rows.{Listing, IsListed, IsProblem}
 use Rattle.assign_core.specs.Hall.{IsHallSet, IsNeighbour}
 use Rattle.dual_checker.specs.declared.hall_verdict.HallVerdict.{HallVerdict}
 use Rattle.dual_checker.specs.declared.hall_verdict.HallVerdict.TheVariants.{Range, Order, Missing, Extra, Count, Yes}
 use Rattle.dual_checker.specs.Faults.{IsFirst}
 
--- each number is one of 1 to n
-abbrev pub AreNumbers : ℕ → List ℕ → Type 0
-AreNumbers n xs = All (λ x. (0 < x) × (x ≤ n)) xs
-
 -- the numbers of both lists are those of persons and of objects
-abbrev pub AreInRange : List Row → List ℕ → List ℕ → Type 0
-AreInRange rows persons objects = AreNumbers (length rows) persons × AreNumbers (length rows) objects
+abbrev pub AreInRange : List Listing → List ℕ → List ℕ → Type 0
+AreInRange rows persons objects = All (IsNumber (length rows)) persons × All (IsNumber (length rows)) objects
 
 -- both lists rise
 abbrev pub AreRising : List ℕ → List ℕ → Type 0
 AreRising persons objects = IsStrictlyIncreasing persons × IsStrictlyIncreasing objects
 
 -- person i lists object j, which isn't named
-abbrev pub ListsUnnamed : List Row → (ℕ → Type 0) → ℕ → ℕ → Type 0
+abbrev pub ListsUnnamed : List Listing → (ℕ → Type 0) → ℕ → ℕ → Type 0
 ListsUnnamed rows IsNamed i j = IsListed rows i j × ¬ IsNamed j
 
 -- person i is named and lists some object that isn't
-abbrev pub Lacks : List Row → List ℕ → (ℕ → Type 0) → ℕ → Type 0
+abbrev pub Lacks : List Listing → List ℕ → (ℕ → Type 0) → ℕ → Type 0
 Lacks rows persons IsNamed i = Contains persons i × ((j : ℕ) × ListsUnnamed rows IsNamed i j)
 
 -- each object that a named person lists is named
-abbrev pub HasNeighbours : List Row → List ℕ → (ℕ → Type 0) → Type 0
+abbrev pub HasNeighbours : List Listing → List ℕ → (ℕ → Type 0) → Type 0
 HasNeighbours rows persons IsNamed = (j : ℕ) → IsNeighbour rows persons j → IsNamed j
 
 -- object j is named and none of the named persons lists it
-abbrev pub IsExtra : List Row → List ℕ → List ℕ → ℕ → Type 0
+abbrev pub IsExtra : List Listing → List ℕ → List ℕ → ℕ → Type 0
 IsExtra rows persons objects j = Contains objects j × ¬ IsNeighbour rows persons j
 
 -- named are just the objects that the named persons list
-abbrev pub AreNeighbours : List Row → List ℕ → List ℕ → Type 0
+abbrev pub AreNeighbours : List Listing → List ℕ → List ℕ → Type 0
 AreNeighbours rows persons objects = (j : ℕ) → Contains objects j ↔ IsNeighbour rows persons j
 
 -- the first fault in the order of the variants, by the lowest number that has it, and Yes where there is none
-abbrev pub IsHallVerdict : List Row → List ℕ → List ℕ → HallVerdict → Type 0
+abbrev pub IsHallVerdict : List Listing → List ℕ → List ℕ → HallVerdict → Type 0
 IsHallVerdict rows persons objects Range = ¬ AreInRange rows persons objects
 IsHallVerdict rows persons objects Order = AreInRange rows persons objects × ¬ AreRising persons objects
 IsHallVerdict rows persons objects (Missing i j) =
@@ -55,5 +52,5 @@ IsHallVerdict rows persons objects Yes = IsHallSet rows persons objects
 
 -- no two verdicts hold of the same problem and lists
 abbrev pub HallVerdictsDiffer : Type 0
-HallVerdictsDiffer = (rows : List Row) (persons objects : List ℕ) (v w : HallVerdict) → IsProblem rows →
+HallVerdictsDiffer = (rows : List Listing) (persons objects : List ℕ) (v w : HallVerdict) → IsProblem rows →
     IsHallVerdict rows persons objects v → IsHallVerdict rows persons objects w → v ≡ w

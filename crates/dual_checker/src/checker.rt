@@ -1,5 +1,5 @@
 // The checker: the first fault of the verdicts' order.
-ghost use Rattle.std.specs.Prelude.{◌≡◌, ◌+◌, ◌↔◌, length, replicate, IfOk};
+ghost use Rattle.std.specs.Prelude.{◌≡◌, ◌↔◌, length, replicate, IfOk};
 ghost use Rattle.assign_core.specs.Assignment.{IsBest};
 ghost use Rattle.assign_core.specs.Slackness.{IsCertificate};
 ghost use Rattle.dual_checker.specs.Verdicts.{IsVerdict};
@@ -20,7 +20,7 @@ fn first_fault(
     objects: &[Object],
     prices: &[Price],
 ) -> Verdict
-    requires { counts.old ≡ replicate (length problem.now + 1) 0 }
+    requires { counts.old ≡ replicate (length problem.now) 0 }
     ensures { IsVerdict sense problem.now objects.now prices.now result }
 {
     let n = problem.n() as usize;
@@ -64,6 +64,6 @@ pub fn check(
     ensures best { IfOk result (λ v. v ≡ Verdict.Yes → IsBest sense problem.now objects.now) }
 {
     let n = problem.n() as usize;
-    let mut counts = vec![in alloc; 0u16; n + 1]?;
+    let mut counts = vec![in alloc; 0u16; n]?;
     Ok(first_fault(counts.as_mut_slice(), problem, sense, objects, prices))
 }

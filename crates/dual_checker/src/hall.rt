@@ -1,5 +1,5 @@
 // The checker of Hall sets: the first fault of the verdicts' order.
-ghost use Rattle.std.specs.Prelude.{◌≡◌, ℕ, ◌+◌, ◌↔◌, List, false, length, replicate, IfOk};
+ghost use Rattle.std.specs.Prelude.{◌≡◌, ℕ, ◌↔◌, List, false, length, replicate, IfOk};
 ghost use Rattle.assign_core.specs.Assignment.{IsAssignment};
 ghost use Rattle.assign_core.specs.Hall.{IsHallSet};
 ghost use Rattle.dual_checker.specs.HallVerdicts.{IsHallVerdict};
@@ -18,8 +18,8 @@ fn first_hall_fault(
     persons: &[Person],
     objects: &[Object],
 ) -> HallVerdict
-    requires named { named.old ≡ replicate (length problem.now + 1) false }
-    requires listed { listed.old ≡ replicate (length problem.now + 1) false }
+    requires named { named.old ≡ replicate (length problem.now) false }
+    requires listed { listed.old ≡ replicate (length problem.now) false }
     ensures { IsHallVerdict problem.now persons.now objects.now result }
 {
     if !are_in_range(problem, persons, objects) {
@@ -59,12 +59,14 @@ pub fn check_hall(
     objects: &[Object],
 ) -> Result<HallVerdict, AllocError>
     ensures verdict { IfOk result (λ v. IsHallVerdict problem.now persons.now objects.now v) }
-    ensures yes { IfOk result (λ v. (v ≡ HallVerdict.Yes) ↔ IsHallSet problem.now persons.now objects.now) }
-    ensures none { IfOk result (λ v. v ≡ HallVerdict.Yes → (xs : List ℕ) → IsAssignment problem.now xs → ⊥) }
+    ensures yes { IfOk result (λ v.
+        (v ≡ HallVerdict.Yes) ↔ IsHallSet problem.now persons.now objects.now) }
+    ensures none { IfOk result (λ v.
+        v ≡ HallVerdict.Yes → (xs : List ℕ) → IsAssignment problem.now xs → ⊥) }
 {
     let n = problem.n() as usize;
-    let mut named = vec![in alloc; false; n + 1]?;
-    let mut listed = vec![in alloc; false; n + 1]?;
+    let mut named = vec![in alloc; false; n]?;
+    let mut listed = vec![in alloc; false; n]?;
     Ok(first_hall_fault(
         named.as_mut_slice(),
         listed.as_mut_slice(),

@@ -1,38 +1,27 @@
 // Whether lists of persons and objects are in range and rise.
-ghost use Rattle.std.specs.Prelude.{◌↔◌, length, IsTrue};
+ghost use Rattle.std.specs.Prelude.{◌↔◌, length, map, All, IsTrue};
 ghost use Rattle.std.specs.List.Sorted.{IsStrictlyIncreasing};
-ghost use Rattle.dual_checker.specs.HallVerdicts.{AreInRange, AreNumbers, AreRising};
+ghost use Rattle.assign_core.specs.Numbered.{IsNumber};
+ghost use Rattle.dual_checker.specs.HallVerdicts.{AreInRange, AreRising};
 
-use assign_core::{Object, Person, Problem};
+use assign_core::{Numbered, Object, Person, Problem};
 
-fn are_persons(n: u16, persons: &[Person]) -> bool
-    ensures { IsTrue result ↔ AreNumbers n persons.now }
+// Whether all have numbers from 1 to n.
+fn are_within<T: Numbered>(n: u16, all: &[T]) -> bool
+    ensures { IsTrue result ↔ All (λ x. IsNumber n (T.number_of x)) all.now }
 {
-    persons.iter().all(|person| person.0 > 0 && person.0 <= n)
+    all.iter().all(|one| {
+        let number = one.number();
+        number > 0 && number <= n
+    })
 }
 
-fn are_objects(n: u16, objects: &[Object]) -> bool
-    ensures { IsTrue result ↔ AreNumbers n objects.now }
+// Whether each has a greater number than the one before.
+fn rise<T: Numbered>(all: &[T]) -> bool
+    ensures { IsTrue result ↔ IsStrictlyIncreasing (map T.number_of all.now) }
 {
-    objects.iter().all(|object| object.0 > 0 && object.0 <= n)
-}
-
-fn persons_rise(persons: &[Person]) -> bool
-    ensures { IsTrue result ↔ IsStrictlyIncreasing persons.now }
-{
-    for i in 1..persons.len() {
-        if persons[i - 1] >= persons[i] {
-            return false;
-        }
-    }
-    true
-}
-
-fn objects_rise(objects: &[Object]) -> bool
-    ensures { IsTrue result ↔ IsStrictlyIncreasing objects.now }
-{
-    for i in 1..objects.len() {
-        if objects[i - 1] >= objects[i] {
+    for i in 1..all.len() {
+        if all[i - 1].number() >= all[i].number() {
             return false;
         }
     }
@@ -44,12 +33,12 @@ pub fn are_in_range(problem: &Problem, persons: &[Person], objects: &[Object]) -
     ensures { IsTrue result ↔ AreInRange problem.now persons.now objects.now }
 {
     let n = problem.n();
-    are_persons(n, persons) && are_objects(n, objects)
+    are_within(n, persons) && are_within(n, objects)
 }
 
 // Whether both lists strictly rise.
 pub fn are_rising(persons: &[Person], objects: &[Object]) -> bool
     ensures { IsTrue result ↔ AreRising persons.now objects.now }
 {
-    persons_rise(persons) && objects_rise(objects)
+    rise(persons) && rise(objects)
 }

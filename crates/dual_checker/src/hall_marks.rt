@@ -1,40 +1,40 @@
 // Marks for objects, and the first objects without one.
-ghost use Rattle.std.specs.Prelude.{◌≡◌, ℕ, ◌+◌, ◌<◌, ◌≤◌, length, All, Contains, MatchOption};
+ghost use Rattle.std.specs.Prelude.{◌≡◌, ℕ, length, All, Contains, MatchOption};
 ghost use Rattle.std.specs.List.Sorted.{IsStrictlyIncreasing};
+ghost use Rattle.assign_core.specs.Numbered.{IsNumber};
 ghost use Rattle.assign_core.specs.Rows.{IsListed};
 ghost use Rattle.assign_core.specs.Hall.{IsNeighbour};
 ghost use Rattle.dual_checker.specs.Faults.{IsFirst};
 ghost use Rattle.dual_checker.specs.HallMarks.{AddsMarks, IsMarked};
-ghost use Rattle.dual_checker.specs.HallVerdicts.{AreNumbers, HasNeighbours, Lacks, ListsUnnamed};
+ghost use Rattle.dual_checker.specs.HallVerdicts.{HasNeighbours, Lacks, ListsUnnamed};
 
 use assign_core::{Object, Person, Problem};
 
 // Marks these objects.
 pub fn mark_objects(marks: &mut [bool], objects: &[Object])
-    requires { All (λ j. j < length marks.old) objects.now }
+    requires { All (IsNumber (length marks.old)) objects.now }
     ensures { AddsMarks marks.old (Contains objects.now) marks.new }
 {
     for object in objects {
-        marks[object.0 as usize] = true;
+        marks[object.place()] = true;
     }
 }
 
 // Marks the objects that a person lists.
 fn mark_row(marks: &mut [bool], problem: &Problem, person: Person)
-    requires first { 0 < person }
-    requires last { person ≤ length problem.now }
-    requires long { length marks.old ≡ length problem.now + 1 }
+    requires person { IsNumber (length problem.now) person }
+    requires long { length marks.old ≡ length problem.now }
     ensures { AddsMarks marks.old (IsListed problem.now person) marks.new }
 {
     for (object, _) in problem.row(person) {
-        marks[object.0 as usize] = true;
+        marks[object.place()] = true;
     }
 }
 
 // Marks the objects that these persons list.
 pub fn mark_listed(marks: &mut [bool], problem: &Problem, persons: &[Person])
-    requires persons { AreNumbers (length problem.now) persons.now }
-    requires long { length marks.old ≡ length problem.now + 1 }
+    requires persons { All (IsNumber (length problem.now)) persons.now }
+    requires long { length marks.old ≡ length problem.now }
     ensures { AddsMarks marks.old (IsNeighbour problem.now persons.now) marks.new }
 {
     for person in persons {
@@ -44,14 +44,14 @@ pub fn mark_listed(marks: &mut [bool], problem: &Problem, persons: &[Person])
 
 // The lowest object without a mark that a person lists.
 fn first_unnamed(problem: &Problem, person: Person, named: &[bool]) -> Option<Object>
-    requires first { 0 < person }
-    requires last { person ≤ length problem.now }
-    requires long { length named.now ≡ length problem.now + 1 }
+    requires person { IsNumber (length problem.now) person }
+    requires long { length named.now ≡ length problem.now }
     ensures { MatchOption result ((j : ℕ) → IsListed problem.now person j → IsMarked named.now j)
-        (λ j. IsFirst (ListsUnnamed problem.now (IsMarked named.now) person) (length problem.now) j) }
+        (λ j. IsFirst
+        (ListsUnnamed problem.now (IsMarked named.now) person) (length problem.now) j) }
 {
     for (object, _) in problem.row(person) {
-        if !named[object.0 as usize] {
+        if !named[object.place()] {
             return Some(*object);
         }
     }
@@ -64,9 +64,9 @@ pub fn first_missing(
     persons: &[Person],
     named: &[bool],
 ) -> Option<(Person, Object)>
-    requires persons { AreNumbers (length problem.now) persons.now }
+    requires persons { All (IsNumber (length problem.now)) persons.now }
     requires rise { IsStrictlyIncreasing persons.now }
-    requires long { length named.now ≡ length problem.now + 1 }
+    requires long { length named.now ≡ length problem.now }
     ensures { MatchOption result (HasNeighbours problem.now persons.now (IsMarked named.now))
         (λ p. IsFirst (Lacks problem.now persons.now (IsMarked named.now)) (length problem.now) p.0
         × IsFirst (ListsUnnamed problem.now (IsMarked named.now) p.0) (length problem.now) p.1) }
@@ -81,13 +81,13 @@ pub fn first_missing(
 
 // The lowest of these objects without a mark.
 pub fn first_unmarked(objects: &[Object], marks: &[bool]) -> Option<Object>
-    requires within { All (λ j. (0 < j) × (j < length marks.now)) objects.now }
+    requires within { All (IsNumber (length marks.now)) objects.now }
     requires rise { IsStrictlyIncreasing objects.now }
     ensures { MatchOption result ((j : ℕ) → Contains objects.now j → IsMarked marks.now j)
         (λ j. IsFirst (λ k. Contains objects.now k × ¬ IsMarked marks.now k) (length marks.now) j) }
 {
     for object in objects {
-        if !marks[object.0 as usize] {
+        if !marks[object.place()] {
             return Some(*object);
         }
     }

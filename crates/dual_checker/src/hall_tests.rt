@@ -1,6 +1,6 @@
 // Verdicts on lists of persons and objects, worked by hand.
 use super::*;
-use assign_core::{Object, Person, Problem};
+use assign_core::{MOST_PERSONS, Object, Person, Problem};
 use std::test::Fail;
 
 #[test]
@@ -68,6 +68,22 @@ fn three_persons(rt: HostRuntime) -> Result<(), Fail> {
 fn a_person_that_lists_nothing(rt: HostRuntime) -> Result<(), Fail> {
     let problem = Problem::from_rows(vec![in rt.alloc(); Vec::new(rt.alloc())]?);
     let verdict = check_hall(rt.alloc(), &problem, &[Person(1)], &[])?;
+    assert_eq!(rt; verdict, HallVerdict::Yes);
+    Ok(())
+}
+
+// Each person lists object 1 alone.
+#[test]
+fn as_many_persons_as_there_may_be(rt: HostRuntime) -> Result<(), Fail> {
+    let alloc = rt.alloc();
+    let mut triples = Vec::with_capacity(alloc, MOST_PERSONS as usize)?;
+    let mut persons = Vec::with_capacity(alloc, MOST_PERSONS as usize)?;
+    for i in 0..MOST_PERSONS {
+        triples.push((Person(i + 1), Object(1), 0))?;
+        persons.push(Person(i + 1))?;
+    }
+    let problem = Problem::sparse(alloc, MOST_PERSONS, triples.as_slice())?;
+    let verdict = check_hall(alloc, &problem, persons.as_slice(), &[Object(1)])?;
     assert_eq!(rt; verdict, HallVerdict::Yes);
     Ok(())
 }

@@ -1,7 +1,7 @@
 // Whether each person lists its object.
 ghost use Rattle.std.specs.Prelude.{◌≡◌, length, MatchOption};
 ghost use Rattle.dual_checker.specs.Faults.{IsFirst, IsUnlisted};
-ghost use Rattle.dual_checker.specs.Verdicts.{AreListed};
+ghost use Rattle.assign_core.specs.Assignment.{AreListed};
 
 use assign_core::{Object, Person, Problem};
 
@@ -11,7 +11,8 @@ pub fn first_unlisted(problem: &Problem, objects: &[Object]) -> Option<Person>
     ensures { MatchOption result (AreListed problem.now objects.now)
         (λ i. IsFirst (IsUnlisted problem.now objects.now) (length problem.now) i) }
 {
-    let _n = problem.n();
+    // That as many persons can be numbered follows from this call.
+    let _persons = problem.n();
     for (i, object) in objects.iter().enumerate() {
         let person = Person(i as u16 + 1);
         if problem.cost_of(person, *object).is_none() {

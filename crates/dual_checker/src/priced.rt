@@ -3,7 +3,7 @@ ghost use Rattle.std.specs.Prelude.{◌↔◌, ◌≤◌, length, All, IsTrue, M
 ghost use Rattle.assign_core.specs.Prices.{IsPrice};
 ghost use Rattle.dual_checker.specs.Faults.{IsFirst, IsOutOfRange};
 
-use assign_core::{Object, PRICE_END, Price};
+use assign_core::{MOST_PERSONS, Object, PRICE_END, Price};
 
 // Whether a price is in range.
 fn is_price(price: Price) -> bool
@@ -14,7 +14,7 @@ fn is_price(price: Price) -> bool
 
 // The lowest object whose price is out of range.
 pub fn first_out_of_range(prices: &[Price]) -> Option<Object>
-    requires { length prices.now ≤ 8192 }
+    requires { length prices.now ≤ MOST_PERSONS }
     ensures { MatchOption result (All IsPrice prices.now)
         (λ j. IsFirst (IsOutOfRange prices.now) (length prices.now) j) }
 {

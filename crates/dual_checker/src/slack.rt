@@ -1,23 +1,23 @@
 // Whether each person has slackness 1.
-ghost use Rattle.std.specs.Prelude.{◌≡◌, ℕ, ℤ, pos, ◌+◌, ◌*◌, ◌^◌, ◌<◌, ◌≤◌, ◌≤ℤ◌, ◌-ℤ◌, length, All, MatchOption};
+ghost use Rattle.std.specs.Prelude.{◌≡◌, ℕ, ℤ, pos, ◌+◌, ◌*ℤ◌, ◌≤ℤ◌, ◌-ℤ◌, length, All, MatchOption};
+ghost use Rattle.assign_core.specs.Numbered.{IsNumber};
 ghost use Rattle.assign_core.specs.Rows.{IsCost, IsRow, IsSize, IsListed, listed_or_zero, row_of};
 ghost use Rattle.assign_core.specs.Benefits.{benefit, benefit_row, benefit_rows};
 ghost use Rattle.assign_core.specs.Prices.{IsPrice, price_of};
 ghost use Rattle.assign_core.specs.Slackness.{AllSlack, HasSlack};
 ghost use Rattle.dual_checker.specs.Faults.{BreaksSlack, BreaksSlackOf, IsFirst, IsShort};
-ghost use Rattle.dual_checker.specs.Verdicts.{AreListed};
+ghost use Rattle.assign_core.specs.Assignment.{AreListed};
 
-use assign_core::{Cost, Object, Person, Price, Problem, Sense};
+use assign_core::{Cost, GREATEST_COST, MOST_PERSONS, Object, Person, Price, Problem, Sense};
 
 // An object's price.
 fn price_at(prices: &[Price], object: Object) -> Price
-    requires first { 0 < object }
-    requires last { object ≤ length prices.now }
+    requires object { IsNumber (length prices.now) object }
     requires in_range { All IsPrice prices.now }
     ensures value { result ≡ price_of prices.now object }
     ensures range { IsPrice result }
 {
-    prices[object.0 as usize - 1]
+    prices[object.place()]
 }
 
 // What an object is worth: the benefit of its cost among `n` persons, less its price.
@@ -26,7 +26,7 @@ fn worth(sense: Sense, n: u16, cost: Cost, price: Price) -> Price
     requires cost { IsCost cost }
     requires price { IsPrice price }
     ensures value { result ≡ (benefit sense n cost -ℤ price) }
-    ensures most { result ≤ℤ pos (8193 * 10 ^ 12) }
+    ensures most { result ≤ℤ (pos (MOST_PERSONS + 1) *ℤ GREATEST_COST) }
 {
     i128::from(sense.benefit(n, cost)) - price
 }
@@ -39,17 +39,17 @@ fn own_worth(
     object: Object,
     prices: &[Price],
 ) -> Price
-    requires first { 0 < person }
-    requires last { person ≤ length problem.now }
+    requires person { IsNumber (length problem.now) person }
     requires listed { IsListed problem.now person object }
     requires priced { length prices.now ≡ length problem.now }
     requires in_range { All IsPrice prices.now }
     ensures value { let cost = listed_or_zero (row_of problem.now person) object in
         result ≡ (benefit sense (length problem.now) cost -ℤ price_of prices.now object) }
-    ensures most { result ≤ℤ pos (8193 * 10 ^ 12) }
+    ensures most { result ≤ℤ (pos (MOST_PERSONS + 1) *ℤ GREATEST_COST) }
 {
     let n = problem.n();
-    let _row = problem.row(person);
+    // That each listed cost is in range follows from this call.
+    let _listed = problem.row(person);
     let cost = problem.cost_of(person, object).unwrap_or(0);
     worth(sense, n, cost, price_at(prices, object))
 }
@@ -67,7 +67,7 @@ fn first_broken(
     requires in_range { All IsPrice prices.now }
     requires own { let cost = listed_or_zero row.now own in
         own_worth ≡ (benefit sense (length prices.now) cost -ℤ price_of prices.now own) }
-    requires most { own_worth ≤ℤ pos (8193 * 10 ^ 12) }
+    requires most { own_worth ≤ℤ (pos (MOST_PERSONS + 1) *ℤ GREATEST_COST) }
     ensures { let benefits = benefit_row sense (length prices.now) row.now in
         MatchOption result (HasSlack (pos 1) prices.now benefits own)
         (λ k. IsFirst (BreaksSlack (pos 1) prices.now benefits own) (length prices.now) k) }
@@ -92,11 +92,14 @@ pub fn first_short(
     requires listed { AreListed problem.now objects.now }
     requires priced { length prices.now ≡ length problem.now }
     requires in_range { All IsPrice prices.now }
-    ensures { MatchOption result (AllSlack (pos 1) prices.now (benefit_rows sense problem.now) objects.now)
-        (λ p. IsFirst (IsShort sense problem.now objects.now prices.now) (length problem.now) p.0
-        × IsFirst (BreaksSlackOf sense problem.now objects.now prices.now p.0) (length problem.now) p.1) }
+    ensures { let n = length problem.now in
+        MatchOption result
+        (AllSlack (pos 1) prices.now (benefit_rows sense problem.now) objects.now)
+        (λ p. IsFirst (IsShort sense problem.now objects.now prices.now) n p.0
+        × IsFirst (BreaksSlackOf sense problem.now objects.now prices.now p.0) n p.1) }
 {
-    let _n = problem.n();
+    // That as many persons can be numbered follows from this call.
+    let _persons = problem.n();
     for (i, object) in objects.iter().enumerate() {
         let person = Person(i as u16 + 1);
         let row = problem.row(person);

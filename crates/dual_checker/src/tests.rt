@@ -1,6 +1,6 @@
 // Verdicts on small tables, worked by hand.
 use super::*;
-use assign_core::{Object, PRICE_END, Person, Problem, Sense};
+use assign_core::{MOST_PERSONS, Object, PRICE_END, Person, Price, Problem, Sense};
 use std::test::Fail;
 
 #[test]
@@ -95,6 +95,29 @@ fn one_person_at_the_greatest_price(rt: HostRuntime) -> Result<(), Fail> {
         Sense::Max,
         &[Object(1)],
         &[PRICE_END - 1],
+    )?;
+    assert_eq!(rt; verdict, Verdict::Yes);
+    Ok(())
+}
+
+// Each person lists its own object alone.
+#[test]
+fn as_many_persons_as_there_may_be(rt: HostRuntime) -> Result<(), Fail> {
+    let alloc = rt.alloc();
+    let mut triples = Vec::with_capacity(alloc, MOST_PERSONS as usize)?;
+    let mut objects = Vec::with_capacity(alloc, MOST_PERSONS as usize)?;
+    for i in 0..MOST_PERSONS {
+        triples.push((Person(i + 1), Object(i + 1), 0))?;
+        objects.push(Object(i + 1))?;
+    }
+    let problem = Problem::sparse(alloc, MOST_PERSONS, triples.as_slice())?;
+    let prices: Vec<Price> = vec![in alloc; 0; MOST_PERSONS as usize]?;
+    let verdict = check(
+        alloc,
+        &problem,
+        Sense::Min,
+        objects.as_slice(),
+        prices.as_slice(),
     )?;
     assert_eq!(rt; verdict, Verdict::Yes);
     Ok(())

@@ -1,5 +1,6 @@
 use Rattle.std.proofs.Common.{ℕ, ◌<◌, ◌≤◌, length, sym, subst, All, ◌∙◌}
 use Rattle.std.proofs.lemmas.List.Elements.{All-weaker, All-from_recursion}
+use Rattle.assign_core.specs.Numbered.{IsNumber}
 use Rattle.assign_core.specs.Rows.{IsRow, IsWithin}
 use Rattle.assign_core.proofs.Listed.{objects_within}
 use Rattle.dual_checker.proofs.checker.first_fault.Goals as goal
@@ -9,6 +10,6 @@ first_given_twice-requires-clause-within c =
     let n : ℕ = length c.args.problem.now in
     let xs = c.args.objects.now in
     let within = All-weaker (IsRow n) (IsWithin n) (λ r h. h.within) c.args.problem.now c.n-n.ensures.problem.each in
-    let range = All-from_recursion (λ j. (0 < j) × (j ≤ n)) xs (objects_within n c.args.problem.now xs within c.in_default.ensures) in
-    let P : ℕ → Type 0 = λ m. All (λ j. (0 < j) × (j ≤ m)) xs in
+    let range = All-from_recursion (IsNumber n) xs (objects_within n c.args.problem.now xs within c.in_default.ensures) in
+    let P : ℕ → Type 0 = λ m. All (IsNumber m) xs in
     subst P (sym (c.if-objects-n.false ∙ c.n-n.ensures.count)) range

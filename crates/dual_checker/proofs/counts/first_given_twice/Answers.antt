@@ -5,6 +5,6 @@ use Rattle.dual_checker.proofs.counts.first_given_twice.Goals as goal
 
 pub returns : goal.returns
 returns c =
-    let zeros : length (replicate {A = ℕ} (length c.args.objects.now + 1) 0) ≡ length c.args.objects.now + 1 = simp length-replicate in
-    let long : length c.args.counts.now ≡ length c.args.objects.now + 1 = ap length c.requires.zero ∙ zeros in
-    told c.count_given.new.counts c.args.objects.now c.first_over_one.result c.count_given.ensures (omega arith) c.requires.within c.first_over_one.ensures
+    let zeros : length (replicate {A = ℕ} (length c.args.objects.now) 0) ≡ length c.args.objects.now = simp length-replicate in
+    let long : length c.args.counts.now ≡ length c.args.objects.now = ap length c.requires.zero ∙ zeros in
+    told c.count_given.new.counts c.args.objects.now (length c.args.objects.now) c.first_over_one.result c.count_given.ensures (omega arith) c.requires.within c.first_over_one.ensures

@@ -1,5 +1,6 @@
-use Rattle.std.proofs.Common.{ℕ, ◌<◌, ◌≤◌, slice_index}
+use Rattle.std.proofs.Common.{ℕ, ◌≤◌}
+use Rattle.assign_core.specs.Numbered.{IsNumber, numbered}
 use Rattle.dual_checker.proofs.counts.first_over_one.Given as goal
 
-abbrev pub invariant-loop-j : goal.invariant-loop-j
-invariant-loop-j l = (k : ℕ) → k < l.j → slice_index l.counts k ≤ 1
+abbrev pub invariant-loop-i : goal.invariant-loop-i
+invariant-loop-i l = (k : ℕ) → IsNumber l.i k → numbered l.counts k 0 ≤ 1

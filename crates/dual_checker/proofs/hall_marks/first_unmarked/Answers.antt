@@ -1,20 +1,21 @@
-use Rattle.std.proofs.Common.{length, arith, ◌∙◌, subst, ◌<◌, ◌≤◌}
+use Rattle.std.proofs.Common.{ℕ, false, refl, length, arith, ◌∙◌, subst}
 use Rattle.std.proofs.lemmas.List.{get_or_default}
-use Rattle.std.proofs.lemmas.List.Elements.{All-weaker}
 use Rattle.dual_checker.specs.HallMarks.{IsMarked}
 use Rattle.dual_checker.proofs.HallFirsts.{first_named}
-use Rattle.dual_checker.proofs.Tallies.{read_at}
+use Rattle.dual_checker.proofs.Places.{at_place, number_read}
 use Rattle.dual_checker.proofs.hall_marks.first_unmarked.Goals as goal
 
-pub returns-then-not-marks-object : goal.returns-then-not-marks-object
-returns-then-not-marks-object c =
+pub returns-then-not-marks-place : goal.returns-then-not-marks-place
+returns-then-not-marks-place c =
     let xs = c.args.objects.now in
     let marks = c.args.marks.now in
     let i = c.loop-object.object-index in
-    let unset = c.if-not-marks-object.true in
-    let within = All-weaker (λ x. (0 < x) × (x < length marks)) (λ x. (0 < x) × (x ≤ length marks)) (λ x w. (w.0, omega (arith, w.1))) xs c.requires.within in
-    first_named (λ x. ¬ IsMarked marks x) xs (length marks) i c.object.inside.0 c.requires.rise within c.loop-object-test.true
-    (read_at xs i c.object.inside.0 c.object-item.result c.object.view_is c.object-item.is) (λ k low g. g (c.loop-object.invariant k low)) (λ m. cc)
+    let x : ℕ = c.object-item.result in
+    let within = number_read xs _ _ i x c.requires.within refl c.loop-object-test.true c.object-item.is in
+    let read = at_place marks x c.place.result false within c.place.ensures in
+    let unset = c.if-not-marks-place.true in
+    first_named (λ y. ¬ IsMarked marks y) xs (length marks) i x c.requires.rise c.requires.within c.loop-object-test.true
+    c.object-item.is (λ k low g. g (c.loop-object.invariant k low)) (λ m. cc)
 
 pub returns : goal.returns
 returns c = λ j h.

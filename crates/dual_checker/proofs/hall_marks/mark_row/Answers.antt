@@ -1,7 +1,9 @@
-use Rattle.std.proofs.Common.{pos, get_or, arith, ap, subst, ◌∙◌, IsSome}
+use Rattle.std.proofs.Common.{ℕ, pos, length, sym, get_or, arith, ap, subst, ◌∙◌, IsSome}
 use Rattle.std.proofs.lemmas.List.{get_or_default}
+use Rattle.assign_core.specs.Numbered.{IsNumber}
 use Rattle.assign_core.specs.Rows.{listed_in}
 use Rattle.dual_checker.specs.HallMarks.{AddsMarks}
+use Rattle.dual_checker.proofs.Firsts.{number_within}
 use Rattle.dual_checker.proofs.HallFirsts.{row_places}
 use Rattle.dual_checker.proofs.HallMarking.{adds_item, adds_same}
 use Rattle.dual_checker.proofs.hall_marks.mark_row.Goals as goal
@@ -11,9 +13,11 @@ loop-object-preserved c =
     let row = c.row-object-items.result.now in
     let i = c.loop-object.object-index in
     let lt = c.loop-object-test.true in
-    let at = c.object.view_is ∙ ap (λ e. e.0) (c.loop-object-item.is ∙ get_or_default row i c.loop-object-item.result (0, pos 0) lt) in
-    let within = c.row-object-items.ensures.rule.within i (0, pos 0) lt in
-    adds_item (λ k. (get_or row k (0, pos 0)).0) i c.object.inside.0 c.args.marks.now c.loop-object.marks at (omega (arith, within.1, c.requires.long)) c.loop-object.invariant
+    let x : ℕ = c.loop-object-item.result.0 in
+    let at = ap (λ e. e.0) (c.loop-object-item.is ∙ get_or_default row i c.loop-object-item.result (0, pos 0) lt) in
+    let listed = subst (IsNumber (length c.args.problem.now)) (sym at) (c.row-object-items.ensures.rule.within i (0, pos 0) lt) in
+    let within = number_within _ _ x (omega (arith, c.loop-object.auto.marks, c.requires.long)) listed in
+    adds_item (λ k. (get_or row k (0, pos 0)).0) i x c.place.result c.args.marks.now c.loop-object.marks at within c.place.ensures c.loop-object.invariant
 
 pub returns : goal.returns
 returns c =

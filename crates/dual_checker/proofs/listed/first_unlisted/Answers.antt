@@ -1,20 +1,21 @@
 use Rattle.std.proofs.Common.{[], arith, sym, ap, ◌∙◌, not, IsSome, rules}
 use Rattle.std.proofs.lemmas.List.{get_or_default}
 use Rattle.assign_core.specs.Rows.{listed_in, IsListed}
-use Rattle.dual_checker.specs.Faults.{IsUnlisted, object_of}
+use Rattle.dual_checker.specs.Faults.{IsUnlisted, own_object}
 use Rattle.dual_checker.proofs.Firsts.{first_at, one_more}
-use Rattle.dual_checker.proofs.Pairs.{numbered-next, pairs_from}
+use Rattle.assign_core.proofs.NumberedLemmas.{numbered-next}
+use Rattle.assign_core.proofs.Zips.{pairs_from}
 use Rattle.dual_checker.proofs.listed.first_unlisted.Goals as goal
 
 pub loop-i-init : goal.loop-i-init
-loop-i-init c = λ k some last. absurd (omega arith)
+loop-i-init c = λ k h. absurd (omega arith)
 
 pub returns-then-is_none : goal.returns-then-is_none
 returns-then-is_none c =
     let rows = c.args.problem.now in
     let xs = c.args.objects.now in
     let object = numbered-next xs c.loop-i.i 0 ∙ sym (c.index-objects-i.is ∙ get_or_default xs c.loop-i.i c.index-objects-i.result 0 c.loop-i-test.true) in
-    first_at (IsUnlisted rows xs) _ c.loop-i.i (omega (arith, c.requires, c.loop-i-test.true)) (λ k some last f. f (c.loop-i.invariant k some last))
+    first_at (IsUnlisted rows xs) _ c.loop-i.i (omega (arith, c.requires, c.loop-i-test.true)) (λ k h f. f (c.loop-i.invariant k h))
     (rw object (λ s. let no = ap not c.if-is_none.true in cc))
 
 pub loop-i-preserved : goal.loop-i-preserved
@@ -22,8 +23,8 @@ loop-i-preserved c =
     let rows = c.args.problem.now in
     let xs = c.args.objects.now in
     let object = numbered-next xs c.loop-i.i 0 ∙ sym (c.index-objects-i.is ∙ get_or_default xs c.loop-i.i c.index-objects-i.result 0 c.loop-i-test.true) in
-    one_more (λ k. IsListed rows k (object_of xs k)) c.loop-i.i c.loop-i.invariant (rw object (search rules))
+    one_more (λ k. IsListed rows k (own_object xs k)) c.loop-i.i c.loop-i.invariant (rw object (search rules))
 
 pub returns : goal.returns
 returns c =
-    pairs_from (λ row j. IsSome (listed_in row j)) c.args.problem.now c.args.objects.now [] 0 (sym c.requires) (λ i some last. c.loop-i.invariant i some (omega (arith, c.requires, c.loop-i-test.false)))
+    pairs_from (λ row j. IsSome (listed_in row j)) c.args.problem.now c.args.objects.now [] 0 (sym c.requires) (λ i some last. c.loop-i.invariant i (record { first = some; last = omega (arith, c.requires, c.loop-i-test.false) }))

@@ -4,11 +4,11 @@ use Rattle.std.proofs.lemmas.Int.{to_z-of_z}
 use Rattle.assign_core.specs.Prices.{IsPrice, price_of}
 use Rattle.dual_checker.specs.Faults.{IsOutOfRange}
 use Rattle.dual_checker.proofs.Firsts.{first_at, one_more}
-use Rattle.dual_checker.proofs.Pairs.{numbered-next, All_from_numbers}
+use Rattle.assign_core.proofs.NumberedLemmas.{numbered-next, All-from_numbers}
 use Rattle.dual_checker.proofs.priced.first_out_of_range.Goals as goal
 
 pub loop-i-init : goal.loop-i-init
-loop-i-init c = λ k some last. absurd (omega arith)
+loop-i-init c = λ k h. absurd (omega arith)
 
 pub returns-then-not-is_price : goal.returns-then-not-is_price
 returns-then-not-is_price c =
@@ -18,7 +18,7 @@ returns-then-not-is_price c =
     let fits : SFits w128 (get_or prices c.loop-i.i (pos 0)) = search rules in
     let says = simp to_z-of_z at c.is_price.ensures in
     let out : ¬ IsPrice (get_or prices c.loop-i.i (pos 0)) = λ h. let yes = says.1 h in let no = c.if-not-is_price.true in cc in
-    first_at (IsOutOfRange prices) _ c.loop-i.i l (λ k some last f. f (c.loop-i.invariant k some last)) (rw price out)
+    first_at (IsOutOfRange prices) _ c.loop-i.i l (λ k h f. f (c.loop-i.invariant k h)) (rw price out)
 
 pub loop-i-preserved : goal.loop-i-preserved
 loop-i-preserved c =
@@ -31,4 +31,4 @@ loop-i-preserved c =
     one_more (λ k. IsPrice (price_of prices k)) c.loop-i.i c.loop-i.invariant (rw price here)
 
 pub returns : goal.returns
-returns c = All_from_numbers IsPrice c.args.prices.now (pos 0) (λ i some last. c.loop-i.invariant i some (omega (arith, c.loop-i-test.false)))
+returns c = All-from_numbers IsPrice c.args.prices.now (pos 0) (λ i some last. c.loop-i.invariant i (record { first = some; last = omega (arith, c.loop-i-test.false) }))

@@ -1,6 +1,7 @@
-use Rattle.std.proofs.Common.{ℕ, ◌<◌, ◌≤◌}
+use Rattle.std.proofs.Common.{ℕ}
+use Rattle.assign_core.specs.Numbered.{IsNumber}
 use Rattle.assign_core.specs.Prices.{IsPrice, price_of}
 use Rattle.dual_checker.proofs.priced.first_out_of_range.Given as goal
 
 abbrev pub invariant-loop-i : goal.invariant-loop-i
-invariant-loop-i l = (k : ℕ) → 0 < k → k ≤ l.i → IsPrice (price_of l.prices k)
+invariant-loop-i l = (k : ℕ) → IsNumber l.i k → IsPrice (price_of l.prices k)

@@ -3,14 +3,16 @@ use Rattle.std.proofs.lemmas.List.{get_or_default}
 use Rattle.assign_core.specs.Rows.{listed_in, row_of}
 use Rattle.assign_core.specs.Benefits.{benefit_rows}
 use Rattle.assign_core.specs.Slackness.{HasSlack}
-use Rattle.dual_checker.specs.Faults.{BreaksSlack, IsFirst, IsShort, object_of}
+use Rattle.dual_checker.specs.Faults.{BreaksSlack, IsFirst, IsShort, own_object}
 use Rattle.dual_checker.proofs.Firsts.{first_at, one_more}
-use Rattle.dual_checker.proofs.Pairs.{numbered-next, pair_number, pairs_from}
-use Rattle.dual_checker.proofs.Worths.{by_number, slack_unbroken, length-benefit_rows}
+use Rattle.assign_core.proofs.NumberedLemmas.{numbered-next}
+use Rattle.assign_core.proofs.Zips.{pair_number, pairs_from}
+use Rattle.assign_core.proofs.BenefitRows.{length-benefit_rows}
+use Rattle.dual_checker.proofs.Worths.{by_number, slack_unbroken}
 use Rattle.dual_checker.proofs.slack.first_short.Goals as goal
 
 pub loop-i-init : goal.loop-i-init
-loop-i-init c = λ k some last. absurd (omega arith)
+loop-i-init c = λ k h. absurd (omega arith)
 
 pub own_worth-own_worth-requires-clause-listed : goal.own_worth-own_worth-requires-clause-listed
 own_worth-own_worth-requires-clause-listed c =
@@ -28,7 +30,7 @@ returns-in-Some c =
     let read = by_number (λ r j. IsFirst (BreaksSlack (pos 1) prices r j) (length prices) other) c.args.sense rows xs c.row-row.result.now (length prices) (c.loop-i.i + 1) c.index-objects-i.result c.requires.priced c.row-row.ensures.row object c.in-Some.ensures in
     let broken = rw c.requires.priced at read in (
       first_at (IsShort c.args.sense rows xs prices) _ c.loop-i.i (omega (arith, c.requires.long, c.loop-i-test.true))
-          (λ k some last s. slack_unbroken (pos 1) prices (row_of (benefit_rows c.args.sense rows) k) (object_of xs k) s.0 (c.loop-i.invariant k some last) s.1) (other, broken.here),
+          (λ k h s. slack_unbroken (pos 1) prices (row_of (benefit_rows c.args.sense rows) k) (own_object xs k) s.0 (c.loop-i.invariant k h) s.1) (other, broken.here),
       broken,
     )
 
@@ -39,10 +41,10 @@ loop-i-preserved c =
     let prices = c.args.prices.now in
     let object = c.index-objects-i.is ∙ get_or_default xs c.loop-i.i c.index-objects-i.result 0 c.loop-i-test.true ∙ sym (numbered-next xs c.loop-i.i 0) in
     let here = by_number (λ r j. HasSlack (pos 1) prices r j) c.args.sense rows xs c.row-row.result.now (length prices) (c.loop-i.i + 1) c.index-objects-i.result c.requires.priced c.row-row.ensures.row object c.in_default.ensures in
-    one_more (λ k. HasSlack (pos 1) prices (row_of (benefit_rows c.args.sense rows) k) (object_of xs k)) c.loop-i.i c.loop-i.invariant here
+    one_more (λ k. HasSlack (pos 1) prices (row_of (benefit_rows c.args.sense rows) k) (own_object xs k)) c.loop-i.i c.loop-i.invariant here
 
 pub returns : goal.returns
 returns c =
     let e = length-benefit_rows c.args.sense c.args.problem.now in
     pairs_from (HasSlack (pos 1) c.args.prices.now) (benefit_rows c.args.sense c.args.problem.now) c.args.objects.now [] 0 (omega (arith, c.requires.long))
-    (λ i some last. c.loop-i.invariant i some (omega (arith, c.requires.long, c.loop-i-test.false)))
+    (λ i some last. c.loop-i.invariant i (record { first = some; last = omega (arith, c.requires.long, c.loop-i-test.false) }))

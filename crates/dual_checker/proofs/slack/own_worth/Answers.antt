@@ -5,15 +5,12 @@ use Rattle.assign_core.proofs.Listed.{object_within}
 use Rattle.assign_core.proofs.RowLemmas.{IsCost-listed}
 use Rattle.dual_checker.proofs.slack.own_worth.Goals as goal
 
-pub price_at-requires-clause-first : goal.price_at-requires-clause-first
-price_at-requires-clause-first c = (object_within (length c.args.problem.now) _ c.args.object (rw (sym c.row-row.ensures.row) c.row-row.ensures.rule.within) c.requires.listed).0
-
-pub price_at-requires-clause-last : goal.price_at-requires-clause-last
-price_at-requires-clause-last c =
-    rw c.requires.priced ((object_within (length c.args.problem.now) _ c.args.object (rw (sym c.row-row.ensures.row) c.row-row.ensures.rule.within) c.requires.listed).1)
+pub price_at-requires-clause-object : goal.price_at-requires-clause-object
+price_at-requires-clause-object c =
+    rw c.requires.priced (object_within (length c.args.problem.now) _ c.args.object (rw (sym c.row-listed.ensures.row) c.row-listed.ensures.rule.within) c.requires.listed)
 
 pub worth-requires-clause-cost : goal.worth-requires-clause-cost
 worth-requires-clause-cost c =
     let f : SFits w64 c.unwrap_or-cost.result = search rules in
     simp to_z-of_z (subst IsCost (sym (c.unwrap_or-cost.ensures ∙ ap (λ o. unwrap_or o (pos 0)) c.cost_of.ensures))
-    (IsCost-listed _ c.args.object (rw (sym c.row-row.ensures.row) c.row-row.ensures.rule.costs)))
+    (IsCost-listed _ c.args.object (rw (sym c.row-listed.ensures.row) c.row-listed.ensures.rule.costs)))
