@@ -2,3 +2,4 @@ pub mod Scans
 pub mod Once
 pub mod Sound
 pub mod Entries
+pub mod Accepted

@@ -1,5 +1,5 @@
 -- Rows read from the left, one object more at a time.
-use Rattle.std.proofs.Common.{◌≡◌, ◌≢◌, ℕ, ℤ, pos, suc, ◌+ℤ◌, ◌≤ℤ◌, ◌<ℤ◌, ◌+◌, ◌<◌, ◌≤◌, List, [], ◌∷◌, ◌++◌, length, take, get_or, refl, ap, arith, sym, ◌∙◌, subst, inl, inr, Option, None, Some, IsSome, unwrap_or, eq-eqb, length-take-le, get_or-take, neg_ℤ, ◌-ℤ◌}
+use Rattle.std.proofs.Common.{◌≡◌, ◌≢◌, ℕ, ℤ, pos, suc, ◌+ℤ◌, ◌≤ℤ◌, ◌<ℤ◌, ◌+◌, ◌<◌, ◌≤◌, List, [], ◌∷◌, ◌++◌, length, take, get_or, refl, ap, arith, sym, ◌∙◌, subst, inl, inr, Option, None, Some, length-take-le, get_or-take, neg_ℤ, ◌-ℤ◌}
 use Rattle.std.specs.List.{All}
 use Rattle.std.specs.Int.{int_max}
 use Rattle.std.proofs.lemmas.Int.{ints, clamps, by_lt_z}
@@ -7,20 +7,16 @@ use Rattle.std.proofs.lemmas.List.Elements.{All-cons, All-nil, All-push}
 use Rattle.std.proofs.lemmas.List.{get_or_default, take_more}
 use Rattle.std.proofs.lemmas.Bool.{ne_eqb}
 use Rattle.std.proofs.lemmas.Bool.Decides.{eqb_tells}
-use Rattle.assign_core.specs.Rows.{Row, listed_in, IsRising}
+use Rattle.assign_core.specs.Rows.{Listing, listed_in, IsRising}
 use Rattle.assign_core.specs.Dense.{row_from}
 use Rattle.assign_core.specs.Prices.{price_of}
-use Rattle.assign_core.proofs.DenseRows.{length-row_from, row_from-index}
-use Rattle.assign_core.proofs.Listed.{listed_here, listed_later, all_listed}
+use Rattle.assign_core.proofs.DenseRows.{length-row_from, row_from-index, row_from-push}
+use Rattle.assign_core.proofs.Listed.{listed_first, listed_later, entry_found}
 use Rattle.bidder.specs.declared.scan.BestTwo.{BestTwo}
 use Rattle.bidder.specs.BestTwo.{IsValue, IsSecond, IsBestTwo, IsLimit, greater_of}
 
--- what a row gives for its first object
-pub listed_first : (e : ℕ × ℤ) (row : Row) → listed_in (e ∷ row) e.0 ≡ Some e.1
-listed_first e row = listed_here e row e.0 (eq-eqb e.0 e.0 refl)
-
 -- an object that a row lists stays listed as the row grows
-pub listed_more : (row more : Row) (j : ℕ) (a : ℤ) → listed_in row j ≡ Some a → listed_in (row ++ more) j ≡ Some a
+pub listed_more : (row more : Listing) (j : ℕ) (a : ℤ) → listed_in row j ≡ Some a → listed_in (row ++ more) j ≡ Some a
 listed_more [] more j a h = absurd cc
 listed_more (e ∷ row) more j a h = elim (eqb_tells e.0 j) [
   | inl t ↦ subst (λ i. listed_in ((e ∷ row) ++ more) i ≡ Some a) t.1 (listed_first e (row ++ more) ∙ sym (listed_first e row) ∙ ap (listed_in (e ∷ row)) t.1 ∙ h)
@@ -28,15 +24,11 @@ listed_more (e ∷ row) more j a h = elim (eqb_tells e.0 j) [
 ]
 
 -- an object that follows a row in which it isn't listed
-pub listed_last : (row : Row) (j : ℕ) (a : ℤ) → All (λ e. e.0 < j) row → listed_in (row ++ (j, a) ∷ []) j ≡ Some a
+pub listed_last : (row : Listing) (j : ℕ) (a : ℤ) → All (λ e. e.0 < j) row → listed_in (row ++ (j, a) ∷ []) j ≡ Some a
 listed_last [] j a up = listed_first (j, a) []
 listed_last (e ∷ row) j a up =
     let first = up 0 e (omega arith) in
     listed_later e (row ++ (j, a) ∷ []) j (ne_eqb e.0 j (λ same. absurd (omega arith))) ∙ listed_last row j a (λ k d lt. up (suc k) d (omega arith))
-
--- what holds of each entry holds of an object that is listed, with what it is listed with
-pub all_found : (P : ℕ × ℤ → Type 0) (row : Row) (j : ℕ) (a : ℤ) → All P row → listed_in row j ≡ Some a → P (j, a)
-all_found P row j a h s = subst (λ o. P (j, unwrap_or o (pos 0))) s (all_listed P row j h (subst IsSome (sym s) refl))
 
 -- one object alone
 pub alone : (j : ℕ) (v : ℤ) (q : List ℤ) (a : ℤ) → v +ℤ price_of q j ≡ a → IsBestTwo ((j, a) ∷ []) q record { object = j; best = v; second = None }
@@ -48,9 +40,9 @@ alone j v q a worth = record {
 }
 
 -- the object that follows is worth more than all before it
-pub new_best : (row : Row) (q : List ℤ) (b : BestTwo) (j : ℕ) (v a : ℤ) → IsBestTwo row q b → All (λ e. e.0 < j) row → v +ℤ price_of q j ≡ a → b.best <ℤ v → IsBestTwo (row ++ (j, a) ∷ []) q record { object = j; best = v; second = Some b.best }
+pub new_best : (row : Listing) (q : List ℤ) (b : BestTwo) (j : ℕ) (v a : ℤ) → IsBestTwo row q b → All (λ e. e.0 < j) row → v +ℤ price_of q j ≡ a → b.best <ℤ v → IsBestTwo (row ++ (j, a) ∷ []) q record { object = j; best = v; second = Some b.best }
 new_best row q b j v a is up worth more =
-    let below = all_found (λ e. e.0 < j) row b.object _ up is.listed in
+    let below = entry_found (λ e. e.0 < j) row b.object _ up is.listed in
     let other : b.object ≢ j = λ same. absurd (omega arith) in
     record {
       listed = listed_last row j a up ∙ ap Some (sym worth);
@@ -60,7 +52,7 @@ new_best row q b j v a is up worth more =
     }
 
 -- the second value with one object more, which is worth v and isn't the best
-second_more : (row : Row) (q : List ℤ) (best : ℕ) (s : Option ℤ) (j : ℕ) (v a : ℤ) → IsSecond row q best s → j ≢ best → All (λ e. e.0 < j) row → v +ℤ price_of q j ≡ a → IsSecond (row ++ (j, a) ∷ []) q best (Some (greater_of v s))
+second_more : (row : Listing) (q : List ℤ) (best : ℕ) (s : Option ℤ) (j : ℕ) (v a : ℤ) → IsSecond row q best s → j ≢ best → All (λ e. e.0 < j) row → v +ℤ price_of q j ≡ a → IsSecond (row ++ (j, a) ∷ []) q best (Some (greater_of v s))
 second_more row q best None j v a is other up worth = (All-push (λ e. e.0 ≢ best → e.1 ≤ℤ (v +ℤ price_of q e.0)) row (j, a) (λ k d lt ne. absurd (ne (is k d lt))) (λ _. omega (arith, ints)), j, other, listed_last row j a up ∙ ap Some (sym worth))
 second_more row q best (Some w) j v a is other up worth =
     let reached : (k : ℕ) × (k ≢ best) × IsValue (row ++ (j, a) ∷ []) q k (int_max v w) =
@@ -75,9 +67,9 @@ second_more row q best (Some w) j v a is other up worth =
       kept v w le = omega (arith, ints, clamps)
 
 -- it is worth less than the best, or as much
-pub new_second : (row : Row) (q : List ℤ) (b : BestTwo) (j : ℕ) (v a : ℤ) → IsBestTwo row q b → All (λ e. e.0 < j) row → v +ℤ price_of q j ≡ a → v ≤ℤ b.best → IsBestTwo (row ++ (j, a) ∷ []) q record { object = b.object; best = b.best; second = Some (greater_of v b.second) }
+pub new_second : (row : Listing) (q : List ℤ) (b : BestTwo) (j : ℕ) (v a : ℤ) → IsBestTwo row q b → All (λ e. e.0 < j) row → v +ℤ price_of q j ≡ a → v ≤ℤ b.best → IsBestTwo (row ++ (j, a) ∷ []) q record { object = b.object; best = b.best; second = Some (greater_of v b.second) }
 new_second row q b j v a is up worth no_more =
-    let below = all_found (λ e. e.0 < j) row b.object _ up is.listed in
+    let below = entry_found (λ e. e.0 < j) row b.object _ up is.listed in
     record {
       listed = listed_more row _ b.object _ is.listed;
       greatest = All-push (λ e. e.1 ≤ℤ (b.best +ℤ price_of q e.0)) row (j, a) is.greatest (omega (arith, ints));
@@ -86,11 +78,11 @@ new_second row q b j v a is up worth no_more =
     }
 
 -- it is worth the second value at most
-pub no_better : (row : Row) (q : List ℤ) (b : BestTwo) (w : ℤ) (j : ℕ) (v a : ℤ) → IsBestTwo row q b → b.second ≡ Some w → All (λ e. e.0 < j) row → v +ℤ price_of q j ≡ a → v ≤ℤ w → IsBestTwo (row ++ (j, a) ∷ []) q b
+pub no_better : (row : Listing) (q : List ℤ) (b : BestTwo) (w : ℤ) (j : ℕ) (v a : ℤ) → IsBestTwo row q b → b.second ≡ Some w → All (λ e. e.0 < j) row → v +ℤ price_of q j ≡ a → v ≤ℤ w → IsBestTwo (row ++ (j, a) ∷ []) q b
 no_better row q b w j v a is second up worth no_more =
     let next = subst (IsSecond row q b.object) second is.others in
-    let under = all_found (λ e. e.1 ≤ℤ (b.best +ℤ price_of q e.0)) row next.1 _ is.greatest next.3 in
-    let below = all_found (λ e. e.0 < j) row b.object _ up is.listed in
+    let under = entry_found (λ e. e.1 ≤ℤ (b.best +ℤ price_of q e.0)) row next.1 _ is.greatest next.3 in
+    let below = entry_found (λ e. e.0 < j) row b.object _ up is.listed in
     record {
       listed = listed_more row _ b.object _ is.listed;
       greatest = All-push (λ e. e.1 ≤ℤ (b.best +ℤ price_of q e.0)) row (j, a) is.greatest (omega (arith, ints));
@@ -99,13 +91,13 @@ no_better row q b w j v a is second up worth no_more =
     }
 
 -- a value up to the limit changes nothing
-pub within_limit : (row : Row) (q : List ℤ) (b : BestTwo) (limit : ℤ) (j : ℕ) (a p : ℤ) → IsLimit b.second limit → neg_ℤ (pos 9223372036854775808) <ℤ (a -ℤ p) → (a -ℤ p) ≤ℤ limit → IsBestTwo row q b → All (λ e. e.0 < j) row → price_of q j ≡ p → IsBestTwo (row ++ (j, a) ∷ []) q b
+pub within_limit : (row : Listing) (q : List ℤ) (b : BestTwo) (limit : ℤ) (j : ℕ) (a p : ℤ) → IsLimit b.second limit → neg_ℤ (pos 9223372036854775808) <ℤ (a -ℤ p) → (a -ℤ p) ≤ℤ limit → IsBestTwo row q b → All (λ e. e.0 < j) row → price_of q j ≡ p → IsBestTwo (row ++ (j, a) ∷ []) q b
 within_limit row q b limit j a p bound above le is up price =
     let w = bound (a -ℤ p) above le in
     no_better row q b w.0 j (a -ℤ p) a is w.1 up (omega (arith, ints)) w.2
 
 -- the entries before entry i are of lower objects
-pub taken_below : (row : Row) (i : ℕ) (d : ℕ × ℤ) → IsRising row → i < length row → All (λ e. e.0 < (get_or row i d).0) (take i row)
+pub taken_below : (row : Listing) (i : ℕ) (d : ℕ × ℤ) → IsRising row → i < length row → All (λ e. e.0 < (get_or row i d).0) (take i row)
 taken_below row i d up lt = λ k f below.
     let long = length-take-le i row (omega arith) in
     let before : k < i = omega arith in
@@ -114,14 +106,10 @@ taken_below row i d up lt = λ k f below.
     rw same (up k i d before lt)
 
 -- one entry more is read, its object and its benefit each for itself
-pub read_on : (row : Row) (q : List ℤ) (b : BestTwo) (i : ℕ) (d e : ℕ × ℤ) → i < length row → IsBestTwo (take i row ++ ((get_or row i d).0, (get_or row i e).1) ∷ []) q b → IsBestTwo (take (i + 1) row) q b
+pub read_on : (row : Listing) (q : List ℤ) (b : BestTwo) (i : ℕ) (d e : ℕ × ℤ) → i < length row → IsBestTwo (take i row ++ ((get_or row i d).0, (get_or row i e).1) ∷ []) q b → IsBestTwo (take (i + 1) row) q b
 read_on row q b i d e lt is =
     let same = get_or_default row i e d lt in
     rw (take_more row i d lt) (subst (λ x. IsBestTwo (take i row ++ ((get_or row i d).0, x.1) ∷ []) q b) same is)
-
-row_from-push : (j : ℕ) (benefits : List ℤ) (a : ℤ) → row_from j (benefits ++ a ∷ []) ≡ row_from j benefits ++ (j + length benefits, a) ∷ []
-row_from-push j [] a = ap (λ k. (k, a) ∷ []) (omega arith)
-row_from-push j (b ∷ benefits) a = ap (λ row. (j, b) ∷ row) (row_from-push (j + 1) benefits a ∙ ap (λ k. row_from (j + 1) benefits ++ (k, a) ∷ []) (omega arith))
 
 -- the first i objects of a full row are below object i + 1
 pub full_below : (benefits : List ℤ) (i : ℕ) → i ≤ length benefits → All (λ e. e.0 < i + 1) (row_from 1 (take i benefits))

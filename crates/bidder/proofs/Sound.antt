@@ -5,8 +5,9 @@ use Rattle.std.specs.Int.Signed.{lt_z}
 use Rattle.std.proofs.lemmas.Int.{ints, clamps, by_lt_z}
 use Rattle.std.proofs.lemmas.List.Elements.{All-nil}
 use lib.IntN.{suc_ℤ-*ℤ}
-use Rattle.assign_core.specs.Rows.{Row, IsRising, listed_in, listed_or_zero}
+use Rattle.assign_core.specs.Rows.{Listing, IsRising, listed_in, listed_or_zero}
 use Rattle.assign_core.specs.Prices.{price_of, IsBelow}
+use Rattle.assign_core.proofs.Listed.{entry_found}
 use Rattle.scaled_values.specs.Scaled.{ScaledProblem, greatest_benefit, least_benefit, spread, floor_of, top_of}
 use Rattle.scaled_values.proofs.RowFacts.{benefits_between}
 use Rattle.bidder.specs.declared.scan.BestTwo.{BestTwo}
@@ -17,22 +18,21 @@ use Rattle.bidder.specs.declared.offers.Offer.{Offer}
 use Rattle.bidder.specs.declared.offers.Offer.TheVariants as made
 use Rattle.bidder.specs.BestTwo.{IsSecond, IsBestTwo, best_two}
 use Rattle.bidder.specs.Offers.{benefits_at, IsUnder, bar, IsBid, IsOffer, offer_from, offer_of, IsSound}
-use Rattle.bidder.proofs.Scans.{all_found}
 use Rattle.bidder.proofs.Once.{best_two_once, best_two_is}
 
 -- no listed benefit is above the greatest
 pub greatest_listed : (s : ScaledProblem) (i j : ℕ) (a : ℤ) → listed_in (benefits_at s i) j ≡ Some a → a ≤ℤ greatest_benefit s
-greatest_listed s i j a h = (all_found (λ e. (least_benefit s ≤ℤ e.1) × (e.1 ≤ℤ greatest_benefit s)) (benefits_at s i) j a (benefits_between s i) h).1
+greatest_listed s i j a h = (entry_found (λ e. (least_benefit s ≤ℤ e.1) × (e.1 ≤ℤ greatest_benefit s)) (benefits_at s i) j a (benefits_between s i) h).1
 
 -- the best object is listed with its value and its price
-worth : (row : Row) (q : List ℤ) (b : BestTwo) (j : ℕ) → j ≡ b.object → IsBestTwo row q b → listed_in row j ≡ Some (b.best +ℤ price_of q b.object)
+worth : (row : Listing) (q : List ℤ) (b : BestTwo) (j : ℕ) → j ≡ b.object → IsBestTwo row q b → listed_in row j ≡ Some (b.best +ℤ price_of q b.object)
 worth row q b j same is = ap (listed_in row) same ∙ is.listed
 
-amount : (row : Row) (q : List ℤ) (b : BestTwo) (j : ℕ) → j ≡ b.object → IsBestTwo row q b → listed_or_zero row j ≡ b.best +ℤ price_of q b.object
+amount : (row : Listing) (q : List ℤ) (b : BestTwo) (j : ℕ) → j ≡ b.object → IsBestTwo row q b → listed_or_zero row j ≡ b.best +ℤ price_of q b.object
 amount row q b j same is = ap (λ o. unwrap_or o (pos 0)) (worth row q b j same is)
 
 -- the other objects are worth the bar at most
-under_bar : (row : Row) (q : List ℤ) (floor : ℤ) (j : ℕ) (s : Option ℤ) → IsSecond row q j s → All (λ e. e.0 ≢ j → e.1 ≤ℤ (bar floor s +ℤ price_of q e.0)) row
+under_bar : (row : Listing) (q : List ℤ) (floor : ℤ) (j : ℕ) (s : Option ℤ) → IsSecond row q j s → All (λ e. e.0 ≢ j → e.1 ≤ℤ (bar floor s +ℤ price_of q e.0)) row
 under_bar row q floor j None is = λ k d lt ne. absurd (ne (is k d lt))
 under_bar row q floor j (Some w) is = λ k d lt ne. let h = is.0 k d lt ne in omega (arith, ints, clamps)
 
@@ -41,10 +41,10 @@ floor_under floor None = omega (arith, ints)
 floor_under floor (Some w) = omega (arith, ints, clamps)
 
 -- the second value is the best at most
-pub second_under : (row : Row) (q : List ℤ) (b : BestTwo) (w : ℤ) → IsBestTwo row q b → b.second ≡ Some w → w ≤ℤ b.best
+pub second_under : (row : Listing) (q : List ℤ) (b : BestTwo) (w : ℤ) → IsBestTwo row q b → b.second ≡ Some w → w ≤ℤ b.best
 second_under row q b w is second =
     let next = subst (IsSecond row q b.object) second is.others in
-    let le = all_found (λ e. e.1 ≤ℤ (b.best +ℤ price_of q e.0)) row next.1 _ is.greatest next.3 in
+    let le = entry_found (λ e. e.1 ≤ℤ (b.best +ℤ price_of q e.0)) row next.1 _ is.greatest next.3 in
     omega (arith, ints)
 
 -- and so is the bar, where the best is worth the floor
@@ -101,7 +101,7 @@ sound_topped s start ask q bid some floor sound =
 -- a bid and Below exclude each other
 exclusive : (s : ScaledProblem) (q : List ℤ) (ask : Ask) (bid : Bid) → IsBid s q ask bid → IsUnder (benefits_at s bid.person) q ask.floor → ⊥
 exclusive s q ask bid is under =
-    let lt = all_found (λ e. e.1 <ℤ (ask.floor +ℤ price_of q e.0)) (benefits_at s bid.person) is.two.object _ under is.best.listed in
+    let lt = entry_found (λ e. e.1 <ℤ (ask.floor +ℤ price_of q e.0)) (benefits_at s bid.person) is.two.object _ under is.best.listed in
     let le = is.enough in
     absurd (omega (arith, ints))
 
@@ -137,7 +137,7 @@ offer_once s q version ask i (made.Bid a) (made.Below b) x y = absurd (exclusive
 offer_once s q version ask i (made.Below a) (made.Bid b) x y = absurd (exclusive s q ask b y.3 (subst (λ k. IsUnder (benefits_at s k) q ask.floor) (sym y.0) x.2))
 offer_once s q version ask i (made.Below a) (made.Below b) x y = ap made.Below (same_below a b (x.0 ∙ sym y.0) (x.1 ∙ sym y.1))
 
-under_all : (row : Row) (q : List ℤ) (floor : ℤ) (b : BestTwo) → IsBestTwo row q b → b.best <ℤ floor → IsUnder row q floor
+under_all : (row : Listing) (q : List ℤ) (floor : ℤ) (b : BestTwo) → IsBestTwo row q b → b.best <ℤ floor → IsUnder row q floor
 under_all row q floor b is lt = λ k d in_row. let le = is.greatest k d in_row in omega (arith, ints)
 
 -- the bid at the level that leaves the bar less eps

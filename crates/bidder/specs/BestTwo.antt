@@ -2,21 +2,23 @@
 use Rattle.std.specs.Prelude.{◌≡◌, ◌≢◌, ℕ, ℤ, ◌+ℤ◌, ◌-ℤ◌, pos, neg_ℤ, ◌≤ℤ◌, ◌<ℤ◌, ◌≤◌, ◌^◌, List, [], ◌∷◌, Option, None, Some, All, cond}
 use Rattle.std.specs.Int.{int_max}
 use Rattle.std.specs.Int.Signed.{lt_z}
-use Rattle.assign_core.specs.Rows.{Row, listed_in}
+use Rattle.assign_core.specs.Rows.{Listing, listed_in}
 use Rattle.assign_core.specs.Prices.{price_of}
 use Rattle.bidder.specs.declared.scan.BestTwo.{BestTwo}
 
 -- object j is listed and worth v, its benefit less its price
-abbrev pub IsValue : Row → List ℤ → ℕ → ℤ → Type 0
+abbrev pub IsValue : Listing → List ℤ → ℕ → ℤ → Type 0
 IsValue row prices j v = listed_in row j ≡ Some (v +ℤ price_of prices j)
 
 -- the greatest value among the listed objects other than j, and none where there are no others
-abbrev pub IsSecond : Row → List ℤ → ℕ → Option ℤ → Type 0
+abbrev pub IsSecond : Listing → List ℤ → ℕ → Option ℤ → Type 0
 IsSecond row prices j None = All (λ e. e.0 ≡ j) row
-IsSecond row prices j (Some w) = All (λ e. e.0 ≢ j → e.1 ≤ℤ (w +ℤ price_of prices e.0)) row × (k : ℕ) × (k ≢ j) × IsValue row prices k w
+IsSecond row prices j (Some w) =
+    All (λ e. e.0 ≢ j → e.1 ≤ℤ (w +ℤ price_of prices e.0)) row
+    × (k : ℕ) × (k ≢ j) × IsValue row prices k w
 
 -- an object of the greatest value, the lowest number of those that have it, and the second value
-pub record IsBestTwo (row : Row) (prices : List ℤ) (b : BestTwo) : Type 0 where
+pub record IsBestTwo (row : Listing) (prices : List ℤ) (b : BestTwo) : Type 0 where
   pub listed : IsValue row prices b.object b.best
   pub greatest : All (λ e. e.1 ≤ℤ (b.best +ℤ price_of prices e.0)) row
   pub lowest : All (λ e. e.1 ≡ (b.best +ℤ price_of prices e.0) → b.object ≤ e.0) row
@@ -24,7 +26,8 @@ pub record IsBestTwo (row : Row) (prices : List ℤ) (b : BestTwo) : Type 0 wher
 
 -- a value above the least of 64 bits that isn't above the limit isn't above the second value either
 abbrev pub IsLimit : Option ℤ → ℤ → Type 0
-IsLimit second limit = (v : ℤ) → neg_ℤ (pos (2 ^ 63)) <ℤ v → v ≤ℤ limit → (w : ℤ) × (second ≡ Some w) × (v ≤ℤ w)
+IsLimit second limit =
+    (v : ℤ) → neg_ℤ (pos (2 ^ 63)) <ℤ v → v ≤ℤ limit → (w : ℤ) × (second ≡ Some w) × (v ≤ℤ w)
 
 -- the greater of v and a value that may be absent
 abbrev pub greater_of : ℤ → Option ℤ → ℤ
@@ -34,9 +37,11 @@ greater_of v (Some w) = int_max v w
 -- the best two of one object, worth v, and those above it
 abbrev pub joined : ℕ → ℤ → Option BestTwo → BestTwo
 joined j v None = record { object = j; best = v; second = None }
-joined j v (Some b) = cond (lt_z v b.best) record { object = b.object; best = b.best; second = Some (greater_of v b.second) } record { object = j; best = v; second = Some b.best }
+joined j v (Some b) = cond (lt_z v b.best)
+    record { object = b.object; best = b.best; second = Some (greater_of v b.second) }
+    record { object = j; best = v; second = Some b.best }
 
 -- the best two of a row that rises by object, and none of an empty one
-abbrev pub best_two : Row → List ℤ → Option BestTwo
+abbrev pub best_two : Listing → List ℤ → Option BestTwo
 best_two [] prices = None
 best_two (e ∷ row) prices = Some (joined e.0 (e.1 -ℤ price_of prices e.0) (best_two row prices))

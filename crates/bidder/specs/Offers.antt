@@ -2,7 +2,7 @@
 use Rattle.std.specs.Prelude.{◌≡◌, ◌≢◌, ℕ, ℤ, ◌+ℤ◌, ◌-ℤ◌, ◌≤ℤ◌, ◌<ℤ◌, List, Option, None, Some, All, cond}
 use Rattle.std.specs.Int.{int_max}
 use Rattle.std.specs.Int.Signed.{lt_z}
-use Rattle.assign_core.specs.Rows.{Row, IsListed, listed_or_zero, row_of}
+use Rattle.assign_core.specs.Rows.{Listing, IsListed, listed_or_zero, row_of}
 use Rattle.assign_core.specs.Prices.{IsPrice, price_of}
 use Rattle.scaled_values.specs.Scaled.{ScaledProblem, benefits_of, greatest_benefit, IsEps, floor_of}
 use Rattle.bidder.specs.declared.scan.BestTwo.{BestTwo}
@@ -20,11 +20,11 @@ pub record IsAsk (s : ScaledProblem) (ask : Ask) : Type 0 where
   pub floor : ask.floor ≡ floor_of s start ask.eps
 
 -- what person i lists, with benefits
-abbrev pub benefits_at : ScaledProblem → ℕ → Row
+abbrev pub benefits_at : ScaledProblem → ℕ → Listing
 benefits_at s i = row_of (benefits_of s) i
 
 -- nothing is listed, or all that is listed is worth less than the floor
-abbrev pub IsUnder : Row → List ℤ → ℤ → Type 0
+abbrev pub IsUnder : Listing → List ℤ → ℤ → Type 0
 IsUnder row prices floor = All (λ e. e.1 <ℤ (floor +ℤ price_of prices e.0)) row
 
 -- what the best value is measured against: the second value or the floor, whichever is greater
@@ -32,33 +32,48 @@ abbrev pub bar : ℤ → Option ℤ → ℤ
 bar floor None = floor
 bar floor (Some w) = int_max w floor
 
--- the bid for the best object, which is worth the floor or more: it leaves that object worth the bar less eps
+-- the bid for the best object, which is worth the floor or more: it leaves that object worth the bar
+-- less eps
 pub record IsBid (s : ScaledProblem) (prices : List ℤ) (ask : Ask) (bid : Bid) : Type 0 where
   pub two : BestTwo
   pub best : IsBestTwo (benefits_at s bid.person) prices two
   pub object : bid.object ≡ two.object
   pub enough : ask.floor ≤ℤ two.best
-  pub level : (bid.level +ℤ bar ask.floor two.second) ≡ (listed_or_zero (benefits_at s bid.person) bid.object +ℤ ask.eps)
+  pub level : (bid.level +ℤ bar ask.floor two.second)
+      ≡ (listed_or_zero (benefits_at s bid.person) bid.object +ℤ ask.eps)
 
 -- what a person offers: a bid, or Below where nothing that it lists is worth the floor
 abbrev pub IsOffer : ScaledProblem → List ℤ → ℕ → Ask → ℕ → Offer → Type 0
-IsOffer s prices version ask i (made.Bid bid) = (bid.person ≡ i) × (bid.phase ≡ ask.phase) × (bid.version ≡ version) × IsBid s prices ask bid
-IsOffer s prices version ask i (made.Below below) = (below.person ≡ i) × (below.phase ≡ ask.phase) × IsUnder (benefits_at s i) prices ask.floor
+IsOffer s prices version ask i (made.Bid bid) =
+    (bid.person ≡ i) × (bid.phase ≡ ask.phase) × (bid.version ≡ version) × IsBid s prices ask bid
+IsOffer s prices version ask i (made.Below below) =
+    (below.person ≡ i) × (below.phase ≡ ask.phase) × IsUnder (benefits_at s i) prices ask.floor
 
 -- the offer that a best two makes
 abbrev pub offer_from : List ℤ → ℕ → Ask → ℕ → Option BestTwo → Offer
 offer_from prices version ask i None = made.Below (record { person = i; phase = ask.phase })
-offer_from prices version ask i (Some b) = cond (lt_z b.best ask.floor) (made.Below (record { person = i; phase = ask.phase })) (made.Bid (record { person = i; object = b.object; level = (b.best +ℤ price_of prices b.object) -ℤ bar ask.floor b.second +ℤ ask.eps; phase = ask.phase; version = version }))
+offer_from prices version ask i (Some b) = cond (lt_z b.best ask.floor)
+    (made.Below (record { person = i; phase = ask.phase }))
+    (made.Bid (record {
+      person = i;
+      object = b.object;
+      level = (b.best +ℤ price_of prices b.object) -ℤ bar ask.floor b.second +ℤ ask.eps;
+      phase = ask.phase;
+      version = version;
+    }))
 
 -- the offer of a person
 abbrev pub offer_of : ScaledProblem → List ℤ → ℕ → Ask → ℕ → Offer
 offer_of s prices version ask i = offer_from prices version ask i (best_two (benefits_at s i) prices)
 
--- at the bid's level its object is worth, by eps at most, less than each other listed object at these prices, and
--- the level is at most the top of the phase
+-- at the bid's level its object is worth at most eps less than each other listed object at these prices,
+-- and the level and the floor together are at most the greatest benefit and eps
 pub record IsSound (s : ScaledProblem) (ask : Ask) (prices : List ℤ) (bid : Bid) : Type 0 where
   pub listed : IsListed (benefits_of s) bid.person bid.object
-  pub near : All (λ e. e.0 ≢ bid.object → (e.1 +ℤ bid.level) ≤ℤ (listed_or_zero (benefits_at s bid.person) bid.object +ℤ ask.eps +ℤ price_of prices e.0)) (benefits_at s bid.person)
+  pub near : All (λ e. e.0 ≢ bid.object
+      → (e.1 +ℤ bid.level)
+      ≤ℤ (listed_or_zero (benefits_at s bid.person) bid.object +ℤ ask.eps +ℤ price_of prices e.0))
+      (benefits_at s bid.person)
   pub topped : (bid.level +ℤ ask.floor) ≤ℤ (greatest_benefit s +ℤ ask.eps)
 
 -- a bid is sound where an offer is one

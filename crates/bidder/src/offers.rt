@@ -1,7 +1,10 @@
 // What a person offers under a table of prices.
-ghost use Rattle.std.specs.Prelude.{◌≡◌, ℕ, ℤ, pos, neg_ℤ, ◌+ℤ◌, ◌-ℤ◌, ◌≤ℤ◌, ◌<◌, ◌≤◌, ◌^◌, [], length, MatchOption};
+ghost use Rattle.std.specs.Prelude.{◌≡◌, ℤ, ◌+ℤ◌, ◌-ℤ◌, ◌≤ℤ◌, [], length, MatchOption};
+ghost use Rattle.assign_core.specs.Numbered.{IsNumber};
+ghost use Rattle.assign_core.specs.Rows.{IsProblem};
 ghost use Rattle.assign_core.specs.Benefits.{IsBenefit};
-ghost use Rattle.assign_core.specs.Prices.{IsPrice, price_of};
+ghost use Rattle.assign_core.specs.Prices.{price_of};
+ghost use Rattle.scaled_values.specs.Limits.{least_floor};
 ghost use Rattle.bidder.specs.BestTwo.{IsBestTwo, best_two};
 ghost use Rattle.bidder.specs.Offers.{IsAsk, IsOffer, IsSoundOffer, benefits_at, bar, offer_of};
 
@@ -50,11 +53,12 @@ pub enum Offer {
 
 // The best two of what a person lists.
 fn best_of(scaled: &Scaled, prices: &Prices, person: Person) -> Option<BestTwo>
-    requires first { 0 < person }
-    requires last { person ≤ length scaled.now.problem }
+    requires person { IsNumber (length scaled.now.problem) person }
     requires table { length prices.now ≡ length scaled.now.problem }
-    ensures best { MatchOption result (benefits_at scaled.now person ≡ []) (IsBestTwo (benefits_at scaled.now person) prices.now) }
+    ensures best { MatchOption result (benefits_at scaled.now person ≡ [])
+        (IsBestTwo (benefits_at scaled.now person) prices.now) }
     ensures only { result ≡ best_two (benefits_at scaled.now person) prices.now }
+    ensures problem { IsProblem scaled.now.problem }
 {
     match scaled.row(person) {
         Row::Full(benefits) => best_two_full(benefits, prices),
@@ -64,13 +68,12 @@ fn best_of(scaled: &Scaled, prices: &Prices, person: Person) -> Option<BestTwo>
 
 // The benefit of an object: its value and its price.
 fn benefit_of(object: Object, value: i128, prices: &Prices) -> i128
-    requires first { 0 < object }
-    requires last { object ≤ length prices.now }
+    requires object { IsNumber (length prices.now) object }
     requires benefit { IsBenefit (value +ℤ price_of prices.now object) }
     ensures value { result ≡ value +ℤ price_of prices.now object }
     ensures least { value ≤ℤ result }
 {
-    value + prices.as_slice()[object.0 as usize - 1]
+    value + prices.price(object)
 }
 
 // What the best value is measured against.
@@ -87,7 +90,7 @@ fn bar_of(floor: i128, second: Option<i128>) -> i128
 // The level at which an object with this benefit is worth the bar less eps.
 fn level_at(benefit: i128, bar: i128, eps: i64) -> Price
     requires benefit { IsBenefit benefit }
-    requires least { neg_ℤ (pos (10 ^ 24)) ≤ℤ bar }
+    requires least { least_floor ≤ℤ bar }
     requires greatest { bar ≤ℤ benefit }
     ensures { result ≡ (benefit -ℤ bar) +ℤ eps }
 {
@@ -96,12 +99,12 @@ fn level_at(benefit: i128, bar: i128, eps: i64) -> Price
 
 // The level of a bid for the best object.
 fn level_of(best: BestTwo, prices: &Prices, ask: Ask) -> Price
-    requires first { 0 < best.object }
-    requires last { best.object ≤ length prices.now }
+    requires object { IsNumber (length prices.now) best.object }
     requires benefit { IsBenefit (best.best +ℤ price_of prices.now best.object) }
-    requires floor { neg_ℤ (pos (10 ^ 24)) ≤ℤ ask.floor }
+    requires floor { least_floor ≤ℤ ask.floor }
     requires enough { bar ask.floor best.second ≤ℤ best.best }
-    ensures { result ≡ ((best.best +ℤ price_of prices.now best.object) -ℤ bar ask.floor best.second) +ℤ ask.eps }
+    ensures { result ≡ ((best.best +ℤ price_of prices.now best.object)
+        -ℤ bar ask.floor best.second) +ℤ ask.eps }
 {
     let benefit = benefit_of(best.object, best.best, prices);
     let bar = bar_of(ask.floor, best.second);
@@ -113,17 +116,16 @@ fn level_of(best: BestTwo, prices: &Prices, ask: Ask) -> Price
 /// the phase and the version that are handed in.
 ///
 /// The bid of the auction algorithm (Bertsekas, Network Optimization, 1998, section 7.1), with the
-/// floor in place of a second value that is absent or lower.
+/// floor in place of a second value that is absent or lower. The time is linear in what the person
+/// lists, and no memory is taken.
 pub fn make_bid(scaled: &Scaled, prices: &Prices, version: u128, ask: Ask, person: Person) -> Offer
-    requires first { 0 < person }
-    requires last { person ≤ length scaled.now.problem }
+    requires person { IsNumber (length scaled.now.problem) person }
     requires table { length prices.now ≡ length scaled.now.problem }
     requires ask { IsAsk scaled.now ask }
     ensures offer { IsOffer scaled.now prices.now version ask person result }
     ensures only { result ≡ offer_of scaled.now prices.now version ask person }
     ensures sound { IsSoundOffer scaled.now ask prices.now result }
 {
-    let _n = scaled.n();
     let below = BelowFloor {
         person,
         phase: ask.phase,

@@ -1,13 +1,13 @@
 // The best object of a row, and the second value, in one pass.
-ghost use Rattle.std.specs.Prelude.{◌≡◌, ℕ, ℤ, ◌+ℤ◌, ◌<◌, ◌≤◌, List, [], ◌∷◌, ◌++◌, length, All, MatchOption, IsTrue, pos, neg_ℤ, ◌-ℤ◌, ◌≤ℤ◌, ◌<ℤ◌, ◌^◌};
+ghost use Rattle.std.specs.Prelude.{◌≡◌, ℤ, ◌+ℤ◌, ◌<◌, List, [], ◌∷◌, ◌++◌, length, All, MatchOption, IsTrue, pos, neg_ℤ, ◌-ℤ◌, ◌≤ℤ◌, ◌<ℤ◌, ◌^◌};
 ghost use Rattle.assign_core.specs.Dense.{row_from};
-ghost use Rattle.assign_core.specs.Rows.{Row};
+ghost use Rattle.assign_core.specs.Rows.{Listing};
 ghost use Rattle.assign_core.specs.Benefits.{IsBenefit};
-ghost use Rattle.assign_core.specs.Prices.{IsPrice, IsTable, price_of};
+ghost use Rattle.assign_core.specs.Prices.{IsPrice, price_of};
 ghost use Rattle.scaled_values.specs.Scaled.{IsBenefitRow};
 ghost use Rattle.bidder.specs.BestTwo.{IsBestTwo, IsLimit, best_two, greater_of};
 
-use assign_core::{Benefit, Object, Price, Prices};
+use assign_core::{Benefit, NARROW_END, Object, Price, Prices};
 
 /// The best object of a row under a table of prices. An object's value is its benefit less its
 /// price.
@@ -21,25 +21,11 @@ pub struct BestTwo {
     pub second: Option<i128>,
 }
 
-// Prices below it are counted in 64 bits.
-const NARROW_PRICE: Price = 1 << 62;
-
 // The best two so far, and a limit in 64 bits: a value up to it changes nothing.
 #[derive(Clone, Copy)]
 struct Scan {
     found: BestTwo,
     limit: i64,
-}
-
-// An object's price.
-fn price_at(prices: &[Price], object: Object) -> Price
-    requires first { 0 < object }
-    requires last { object ≤ length prices.now }
-    requires prices { IsTable prices.now }
-    ensures value { result ≡ price_of prices.now object }
-    ensures range { IsPrice result }
-{
-    prices[object.0 as usize - 1]
 }
 
 // An object's value.
@@ -55,9 +41,10 @@ fn value_of(benefit: Benefit, price: Price) -> i128
 fn is_within(limit: i64, benefit: Benefit, price: Price) -> bool
     requires benefit { IsBenefit benefit }
     requires price { IsPrice price }
-    ensures { IsTrue result → (neg_ℤ (pos (2 ^ 63)) <ℤ (benefit -ℤ price)) × ((benefit -ℤ price) ≤ℤ limit) }
+    ensures { IsTrue result
+        → (neg_ℤ (pos (2 ^ 63)) <ℤ (benefit -ℤ price)) × ((benefit -ℤ price) ≤ℤ limit) }
 {
-    price < NARROW_PRICE && benefit - price as i64 <= limit
+    price < Price::from(NARROW_END) && benefit - price as i64 <= limit
 }
 
 // The limit that a second value sets.
@@ -86,7 +73,8 @@ fn greater_of(value: i128, other: Option<i128>) -> i128
 impl BestTwo {
     // The best two of a single object.
     fn only(object: Object, value: i128) -> BestTwo
-        ensures { (prices : List ℤ) (benefit : ℤ) → value +ℤ price_of prices object ≡ benefit → IsBestTwo ((object, benefit) ∷ []) prices result }
+        ensures { (prices : List ℤ) (benefit : ℤ) → value +ℤ price_of prices object ≡ benefit
+            → IsBestTwo ((object, benefit) ∷ []) prices result }
     {
         BestTwo {
             object,
@@ -97,7 +85,9 @@ impl BestTwo {
 
     // The best two with one more object, whose number is above those of the row.
     fn with(self, object: Object, value: i128) -> BestTwo
-        ensures { (row : Row) (prices : List ℤ) (benefit : ℤ) → IsBestTwo row prices self → All (λ e. e.0 < object) row → value +ℤ price_of prices object ≡ benefit → IsBestTwo (row ++ (object, benefit) ∷ []) prices result }
+        ensures { (row : Listing) (prices : List ℤ) (benefit : ℤ) → IsBestTwo row prices self
+            → All (λ e. e.0 < object) row → value +ℤ price_of prices object ≡ benefit
+            → IsBestTwo (row ++ (object, benefit) ∷ []) prices result }
     {
         if value > self.best {
             BestTwo {
@@ -130,7 +120,9 @@ impl Scan {
         requires limit { IsLimit self.found.second self.limit }
         requires benefit { IsBenefit benefit }
         requires price { IsPrice price }
-        ensures found { (row : Row) (prices : List ℤ) → IsBestTwo row prices self.found → All (λ e. e.0 < object) row → price_of prices object ≡ price → IsBestTwo (row ++ (object, benefit) ∷ []) prices result.found }
+        ensures found { (row : Listing) (prices : List ℤ) → IsBestTwo row prices self.found
+            → All (λ e. e.0 < object) row → price_of prices object ≡ price
+            → IsBestTwo (row ++ (object, benefit) ∷ []) prices result.found }
         ensures limit { IsLimit result.found.second result.limit }
     {
         if is_within(self.limit, benefit, price) {
@@ -141,6 +133,7 @@ impl Scan {
 }
 
 /// The best object of a row of pairs and the second value, in one pass; `None` for an empty row.
+/// No memory is taken.
 pub fn best_two(row: &[(Object, Benefit)], prices: &Prices) -> Option<BestTwo>
     requires { IsBenefitRow (length prices.now) row.now }
     ensures best { MatchOption result (row.now ≡ []) (IsBestTwo row.now prices.now) }
@@ -149,23 +142,23 @@ pub fn best_two(row: &[(Object, Benefit)], prices: &Prices) -> Option<BestTwo>
     if row.is_empty() {
         return None;
     }
-    let table = prices.as_slice();
     let (object, benefit) = row[0];
-    let first = value_of(benefit, price_at(table, object));
+    let first = value_of(benefit, prices.price(object));
     let mut scan = Scan::new(BestTwo::only(object, first));
     for i in 1..row.len() {
         let (object, benefit) = row[i];
-        scan = scan.read(object, benefit, price_at(table, object));
+        scan = scan.read(object, benefit, prices.price(object));
     }
     Some(scan.found)
 }
 
 /// The best object of a row that lists all objects, given as the benefits of objects 1, 2, .., and
-/// the second value; `None` for an empty row.
+/// the second value, in one pass; `None` for an empty row. No memory is taken.
 pub fn best_two_full(benefits: &[Benefit], prices: &Prices) -> Option<BestTwo>
     requires long { length benefits.now ≡ length prices.now }
     requires benefits { All IsBenefit benefits.now }
-    ensures best { MatchOption result (benefits.now ≡ []) (IsBestTwo (row_from 1 benefits.now) prices.now) }
+    ensures best { MatchOption result (benefits.now ≡ [])
+        (IsBestTwo (row_from 1 benefits.now) prices.now) }
     ensures only { result ≡ best_two (row_from 1 benefits.now) prices.now }
 {
     if benefits.is_empty() {

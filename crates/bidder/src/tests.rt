@@ -6,14 +6,16 @@ ghost use Rattle.scaled_values.specs.Scaled.{IsBenefitRow, IsEps};
 ghost use Rattle.bidder.specs.Offers.{IsAsk};
 
 use super::*;
-use assign_core::{Benefit, Object, PRICE_END, Person, Price, Prices, Problem, Sense};
+use assign_core::{
+    Benefit, MOST_PERSONS, Object, PRICE_END, Person, Price, Prices, Problem, Sense,
+};
 use scaled_values::{Scaled, next_eps, scale};
 use std::alloc::{AllocError, Global};
 use std::test::Fail;
 
 // A row of all objects as pairs.
 fn pairs_of(alloc: Global, benefits: &[Benefit]) -> Result<Vec<(Object, Benefit)>, AllocError>
-    requires few { length benefits.now ≤ 8192 }
+    requires few { length benefits.now ≤ MOST_PERSONS }
     requires range { All IsBenefit benefits.now }
     ensures { IfOk result (λ row. IsBenefitRow (length benefits.now) row.items) }
 {
@@ -26,14 +28,14 @@ fn pairs_of(alloc: Global, benefits: &[Benefit]) -> Result<Vec<(Object, Benefit)
 
 // Prices of n objects, from 0 to 999.
 fn prices_of(alloc: Global, n: u16) -> Result<Prices, AllocError>
-    requires { n ≤ 8192 }
+    requires { n ≤ MOST_PERSONS }
     ensures { IfOk result (λ prices. length prices ≡ n) }
 {
     let mut prices = Vec::with_capacity(alloc, n as usize)?;
     for i in 0..n {
         prices.push(Price::from(i % 100) * 9)?;
     }
-    Ok(Prices::new(prices))
+    Prices::new(alloc, prices)
 }
 
 // 0 at two places and from -7 to -1 elsewhere.
@@ -57,7 +59,7 @@ fn benefit_of(i: u16, first: u16, second: u16) -> Benefit
 
 // Benefits of n objects that are worth 0 at two places and less elsewhere, under those prices.
 fn benefits_of(alloc: Global, n: u16, first: u16, second: u16) -> Result<Vec<Benefit>, AllocError>
-    requires { n ≤ 8192 }
+    requires { n ≤ MOST_PERSONS }
     ensures long { IfOk result (λ v. length v.items ≡ n) }
     ensures range { IfOk result (λ v. All IsBenefit v.items) }
 {
@@ -74,7 +76,7 @@ fn answers(
     benefits: &[Benefit],
     prices: &Prices,
 ) -> Result<[Option<BestTwo>; 2], AllocError>
-    requires few { length benefits.now ≤ 8192 }
+    requires few { length benefits.now ≤ MOST_PERSONS }
     requires long { length benefits.now ≡ length prices.now }
     requires range { All IsBenefit benefits.now }
 {
@@ -111,7 +113,7 @@ fn searched(benefits: &[Benefit], prices: &[Price]) -> Option<BestTwo> {
 
 #[test]
 fn rows_of_many_lengths(rt: HostRuntime) -> Result<(), Fail> {
-    for n in [0u16, 1, 2, 63, 64, 65, 127, 128, 129, 8192] {
+    for n in [0u16, 1, 2, 63, 64, 65, 127, 128, 129, MOST_PERSONS] {
         let prices = prices_of(rt.alloc(), n)?;
         for (first, second) in [
             (0, 0),
@@ -139,7 +141,7 @@ fn worked_rows(rt: HostRuntime) -> Result<(), Fail> {
         best: -8,
         second: Some(-8),
     };
-    let prices = Prices::new(vec![in rt.alloc(); 1, 0, 0]?);
+    let prices = Prices::new(rt.alloc(), vec![in rt.alloc(); 1, 0, 0]?)?;
     assert_eq!(rt; best_two_full(&[-8, -8, -8], &prices), Some(third));
     let row = [(Object(1), -8), (Object(2), -8), (Object(3), -8)];
     assert_eq!(rt; best_two(&row, &prices), Some(third));
@@ -148,14 +150,14 @@ fn worked_rows(rt: HostRuntime) -> Result<(), Fail> {
         best: -6,
         second: Some(-11),
     };
-    let prices = Prices::new(vec![in rt.alloc(); 8, 0]?);
+    let prices = Prices::new(rt.alloc(), vec![in rt.alloc(); 8, 0]?)?;
     assert_eq!(rt; best_two_full(&[-3, -6], &prices), Some(other));
     let alone = BestTwo {
         object: Object(1),
         best: -14,
         second: None,
     };
-    let prices = Prices::new(vec![in rt.alloc(); 0]?);
+    let prices = Prices::new(rt.alloc(), vec![in rt.alloc(); 0]?)?;
     assert_eq!(rt; best_two(&[(Object(1), -14)], &prices), Some(alone));
     assert_eq!(rt; best_two(&[], &prices), None);
     Ok(())
@@ -190,14 +192,14 @@ fn second_eps(scaled: &Scaled) -> Option<i64>
 
 // A table with these prices, each brought into range.
 fn table(alloc: Global, values: &[Price]) -> Result<Prices, AllocError>
-    requires { length values.now ≤ 8192 }
+    requires { length values.now ≤ MOST_PERSONS }
     ensures { IfOk result (λ prices. length prices ≡ length values.now) }
 {
     let mut prices = Vec::with_capacity(alloc, values.len())?;
     for value in values {
         prices.push(priced(*value))?;
     }
-    Ok(Prices::new(prices))
+    Prices::new(alloc, prices)
 }
 
 // A person's offer under these prices, if the person and the prices belong to the problem.

@@ -6,9 +6,12 @@ use Rattle.std.proofs.lemmas.Int.{ints, unsigned_abs-mul, fold-int_min_bounds, f
 use Rattle.std.proofs.lemmas.List.Elements.{All-nil, All-cons, All-head, All-tail, All-append, All-map, All-weaker, All-contains, Contains-append_right, Contains-get_or}
 use Rattle.assign_core.specs.declared.sense.Sense.{Sense}
 use Rattle.assign_core.specs.declared.sense.Sense.TheVariants.{Min, Max}
-use Rattle.assign_core.specs.Rows.{Row, IsCost, IsRow, IsSize, IsProblem, HasCosts}
+use Rattle.std.proofs.Math.Nat.{mul-le-mul}
+use Rattle.assign_core.specs.declared.numbers.TheConstants.{MOST_PERSONS, GREATEST_COST}
+use Rattle.assign_core.specs.Rows.{Listing, IsCost, IsRow, IsSize, IsProblem, HasCosts}
 use Rattle.assign_core.specs.Benefits.{factor, benefit, benefit_row, IsBenefit}
 use Rattle.scaled_values.specs.Scaled.{ScaledProblem, benefits_of, values_in, least_of, greatest_of, least_benefit, greatest_benefit, spread, IsLeastOf, IsGreatestOf}
+use Rattle.scaled_values.specs.Limits.{most_spread}
 use Rattle.scaled_values.specs.declared.row.StoredRow.{StoredRow}
 use Rattle.scaled_values.specs.Stored.{IsStored}
 
@@ -16,14 +19,11 @@ abs_factor : (sense : Sense) (n : ℕ) → unsigned_abs (factor sense n) ≡ n +
 abs_factor Min n = omega arith
 abs_factor Max n = refl
 
-product_below : (m k : ℕ) → m ≤ 8193 → k ≤ 1000000000000 → m * k ≤ 8193000000000000
-product_below m k h l = grind arith
-
-abs_cost : (c : ℤ) → IsCost c → unsigned_abs c ≤ 1000000000000
+abs_cost : (c : ℤ) → IsCost c → unsigned_abs c ≤ unsigned_abs GREATEST_COST
 abs_cost (pos k) h = let g = h.greatest in omega (arith, ints)
 abs_cost (negsuc k) h = let g = h.least in omega (arith, ints)
 
-from_abs : (a : ℤ) → unsigned_abs a ≤ 8193000000000000 → IsBenefit a
+from_abs : (a : ℤ) → unsigned_abs a ≤ (MOST_PERSONS + 1) * unsigned_abs GREATEST_COST → IsBenefit a
 from_abs (pos k) h = record { least = omega (arith, ints); greatest = omega (arith, ints) }
 from_abs (negsuc k) h = record { least = omega (arith, ints); greatest = omega (arith, ints) }
 
@@ -31,15 +31,15 @@ pub IsBenefit-benefit : (sense : Sense) (n : ℕ) (c : ℤ) → IsSize n → IsC
 IsBenefit-benefit sense n c size cost =
     let f = abs_factor sense n in
     let m = unsigned_abs-mul (factor sense n) c in
-    let few : n + 1 ≤ 8193 = let s = size.few in omega arith in
-    from_abs (benefit sense n c) (rw (m, f) (product_below (n + 1) (unsigned_abs c) few (abs_cost c cost)))
+    let few : n + 1 ≤ MOST_PERSONS + 1 = let s = size.few in omega arith in
+    from_abs (benefit sense n c) (rw (m, f) (mul-le-mul few (abs_cost c cost)))
 
-row_in_range : (sense : Sense) (n : ℕ) (row : Row) → IsSize n → HasCosts row → All IsBenefit (map (λ e. e.1) (benefit_row sense n row))
+row_in_range : (sense : Sense) (n : ℕ) (row : Listing) → IsSize n → HasCosts row → All IsBenefit (map (λ e. e.1) (benefit_row sense n row))
 row_in_range sense n row size h =
     All-map IsBenefit (λ e. e.1) (benefit_row sense n row)
     (All-map (λ e. IsBenefit e.1) (λ e. (e.0, benefit sense n e.1)) row (All-weaker (λ e. IsCost e.1) (λ e. IsBenefit (benefit sense n e.1)) (λ e k. IsBenefit-benefit sense n e.1 size k) row h))
 
-rows_in_range : (sense : Sense) (n : ℕ) (rows : List Row) → IsSize n → All (IsRow n) rows → All IsBenefit (values_in (map (benefit_row sense n) rows))
+rows_in_range : (sense : Sense) (n : ℕ) (rows : List Listing) → IsSize n → All (IsRow n) rows → All IsBenefit (values_in (map (benefit_row sense n) rows))
 rows_in_range sense n [] size h = All-nil IsBenefit
 rows_in_range sense n (row ∷ rows) size h =
     All-append IsBenefit (map (λ e. e.1) (benefit_row sense n row)) (values_in (map (benefit_row sense n) rows))
@@ -119,10 +119,10 @@ IsBenefit-least s h = least_holds IsBenefit (values_in (benefits_of s)) zero_in_
 pub IsBenefit-greatest : (s : ScaledProblem) → IsProblem s.problem → IsBenefit (greatest_benefit s)
 IsBenefit-greatest s h = greatest_holds IsBenefit (values_in (benefits_of s)) zero_in_range (all_in_range s h)
 
--- the spread is from 0 to 16386 * 10^12
+-- what a spread can be
 pub record IsSpread (d : ℤ) : Type 0 where
   pub least : pos 0 ≤ℤ d
-  pub greatest : d ≤ℤ pos 16386000000000000
+  pub greatest : d ≤ℤ most_spread
 
 pub IsSpread-spread : (s : ScaledProblem) → IsProblem s.problem → IsSpread (spread s)
 IsSpread-spread s h =

@@ -1,5 +1,5 @@
 -- The slacknesses of the phases: in range, and few.
-use Rattle.std.proofs.Common.{◌≡◌, ℕ, zero, suc, ℤ, pos, negsuc, ◌+ℤ◌, ◌≤ℤ◌, ◌<◌, ◌≤◌, ◌+◌, ◌-◌, ◌/◌, max, inl, inr, Bool, true, false, cond, Option, None, Some, refl, arith, sym, ◌∙◌, ap, subst}
+use Rattle.std.proofs.Common.{◌≡◌, ℕ, zero, suc, ℤ, pos, negsuc, ◌+ℤ◌, ◌≤ℤ◌, ◌<◌, ◌≤◌, ◌+◌, ◌-◌, inl, inr, Bool, true, false, cond, Option, None, Some, refl, arith, sym, ◌∙◌, ap, subst}
 use Rattle.std.specs.Option.{option_and_then}
 use Rattle.std.specs.Cmp.{signed_Decides}
 use Rattle.std.specs.Ordering.{int_eq}
@@ -7,15 +7,18 @@ use Rattle.std.proofs.lemmas.Int.{ints, clamps}
 use Rattle.std.proofs.lemmas.Bool.Decides.{leb_tells}
 use Rattle.assign_core.specs.Rows.{IsProblem}
 use Rattle.scaled_values.specs.Scaled.{ScaledProblem, spread, fifth, first_eps, next_eps, eps_after, IsEps}
+use Rattle.scaled_values.specs.Limits.{most_spread, most_step}
 use Rattle.scaled_values.proofs.BenefitRange.{IsSpread, IsSpread-spread}
 
 pub fifth-least : (z : ℤ) → pos 1 ≤ℤ fifth z
 fifth-least z = omega (arith, ints, clamps)
 
--- a fifth of what is at most b
-fifth-below : (z : ℤ) (b : ℕ) → z ≤ℤ pos b → fifth z ≤ℤ pos (max 1 (b / 5))
-fifth-below (pos a) b h = omega (arith, ints, clamps)
-fifth-below (negsuc a) b h = omega (arith, ints, clamps)
+-- a greater number has no lesser fifth
+fifth-le-fifth : (y z : ℤ) → y ≤ℤ z → fifth y ≤ℤ fifth z
+fifth-le-fifth (pos a) (pos b) h = omega (arith, ints, clamps)
+fifth-le-fifth (pos a) (negsuc b) h = omega (arith, ints, clamps)
+fifth-le-fifth (negsuc a) (pos b) h = omega (arith, ints, clamps)
+fifth-le-fifth (negsuc a) (negsuc b) h = omega (arith, ints, clamps)
 
 fifth-le : (z : ℤ) → pos 1 ≤ℤ z → fifth z ≤ℤ z
 fifth-le (pos a) h = omega (arith, ints, clamps)
@@ -56,20 +59,18 @@ pub range_of_eps : (s : ScaledProblem) (eps : ℤ) → IsEps s eps → IsEpsRang
 range_of_eps s eps h = range_after s h.phases eps h.at
 
 -- the slacknesses of the widest problem
-abbrev bound : ℕ → ℕ
-bound zero = 3277200000000000
-bound (suc k) = max 1 (bound k / 5)
+abbrev bound : ℕ → ℤ
+bound zero = fifth most_spread
+bound (suc k) = fifth (bound k)
 
-pub first_eps-below : (s : ScaledProblem) → IsProblem s.problem → first_eps s ≤ℤ pos 3277200000000000
-first_eps-below s h = fifth-below (spread s) 16386000000000000 (IsSpread-spread s h).greatest
+pub first_eps-below : (s : ScaledProblem) → IsProblem s.problem → first_eps s ≤ℤ fifth most_spread
+first_eps-below s h = fifth-le-fifth (spread s) most_spread (IsSpread-spread s h).greatest
 
-below_bound : (s : ScaledProblem) → IsProblem s.problem → (k : ℕ) (eps : ℤ) → eps_after s k ≡ Some eps → eps ≤ℤ pos (bound k)
+below_bound : (s : ScaledProblem) → IsProblem s.problem → (k : ℕ) (eps : ℤ) → eps_after s k ≡ Some eps → eps ≤ℤ bound k
 below_bound s h zero eps e = let same : first_eps s ≡ eps = cc in let b = first_eps-below s h in omega (arith, ints)
 below_bound s h (suc k) eps e =
     let a = after_is (eps_after s k) eps e in
-    let b = fifth-below a.last (bound k) (below_bound s h k a.last a.was) in
-    let f = a.fifth_of in
-    omega (arith, ints)
+    subst (λ z. z ≤ℤ bound (suc k)) a.fifth_of (fifth-le-fifth a.last (bound k) (below_bound s h k a.last a.was))
 
 none_after : (o : Option ℤ) → ((eps : ℤ) → o ≡ Some eps → eps ≡ pos 1) → option_and_then next_eps o ≡ None
 none_after None h = refl
@@ -78,9 +79,9 @@ none_after (Some eps) h = rw (h eps refl) refl
 -- the phases are over after 23
 over : (s : ScaledProblem) → IsProblem s.problem → (m : ℕ) → eps_after s (m + 23) ≡ None
 over s h zero = none_after (eps_after s 22) (λ eps e.
-    let high : eps ≤ℤ pos (bound 22) = below_bound s h 22 eps e in
+    let high : eps ≤ℤ bound 22 = below_bound s h 22 eps e in
     let low = (range_after s 22 eps e).least in
-    let one : bound 22 ≡ 1 = refl in
+    let one : bound 22 ≡ pos 1 = refl in
     omega (arith, ints))
 over s h (suc m) =
     let next : suc m + 23 ≡ suc (m + 23) = omega arith in
@@ -100,12 +101,12 @@ few s k eps h e = elim (leb_tells 23 k) [
 -- the spread with a slackness is one step
 pub record IsStep (step : ℤ) : Type 0 where
   pub least : pos 0 ≤ℤ step
-  pub greatest : step ≤ℤ pos 20000000000000000
+  pub greatest : step ≤ℤ most_step
 
 pub IsStep-spread : (s : ScaledProblem) (eps : ℤ) → IsSpread (spread s) → IsEps s eps → IsStep (spread s +ℤ eps)
 IsStep-spread s eps d e =
     let r = range_of_eps s eps e in
-    let f = fifth-below (spread s) 16386000000000000 d.greatest in
+    let f = fifth-le-fifth (spread s) most_spread d.greatest in
     record { least = omega (arith, ints); greatest = omega (arith, ints) }
 
 -- the list begins with the first slackness, and goes on

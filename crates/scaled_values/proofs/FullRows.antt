@@ -1,36 +1,36 @@
 -- A row that lists all objects lists them in order.
 use Rattle.std.proofs.Common.{◌≡◌, ℕ, ℤ, pos, zero, suc, ◌<◌, ◌≤◌, ◌+◌, ◌-◌, List, [], ◌∷◌, length, get_or, map, arith, sym, ◌∙◌, ap}
 use Rattle.std.proofs.lemmas.List.{get_or-map, length-map, same_lists}
-use Rattle.std.proofs.lemmas.List.Elements.{All-map}
 use Rattle.assign_core.specs.declared.sense.Sense.{Sense}
-use Rattle.assign_core.specs.Rows.{Row, IsRising, IsWithin, IsRow}
+use Rattle.assign_core.specs.Rows.{Listing, IsRising, IsWithin, IsRow}
 use Rattle.assign_core.specs.Dense.{row_from}
-use Rattle.assign_core.specs.Benefits.{benefit, benefit_row}
+use Rattle.assign_core.specs.Benefits.{benefit_row}
+use Rattle.assign_core.proofs.BenefitRows.{length-benefit_row, IsRising-benefit_row, IsWithin-benefit_row}
 use Rattle.assign_core.proofs.DenseRows.{length-row_from, row_from-index}
 
-pub object_at_least : (n : ℕ) (row : Row) (k : ℕ) (d : ℕ × ℤ) → IsRising row → IsWithin n row → k < length row → k + 1 ≤ (get_or row k d).0
-object_at_least n row zero d rising within lt = let w = (within 0 d lt).0 in omega arith
+pub object_at_least : (n : ℕ) (row : Listing) (k : ℕ) (d : ℕ × ℤ) → IsRising row → IsWithin n row → k < length row → k + 1 ≤ (get_or row k d).0
+object_at_least n row zero d rising within lt = let w = (within 0 d lt).first in omega arith
 object_at_least n row (suc k) d rising within lt =
     let i = object_at_least n row k d rising within (omega arith) in
     let r = rising k (suc k) d (omega arith) lt in
     omega arith
 
-pub object_at_most : (n : ℕ) (row : Row) (m k : ℕ) (d : ℕ × ℤ) → IsRising row → IsWithin n row → k + m + 1 ≡ length row → (get_or row k d).0 + m ≤ n
-object_at_most n row zero k d rising within e = let w = (within k d (omega arith)).1 in omega arith
+pub object_at_most : (n : ℕ) (row : Listing) (m k : ℕ) (d : ℕ × ℤ) → IsRising row → IsWithin n row → k + m + 1 ≡ length row → (get_or row k d).0 + m ≤ n
+object_at_most n row zero k d rising within e = let w = (within k d (omega arith)).last in omega arith
 object_at_most n row (suc m) k d rising within e =
     let i = object_at_most n row m (suc k) d rising within (omega arith) in
     let r = rising k (suc k) d (omega arith) (omega arith) in
     omega arith
 
 -- no more than n objects are listed
-pub length-rising : (n : ℕ) (row : Row) → IsRising row → IsWithin n row → length row ≤ n
+pub length-rising : (n : ℕ) (row : Listing) → IsRising row → IsWithin n row → length row ≤ n
 length-rising n [] rising within = omega arith
 length-rising n (e ∷ row) rising within =
     let low = object_at_least n (e ∷ row) (length row) e rising within (omega arith) in
-    let high = (within (length row) e (omega arith)).1 in
+    let high = (within (length row) e (omega arith)).last in
     omega arith
 
-pub row_in_order : (n : ℕ) (row : Row) → IsRising row → IsWithin n row → length row ≡ n → row ≡ row_from 1 (map (λ e. e.1) row)
+pub row_in_order : (n : ℕ) (row : Listing) → IsRising row → IsWithin n row → length row ≡ n → row ≡ row_from 1 (map (λ e. e.1) row)
 row_in_order n row rising within long =
     let values : List ℤ = map (λ e. e.1) row in
     let size : length (map (λ e. e.1) row) ≡ length row = simp length-map in
@@ -43,20 +43,7 @@ row_in_order n row rising within long =
     ∙ ap (λ z. (1 + k, z)) (sym value)
     ∙ sym (row_from-index 1 k values d (pos 0) (omega arith)))
 
-pub length-benefit_row : (sense : Sense) (n : ℕ) (row : Row) → length (benefit_row sense n row) ≡ length row
-length-benefit_row sense n row = simp length-map
-
-pub IsRising-benefit_row : (sense : Sense) (n : ℕ) (row : Row) → IsRising row → IsRising (benefit_row sense n row)
-IsRising-benefit_row sense n row rising = λ i k d lt last.
-    let long = length-benefit_row sense n row in
-    let first = get_or-map (λ e. (e.0, benefit sense n e.1)) row i d d (omega arith) in
-    let second = get_or-map (λ e. (e.0, benefit sense n e.1)) row k d d (omega arith) in
-    rw (first, second) (rising i k d lt (omega arith))
-
-pub IsWithin-benefit_row : (sense : Sense) (n m : ℕ) (row : Row) → IsWithin m row → IsWithin m (benefit_row sense n row)
-IsWithin-benefit_row sense n m row within = All-map (λ e. (0 < e.0) × (e.0 ≤ m)) (λ e. (e.0, benefit sense n e.1)) row within
-
 -- the benefits of a full row
-pub full_entries : (sense : Sense) (n : ℕ) (row : Row) → IsRow n row → length row ≡ n → row_from 1 (map (λ e. e.1) (benefit_row sense n row)) ≡ benefit_row sense n row
+pub full_entries : (sense : Sense) (n : ℕ) (row : Listing) → IsRow n row → length row ≡ n → row_from 1 (map (λ e. e.1) (benefit_row sense n row)) ≡ benefit_row sense n row
 full_entries sense n row h long =
     sym (row_in_order n (benefit_row sense n row) (IsRising-benefit_row sense n row h.rising) (IsWithin-benefit_row sense n n row h.within) (length-benefit_row sense n row ∙ long))

@@ -5,7 +5,7 @@ use Rattle.std.specs.Int.{int_min, int_max}
 use Rattle.std.proofs.lemmas.List.{drop_more, get_or-map, length-map}
 use Rattle.std.proofs.lemmas.List.Sums.{fold-append}
 use Rattle.assign_core.specs.declared.sense.Sense.{Sense}
-use Rattle.assign_core.specs.Rows.{Row, row_of}
+use Rattle.assign_core.specs.Rows.{Listing, row_of}
 use Rattle.assign_core.specs.Benefits.{benefit, benefit_row}
 use Rattle.assign_core.proofs.RowLemmas.{row_of-index}
 use Rattle.scaled_values.specs.declared.range.Range.{Range}
@@ -13,7 +13,7 @@ use Rattle.scaled_values.specs.Range.{widened, range_with}
 use Rattle.scaled_values.specs.Scaled.{values_in, least_of, greatest_of}
 
 -- one entry of a row
-pub range_entry : (range : Option Range) (sense : Sense) (n : ℕ) (row : Row) (i : ℕ) (e : ℕ × ℤ) (r : Range) → i < length row → e ≡ get_or row i e → r ≡ widened range (benefit sense n e.1) →
+pub range_entry : (range : Option Range) (sense : Sense) (n : ℕ) (row : Listing) (i : ℕ) (e : ℕ × ℤ) (r : Range) → i < length row → e ≡ get_or row i e → r ≡ widened range (benefit sense n e.1) →
     range_with (Some r) (map (λ f. f.1) (benefit_row sense n (drop (i + 1) row))) ≡ range_with range (map (λ f. f.1) (benefit_row sense n (drop i row)))
 range_entry range sense n row i e r lt at h =
     let rest = map (λ f. f.1) (benefit_row sense n (drop (i + 1) row)) in
@@ -22,10 +22,10 @@ range_entry range sense n row i e r lt at h =
     ∙ ap (λ l. range_with range (map (λ f. f.1) (benefit_row sense n l))) (sym (drop_more row i e lt))
 
 -- what is left of the rows of benefits begins with the benefits of the next row
-pub rows_next : (sense : Sense) (n : ℕ) (rows : List Row) (i : ℕ) → i < length rows →
+pub rows_next : (sense : Sense) (n : ℕ) (rows : List Listing) (i : ℕ) → i < length rows →
     drop i (map (benefit_row sense n) rows) ≡ benefit_row sense n (row_of rows (i + 1)) ∷ drop (i + 1) (map (benefit_row sense n) rows)
 rows_next sense n rows i lt =
-    let all : List Row = map (benefit_row sense n) rows in
+    let all : List Listing = map (benefit_row sense n) rows in
     let long : length (map (benefit_row sense n) rows) ≡ length rows = simp length-map in
     let back : i + 1 - 1 ≡ i = omega arith in
     let at : row_of rows (i + 1) ≡ get_or rows i [] = row_of-index rows (i + 1) (omega arith) ∙ ap (λ k. get_or rows k []) back in
@@ -33,7 +33,7 @@ rows_next sense n rows i lt =
     ∙ ap (λ r. r ∷ drop (i + 1) all) (get_or-map (benefit_row sense n) rows i [] [] lt ∙ ap (benefit_row sense n) (sym at))
 
 -- one row
-pub range_row : (range : Option Range) (sense : Sense) (n : ℕ) (rows : List Row) (i : ℕ) (r : Option Range) → i < length rows →
+pub range_row : (range : Option Range) (sense : Sense) (n : ℕ) (rows : List Listing) (i : ℕ) (r : Option Range) → i < length rows →
     r ≡ range_with range (map (λ e. e.1) (benefit_row sense n (row_of rows (i + 1)))) →
     range_with r (values_in (drop (i + 1) (map (benefit_row sense n) rows))) ≡ range_with range (values_in (drop i (map (benefit_row sense n) rows)))
 range_row range sense n rows i r lt h =

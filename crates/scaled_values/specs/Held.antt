@@ -1,6 +1,6 @@
 -- How the benefits of a person's pairs are held.
 use Rattle.std.specs.Prelude.{◌≡◌, ℕ, ◌<◌, length}
-use Rattle.assign_core.specs.Rows.{Row as Entries}
+use Rattle.assign_core.specs.Rows.{Listing as Entries}
 use Rattle.assign_core.specs.Dense.{row_from}
 use Rattle.scaled_values.specs.declared.row.Row.{Row}
 use Rattle.scaled_values.specs.declared.row.Row.TheVariants as held

@@ -1,4 +1,5 @@
 pub mod Scaled
+pub mod Limits
 pub mod Range
 pub mod Held
 pub mod Stored

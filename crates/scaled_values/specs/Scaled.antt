@@ -4,19 +4,19 @@ use Rattle.std.specs.Prelude.{◌≡◌, ℕ, zero, suc, ℤ, pos, ◌+ℤ◌, �
 use Rattle.std.specs.Int.{int_max, int_min}
 use Rattle.std.specs.Ordering.{int_eq}
 use Rattle.assign_core.specs.declared.sense.Sense.{Sense}
-use Rattle.assign_core.specs.Rows.{Row, IsRising, IsWithin}
+use Rattle.assign_core.specs.Rows.{Listing, IsRising, IsWithin}
 use Rattle.assign_core.specs.Benefits.{benefit_rows, IsBenefit}
 
 pub record ScaledProblem : Type 0 where
-  pub problem : List Row
+  pub problem : List Listing
   pub sense : Sense
 
 -- what the persons list, with benefits in place of costs
-abbrev pub benefits_of : ScaledProblem → List Row
+abbrev pub benefits_of : ScaledProblem → List Listing
 benefits_of s = benefit_rows s.sense s.problem
 
 -- the benefits of all listed pairs
-abbrev pub values_in : List Row → List ℤ
+abbrev pub values_in : List Listing → List ℤ
 values_in [] = []
 values_in (row ∷ rows) = map (λ e. e.1) row ++ values_in rows
 
@@ -61,23 +61,23 @@ pub record IsEps (s : ScaledProblem) (eps : ℤ) : Type 0 where
   pub phases : ℕ
   pub at : eps_after s phases ≡ Some eps
 
--- the floor of a phase that starts with greatest price p0:
--- a person with a best value below it has no way to a free object
+-- the floor of a phase that starts with greatest price p0: the least benefit less p0, and less n - 1 times the spread
+-- with the slackness
 abbrev pub floor_of : ScaledProblem → ℤ → ℤ → ℤ
 floor_of s p0 eps = least_benefit s -ℤ p0 -ℤ (pos (length s.problem - 1) *ℤ (spread s +ℤ eps))
 
--- no price and no level of that phase is above it
+-- the top of such a phase: p0 and n times the spread with the slackness
 abbrev pub top_of : ScaledProblem → ℤ → ℤ → ℤ
 top_of s p0 eps = p0 +ℤ (pos (length s.problem) *ℤ (spread s +ℤ eps))
 
 -- a row of benefits among n objects
-pub record IsBenefitRow (n : ℕ) (row : Row) : Type 0 where
+pub record IsBenefitRow (n : ℕ) (row : Listing) : Type 0 where
   pub rising : IsRising row
   pub within : IsWithin n row
   pub benefits : All (λ e. IsBenefit e.1) row
 
 -- no benefit of a row is below the least or above the greatest
-abbrev pub IsBetween : ℤ → ℤ → Row → Type 0
+abbrev pub IsBetween : ℤ → ℤ → Listing → Type 0
 IsBetween low high row = All (λ e. (low ≤ℤ e.1) × (e.1 ≤ℤ high)) row
 
 -- one of some numbers that none is below, and 0 of none

@@ -1,16 +1,19 @@
 // What holds of the least and the greatest benefit, and of the slacknesses of all phases.
 ghost use Rattle.std.specs.Prelude.{◌≡◌, ℕ, ℤ, pos, List, ◌<◌, ◌≤ℤ◌, Some};
 ghost use Rattle.assign_core.specs.Rows.{IsProblem};
-ghost use Rattle.scaled_values.specs.Scaled.{ScaledProblem, first_eps, eps_after, IsEps, least_of, greatest_of, IsLeastOf, IsGreatestOf};
+ghost use Rattle.scaled_values.specs.Scaled.{ScaledProblem, first_eps, eps_after, IsEps};
+ghost use Rattle.scaled_values.specs.Scaled.{least_of, greatest_of, IsLeastOf, IsGreatestOf};
 
 /// There are at most 23 phases.
 pub fn few_phases()
-    ensures { (s : ScaledProblem) (k : ℕ) (eps : ℤ) → IsProblem s.problem → eps_after s k ≡ Some eps → k < 23 }
+    ensures { (s : ScaledProblem) (k : ℕ) (eps : ℤ) → IsProblem s.problem
+        → eps_after s k ≡ Some eps → k < 23 }
 {}
 
 /// No slackness is below 1 or above the first.
 pub fn eps_in_range()
-    ensures { (s : ScaledProblem) (eps : ℤ) → IsEps s eps → (pos 1 ≤ℤ eps) × (eps ≤ℤ first_eps s) }
+    ensures { (s : ScaledProblem) (eps : ℤ) → IsEps s eps
+        → (pos 1 ≤ℤ eps) × (eps ≤ℤ first_eps s) }
 {}
 
 /// The slackness of the last phase is 1.

@@ -1,8 +1,9 @@
 // The slackness of each phase, and products of a step.
-ghost use Rattle.std.specs.Prelude.{◌≡◌, ℤ, Some, pos, ◌*ℤ◌, ◌≤ℤ◌, ◌≤◌, ◌*◌, ◌^◌};
+ghost use Rattle.std.specs.Prelude.{◌≡◌, ℤ, Some, pos, ◌*ℤ◌, ◌≤ℤ◌, ◌≤◌};
 ghost use Rattle.scaled_values.specs.Scaled.{ScaledProblem, fifth, next_eps, IsEps};
+ghost use Rattle.scaled_values.specs.Limits.{most_step};
 
-use assign_core::Price;
+use assign_core::{MOST_PERSONS, Price};
 
 // A fifth, and at least 1.
 pub fn fifth(number: i64) -> i64
@@ -17,19 +18,20 @@ pub fn fifth(number: i64) -> i64
 /// Epsilon-scaling (Bertsekas, Network Optimization, 1998, section 7.1.4).
 pub fn next_eps(eps: i64) -> Option<i64>
     ensures value { result ≡ next_eps eps }
-    ensures listed { (s : ScaledProblem) (next : ℤ) → IsEps s eps → result ≡ Some next → IsEps s next }
+    ensures listed { (s : ScaledProblem) (next : ℤ) → IsEps s eps → result ≡ Some next
+        → IsEps s next }
 {
     if eps == 1 { None } else { Some(fifth(eps)) }
 }
 
 // So many steps.
 pub fn steps(count: u16, step: i64) -> Price
-    requires few { count ≤ 8192 }
+    requires few { count ≤ MOST_PERSONS }
     requires least { pos 0 ≤ℤ step }
-    requires greatest { step ≤ℤ pos (2 * 10 ^ 16) }
+    requires greatest { step ≤ℤ most_step }
     ensures value { result ≡ pos count *ℤ step }
     ensures least { pos 0 ≤ℤ result }
-    ensures greatest { result ≤ℤ pos (2 * 10 ^ 20) }
+    ensures greatest { result ≤ℤ (pos MOST_PERSONS *ℤ most_step) }
 {
     Price::from(count) * Price::from(step)
 }

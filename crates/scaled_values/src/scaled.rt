@@ -1,9 +1,12 @@
 // A problem with its benefits.
-ghost use Rattle.std.specs.Prelude.{◌≡◌, ℕ, pos, ◌+ℤ◌, ◌≤ℤ◌, ◌*◌, ◌^◌, ◌<◌, ◌≤◌, length, map, All, IfOk};
+ghost use Rattle.std.specs.Prelude.{◌≡◌, ℕ, pos, ◌+ℤ◌, ◌≤ℤ◌, ◌<◌, ◌≤◌, length, map, All, IfOk};
+ghost use Rattle.assign_core.specs.Numbered.{IsNumber};
 ghost use Rattle.assign_core.specs.Rows.{IsProblem, row_of};
 ghost use Rattle.assign_core.specs.Benefits.{benefit_rows, IsBenefit};
 ghost use Rattle.assign_core.specs.Prices.{IsPrice};
-ghost use Rattle.scaled_values.specs.Scaled.{ScaledProblem, benefits_of, least_benefit, greatest_benefit, spread, first_eps, IsEps, floor_of, top_of, IsBenefitRow, IsBetween};
+ghost use Rattle.scaled_values.specs.Scaled.{ScaledProblem, benefits_of, least_benefit, greatest_benefit, spread};
+ghost use Rattle.scaled_values.specs.Scaled.{first_eps, IsEps, floor_of, top_of, IsBenefitRow, IsBetween};
+ghost use Rattle.scaled_values.specs.Limits.{most_spread, most_step};
 ghost use Rattle.scaled_values.specs.Held.{entries_of, HasForm, stored_entries, HasStoredForm};
 ghost use Rattle.scaled_values.specs.Stored.{IsStored};
 
@@ -34,7 +37,8 @@ impl Model for Scaled {
 
 // The benefits of all rows.
 fn stored_rows(alloc: Global, problem: &Problem, sense: Sense) -> Result<Vec<StoredRow>, AllocError>
-    ensures entries { IfOk result (λ v. map stored_entries v.items ≡ benefit_rows sense problem.now) }
+    ensures entries { IfOk result (λ v.
+        map stored_entries v.items ≡ benefit_rows sense problem.now) }
     ensures form { IfOk result (λ v. All (HasStoredForm (length problem.now)) v.items) }
 {
     let n = problem.n();
@@ -45,7 +49,8 @@ fn stored_rows(alloc: Global, problem: &Problem, sense: Sense) -> Result<Vec<Sto
     Ok(rows)
 }
 
-/// The problem with its benefits, for the costs that are wanted.
+/// The problem with its benefits, for the costs that are wanted, in time linear in the listed pairs
+/// and in `n`. It takes 8 bytes a pair for a person that lists all objects, and 16 for any other.
 ///
 /// # Errors
 /// Only where memory is refused.
@@ -93,14 +98,15 @@ impl Scaled {
 
     /// The benefits of a person's pairs.
     pub fn row(&self, person: Person) -> Row<'_>
-        requires first { 0 < person }
-        requires last { person ≤ length self.now.problem }
+        requires { IsNumber (length self.now.problem) person }
         ensures entries { entries_of result ≡ row_of (benefits_of self.now) person }
         ensures form { HasForm (length self.now.problem) result }
         ensures rule { IsBenefitRow (length self.now.problem) (row_of (benefits_of self.now) person) }
-        ensures bounds { IsBetween (least_benefit self.now) (greatest_benefit self.now) (row_of (benefits_of self.now) person) }
+        ensures bounds { IsBetween (least_benefit self.now) (greatest_benefit self.now)
+            (row_of (benefits_of self.now) person) }
+        ensures problem { IsProblem self.now.problem }
     {
-        self.rows[person.0 as usize - 1].as_row()
+        self.rows[person.place()].as_row()
     }
 
     /// The least benefit of a listed pair, and 0 if nothing is listed.
@@ -123,7 +129,7 @@ impl Scaled {
     pub fn spread(&self) -> Benefit
         ensures value { result ≡ spread self.now }
         ensures least { pos 0 ≤ℤ result }
-        ensures greatest { result ≤ℤ pos (16386 * 10 ^ 12) }
+        ensures greatest { result ≤ℤ most_spread }
     {
         self.greatest - self.least
     }
@@ -136,22 +142,23 @@ impl Scaled {
         fifth(self.spread())
     }
 
-    // The spread and a slackness: the most that the price of a next object may be above that of an
-    // object before it, along a path of owned objects.
+    // The spread and a slackness: where persons have that slackness, by so much at most the price
+    // of an object is above that of another which its owner lists.
     fn step(&self, eps: i64) -> i64
         requires { IsEps self.now eps }
         ensures value { result ≡ spread self.now +ℤ eps }
         ensures least { pos 0 ≤ℤ result }
-        ensures greatest { result ≤ℤ pos (2 * 10 ^ 16) }
+        ensures greatest { result ≤ℤ most_step }
     {
         self.spread() + eps
     }
 
     /// The floor of a phase with slackness `eps` that starts with greatest price `p0`, in the unit
-    /// of benefits.
+    /// of benefits: the least benefit less `p0`, and less `n - 1` times the spread with `eps`.
     ///
-    /// A person whose best value is below it has no way to a free object
-    /// (Bertsekas, Network Optimization, 1998, section 7.1.5).
+    /// It is meant for auctions that keep slackness `eps`: there it is so low that a person whose
+    /// best value is below it has no way to a free object (Bertsekas, Network Optimization, 1998,
+    /// section 7.1.5). This call says the number alone; what it means is for the auction to prove.
     pub fn floor(&self, p0: Price, eps: i64) -> Price
         requires price { IsPrice p0 }
         requires eps { IsEps self.now eps }
@@ -160,7 +167,9 @@ impl Scaled {
         Price::from(self.least_benefit()) - p0 - steps(self.n() - 1, self.step(eps))
     }
 
-    /// No price and no level of such a phase is above it.
+    /// The top of such a phase: `p0` and `n` times the spread with `eps`.
+    ///
+    /// This call says the number alone; that no bid of the phase goes above it is a law of bids.
     pub fn top(&self, p0: Price, eps: i64) -> Price
         requires price { IsPrice p0 }
         requires eps { IsEps self.now eps }

@@ -1,20 +1,20 @@
 // Worked values of small and of wide problems.
-ghost use Rattle.std.specs.Prelude.{pos, ◌≤ℤ◌, ◌*◌, ◌^◌};
+ghost use Rattle.std.specs.Prelude.{pos, ◌≤ℤ◌};
 ghost use Rattle.assign_core.specs.Prices.{IsPrice};
 ghost use Rattle.scaled_values.specs.Scaled.{IsEps};
 
 use super::*;
-use assign_core::{Cost, Object, Person, Price, Problem, Sense};
+use assign_core::{Cost, GREATEST_COST, MOST_PERSONS, Object, Person, Price, Problem, Sense};
 use std::alloc::{AllocError, Global};
 use std::test::Fail;
 
 // A wide problem with two listed pairs, of these costs and their negations.
 fn two_pairs(alloc: Global, cost: Cost) -> Result<Scaled, AllocError>
     requires least { pos 0 ≤ℤ cost }
-    requires greatest { cost ≤ℤ pos (10 ^ 12) }
+    requires greatest { cost ≤ℤ GREATEST_COST }
 {
     let triples = [(Person(1), Object(1), -cost), (Person(2), Object(2), cost)];
-    let problem = Problem::sparse(alloc, 8192, &triples)?;
+    let problem = Problem::sparse(alloc, MOST_PERSONS, &triples)?;
     scale(alloc, problem, Sense::Min)
 }
 
@@ -44,10 +44,8 @@ fn next_bounds(scaled: &Scaled, p0: Price, eps: i64) -> Option<(Price, Price)>
     requires price { IsPrice p0 }
     requires eps { IsEps scaled.now eps }
 {
-    match next_eps(eps) {
-        Some(next) => Some(bounds(scaled, p0, next)),
-        None => None,
-    }
+    let next = next_eps(eps)?;
+    Some(bounds(scaled, p0, next))
 }
 
 #[test]
@@ -73,7 +71,7 @@ fn slacknesses_of_wide_problems(rt: HostRuntime) -> Result<(), Fail> {
         1,
     ];
     assert_eq!(rt; all.as_slice(), known.as_slice());
-    let widest = two_pairs(rt.alloc(), 1_000_000_000_000)?;
+    let widest = two_pairs(rt.alloc(), GREATEST_COST)?;
     let all = eps_list(rt.alloc(), &widest)?;
     assert_eq!(rt; all.len(), 23);
     assert_eq!(rt; all.first().copied(), Some(3_277_200_000_000_000));

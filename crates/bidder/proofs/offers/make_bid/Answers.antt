@@ -1,31 +1,27 @@
-use Rattle.std.proofs.Common.{◌<◌, ◌≤◌, length, refl, arith, rules, SFits}
+use Rattle.std.proofs.Common.{length, refl, arith, rules, SFits}
 use Rattle.std.specs.Int.{w128}
 use Rattle.std.proofs.lemmas.Int.{ints, to_z-of_z}
+use Rattle.assign_core.specs.Numbered.{IsNumber}
 use Rattle.assign_core.specs.Benefits.{IsBenefit}
+use Rattle.assign_core.proofs.Listed.{entry_found}
 use Rattle.bidder.specs.Offers.{benefits_at}
-use Rattle.bidder.proofs.Scans.{all_found}
 use Rattle.bidder.proofs.Sound.{made_is, bid_sound, bar_under, second_under}
 use Rattle.scaled_values.proofs.RowFacts.{benefit_row_is}
 use Rattle.bidder.proofs.Entries.{floor_least}
 use Rattle.bidder.proofs.offers.make_bid.Goals as goal
 
-pub level_of-requires-clause-first : goal.level_of-requires-clause-first
-level_of-requires-clause-first c =
+pub level_of-requires-clause-object : goal.level_of-requires-clause-object
+level_of-requires-clause-object c =
     let s = c.args.scaled.now in
-    (all_found (λ e. (0 < e.0) × (e.0 ≤ length s.problem)) (benefits_at s c.args.person) c.in-Some.best.object _ (benefit_row_is s c.args.person c.n-n.ensures.rule c.requires.first c.requires.last).within c.in-Some.ensures.best.listed).0
-
-pub level_of-requires-clause-last : goal.level_of-requires-clause-last
-level_of-requires-clause-last c =
-    let s = c.args.scaled.now in
-    rw c.requires.table (all_found (λ e. (0 < e.0) × (e.0 ≤ length s.problem)) (benefits_at s c.args.person) c.in-Some.best.object _ (benefit_row_is s c.args.person c.n-n.ensures.rule c.requires.first c.requires.last).within c.in-Some.ensures.best.listed).1
+    rw c.requires.table (entry_found (λ e. IsNumber (length s.problem) e.0) (benefits_at s c.args.person) c.in-Some.best.object _ (benefit_row_is s c.args.person c.in-Some.ensures.problem c.requires.person).within c.in-Some.ensures.best.listed)
 
 pub level_of-requires-clause-benefit : goal.level_of-requires-clause-benefit
 level_of-requires-clause-benefit c =
     let s = c.args.scaled.now in
-    all_found (λ e. IsBenefit e.1) (benefits_at s c.args.person) c.in-Some.best.object _ (benefit_row_is s c.args.person c.n-n.ensures.rule c.requires.first c.requires.last).benefits c.in-Some.ensures.best.listed
+    entry_found (λ e. IsBenefit e.1) (benefits_at s c.args.person) c.in-Some.best.object _ (benefit_row_is s c.args.person c.in-Some.ensures.problem c.requires.person).benefits c.in-Some.ensures.best.listed
 
 pub level_of-requires-clause-floor : goal.level_of-requires-clause-floor
-level_of-requires-clause-floor c = floor_least c.args.scaled.now c.args.ask c.n-n.ensures.rule c.requires.ask
+level_of-requires-clause-floor c = floor_least c.args.scaled.now c.args.ask c.in-Some.ensures.problem c.requires.ask
 
 pub level_of-requires-clause-enough : goal.level_of-requires-clause-enough
 level_of-requires-clause-enough c =

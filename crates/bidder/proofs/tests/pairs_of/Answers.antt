@@ -13,7 +13,7 @@ full_row benefits h =
     let long = length-row_from 1 benefits in
     record {
       rising = full_rising benefits;
-      within = λ k d lt. let at = row_from-index 1 k benefits d (pos 0) (omega arith) in rw at (omega arith, omega arith);
+      within = λ k d lt. let at = row_from-index 1 k benefits d (pos 0) (omega arith) in rw at (record { first = omega arith; last = omega arith });
       benefits = λ k d lt. let at = row_from-index 1 k benefits d (pos 0) (omega arith) in rw at (h k (pos 0) (omega arith));
     }
 

@@ -1,6 +1,7 @@
 use Rattle.std.proofs.Common.{ap, ◌∙◌, length, arith}
 use Rattle.assign_core.specs.Dense.{row_from}
-use Rattle.scaled_values.proofs.FullRows.{full_entries, length-rising, length-benefit_row}
+use Rattle.assign_core.proofs.BenefitRows.{length-benefit_row}
+use Rattle.scaled_values.proofs.FullRows.{full_entries, length-rising}
 use Rattle.scaled_values.proofs.row.StoredRow.new.Goals as goal
 
 pub returns-in_ok-benefits_of-clause-entries : goal.returns-in_ok-benefits_of-clause-entries

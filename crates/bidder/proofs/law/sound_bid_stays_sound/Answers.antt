@@ -1,5 +1,5 @@
 use Rattle.bidder.proofs.Sound.{sound_above}
-use Rattle.bidder.proofs.laws.sound_bid_stays_sound.Goals as goal
+use Rattle.bidder.proofs.law.sound_bid_stays_sound.Goals as goal
 
 pub returns : goal.returns
 returns c = sound_above

@@ -1,5 +1,5 @@
 use Rattle.bidder.proofs.Sound.{offer_once}
-use Rattle.bidder.proofs.laws.offer_is_determined.Goals as goal
+use Rattle.bidder.proofs.law.offer_is_determined.Goals as goal
 
 pub returns : goal.returns
 returns c = offer_once

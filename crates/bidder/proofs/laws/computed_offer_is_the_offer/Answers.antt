@@ -1,6 +1,0 @@
-use Rattle.scaled_values.proofs.RowFacts.{benefit_row_is}
-use Rattle.bidder.proofs.Sound.{offer_is}
-use Rattle.bidder.proofs.laws.computed_offer_is_the_offer.Goals as goal
-
-pub returns : goal.returns
-returns c = λ s prices version ask person problem first last. offer_is s prices version ask person (benefit_row_is s person problem first last).rising
