@@ -4,12 +4,12 @@ use Rattle.std.specs.List.{AllByRecursion, IsDistinct}
 use Rattle.std.proofs.lemmas.Bool.Decides.{eqb_tells}
 use Rattle.std.proofs.lemmas.List.{reverse-append, get_or_default}
 use Rattle.std.proofs.lemmas.Map.Keys.{IsDistinct-cons}
-use Rattle.assign_core.specs.Rows.{Row, IsListed}
+use Rattle.assign_core.specs.Rows.{Listing, IsListed}
 use Rattle.assign_core.specs.Matching.{owner_of}
 use Rattle.assign_core.specs.Reach.{Alternates, IsPath}
 use Rattle.hall_refuter.specs.declared.reach.Arrival.{Arrival}
 use Rattle.hall_refuter.specs.declared.reach.Found.{Found}
-use Rattle.hall_refuter.specs.Found.{beginner, person_at, arrival_at, object_of, object_at, IsArrived, IsReach, IsClimbable, Climbs}
+use Rattle.hall_refuter.specs.Found.{beginner, person_at, arrival_at, arrival_object, object_at, IsArrived, IsReach, IsClimbable, Climbs}
 
 pub arrival_is : (found : List Found) (t : ℕ) (d : Found) (o : Option Arrival) → t < length found → (get_or found t d).arrival ≡ o → arrival_at found t ≡ o
 arrival_is found t d o lt e = ap (λ g. g.arrival) (get_or_default found t (beginner 0) d lt) ∙ e
@@ -35,12 +35,12 @@ IsBeyond : List (Option ℕ) → List Found → ℕ → ℕ → Type 0
 IsBeyond owners found t k = (owner_of owners k ≡ None) ⊎ ((s : ℕ) × (t < s) × (s < length found) × (object_at found s ≡ Some k))
 
 -- a path on from the person at place t
-record IsPathOn (rows : List Row) (owners : List (Option ℕ)) (found : List Found) (t : ℕ) (ks : List ℕ) : Type 0 where
+record IsPathOn (rows : List Listing) (owners : List (Option ℕ)) (found : List Found) (t : ℕ) (ks : List ℕ) : Type 0 where
   alternates : Alternates rows owners (person_at found t) ks
   apart : IsDistinct nat_eq ks
   beyond : AllByRecursion (IsBeyond owners found t) ks
 
-alternates_on : (rows : List Row) (owners : List (Option ℕ)) (x y j : ℕ) (ks : List ℕ) → IsListed rows y j → owner_of owners j ≡ Some x → Alternates rows owners x ks → Alternates rows owners y (j ∷ ks)
+alternates_on : (rows : List Listing) (owners : List (Option ℕ)) (x y j : ℕ) (ks : List ℕ) → IsListed rows y j → owner_of owners j ≡ Some x → Alternates rows owners x ks → Alternates rows owners y (j ∷ ks)
 alternates_on rows owners x y j [] l o a = absurd a
 alternates_on rows owners x y j (k ∷ ks) l o a = (l, x, o, a)
 
@@ -53,7 +53,7 @@ all_beyond_more owners found p t [] lt b = tt
 all_beyond_more owners found p t (k ∷ ks) lt b = (beyond_more owners found p t k lt b.0, all_beyond_more owners found p t ks lt b.1)
 
 -- the object through which the person at place t was reached is none of those beyond
-differs : (rows : List Row) (owners : List (Option ℕ)) (found : List Found) (met : List Bool) (t j x k : ℕ) → IsReach rows owners found met → owner_of owners j ≡ Some x → object_at found t ≡ Some j → IsBeyond owners found t k → nat_eq j k ≡ false
+differs : (rows : List Listing) (owners : List (Option ℕ)) (found : List Found) (met : List Bool) (t j x k : ℕ) → IsReach rows owners found met → owner_of owners j ≡ Some x → object_at found t ≡ Some j → IsBeyond owners found t k → nat_eq j k ≡ false
 unfolding IsBeyond
 differs rows owners found met t j x k r o at b = elim (eqb_tells j k) [
   | inr e ↦ e.0
@@ -63,7 +63,7 @@ differs rows owners found met t j x k r o at b = elim (eqb_tells j k) [
   ]
 ]
 
-all_differ : (rows : List Row) (owners : List (Option ℕ)) (found : List Found) (met : List Bool) (t j x : ℕ) (ks : List ℕ) → IsReach rows owners found met → owner_of owners j ≡ Some x → object_at found t ≡ Some j →
+all_differ : (rows : List Listing) (owners : List (Option ℕ)) (found : List Found) (met : List Bool) (t j x : ℕ) (ks : List ℕ) → IsReach rows owners found met → owner_of owners j ≡ Some x → object_at found t ≡ Some j →
     AllByRecursion (IsBeyond owners found t) ks → AllByRecursion (λ k. nat_eq j k ≡ false) ks
 all_differ rows owners found met t j x [] r o at b = tt
 all_differ rows owners found met t j x (k ∷ ks) r o at b = (differs rows owners found met t j x k r o at b.0, all_differ rows owners found met t j x ks r o at b.1)
@@ -72,14 +72,14 @@ here_beyond : (owners : List (Option ℕ)) (found : List Found) (p t j : ℕ) �
 unfolding IsBeyond
 here_beyond owners found p t j lt last at = inr (t, lt, last, at)
 
-pub arrived_as : (rows : List Row) (owners : List (Option ℕ)) (found : List Found) (met : List Bool) (t : ℕ) (o : Option Arrival) → IsReach rows owners found met → t < length found → arrival_at found t ≡ o → IsArrived rows owners found t (person_at found t) o
+pub arrived_as : (rows : List Listing) (owners : List (Option ℕ)) (found : List Found) (met : List Bool) (t : ℕ) (o : Option Arrival) → IsReach rows owners found met → t < length found → arrival_at found t ≡ o → IsArrived rows owners found t (person_at found t) o
 arrived_as rows owners found met t o r lt e = subst (IsArrived rows owners found t (person_at found t)) e (r.arrived t lt)
 
-path_up : (rows : List Row) (owners : List (Option ℕ)) (found : List Found) (met : List Bool) (t : ℕ) (ks : List ℕ) (a : Arrival) → IsReach rows owners found met → t < length found → arrival_at found t ≡ Some a → IsPathOn rows owners found t ks →
+path_up : (rows : List Listing) (owners : List (Option ℕ)) (found : List Found) (met : List Bool) (t : ℕ) (ks : List ℕ) (a : Arrival) → IsReach rows owners found met → t < length found → arrival_at found t ≡ Some a → IsPathOn rows owners found t ks →
     IsPathOn rows owners found a.parent (a.object ∷ ks)
 path_up rows owners found met t ks a r lt e p =
     let h = arrived_as rows owners found met t (Some a) r lt e in
-    let at : object_at found t ≡ Some a.object = ap object_of e in
+    let at : object_at found t ≡ Some a.object = ap arrival_object e in
     record {
       alternates = alternates_on rows owners (person_at found t) (person_at found a.parent) a.object ks h.1 h.2 p.alternates;
       apart = IsDistinct-cons nat_eq a.object ks (all_differ rows owners found met t a.object (person_at found t) ks r h.2 at p.beyond) p.apart;
@@ -89,7 +89,7 @@ path_up rows owners found met t ks a r lt e p =
 turned : (j : ℕ) (js ks : List ℕ) → reverse (j ∷ js) ++ ks ≡ reverse js ++ (j ∷ ks)
 turned j js ks = ap (λ l. l ++ ks) (reverse-append (j ∷ []) js) ∙ append_assoc (reverse js) (j ∷ []) ks
 
-climbed : (rows : List Row) (owners : List (Option ℕ)) (found : List Found) (met : List Bool) (t : ℕ) (js ks : List ℕ) → IsReach rows owners found met → t < length found → Climbs found t js → IsPathOn rows owners found t ks →
+climbed : (rows : List Listing) (owners : List (Option ℕ)) (found : List Found) (met : List Bool) (t : ℕ) (js ks : List ℕ) → IsReach rows owners found met → t < length found → Climbs found t js → IsPathOn rows owners found t ks →
     IsPath rows owners (person_at found 0) (reverse js ++ ks)
 climbed rows owners found met t [] ks r lt c p =
     let h = arrived_as rows owners found met t None r lt c in
@@ -102,7 +102,7 @@ climbed rows owners found met t (j ∷ js) ks r lt c p =
     rw turned (climbed rows owners found met c.0.parent js (j ∷ ks) r (omega arith) c.3 on)
 
 -- the objects up to a free one, from the first person on
-pub path_found : (rows : List Row) (owners : List (Option ℕ)) (found : List Found) (met : List Bool) (last j : ℕ) (js path : List ℕ) → IsReach rows owners found met → last < length found →
+pub path_found : (rows : List Listing) (owners : List (Option ℕ)) (found : List Found) (met : List Bool) (last j : ℕ) (js path : List ℕ) → IsReach rows owners found met → last < length found →
     IsListed rows (person_at found last) j → owner_of owners j ≡ None → Climbs found last js → path ≡ reverse (j ∷ js) → IsPath rows owners (person_at found 0) path
 unfolding IsDistinct IsBeyond
 path_found rows owners found met last j js path r lt l free c e =
@@ -117,5 +117,5 @@ path_found rows owners found met last j js path r lt l free c e =
       free_beyond = inl free
 
 -- each parent was found before
-pub climbable : (rows : List Row) (owners : List (Option ℕ)) (found : List Found) (met : List Bool) → IsReach rows owners found met → IsClimbable found
+pub climbable : (rows : List Listing) (owners : List (Option ℕ)) (found : List Found) (met : List Bool) → IsReach rows owners found met → IsClimbable found
 climbable rows owners found met r = λ t a lt e. (arrived_as rows owners found met t (Some a) r lt e).0

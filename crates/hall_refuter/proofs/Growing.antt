@@ -1,15 +1,16 @@
 -- A search with one more person.
-use Rattle.std.proofs.Common.{◌≡◌, ℕ, ℤ, pos, ◌+◌, ◌-◌, ◌<◌, ◌≤◌, zero, suc, List, [], ◌∷◌, ◌++◌, Option, None, Some, IsSome, Bool, true, false, length, length-append, get_or, nat_eq, ap, arith, refl, rules, sym, subst, ◌∙◌, inl, inr, ◌⊎◌}
-use Rattle.std.proofs.lemmas.Bool.{cond-true, cond-false}
-use Rattle.std.proofs.lemmas.Bool.Decides.{eqb_tells}
+use Rattle.std.proofs.Common.{◌≡◌, ℕ, ℤ, pos, ◌+◌, ◌-◌, ◌<◌, ◌≤◌, List, [], ◌∷◌, ◌++◌, Option, None, Some, IsSome, Bool, true, false, length, length-append, get_or, ap, arith, refl, sym, subst, ◌∙◌, inl, inr, ◌⊎◌}
+use Rattle.std.proofs.lemmas.Bool.{cases_eq}
 use Rattle.std.proofs.lemmas.List.{get_or_append_left, get_or_push, get_or_read}
-use Rattle.assign_core.specs.Numbered.{numbered, renumbered}
-use Rattle.assign_core.specs.Rows.{Row, IsListed, listed_in, row_of}
+use Rattle.assign_core.specs.Numbered.{IsNumber, numbered, renumbered}
+use Rattle.assign_core.proofs.NumberedLemmas.{length-renumbered, low_or_same, numbered-index, numbered-other}
+use Rattle.assign_core.proofs.Listed.{entry_listed, place_of}
+use Rattle.assign_core.specs.Rows.{Listing, IsListed, listed_in, row_of}
 use Rattle.assign_core.specs.Matching.{owner_of}
 use Rattle.hall_refuter.specs.declared.reach.Arrival.{Arrival}
 use Rattle.hall_refuter.specs.declared.reach.Found.{Found}
-use Rattle.hall_refuter.specs.Found.{beginner, owner_through, person_at, arrival_at, object_of, object_at, IsMarked, IsArrived, IsReach, Grows}
-use Rattle.hall_refuter.proofs.Marks.{marked_same, marked_other, marked_kept, is_same, length_renumbered, count_more, numbered_at}
+use Rattle.hall_refuter.specs.Found.{beginner, owner_through, person_at, arrival_at, arrival_object, object_at, IsMarked, IsArrived, IsReach, Grows}
+use Rattle.hall_refuter.proofs.Marks.{marked_same, marked_kept, count_more}
 
 old_entry : (found : List Found) (e : Found) (t : ℕ) → t < length found → get_or (found ++ e ∷ []) t (beginner 0) ≡ get_or found t (beginner 0)
 old_entry found e t lt = get_or_append_left found (e ∷ []) (beginner 0) t lt
@@ -20,20 +21,20 @@ new_entry found e = get_or_push found e (beginner 0) (length found) refl
 old_person : (found : List Found) (e : Found) (t : ℕ) → t < length found → person_at (found ++ e ∷ []) t ≡ person_at found t
 old_person found e t lt = ap (λ f. f.person) (old_entry found e t lt)
 
-arrived_later : (rows : List Row) (owners : List (Option ℕ)) (found : List Found) (e : Found) (t x : ℕ) (o : Option Arrival) → t < length found →
+arrived_later : (rows : List Listing) (owners : List (Option ℕ)) (found : List Found) (e : Found) (t x : ℕ) (o : Option Arrival) → t < length found →
     IsArrived rows owners found t x o → IsArrived rows owners (found ++ e ∷ []) t x o
 arrived_later rows owners found e t x None lt h = h ∙ sym (old_person found e 0 (omega arith))
 arrived_later rows owners found e t x (Some a) lt h =
     (h.0, subst (λ y. IsListed rows y a.object) (sym (old_person found e a.parent (omega (arith, h.0)))) h.1, h.2)
 
 -- what the person at a place of the longer list is: an old one or the new one
-place_of : (found : List Found) (e : Found) (t : ℕ) → t < length (found ++ e ∷ []) → (t < length found) ⊎ (t ≡ length found)
-place_of found e t lt = let l = length-append found (e ∷ []) in grind arith
+old_or_new : (found : List Found) (e : Found) (t : ℕ) → t < length (found ++ e ∷ []) → (t < length found) ⊎ (t ≡ length found)
+old_or_new found e t lt = let l = length-append found (e ∷ []) in grind arith
 
-pushed_arrived : (rows : List Row) (owners : List (Option ℕ)) (found : List Found) (met : List Bool) (x j p : ℕ) → IsReach rows owners found met → p < length found → IsListed rows (person_at found p) j → owner_of owners j ≡ Some x →
+pushed_arrived : (rows : List Listing) (owners : List (Option ℕ)) (found : List Found) (met : List Bool) (x j p : ℕ) → IsReach rows owners found met → p < length found → IsListed rows (person_at found p) j → owner_of owners j ≡ Some x →
     (t : ℕ) → t < length (found ++ owner_through x j p ∷ []) →
     IsArrived rows owners (found ++ owner_through x j p ∷ []) t (person_at (found ++ owner_through x j p ∷ []) t) (arrival_at (found ++ owner_through x j p ∷ []) t)
-pushed_arrived rows owners found met x j p r lt l o t h = elim (place_of found (owner_through x j p) t h) [
+pushed_arrived rows owners found met x j p r lt l o t h = elim (old_or_new found (owner_through x j p) t h) [
   | inl old ↦
       subst (λ f. IsArrived rows owners (found ++ owner_through x j p ∷ []) t f.person f.arrival) (sym (old_entry found (owner_through x j p) t old))
       (arrived_later rows owners found (owner_through x j p) t (person_at found t) (arrival_at found t) old (r.arrived t old))
@@ -45,17 +46,17 @@ pushed_arrived rows owners found met x j p r lt l o t h = elim (place_of found (
 
 -- the object of an old place, and of the new one
 old_object : (found : List Found) (e : Found) (t i : ℕ) → t < length found → object_at (found ++ e ∷ []) t ≡ Some i → object_at found t ≡ Some i
-old_object found e t i lt h = ap (λ f. object_of f.arrival) (sym (old_entry found e t lt)) ∙ h
+old_object found e t i lt h = ap (λ f. arrival_object f.arrival) (sym (old_entry found e t lt)) ∙ h
 
 new_object : (found : List Found) (x j p t i : ℕ) → t ≡ length found → object_at (found ++ owner_through x j p ∷ []) t ≡ Some i → j ≡ i
 new_object found x j p t i e h =
     let new : get_or (found ++ owner_through x j p ∷ []) t (beginner 0) ≡ owner_through x j p = ap (λ k. get_or (found ++ owner_through x j p ∷ []) k (beginner 0)) e ∙ new_entry found (owner_through x j p) in
-    let s : Some j ≡ Some i = ap (λ f. object_of f.arrival) (sym new) ∙ h in
+    let s : Some j ≡ Some i = ap (λ f. arrival_object f.arrival) (sym new) ∙ h in
     cc
 
-pushed_apart : (rows : List Row) (owners : List (Option ℕ)) (found : List Found) (met : List Bool) (x j p : ℕ) → IsReach rows owners found met → numbered met j false ≡ false →
+pushed_apart : (rows : List Listing) (owners : List (Option ℕ)) (found : List Found) (met : List Bool) (x j p : ℕ) → IsReach rows owners found met → numbered met j false ≡ false →
     (s t i : ℕ) → s < t → t < length (found ++ owner_through x j p ∷ []) → object_at (found ++ owner_through x j p ∷ []) s ≡ Some i → object_at (found ++ owner_through x j p ∷ []) t ≡ Some i → ⊥
-pushed_apart rows owners found met x j p r clear s t i below h a b = elim (place_of found (owner_through x j p) t h) [
+pushed_apart rows owners found met x j p r clear s t i below h a b = elim (old_or_new found (owner_through x j p) t h) [
   | inl old ↦ r.apart s t i below old (old_object found (owner_through x j p) s i (omega arith) a) (old_object found (owner_through x j p) t i old b)
   | inr e ↦
       let same : j ≡ i = new_object found x j p t i e b in
@@ -65,45 +66,35 @@ pushed_apart rows owners found met x j p r clear s t i below h a b = elim (place
       cc
 ]
 
-pushed_marked : (rows : List Row) (owners : List (Option ℕ)) (found : List Found) (met : List Bool) (x j p : ℕ) → IsReach rows owners found met → 0 < j → j ≤ length met →
+pushed_marked : (rows : List Listing) (owners : List (Option ℕ)) (found : List Found) (met : List Bool) (x j p : ℕ) → IsReach rows owners found met → IsNumber (length met) j →
     (t i : ℕ) → t < length (found ++ owner_through x j p ∷ []) → object_at (found ++ owner_through x j p ∷ []) t ≡ Some i → IsMarked (renumbered met j true) i
-pushed_marked rows owners found met x j p r some last t i h a = elim (place_of found (owner_through x j p) t h) [
-  | inl old ↦ marked_kept met j i some last (r.marked t i old (old_object found (owner_through x j p) t i old a))
-  | inr e ↦ subst (IsMarked (renumbered met j true)) (new_object found x j p t i e a) (marked_same met j some last)
+pushed_marked rows owners found met x j p r number t i h a = elim (old_or_new found (owner_through x j p) t h) [
+  | inl old ↦ marked_kept met j i number (r.marked t i old (old_object found (owner_through x j p) t i old a))
+  | inr e ↦ subst (IsMarked (renumbered met j true)) (new_object found x j p t i e a) (marked_same met j number)
 ]
 
-pushed_through : (rows : List Row) (owners : List (Option ℕ)) (found : List Found) (met : List Bool) (x j p : ℕ) → IsReach rows owners found met →
+pushed_through : (rows : List Listing) (owners : List (Option ℕ)) (found : List Found) (met : List Bool) (x j p : ℕ) → IsReach rows owners found met →
     (i : ℕ) → IsMarked (renumbered met j true) i → (t : ℕ) × (t < length (found ++ owner_through x j p ∷ [])) × (object_at (found ++ owner_through x j p ∷ []) t ≡ Some i)
 pushed_through rows owners found met x j p r i m =
     let l = length-append found (owner_through x j p ∷ []) in
-    elim (is_same i j) [
-      | inl e ↦ (length found, omega arith, ap (λ f. object_of f.arrival) (new_entry found (owner_through x j p)) ∙ ap Some (sym e))
+    elim (cases_eq i j) [
+      | inl e ↦ (length found, omega arith, ap (λ f. arrival_object f.arrival) (new_entry found (owner_through x j p)) ∙ ap Some (sym e))
       | inr ne ↦
-          let was = r.through i (sym (marked_other met j i ne) ∙ m) in
-          (was.0, let lt = was.1 in omega arith, ap (λ f. object_of f.arrival) (old_entry found (owner_through x j p) was.0 was.1) ∙ was.2)
+          let was = r.through i (sym (numbered-other met j i true false ne) ∙ m) in
+          (was.0, let lt = was.1 in omega arith, ap (λ f. arrival_object f.arrival) (old_entry found (owner_through x j p) was.0 was.1) ∙ was.2)
     ]
 
-pub reach_pushed : (rows : List Row) (owners : List (Option ℕ)) (found : List Found) (met : List Bool) (x j p : ℕ) → IsReach rows owners found met → p < length found → 0 < j → j ≤ length met →
+pub reach_pushed : (rows : List Listing) (owners : List (Option ℕ)) (found : List Found) (met : List Bool) (x j p : ℕ) → IsReach rows owners found met → p < length found → IsNumber (length met) j →
     IsListed rows (person_at found p) j → owner_of owners j ≡ Some x → numbered met j false ≡ false →
     IsReach rows owners (found ++ owner_through x j p ∷ []) (renumbered met j true)
-reach_pushed rows owners found met x j p r lt some last l o clear = record {
-  long = length_renumbered met j ∙ r.long;
-  count = let a = length-append found (owner_through x j p ∷ []) in let b = count_more met j some last clear in let c = r.count in omega arith;
+reach_pushed rows owners found met x j p r lt number l o clear = record {
+  long = length-renumbered met j true ∙ r.long;
+  count = let a = length-append found (owner_through x j p ∷ []) in let b = count_more met j number clear in let c = r.count in omega arith;
   arrived = pushed_arrived rows owners found met x j p r lt l o;
   apart = pushed_apart rows owners found met x j p r clear;
-  marked = pushed_marked rows owners found met x j p r some last;
+  marked = pushed_marked rows owners found met x j p r number;
   through = pushed_through rows owners found met x j p r;
 }
-
-pub grows_pushed : (found : List Found) (met : List Bool) (e : Found) (j : ℕ) → 0 < j → j ≤ length met → Grows found met (found ++ e ∷ []) (renumbered met j true)
-grows_pushed found met e j some last = record {
-  longer = let a = length-append found (e ∷ []) in omega arith;
-  same = old_person found e;
-  kept = λ i m. marked_kept met j i some last m;
-}
-
-pub grows_itself : (found : List Found) (met : List Bool) → Grows found met found met
-grows_itself found met = record { longer = omega arith; same = λ t lt. refl; kept = λ j m. m }
 
 pub grows_through : (f g h : List Found) (a b c : List Bool) → Grows f a g b → Grows g b h c → Grows f a h c
 grows_through f g h a b c first second = record {
@@ -112,65 +103,41 @@ grows_through f g h a b c first second = record {
   kept = λ j m. second.kept j (first.kept j m);
 }
 
--- a listed object stands in the row
-pub entry_of : (row : Row) (j : ℕ) → IsSome (listed_in row j) → (k : ℕ) × (k < length row) × ((d : ℕ × ℤ) → (get_or row k d).0 ≡ j)
-entry_of [] j s = absurd (search rules)
-entry_of (e ∷ row) j s = elim (eqb_tells e.0 j) [
-  | inl t ↦ (0, omega arith, λ d. t.1)
-  | inr t ↦
-      let r = entry_of row j (rw (cond-false (nat_eq e.0 j) (Some e.1) (listed_in row j) t.0) at s) in
-      (suc r.0, let lt = r.1 in omega arith, r.2)
-]
-
--- an object that stands in the row is listed
-pub entry_listed : (row : Row) (k : ℕ) (d : ℕ × ℤ) → k < length row → IsSome (listed_in row (get_or row k d).0)
-entry_listed [] k d lt = absurd (omega arith)
-entry_listed (e ∷ row) zero d lt = elim (eqb_tells e.0 e.0) [
-  | inl t ↦ rw (cond-true (nat_eq e.0 e.0) (Some e.1) (listed_in row e.0) t.0) (search rules)
-  | inr t ↦ absurd (t.1 refl)
-]
-entry_listed (e ∷ row) (suc k) d lt = elim (eqb_tells e.0 (get_or row k d).0) [
-  | inl t ↦ rw (cond-true (nat_eq e.0 (get_or row k d).0) (Some e.1) (listed_in row (get_or row k d).0) t.0) (search rules)
-  | inr t ↦ rw (cond-false (nat_eq e.0 (get_or row k d).0) (Some e.1) (listed_in row (get_or row k d).0) t.0) (entry_listed row k d (omega arith))
-]
-
 -- an object that wasn't met, and whose owner is found through it
-pub met_found : (rows : List Row) (owners : List (Option ℕ)) (found : List Found) (met : List Bool) (later : List Found) (marks : List Bool) (x j p i : ℕ) (mark : Bool) (d : Option ℕ) →
-    later ≡ found ++ owner_through x j p ∷ [] → marks ≡ renumbered met j true → i ≡ j → 0 < j → j ≤ length owners → length met ≡ length owners → p < length found →
-    mark ≡ get_or met (i - 1) mark → mark ≡ false → get_or owners (i - 1) d ≡ Some x → IsReach rows owners found met → IsListed rows (person_at found p) j →
+pub met_found : (rows : List Listing) (owners : List (Option ℕ)) (found : List Found) (met : List Bool) (later : List Found) (marks : List Bool) (x j p i : ℕ) (mark : Bool) (d : Option ℕ) →
+    later ≡ found ++ owner_through x j p ∷ [] → marks ≡ renumbered met j true → i ≡ j - 1 → IsNumber (length owners) j → length met ≡ length owners → p < length found →
+    mark ≡ get_or met i mark → mark ≡ false → get_or owners i d ≡ Some x → IsReach rows owners found met → IsListed rows (person_at found p) j →
     IsReach rows owners later marks
-met_found rows owners found met later marks x j p i mark d later_is marks_is same some last long lt at clear own r l =
-    let few : j ≤ length met = omega arith in
-    let free : numbered met j false ≡ false = numbered_at met j mark false some few ∙ ap (λ k. get_or met (k - 1) mark) (sym same) ∙ sym at ∙ clear in
-    let o : owner_of owners j ≡ Some x = numbered_at owners j d None some last ∙ ap (λ k. get_or owners (k - 1) d) (sym same) ∙ own in
-    rw (later_is, marks_is) (reach_pushed rows owners found met x j p r lt some few l o free)
+met_found rows owners found met later marks x j p i mark d later_is marks_is same number long lt at clear own r l =
+    let here : IsNumber (length met) j = subst (λ n. IsNumber n j) (sym long) number in
+    let free : numbered met j false ≡ false = numbered-index met j mark false here.first here.last ∙ ap (λ k. get_or met k mark) (sym same) ∙ sym at ∙ clear in
+    let o : owner_of owners j ≡ Some x = numbered-index owners j d None number.first number.last ∙ ap (λ k. get_or owners k d) (sym same) ∙ own in
+    rw (later_is, marks_is) (reach_pushed rows owners found met x j p r lt here l o free)
 
 -- the person at a place, as an index gives it
 pub person_read : (found : List Found) (t : ℕ) (f : Found) → t < length found → f ≡ get_or found t f → person_at found t ≡ f.person
 person_read found t f lt at = ap (λ g. g.person) (sym (get_or_read found t f lt at (beginner 0)))
 
 -- an entry of the person's row is listed
-pub listed_item : (rows : List Row) (x y : ℕ) (row : Row) (k : ℕ) (e : ℕ × ℤ) → row ≡ row_of rows y → x ≡ y → k < length row → e ≡ get_or row k e → IsListed rows x e.0
+pub listed_item : (rows : List Listing) (x y : ℕ) (row : Listing) (k : ℕ) (e : ℕ × ℤ) → row ≡ row_of rows y → x ≡ y → k < length row → e ≡ get_or row k e → IsListed rows x e.0
 listed_item rows x y row k e r same lt at =
     rw same (subst (λ f. IsSome (listed_in (row_of rows y) f.0)) (sym at) (subst (λ w. IsSome (listed_in w (get_or row k e).0)) r (entry_listed row k e lt)))
 
 -- where all entries of the row are met, so is each listed object
-pub all_met : (rows : List Row) (x y : ℕ) (row : Row) (marks : List Bool) (h : ℕ) → row ≡ row_of rows y → x ≡ y → length row ≤ h → ((k : ℕ) (d : ℕ × ℤ) → k < h → IsMarked marks (get_or row k d).0) →
+pub all_met : (rows : List Listing) (x y : ℕ) (row : Listing) (marks : List Bool) (h : ℕ) → row ≡ row_of rows y → x ≡ y → length row ≤ h → ((k : ℕ) (d : ℕ × ℤ) → k < h → IsMarked marks (get_or row k d).0) →
     (j : ℕ) → IsListed rows x j → IsMarked marks j
 all_met rows x y row marks h r same few m j l =
     let s : IsSome (listed_in row j) = rw r (rw same at l) in
-    let e = entry_of row j s in
-    subst (IsMarked marks) (e.2 (0, pos 0)) (m e.0 (0, pos 0) (let lt = e.1 in omega arith))
+    let e = place_of row j s in
+    subst (IsMarked marks) (e.object (0, pos 0)) (m e.place (0, pos 0) (let lt = e.below in omega arith))
 
 -- one more entry is met
-pub more_met : (row : Row) (marks : List Bool) (i : ℕ) (e : ℕ × ℤ) → ((k : ℕ) (d : ℕ × ℤ) → k < i → IsMarked marks (get_or row k d).0) → i < length row → e ≡ get_or row i e → IsMarked marks e.0 →
+pub more_met : (row : Listing) (marks : List Bool) (i : ℕ) (e : ℕ × ℤ) → ((k : ℕ) (d : ℕ × ℤ) → k < i → IsMarked marks (get_or row k d).0) → i < length row → e ≡ get_or row i e → IsMarked marks e.0 →
     (k : ℕ) (d : ℕ × ℤ) → k < i + 1 → IsMarked marks (get_or row k d).0
 more_met row marks i e m lt at here k d below = elim (low_or_same k i below) [
   | inl less ↦ m k d less
   | inr same ↦ subst (λ z. IsMarked marks z.0) (get_or_read row i e lt at d ∙ ap (λ q. get_or row q d) (sym same)) here
-] where
-  low_or_same : (k i : ℕ) → k < i + 1 → (k < i) ⊎ (k ≡ i)
-  low_or_same k i below = grind arith
+]
 
 -- a place that was there has its person still, whom the longer list shows
 pub person_stays : (found later : List Found) (met marks : List Bool) (t : ℕ) (f : Found) → Grows found met later marks → t < length found → f ≡ get_or found t f → person_at later t ≡ f.person

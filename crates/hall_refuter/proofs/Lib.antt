@@ -4,3 +4,4 @@ pub mod Climbing
 pub mod Marking
 pub mod Refuting
 pub mod Searching
+pub mod Determined

@@ -1,45 +1,41 @@
 -- Marks of the persons found, and lists of what is marked.
-use Rattle.std.proofs.Common.{◌≡◌, ℕ, ◌+◌, ◌-◌, ◌<◌, ◌≤◌, ◌↔◌, zero, suc, List, [], ◌∷◌, Bool, true, false, Less, length, get_or, set, ap, arith, refl, sym, subst, ◌∙◌, inl, inr, ◌⊎◌}
+use Rattle.std.proofs.Common.{◌≡◌, ℕ, ◌+◌, ◌-◌, ◌<◌, ◌↔◌, zero, suc, List, [], ◌∷◌, Bool, true, false, Less, length, get_or, set, ap, arith, refl, sym, subst, ◌∙◌, inl, inr}
 use Rattle.std.specs.List.{All, AllByRecursion, Contains}
 use Rattle.std.specs.List.Sorted.{IsStrictlyIncreasing, IsStrictlySortedBy}
 use Rattle.std.specs.Ordering.{nat_cmp}
+use Rattle.std.proofs.lemmas.Bool.{cases_eq}
 use Rattle.std.proofs.lemmas.Bool.Decides.{nat_tests}
 use Rattle.std.proofs.lemmas.Map.Keys.{IsStrictlyIncreasing-from_sorted}
-use Rattle.assign_core.specs.Numbered.{renumbered}
+use Rattle.assign_core.specs.Numbered.{IsNumber, renumbered}
+use Rattle.assign_core.proofs.NumberedLemmas.{low_or_same, numbered-other, renumber-set}
 use Rattle.hall_refuter.specs.declared.reach.Found.{Found}
 use Rattle.hall_refuter.specs.Found.{person_at, IsMarked, IsAmongFirst, marked_from}
-use Rattle.hall_refuter.proofs.Marks.{marked_same, marked_other, marked_kept, is_same}
+use Rattle.hall_refuter.proofs.Marks.{marked_same, marked_kept}
 use Rattle.hall_refuter.proofs.Growing.{person_read}
 
-set_is : (marks : List Bool) (i j : ℕ) → i ≡ j → 0 < j → set marks (i - 1) true ≡ renumbered marks j true
-set_is marks i zero e some = absurd (omega arith)
-set_is marks i (suc k) e some = let at : i - 1 ≡ k = omega arith in ap (λ q. set marks q true) at
+set_is : (marks : List Bool) (i j : ℕ) → i ≡ j - 1 → 0 < j → set marks i true ≡ renumbered marks j true
+set_is marks i j e some = ap (λ q. set marks q true) e ∙ sym (renumber-set marks j true some)
 
-low_or_same : (k i : ℕ) → k < i + 1 → (k < i) ⊎ (k ≡ i)
-low_or_same k i below = grind arith
-
-one_marked : (found : List Found) (marks : List Bool) (h j x : ℕ) → person_at found h ≡ j → 0 < j → j ≤ length marks → (IsMarked marks x ↔ IsAmongFirst found x h) → IsMarked (renumbered marks j true) x ↔ IsAmongFirst found x (h + 1)
-one_marked found marks h j x at some last before = (
-  (λ m. elim (is_same x j) [
+one_marked : (found : List Found) (marks : List Bool) (h j x : ℕ) → person_at found h ≡ j → IsNumber (length marks) j → (IsMarked marks x ↔ IsAmongFirst found x h) → IsMarked (renumbered marks j true) x ↔ IsAmongFirst found x (h + 1)
+one_marked found marks h j x at number before = (
+  (λ m. elim (cases_eq x j) [
     | inl e ↦ (h, omega arith, at ∙ sym e)
-    | inr ne ↦ let was = before.0 (sym (marked_other marks j x ne) ∙ m) in (was.0, (let lt = was.1 in omega arith), was.2)
+    | inr ne ↦ let was = before.0 (sym (numbered-other marks j x true false ne) ∙ m) in (was.0, (let lt = was.1 in omega arith), was.2)
   ]),
   (λ a. elim (low_or_same a.0 h a.1) [
-    | inl less ↦ marked_kept marks j x some last (before.1 (a.0, less, a.2))
+    | inl less ↦ marked_kept marks j x number (before.1 (a.0, less, a.2))
     | inr same ↦
         let e : j ≡ x = sym at ∙ ap (person_at found) (sym same) ∙ a.2 in
-        subst (IsMarked (renumbered marks j true)) e (marked_same marks j some last)
+        subst (IsMarked (renumbered marks j true)) e (marked_same marks j number)
   ]),
 )
 
 -- one more person is marked
-pub marked_more : (found : List Found) (marks : List Bool) (n h i : ℕ) (f : Found) → i ≡ f.person → h < length found → f ≡ get_or found h f → All (λ g. (0 < g.person) × (g.person ≤ n)) found → length marks ≡ n →
-    ((x : ℕ) → IsMarked marks x ↔ IsAmongFirst found x h) → (x : ℕ) → IsMarked (set marks (i - 1) true) x ↔ IsAmongFirst found x (h + 1)
+pub marked_more : (found : List Found) (marks : List Bool) (n h i : ℕ) (f : Found) → i ≡ f.person - 1 → h < length found → f ≡ get_or found h f → All (λ g. IsNumber n g.person) found → length marks ≡ n →
+    ((x : ℕ) → IsMarked marks x ↔ IsAmongFirst found x h) → (x : ℕ) → IsMarked (set marks i true) x ↔ IsAmongFirst found x (h + 1)
 marked_more found marks n h i f e lt at within long before x =
-    let w : (0 < f.person) × (f.person ≤ n) = subst (λ g. (0 < g.person) × (g.person ≤ n)) (sym at) (within h f lt) in
-    let some = w.0 in
-    let last : f.person ≤ length marks = let l = w.1 in omega arith in
-    rw (set_is marks i f.person e some) (one_marked found marks h f.person x (person_read found h f lt at) some last (before x))
+    let w : IsNumber n f.person = subst (λ g. IsNumber n g.person) (sym at) (within h f lt) in
+    rw (set_is marks i f.person e w.first) (one_marked found marks h f.person x (person_read found h f lt at) (subst (λ m. IsNumber m f.person) (sym long) w) (before x))
 
 contains_cons : (y : ℕ) (xs : List ℕ) (x : ℕ) → Contains xs x → Contains (y ∷ xs) x
 contains_cons y xs x h = (suc h.0, (let lt = h.1 in omega arith), h.2)

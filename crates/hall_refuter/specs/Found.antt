@@ -1,7 +1,8 @@
--- What a search has found so far: persons in the order in which they were reached, and the objects met on the way.
+-- What a search has found so far: persons in the order in which they were reached, and the objects met on
+-- the way.
 use Rattle.std.specs.Prelude.{◌≡◌, ℕ, ◌+◌, ◌<◌, ◌≤◌, List, [], ◌∷◌, Option, None, Some, Bool, true, false, if◌then◌else◌, length, count_by, slice_index_or}
 use Rattle.assign_core.specs.Numbered.{numbered}
-use Rattle.assign_core.specs.Rows.{Row, IsListed}
+use Rattle.assign_core.specs.Rows.{Listing, IsListed}
 use Rattle.assign_core.specs.Matching.{owner_of}
 use Rattle.hall_refuter.specs.declared.reach.Arrival.{Arrival}
 use Rattle.hall_refuter.specs.declared.reach.Found.{Found}
@@ -22,13 +23,14 @@ person_at found t = (slice_index_or found t (beginner 0)).person
 abbrev pub arrival_at : List Found → ℕ → Option Arrival
 arrival_at found t = (slice_index_or found t (beginner 0)).arrival
 
-abbrev pub object_of : Option Arrival → Option ℕ
-object_of None = None
-object_of (Some a) = Some a.object
+-- the object through which one was reached, if one was
+abbrev pub arrival_object : Option Arrival → Option ℕ
+arrival_object None = None
+arrival_object (Some a) = Some a.object
 
 -- the object through which that person was reached
 abbrev pub object_at : List Found → ℕ → Option ℕ
-object_at found t = object_of (arrival_at found t)
+object_at found t = arrival_object (arrival_at found t)
 
 -- the number is marked
 abbrev pub IsMarked : List Bool → ℕ → Type 0
@@ -43,17 +45,22 @@ abbrev pub marked_from : ℕ → List Bool → List ℕ
 marked_from j [] = []
 marked_from j (mark ∷ marks) = if mark then j ∷ marked_from (j + 1) marks else marked_from (j + 1) marks
 
--- the person at place t was reached through an object that it owns, listed by a person found before; the first is reached as it is
-abbrev pub IsArrived : List Row → List (Option ℕ) → List Found → ℕ → ℕ → Option Arrival → Type 0
+-- the person at place t was reached through an object that it owns, listed by a person found before; the
+-- first is reached as it is
+abbrev pub IsArrived : List Listing → List (Option ℕ) → List Found → ℕ → ℕ → Option Arrival → Type 0
 IsArrived rows owners found t x None = x ≡ person_at found 0
-IsArrived rows owners found t x (Some a) = (a.parent < t) × IsListed rows (person_at found a.parent) a.object × (owner_of owners a.object ≡ Some x)
+IsArrived rows owners found t x (Some a) =
+    (a.parent < t) × IsListed rows (person_at found a.parent) a.object × (owner_of owners a.object ≡ Some x)
 
 -- nobody is reached twice, and the marked objects are those through which somebody was reached
-pub record IsReach (rows : List Row) (owners : List (Option ℕ)) (found : List Found) (met : List Bool) : Type 0 where
+pub record IsReach (rows : List Listing) (owners : List (Option ℕ)) (found : List Found) (met : List Bool) :
+    Type 0 where
   pub long : length met ≡ length rows
   pub count : length found ≡ count_by (λ b. b) met + 1
-  pub arrived : (t : ℕ) → t < length found → IsArrived rows owners found t (person_at found t) (arrival_at found t)
-  pub apart : (s t j : ℕ) → s < t → t < length found → object_at found s ≡ Some j → object_at found t ≡ Some j → ⊥
+  pub arrived : (t : ℕ) → t < length found
+      → IsArrived rows owners found t (person_at found t) (arrival_at found t)
+  pub apart : (s t j : ℕ) → s < t → t < length found → object_at found s ≡ Some j
+      → object_at found t ≡ Some j → ⊥
   pub marked : (t j : ℕ) → t < length found → object_at found t ≡ Some j → IsMarked met j
   pub through : (j : ℕ) → IsMarked met j → (t : ℕ) × (t < length found) × (object_at found t ≡ Some j)
 
@@ -69,11 +76,11 @@ IsMet owners met j true = owner_of owners j ≡ None
 IsMet owners met j false = IsMarked met j
 
 -- each object that one of the first h persons lists is met
-abbrev pub IsWalked : List Row → List Found → List Bool → ℕ → Type 0
+abbrev pub IsWalked : List Listing → List Found → List Bool → ℕ → Type 0
 IsWalked rows found met h = (t j : ℕ) → t < h → IsListed rows (person_at found t) j → IsMarked met j
 
 -- what became of a visit at person x: the person lists a free object, or each object that it lists is met
-abbrev pub IsVisited : List Row → List (Option ℕ) → List Bool → ℕ → Option ℕ → Type 0
+abbrev pub IsVisited : List Listing → List (Option ℕ) → List Bool → ℕ → Option ℕ → Type 0
 IsVisited rows owners met x (Some j) = IsListed rows x j × (owner_of owners j ≡ None)
 IsVisited rows owners met x None = (j : ℕ) → IsListed rows x j → IsMarked met j
 

@@ -1,6 +1,7 @@
 //! For a person who owns nothing: a Hall set, or an alternating path to a free object.
 #![tactic(auto)]
 
+mod law;
 mod lists;
 mod path;
 mod reach;
@@ -8,4 +9,5 @@ mod search;
 #[cfg(test)]
 mod tests;
 
+pub use law::refutation_is_determined;
 pub use search::{Search, refute};

@@ -15,7 +15,8 @@ pub fn path_to(
 ) -> Result<Vec<Object>, AllocError>
     requires last { last < length found.now }
     requires climbable { IsClimbable found.now }
-    ensures { IfOk result (λ path. (js : List ℕ) × Climbs found.now last js × (path.items ≡ reverse (object ∷ js))) }
+    ensures { IfOk result (λ path. (js : List ℕ) × Climbs found.now last js
+        × (path.items ≡ reverse (object ∷ js))) }
 {
     let mut objects = Vec::new(alloc);
     objects.push(object)?;

@@ -1,7 +1,7 @@
 // The persons that alternating walks reach, found breadth first.
-ghost use Rattle.std.specs.Prelude.{◌≡◌, ℕ, ◌+◌, ◌<◌, ◌≤◌, List, [], ◌∷◌, ◌++◌, Option, None, Some, Bool, false, true, IfOk, length, replicate};
-ghost use Rattle.assign_core.specs.Numbered.{renumbered};
-ghost use Rattle.assign_core.specs.Rows.{Row, IsListed};
+ghost use Rattle.std.specs.Prelude.{◌≡◌, ℕ, ◌<◌, List, [], ◌∷◌, ◌++◌, Option, None, Some, Bool, false, true, IfOk, length, replicate};
+ghost use Rattle.assign_core.specs.Numbered.{IsNumber, renumbered};
+ghost use Rattle.assign_core.specs.Rows.{Listing, IsListed};
 ghost use Rattle.assign_core.specs.Matching.{IsMatching};
 ghost use Rattle.hall_refuter.specs.Found.{beginner, owner_through, person_at, IsReach, IsMet, IsVisited, Grows};
 
@@ -46,16 +46,17 @@ pub fn begin(alloc: Global, n: u16, person: Person) -> Result<Reach, AllocError>
 
 // One more person, the owner of an object that wasn't met before.
 fn add(reach: &mut Reach, object: Object, parent: usize, owner: Person) -> Result<(), AllocError>
-    requires first { 0 < object }
-    requires last { object ≤ length reach.old.met.items }
-    ensures found { IfOk result (λ _. reach.new.found.items ≡ reach.old.found.items ++ owner_through owner object parent ∷ []) }
-    ensures met { IfOk result (λ _. reach.new.met.items ≡ renumbered reach.old.met.items object true) }
+    requires { IsNumber (length reach.old.met.items) object }
+    ensures found { IfOk result (λ _.
+        reach.new.found.items ≡ reach.old.found.items ++ owner_through owner object parent ∷ []) }
+    ensures met { IfOk result (λ _.
+        reach.new.met.items ≡ renumbered reach.old.met.items object true) }
 {
     reach.found.push(Found {
         person: owner,
         arrival: Some(Arrival { object, parent }),
     })?;
-    reach.met[object.0 as usize - 1] = true;
+    reach.met[object.place()] = true;
     Ok(())
 }
 
@@ -66,17 +67,18 @@ fn meet(
     object: Object,
     parent: usize,
 ) -> Result<bool, AllocError>
-    requires first { 0 < object }
-    requires last { object ≤ length owners.now }
+    requires object { IsNumber (length owners.now) object }
     requires long { length reach.old.met.items ≡ length owners.now }
     requires parent { parent < length reach.old.found.items }
-    ensures reach { IfOk result (λ _. (rows : List Row) → IsReach rows owners.now reach.old.found.items reach.old.met.items
+    ensures reach { IfOk result (λ _. (rows : List Listing)
+        → IsReach rows owners.now reach.old.found.items reach.old.met.items
         → IsListed rows (person_at reach.old.found.items parent) object
         → IsReach rows owners.now reach.new.found.items reach.new.met.items) }
-    ensures grows { IfOk result (λ _. Grows reach.old.found.items reach.old.met.items reach.new.found.items reach.new.met.items) }
+    ensures grows { IfOk result (λ _. Grows reach.old.found.items reach.old.met.items
+        reach.new.found.items reach.new.met.items) }
     ensures met { IfOk result (IsMet owners.now reach.new.met.items object) }
 {
-    let place = object.0 as usize - 1;
+    let place = object.place();
     if reach.met[place] {
         return Ok(false);
     }
@@ -99,11 +101,13 @@ pub fn visit(
     requires matching { IsMatching problem.now owners.now }
     requires reach { IsReach problem.now owners.now reach.old.found.items reach.old.met.items }
     requires next { next < length reach.old.found.items }
-    requires first { 0 < person_at reach.old.found.items next }
-    requires last { person_at reach.old.found.items next ≤ length problem.now }
-    ensures reach { IfOk result (λ _. IsReach problem.now owners.now reach.new.found.items reach.new.met.items) }
-    ensures grows { IfOk result (λ _. Grows reach.old.found.items reach.old.met.items reach.new.found.items reach.new.met.items) }
-    ensures visited { IfOk result (λ free. IsVisited problem.now owners.now reach.new.met.items (person_at reach.old.found.items next) free) }
+    requires person { IsNumber (length problem.now) (person_at reach.old.found.items next) }
+    ensures reach { IfOk result (λ _.
+        IsReach problem.now owners.now reach.new.found.items reach.new.met.items) }
+    ensures grows { IfOk result (λ _. Grows reach.old.found.items reach.old.met.items
+        reach.new.found.items reach.new.met.items) }
+    ensures visited { IfOk result (λ free. IsVisited problem.now owners.now reach.new.met.items
+        (person_at reach.old.found.items next) free) }
 {
     let person = reach.found[next].person;
     for (object, _) in problem.row(person) {

@@ -1,15 +1,16 @@
 // The search for a Hall set or an alternating path.
-ghost use Rattle.std.specs.Prelude.{◌≡◌, ℕ, ◌<◌, ◌≤◌, ◌↔◌, Some, IfOk, length, All, Contains};
+ghost use Rattle.std.specs.Prelude.{◌≡◌, ℕ, ◌≤◌, ◌↔◌, Some, IfOk, length, All, Contains};
 ghost use Rattle.std.specs.List.Sorted.{IsStrictlyIncreasing};
+ghost use Rattle.assign_core.specs.Numbered.{IsNumber};
 ghost use Rattle.assign_core.specs.Matching.{IsMatching, owner_of};
 ghost use Rattle.assign_core.specs.Reach.{IsBlocked};
 ghost use Rattle.hall_refuter.specs.Found.{IsAmongFirst, IsMarked};
 ghost use Rattle.hall_refuter.specs.Search.{IsFound, IsHall};
 
-use super::lists::{marked_objects, marked_persons, marks_of};
+use super::lists::{marked, marks_of};
 use super::path::path_to;
 use super::reach::{Reach, begin, visit};
-use assign_core::{HallSet, Object, Person, Problem};
+use assign_core::{HallSet, MOST_PERSONS, Object, Person, Problem};
 use scaled_values::Scaled;
 use std::alloc::{AllocError, Global};
 
@@ -23,17 +24,20 @@ pub enum Search {
 
 // The persons found and the objects met, both rising.
 fn hall_set(alloc: Global, reach: &Reach) -> Result<HallSet, AllocError>
-    requires few { length reach.now.met.items ≤ 8192 }
-    requires within { All (λ f. (0 < f.person) × (f.person ≤ length reach.now.met.items)) reach.now.found.items }
-    ensures persons { IfOk result (λ hall. (x : ℕ) → Contains hall.persons x ↔ IsAmongFirst reach.now.found.items x (length reach.now.found.items)) }
-    ensures objects { IfOk result (λ hall. (j : ℕ) → Contains hall.objects j ↔ IsMarked reach.now.met.items j) }
+    requires few { length reach.now.met.items ≤ MOST_PERSONS }
+    requires within { All (λ f. IsNumber (length reach.now.met.items) f.person)
+        reach.now.found.items }
+    ensures persons { IfOk result (λ hall. (x : ℕ) → Contains hall.persons x
+        ↔ IsAmongFirst reach.now.found.items x (length reach.now.found.items)) }
+    ensures objects { IfOk result (λ hall. (j : ℕ) → Contains hall.objects j
+        ↔ IsMarked reach.now.met.items j) }
     ensures persons_rise { IfOk result (λ hall. IsStrictlyIncreasing hall.persons) }
     ensures objects_rise { IfOk result (λ hall. IsStrictlyIncreasing hall.objects) }
 {
     let n = reach.met.len() as u16;
     let marks = marks_of(alloc, n, reach.found.as_slice())?;
-    let persons = marked_persons(alloc, marks.as_slice())?;
-    let objects = marked_objects(alloc, reach.met.as_slice())?;
+    let persons: Vec<Person> = marked(alloc, marks.as_slice())?;
+    let objects: Vec<Object> = marked(alloc, reach.met.as_slice())?;
     Ok(HallSet::new(persons, objects))
 }
 
@@ -45,8 +49,7 @@ fn search_from(
     person: Person,
 ) -> Result<Search, AllocError>
     requires matching { IsMatching problem.now owners.now }
-    requires first { 0 < person }
-    requires last { person ≤ length problem.now }
+    requires person { IsNumber (length problem.now) person }
     requires alone { (j : ℕ) → owner_of owners.now j ≡ Some person → ⊥ }
     ensures { IfOk result (IsFound problem.now owners.now person) }
 {
@@ -80,11 +83,11 @@ pub fn refute(
     person: Person,
 ) -> Result<Search, AllocError>
     requires matching { IsMatching scaled.now.problem owners.now }
-    requires first { 0 < person }
-    requires last { person ≤ length scaled.now.problem }
+    requires person { IsNumber (length scaled.now.problem) person }
     requires alone { (j : ℕ) → owner_of owners.now j ≡ Some person → ⊥ }
     ensures found { IfOk result (IsFound scaled.now.problem owners.now person) }
-    ensures which { IfOk result (λ search. IsHall search ↔ IsBlocked scaled.now.problem owners.now person) }
+    ensures which { IfOk result (λ search.
+        IsHall search ↔ IsBlocked scaled.now.problem owners.now person) }
 {
     search_from(alloc, scaled.problem(), owners, person)
 }

@@ -1,7 +1,12 @@
-// Searches on small problems, worked by hand.
+// Searches on small problems, worked by hand, and one among as many persons as there may be.
+ghost use Rattle.std.specs.Prelude.{◌≡◌, ℕ, ◌<◌, ◌≤◌, Some, IfOk, length};
+ghost use Rattle.assign_core.specs.Rows.{IsListed};
+ghost use Rattle.assign_core.specs.Matching.{IsMatching, owner_of};
+
 use super::*;
-use assign_core::{Object, Person, Problem, Sense};
+use assign_core::{MOST_PERSONS, Object, Person, Problem, Sense};
 use scaled_values::scale;
+use std::alloc::{AllocError, Global};
 use std::test::Fail;
 
 #[test]
@@ -106,5 +111,52 @@ fn all_persons_are_reached(rt: HostRuntime) -> Result<(), Fail> {
         [Person(1), Person(2), Person(3)].as_slice()
     );
     assert_eq!(rt; hall.objects(), [Object(1), Object(3)].as_slice());
+    Ok(())
+}
+
+// Person 1 lists all objects but the first, and each other person the object of its own number.
+fn star(alloc: Global) -> Result<Problem, AllocError>
+    ensures long { IfOk result (λ problem. length problem ≡ MOST_PERSONS) }
+    ensures listed { IfOk result (λ problem.
+        (i : ℕ) → 1 < i → i ≤ length problem → IsListed problem i i) }
+{
+    let mut triples = Vec::new(alloc);
+    for i in 2..MOST_PERSONS + 1 {
+        triples.push((Person(1), Object(i), 0))?;
+        triples.push((Person(i), Object(i), 0))?;
+    }
+    Problem::sparse(alloc, MOST_PERSONS, triples.as_slice())
+}
+
+// Each person but the first owns the object of its own number.
+fn own(alloc: Global, problem: &Problem) -> Result<Vec<Option<Person>>, AllocError>
+    requires { (i : ℕ) → 1 < i → i ≤ length problem.now → IsListed problem.now i i }
+    ensures matching { IfOk result (λ owners. IsMatching problem.now owners.items) }
+    ensures alone { IfOk result (λ owners. (j : ℕ) → owner_of owners.items j ≡ Some 1 → ⊥) }
+{
+    let n = problem.n();
+    let mut owners = vec![in alloc; None; n as usize]?;
+    for i in 2..n + 1 {
+        owners[i as usize - 1] = Some(Person(i));
+    }
+    Ok(owners)
+}
+
+#[test]
+fn as_many_persons_as_there_may_be(rt: HostRuntime) -> Result<(), Fail> {
+    let problem = star(rt.alloc())?;
+    let owners = own(rt.alloc(), &problem)?;
+    let scaled = scale(rt.alloc(), problem, Sense::Min)?;
+    let Search::Hall(hall) = refute(rt.alloc(), &scaled, owners.as_slice(), Person(1))? else {
+        panic!(rt; "no Hall set");
+    };
+    let persons = hall.persons();
+    assert_eq!(rt; persons.len(), 8192);
+    assert_eq!(rt; persons.first().copied(), Some(Person(1)));
+    assert_eq!(rt; persons.last().copied(), Some(Person(8192)));
+    let objects = hall.objects();
+    assert_eq!(rt; objects.len(), 8191);
+    assert_eq!(rt; objects.first().copied(), Some(Object(2)));
+    assert_eq!(rt; objects.last().copied(), Some(Object(8192)));
     Ok(())
 }

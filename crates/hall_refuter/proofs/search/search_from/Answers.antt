@@ -14,17 +14,11 @@ loop-next-init c =
       within = omega arith;
     }
 
-pub visit-requires-clause-first : goal.visit-requires-clause-first
-visit-requires-clause-first c =
+pub visit-requires-clause-person : goal.visit-requires-clause-person
+visit-requires-clause-person c =
     let i = c.loop-next.invariant in
     let lt : c.loop-next.next < length c.loop-next.reach.found.items = omega arith in
-    (person_within c.args.problem.now c.args.owners.now _ _ c.args.person c.loop-next.next i.reach c.requires.matching i.first c.requires.first c.requires.last lt).0
-
-pub visit-requires-clause-last : goal.visit-requires-clause-last
-visit-requires-clause-last c =
-    let i = c.loop-next.invariant in
-    let lt : c.loop-next.next < length c.loop-next.reach.found.items = omega arith in
-    (person_within c.args.problem.now c.args.owners.now _ _ c.args.person c.loop-next.next i.reach c.requires.matching i.first c.requires.first c.requires.last lt).1
+    person_within c.args.problem.now c.args.owners.now _ _ c.args.person c.loop-next.next i.reach c.requires.matching i.first c.requires.person lt
 
 pub loop-next-preserved : goal.loop-next-preserved
 loop-next-preserved c =
@@ -43,7 +37,7 @@ loop-next-preserved c =
 pub hall_set-requires-clause-within : goal.hall_set-requires-clause-within
 hall_set-requires-clause-within c =
     let i = c.loop-next.invariant in
-    all_within c.args.problem.now c.args.owners.now _ _ c.args.person i.reach c.requires.matching i.first c.requires.first c.requires.last
+    all_within c.args.problem.now c.args.owners.now _ _ c.args.person i.reach c.requires.matching i.first c.requires.person
 
 pub returns-in-Some : goal.returns-in-Some
 returns-in-Some c =
@@ -62,5 +56,5 @@ returns c =
     let lists = c.in_ok-hall_set.ensures in
     let all : c.loop-next.next ≡ length c.loop-next.reach.found.items = omega arith in
     hall_answer c.args.problem.now c.args.owners.now c.loop-next.reach.found.items c.loop-next.reach.met.items c.args.person c.loop-next.next c.in_ok-hall_set.field-0
-    i.reach c.requires.matching i.first c.requires.first c.requires.last c.requires.alone i.walked all
+    i.reach c.requires.matching i.first c.requires.person c.requires.alone i.walked all
     (record { persons_rise = lists.persons_rise; objects_rise = lists.objects_rise; each_person = lists.persons; each_object = lists.objects })
