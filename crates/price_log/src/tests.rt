@@ -1,0 +1,105 @@
+// What a full log forgets, and how older tables catch up with it.
+ghost use Rattle.std.specs.Prelude.{◌≡◌, ◌<ℤ◌, ◌∷◌, [], length, IfOk, IfSome};
+ghost use Rattle.assign_core.specs.Prices.{IsBelow, IsPrice, price_of};
+ghost use Rattle.assign_core.specs.Numbered.{IsNumber};
+ghost use Rattle.price_log.specs.History.{Continues, IsHistory, today};
+
+use super::*;
+use assign_core::{Object, PRICE_END, Price, Prices};
+use std::alloc::{AllocError, Global};
+use std::test::Fail;
+
+fn one_price(alloc: Global, price: Price) -> Result<Prices, AllocError>
+    requires { IsPrice price }
+    ensures { IfOk result (λ table. table ≡ price ∷ []) }
+{
+    Prices::new(alloc, vec![in alloc; price]?)
+}
+
+// A price that is 1 above that of object 1, where that stays in range.
+fn next_level(log: &PriceLog) -> Option<Price>
+    ensures object { IfSome result (λ level. IsNumber (length (today log.now)) 1) }
+    ensures above { IfSome result (λ level. price_of (today log.now) 1 <ℤ level) }
+    ensures price { IfSome result IsPrice }
+    ensures log { IsHistory log.now }
+{
+    if log.prices().as_slice().is_empty() {
+        return None;
+    }
+    let price = log.price(Object(1));
+    if price < PRICE_END - 1 {
+        Some(price + 1)
+    } else {
+        None
+    }
+}
+
+// Raises the price of object 1 by 1.
+fn raise_by_one(log: &mut PriceLog) -> Result<(), AllocError>
+    ensures continues { IfOk result (λ _. Continues log.old log.new) }
+    ensures below { IfOk result (λ _. IsBelow (today log.old) (today log.new)) }
+    ensures log { IfOk result (λ _. IsHistory log.new) }
+{
+    let Some(level) = next_level(log) else {
+        return Err(AllocError);
+    };
+    log.raise(Object(1), level)
+}
+
+// The same so many times.
+fn raise_times(log: &mut PriceLog, times: u32) -> Result<(), AllocError>
+    ensures continues { IfOk result (λ _. Continues log.old log.new) }
+    ensures below { IfOk result (λ _. IsBelow (today log.old) (today log.new)) }
+    ensures log { IfOk result (λ _. IsHistory log.new) }
+{
+    let _log = log.prices();
+    for _ in 0..times {
+        raise_by_one(log)?;
+    }
+    Ok(())
+}
+
+#[test]
+fn a_full_log_forgets_its_raises(rt: HostRuntime) -> Result<(), Fail> {
+    let mut log = PriceLog::start(rt.alloc(), one_price(rt.alloc(), 0)?)?;
+    raise_times(&mut log, 65_536)?;
+    assert_eq!(rt; log.first_kept(), 0);
+    assert_eq!(rt; log.version(), 65_536);
+    let mut near = log.prices().copy(rt.alloc())?;
+    let mut near_version = log.version();
+    raise_times(&mut log, 1)?;
+    assert_eq!(rt; log.first_kept(), 65_536);
+    assert_eq!(rt; log.version(), 65_537);
+    log.catch_up(&mut near, &mut near_version);
+    assert_eq!(rt; near_version, 65_537);
+    assert_eq!(rt; near.as_slice(), [65_537].as_slice());
+    Ok(())
+}
+
+#[test]
+fn an_old_table_is_copied_whole(rt: HostRuntime) -> Result<(), Fail> {
+    let mut log = PriceLog::start(rt.alloc(), one_price(rt.alloc(), 0)?)?;
+    raise_times(&mut log, 3)?;
+    let mut table = log.prices().copy(rt.alloc())?;
+    let mut version = log.version();
+    assert_eq!(rt; table.as_slice(), [3].as_slice());
+    assert_eq!(rt; version, 3);
+    raise_times(&mut log, 65_534)?;
+    assert_eq!(rt; log.first_kept(), 65_536);
+    log.catch_up(&mut table, &mut version);
+    assert_eq!(rt; version, 65_537);
+    assert_eq!(rt; table.as_slice(), [65_537].as_slice());
+    Ok(())
+}
+
+#[test]
+fn a_trim_keeps_prices_and_version(rt: HostRuntime) -> Result<(), Fail> {
+    let mut log = PriceLog::start(rt.alloc(), one_price(rt.alloc(), 7)?)?;
+    raise_times(&mut log, 5)?;
+    let last = log.version();
+    log.trim(last);
+    assert_eq!(rt; log.first_kept(), 5);
+    assert_eq!(rt; log.version(), 5);
+    assert_eq!(rt; log.prices().as_slice(), [12].as_slice());
+    Ok(())
+}
