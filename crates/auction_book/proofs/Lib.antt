@@ -1,0 +1,14 @@
+pub mod Places
+pub mod Listings
+pub mod Keeping
+pub mod PhaseBounds
+pub mod Accepting
+pub mod Rooms
+pub mod Opening
+pub mod OtherChanges
+pub mod Following
+pub mod Claiming
+pub mod Answering
+pub mod Gap
+pub mod Floor
+pub mod Runs

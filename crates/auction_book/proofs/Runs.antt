@@ -1,0 +1,361 @@
+-- Each event keeps what holds of the core.
+use Rattle.std.proofs.Common.{◌≡◌, ◌≢◌, ℕ, ℤ, pos, zero, suc, ◌+◌, ◌<◌, ◌≤◌, ◌≤ℤ◌, List, [], ◌∷◌, ◌++◌, length, get_or, replicate, nat_le, Bool, true, false, cond, ◌&&◌, MatchBool, IsTrue, Result, Ok, Err, refl, ap, arith, sym, ◌∙◌, subst, Option, None, Some, inl, inr}
+use Rattle.std.proofs.lemmas.List.{get_or-replicate, length-replicate}
+use Rattle.std.proofs.lemmas.Bool.Decides.{eqb_tells, nat_tests}
+use Rattle.assign_core.specs.Numbered.{IsNumber, numbered, renumbered}
+use Rattle.assign_core.specs.Rows.{IsProblem}
+use Rattle.assign_core.specs.Prices.{IsBelow, IsTable}
+use Rattle.assign_core.specs.declared.numbers.TheConstants.{GREATEST_FIRST_PRICE}
+use Rattle.assign_core.proofs.Matchings.{below_itself, below_through}
+use Rattle.assign_core.proofs.NumberedLemmas.{length-renumbered, numbered-other, numbered-same, numbered_in}
+use Rattle.scaled_values.specs.Scaled.{ScaledProblem, greatest_of}
+use Rattle.scaled_values.proofs.RowFacts.{benefit_row_is}
+use Rattle.bidder.specs.declared.offers.Bid.{Bid}
+use Rattle.bidder.specs.declared.offers.Offer.{Offer}
+use Rattle.bidder.specs.declared.offers.Offer.TheVariants as made
+use Rattle.bidder.specs.Offers.{IsBid, IsOffer}
+use Rattle.bidder.proofs.Sound.{bid_sound, offer_is, sound_above}
+use Rattle.price_log.specs.History.{IsEarlier, table_at}
+use Rattle.price_log.proofs.Histories.{earlier_stays, today-at}
+use Rattle.auction_book.specs.declared.answers.Accepted.{Accepted}
+use Rattle.auction_book.specs.declared.answers.Refused.{Refused}
+use Rattle.auction_book.specs.declared.answers.Refused.TheVariants.{NotClaimed, WrongPhase, TooLow, Memory}
+use Rattle.auction_book.specs.declared.answers.Claim.{Claim}
+use Rattle.auction_book.specs.declared.answers.Claim.TheVariants as claim
+use Rattle.auction_book.specs.declared.schedule.Event.{Event}
+use Rattle.auction_book.specs.declared.schedule.Seat.{Seat}
+use Rattle.auction_book.specs.Book.{BookData, Holds, ask_of, is_refuted, persons_of, prices_of}
+use Rattle.auction_book.specs.Changes.{accepted, caught_up, claimed, phased, recorded, released}
+use Rattle.auction_book.specs.Claims.{after_claim, claim_front, claim_of}
+use Rattle.auction_book.specs.Follows.{Follows, GoesOn}
+use Rattle.auction_book.specs.Free.{IsFree}
+use Rattle.auction_book.specs.Phases.{IsOver, is_done, is_over, opened}
+use Rattle.auction_book.specs.Schedule.{CoreData, Happens, IsFit, IsSeat, Run, core_opened, goes_on, is_worker, seat_at, seat_next, seat_of_prices}
+use Rattle.auction_book.specs.Session.{IsPrepared, Submits, book_left, book_next, book_taken, next_if_over, prepared, table_taken, version_taken}
+use Rattle.auction_book.specs.Submissions.{IsHigh, IsSubmitted}
+use Rattle.auction_book.proofs.Accepting.{accepted_follows, accepted_free, released_follows, released_free}
+use Rattle.auction_book.proofs.Claiming.{cond_by}
+use Rattle.auction_book.proofs.Following.{caught_up_follows, claimed_follows, follows_itself, follows_through, goes_on_itself, goes_on_through, over_is, phased_follows, recorded_follows}
+use Rattle.auction_book.proofs.Opening.{no_owner, no_version, opened_free, phased_free}
+use Rattle.auction_book.proofs.OtherChanges.{caught_up_free, caught_up_trimmed, claimed_free, recorded_free}
+use Rattle.auction_book.proofs.Places.{claimed_person}
+
+-- a table that is below the prices and belongs to the log
+pub record IsOwn (b : BookData) (table : List ℤ) (version : ℕ) : Type 0 where
+  pub long : IsBelow table (prices_of b)
+  pub earlier : IsEarlier b.log table version
+
+pub own_kept : (b new : BookData) (table : List ℤ) (version : ℕ) → IsFree b → GoesOn b new → IsOwn b table version → IsOwn new table version
+own_kept b new table version free on own = record {
+  long = below_through table (prices_of b) (prices_of new) own.long on.below;
+  earlier = earlier_stays b.log new.log table version free.log_ascends on.log on.below own.earlier;
+}
+
+prepared_kept : (w k : ℕ) (b new : BookData) (table : List ℤ) (version : ℕ) (offer : Option Offer) → Follows w b new → k ≢ w → IsPrepared b k table version offer → IsPrepared new k table version offer
+prepared_kept w k b new table version None f ne h = f.claims k ne ∙ h
+prepared_kept w k b new table version (Some offer) f ne h = (
+  h.0,
+  f.claims k ne ∙ h.1,
+  subst (λ (s : ScaledProblem). IsOffer s table version (ask_of new) h.0 offer) (sym f.goes_on.base)
+      (subst (λ ask. IsOffer b.base table version ask h.0 offer) (sym (f.asked k h.0 ne h.1)) h.2),
+)
+
+-- another worker's seat
+seat_kept : (w k : ℕ) (b new : BookData) (seat : Seat) → IsFree b → Follows w b new → k ≢ w → IsSeat b k seat → IsSeat new k seat
+seat_kept w k b new seat free f ne is =
+    let own = own_kept b new seat.table seat.version free f.goes_on (record { long = is.long; earlier = is.earlier }) in
+    record {
+      long = own.long;
+      earlier = own.earlier;
+      told = is.told ∙ sym (f.counts k ne);
+      prepared = prepared_kept w k b new seat.table seat.version seat.offer f ne is.prepared;
+    }
+
+-- a step of an event of one worker
+pub record IsStep (w : ℕ) (b new : BookData) : Type 0 where
+  pub free : IsFree new
+  pub follows : Follows w b new
+
+over_claim : (b : BookData) (w person : ℕ) → Holds b w person → numbered (renumbered b.claims w None) w None ≡ None
+over_claim b w person held = let r = numbered_in b.claims w person held in numbered-same b.claims w None None r.0 r.1
+
+-- what a submission leaves: no claim of the worker
+pub record IsLeft (w : ℕ) (b new : BookData) : Type 0 where
+  pub step : IsStep w b new
+  pub none : numbered new.claims w None ≡ None
+
+left_released : (w person : ℕ) (b new : BookData) → IsFree b → Holds b w person → new ≡ released b w person → IsLeft w b new
+left_released w person b new free held e =
+    subst (IsLeft w b) (sym e) (record { step = record { free = released_free b w person free held; follows = released_follows b w person }; none = over_claim b w person held })
+
+-- after a prepared bid was judged
+pub judged_left : (w person : ℕ) (b new : BookData) (table : List ℤ) (bid : Bid) (answer : Result Accepted Refused) → IsFree b → IsBelow table (prices_of b) → Holds b w person → bid.person ≡ person → bid.phase ≡ b.phase → IsBid b.base table (ask_of b) bid →
+    IsSubmitted b w bid answer new → IsLeft w b new
+judged_left w person b new table bid (Ok a) free below held who phase is s =
+    let sound = bid_sound b.base table (ask_of b) bid is in
+    subst (IsLeft w b) (sym s.4) (record {
+      step = record { free = accepted_free b w bid free (sound_above b.base (ask_of b) table (prices_of b) bid below sound) s.2 s.0; follows = accepted_follows b w bid table free below sound s.2 };
+      none = over_claim b w bid.person s.0;
+    })
+judged_left w person b new table bid (Err NotClaimed) free below held who phase is s = absurd (s.0 (held ∙ ap Some (sym who)))
+judged_left w person b new table bid (Err WrongPhase) free below held who phase is s = absurd (s.1 phase)
+judged_left w person b new table bid (Err (TooLow price)) free below held who phase is s = left_released w bid.person b new free s.0 s.4
+judged_left w person b new table bid (Err Memory) free below held who phase is s = left_released w bid.person b new free s.0 s.3
+
+-- after the worker's offer was submitted
+pub offer_left : (w : ℕ) (b new : BookData) (table : List ℤ) (version : ℕ) (offer : Option Offer) → IsFree b → IsBelow table (prices_of b) → IsPrepared b w table version offer → Submits b w offer new → IsLeft w b new
+offer_left w b new table version None free below h s = subst (IsLeft w b) (sym s) (record { step = record { free = free; follows = follows_itself b w }; none = h })
+offer_left w b new table version (Some (made.Bid bid)) free below h s = judged_left w h.0 b new table bid s.0 free below h.1 h.2.0 h.2.1 h.2.3 s.2
+offer_left w b new table version (Some (made.Below under)) free below h s =
+    let held : Holds b w under.person = h.1 ∙ ap Some (sym h.2.0) in
+    subst (IsLeft w b) (sym s.2) (record {
+      step = record { free = recorded_free b w under.person s.0 free held s.1.hall; follows = recorded_follows b w under.person s.0 };
+      none = over_claim b w under.person held;
+    })
+
+-- catching up
+step_taken : (catch_up : Bool) (w : ℕ) (b : BookData) → IsFree b → IsStep w b (book_taken catch_up b w)
+step_taken false w b free = record { free = free; follows = follows_itself b w }
+step_taken true w b free = record { free = caught_up_free b w free; follows = caught_up_follows b w free }
+
+own_taken : (catch_up : Bool) (w : ℕ) (b : BookData) (table : List ℤ) (version : ℕ) → IsFree b → IsOwn b table version → IsOwn (book_taken catch_up b w) (table_taken catch_up b table) (version_taken catch_up b version)
+own_taken false w b table version free own = own
+own_taken true w b table version free own =
+    let t = caught_up_trimmed b w free in
+    let v = t.version in
+    let log = (caught_up b w).log in
+    record {
+      long = subst (IsBelow (prices_of b)) (sym t.prices) (below_itself (prices_of b));
+      earlier = record {
+        reached = omega arith;
+        same = λ h. sym t.prices ∙ sym (today-at log) ∙ ap (table_at log) v;
+        below = λ h. absurd (omega arith);
+      };
+    }
+
+taken_same : (catch_up : Bool) (w : ℕ) (b : BookData) → ((book_taken catch_up b w).claims ≡ b.claims) × ((book_taken catch_up b w).counts ≡ b.counts)
+taken_same false w b = (refl, refl)
+taken_same true w b = (refl, refl)
+
+step_next : (w : ℕ) (b : BookData) → IsFree b → IsStep w b (next_if_over b)
+step_next w b free = cond_by (IsStep w b) (is_over b) (phased b) b (λ h. let over = over_is b h in record { free = phased_free b free over; follows = phased_follows b w free over })
+    (λ h. record { free = free; follows = follows_itself b w })
+
+next_same : (b : BookData) → ((next_if_over b).claims ≡ b.claims) × ((next_if_over b).counts ≡ b.counts)
+next_same b = cond_by (λ (n : BookData). (n.claims ≡ b.claims) × (n.counts ≡ b.counts)) (is_over b) (phased b) b (λ h. (refl, refl)) (λ h. (refl, refl))
+
+-- what a claim leaves
+record IsClaimed (w : ℕ) (b : BookData) (table : List ℤ) (version : ℕ) (answer : Claim) : Type 0 where
+  pub step : IsStep w b (after_claim b w answer)
+  pub prepared : IsPrepared (after_claim b w answer) w table version (prepared b.base table version answer)
+  pub own : IsOwn b table version → IsOwn (after_claim b w answer) table version
+  pub counts : (after_claim b w answer).counts ≡ b.counts
+
+-- nobody is claimed
+claimed_none : (w : ℕ) (b : BookData) (table : List ℤ) (version : ℕ) → IsFree b → numbered b.claims w None ≡ None →
+    IsClaimed w b table version claim.Refuted × IsClaimed w b table version claim.Done × IsClaimed w b table version claim.Stopped × IsClaimed w b table version claim.Wait
+claimed_none w b table version free none = (
+  record { step = record { free = free; follows = follows_itself b w }; prepared = none; own = λ o. o; counts = refl },
+  record { step = record { free = free; follows = follows_itself b w }; prepared = none; own = λ o. o; counts = refl },
+  record { step = record { free = free; follows = follows_itself b w }; prepared = none; own = λ o. o; counts = refl },
+  record { step = record { free = free; follows = follows_itself b w }; prepared = none; own = λ o. o; counts = refl },
+)
+
+-- the front of the queue is claimed, and its offer is prepared
+claimed_some : (w : ℕ) (b : BookData) (table : List ℤ) (version person : ℕ) (rest : List ℕ) → IsFree b → numbered b.claims w None ≡ None → IsNumber (length b.claims) w → b.queue ≡ person ∷ rest →
+    IsClaimed w b table version (claim.Person person (ask_of b))
+claimed_some w b table version person rest free none number e =
+    let p = claimed_person (persons_of b) b.owners b.queue b.claims person rest free.placed_once e in
+    let long : length b.queue ≡ length rest + 1 = ap length e ∙ omega arith in
+    let some : 0 < length b.queue = omega arith in
+    let front : get_or b.queue 0 0 ≡ person = ap (λ q. get_or q 0 0) e in
+    let row = benefit_row_is b.base person free.problem p in
+    record {
+      step = record { free = claimed_free b w free number.first number.last none some; follows = claimed_follows b w };
+      prepared = (person, numbered-same b.claims w (Some (get_or b.queue 0 0)) None number.first number.last ∙ ap Some front, offer_is b.base table version (ask_of b) person row.rising);
+      own = λ o. own_kept b (claimed b w) table version free (claimed_follows b w).goes_on o;
+      counts = refl;
+    }
+
+claimed_front : (w : ℕ) (b : BookData) (table : List ℤ) (version : ℕ) (queue : List ℕ) → IsFree b → numbered b.claims w None ≡ None → IsNumber (length b.claims) w → b.queue ≡ queue → IsClaimed w b table version (claim_front b queue)
+claimed_front w b table version [] free none number e = (claimed_none w b table version free none).3
+claimed_front w b table version (person ∷ rest) free none number e = claimed_some w b table version person rest free none number e
+
+claim_is : (w : ℕ) (b : BookData) (table : List ℤ) (version : ℕ) → IsFree b → numbered b.claims w None ≡ None → IsNumber (length b.claims) w → IsClaimed w b table version (claim_of b)
+claim_is w b table version free none number =
+    let n = claimed_none w b table version free none in
+    cond_by (IsClaimed w b table version) (is_refuted b.refuted) claim.Refuted (cond (is_done b) claim.Done (cond b.stopped claim.Stopped (claim_front b b.queue))) (λ h. n.0)
+    (λ h. cond_by (IsClaimed w b table version) (is_done b) claim.Done (cond b.stopped claim.Stopped (claim_front b b.queue)) (λ h. n.1)
+    (λ h. cond_by (IsClaimed w b table version) b.stopped claim.Stopped (claim_front b b.queue) (λ h. n.2)
+    (λ h. claimed_front w b table version b.queue free none number refl)))
+
+in_range : (n w : ℕ) → (nat_le 1 w && nat_le w n) ≡ true → IsNumber n w
+in_range n w h = record { first = grind (arith, nat_tests); last = grind (arith, nat_tests) }
+
+-- the rest of a session, from the book after the submission
+pub record IsReady (w : ℕ) (catch_up : Bool) (new : BookData) (table : List ℤ) (version : ℕ) : Type 0 where
+  pub taken : IsStep w new (book_taken catch_up new w)
+  pub next : IsStep w (book_taken catch_up new w) (book_next catch_up new w)
+  pub none : numbered (book_next catch_up new w).claims w None ≡ None
+  pub own : IsOwn (book_next catch_up new w) (table_taken catch_up new table) (version_taken catch_up new version)
+  pub counts : (book_next catch_up new w).counts ≡ new.counts
+
+pub ready : (w : ℕ) (catch_up : Bool) (new : BookData) (table : List ℤ) (version : ℕ) → IsFree new → numbered new.claims w None ≡ None → IsOwn new table version → IsReady w catch_up new table version
+ready w catch_up new table version free none own =
+    let taken = book_taken catch_up new w in
+    let two = step_taken catch_up w new free in
+    let same = taken_same catch_up w new in
+    let three = step_next w taken two.free in
+    let after = next_same taken in
+    record {
+      taken = two;
+      next = three;
+      none = ap (λ c. numbered c w None) (after.0 ∙ same.0) ∙ none;
+      own = own_kept taken (next_if_over taken) (table_taken catch_up new table) (version_taken catch_up new version) two.free three.follows.goes_on (own_taken catch_up w new table version free own);
+      counts = after.1 ∙ same.1;
+    }
+
+-- one event
+pub record IsEvent (core new : CoreData) : Type 0 where
+  pub fit : IsFit new
+  pub on : GoesOn core.book new.book
+
+happened_fit : (core : CoreData) (e : Event) (b : BookData) → IsFit core → IsNumber (length core.seats) e.worker → Submits core.book e.worker (seat_at core e.worker).offer b → IsEvent core (goes_on core e (seat_at core e.worker) b)
+happened_fit core e b fit number submits =
+    let w = e.worker in
+    let seat = seat_at core w in
+    let is = fit.each w number in
+    let left = offer_left w core.book b seat.table seat.version seat.offer fit.book is.long is.prepared submits in
+    let one = left.step in
+    let own = own_kept core.book b seat.table seat.version fit.book one.follows.goes_on (record { long = is.long; earlier = is.earlier }) in
+    let r = ready w e.catch_up b seat.table seat.version one.free left.none own in
+    let taken = book_taken e.catch_up b w in
+    let next = book_next e.catch_up b w in
+    let more = one.follows.goes_on.workers in
+    let more2 = r.taken.follows.goes_on.workers in
+    let more3 = r.next.follows.goes_on.workers in
+    let in_claims : w ≤ length next.claims = let x = fit.seats in let l = number.last in omega arith in
+    let table = table_taken e.catch_up b seat.table in
+    let version = version_taken e.catch_up b seat.version in
+    let four = claim_is w next table version r.next.free r.none (record { first = number.first; last = in_claims }) in
+    let own3 = four.own r.own in
+    let last_book = book_left e.catch_up b w in
+    let mine : IsSeat last_book w (seat_next e b seat) = record {
+      long = own3.long;
+      earlier = own3.earlier;
+      told = ap (λ c. numbered c w 0) (sym (four.counts ∙ r.counts));
+      prepared = four.prepared;
+    } in
+    let long = length-renumbered core.seats w (seat_next e b seat) in
+    record {
+      fit = record {
+        book = four.step.free;
+        seats = let x = fit.seats in let v = four.step.follows.goes_on.workers in omega arith;
+        each = λ k in_seats. elim (eqb_tells k w) [
+          | inl t ↦ subst (λ m. IsSeat last_book m (numbered (renumbered core.seats w (seat_next e b seat)) m (seat_of_prices []))) (sym t.1)
+              (subst (IsSeat last_book w) (sym (numbered-same core.seats w (seat_next e b seat) (seat_of_prices []) number.first number.last)) mine)
+          | inr t ↦ subst (IsSeat last_book k) (sym (numbered-other core.seats w k (seat_next e b seat) (seat_of_prices []) t.1))
+              (seat_kept w k next last_book (seat_at core k) r.next.free four.step.follows t.1
+              (seat_kept w k taken next (seat_at core k) r.taken.free r.next.follows t.1
+              (seat_kept w k b taken (seat_at core k) one.free r.taken.follows t.1
+              (seat_kept w k core.book b (seat_at core k) fit.book one.follows t.1 (fit.each k (record { first = in_seats.first; last = let l = in_seats.last in omega arith }))))))
+        ];
+      };
+      on = goes_on_through core.book b last_book one.follows.goes_on
+          (goes_on_through b taken last_book r.taken.follows.goes_on
+          (goes_on_through taken next last_book r.next.follows.goes_on four.step.follows.goes_on));
+    }
+
+event_fit : (core : CoreData) (e : Event) (new : CoreData) (t : Bool) → is_worker core e.worker ≡ t → IsFit core →
+    MatchBool t ((b : BookData) × Submits core.book e.worker (seat_at core e.worker).offer b × (new ≡ goes_on core e (seat_at core e.worker) b)) (new ≡ core) → IsEvent core new
+event_fit core e new true is fit h = subst (IsEvent core) (sym h.2) (happened_fit core e h.0 fit (in_range (length core.seats) e.worker is) h.1)
+event_fit core e new false is fit h = subst (IsEvent core) (sym h) (record { fit = fit; on = goes_on_itself core.book })
+
+pub run_fit : (core : CoreData) (events : List Event) (new : CoreData) → IsFit core → Run core events new → IsEvent core new
+run_fit core [] new fit run = subst (IsEvent core) (sym run) (record { fit = fit; on = goes_on_itself core.book })
+run_fit core (e ∷ events) new fit run =
+    let first = event_fit core e run.0 (is_worker core e.worker) refl fit run.1 in
+    let rest = run_fit run.0 events new first.fit run.2 in
+    record { fit = rest.fit; on = goes_on_through core.book run.0.book new.book first.on rest.on }
+
+same_seat : (n w : ℕ) (seat d : Seat) → 0 < w → w ≤ n → numbered (replicate n seat) w d ≡ seat
+same_seat n zero seat d h l = absurd (omega arith)
+same_seat n (suc k) seat d h l = get_or-replicate n k seat d (omega arith)
+
+pub opened_fit : (s : ScaledProblem) (prices : List ℤ) (workers : ℕ) → IsProblem s.problem → IsTable prices → length prices ≡ length s.problem → greatest_of prices ≤ℤ GREATEST_FIRST_PRICE → IsFit (core_opened s prices workers)
+opened_fit s prices workers problem table long low =
+    let l = length-replicate workers (seat_of_prices prices) in
+    record {
+      book = opened_free s prices workers problem table long low;
+      seats = l ∙ sym (length-replicate workers None);
+      each = λ w number. subst (IsSeat (opened s prices workers) w) (sym (same_seat workers w (seat_of_prices prices) (seat_of_prices []) number.first (let x = number.last in omega arith))) (record {
+        long = below_itself prices;
+        earlier = record { reached = omega arith; same = λ h. refl; below = λ h. absurd (omega arith) };
+        told = sym (no_version workers w);
+        prepared = no_owner workers w;
+      });
+    }
+
+pub runs_fit : (s : ScaledProblem) (prices : List ℤ) (workers : ℕ) (events : List Event) (core : CoreData) → IsProblem s.problem → IsTable prices → length prices ≡ length s.problem → greatest_of prices ≤ℤ GREATEST_FIRST_PRICE →
+    Run (core_opened s prices workers) events core → IsFit core
+runs_fit s prices workers events core problem table long low run = (run_fit (core_opened s prices workers) events core (opened_fit s prices workers problem table long low) run).fit
+
+-- one event more
+pub run_more : (core mid new : CoreData) (events : List Event) (e : Event) → Run core events mid → Happens mid e new → Run core (events ++ e ∷ []) new
+run_more core mid new [] e run h = (new, subst (λ c. Happens c e new) run h, refl)
+run_more core mid new (x ∷ events) e run h = (run.0, run.1, run_more run.0 mid new events e run.2 h)
+
+-- an event of a worker
+pub happens_at : (core : CoreData) (e : Event) (b : BookData) (new : CoreData) → IsNumber (length core.seats) e.worker → Submits core.book e.worker (seat_at core e.worker).offer b → new ≡ goes_on core e (seat_at core e.worker) b → Happens core e new
+happens_at core e b new number submits is =
+    let t : is_worker core e.worker ≡ true = yes (length core.seats) e.worker number.first number.last in
+    subst (λ t. MatchBool t ((b : BookData) × Submits core.book e.worker (seat_at core e.worker).offer b × (new ≡ goes_on core e (seat_at core e.worker) b)) (new ≡ core)) (sym t) (b, submits, is) where
+      yes : (n w : ℕ) → 0 < w → w ≤ n → (nat_le 1 w && nat_le w n) ≡ true
+      yes n w h l = grind (arith, nat_tests)
+
+pub same_core : (b d : BookData) (s t : List Seat) (x y : CoreData) → x ≡ record { book = b; seats = s } → y ≡ record { book = d; seats = t } → b ≡ d → s ≡ t → x ≡ y
+same_core b d s t x y p q e f =
+    p ∙ ap (λ z. let c : CoreData = record { book = z; seats = s } in c) e ∙ ap (λ z. let c : CoreData = record { book = d; seats = z } in c) f ∙ sym q
+
+-- what stands once the offer was submitted
+pub record IsAttended (w : ℕ) (catch_up : Bool) (b new : BookData) (table : List ℤ) (version : ℕ) : Type 0 where
+  pub left : IsLeft w b new
+  pub own : IsOwn new table version
+  pub ready : IsReady w catch_up new table version
+  pub number : IsNumber (length new.claims) w
+
+pub attended : (w : ℕ) (catch_up : Bool) (b new : BookData) (seat : Seat) → IsFree b → IsNumber (length b.claims) w → IsSeat b w seat → Submits b w seat.offer new → IsAttended w catch_up b new seat.table seat.version
+attended w catch_up b new seat free number is submits =
+    let left = offer_left w b new seat.table seat.version seat.offer free is.long is.prepared submits in
+    let own = own_kept b new seat.table seat.version free left.step.follows.goes_on (record { long = is.long; earlier = is.earlier }) in
+    record {
+      left = left;
+      own = own;
+      ready = ready w catch_up new seat.table seat.version left.step.free left.none own;
+      number = subst (λ n. IsNumber n w) (sym left.step.follows.goes_on.workers) number;
+    }
+
+-- the number of workers before the claim
+pub next_workers : (w : ℕ) (catch_up : Bool) (b new : BookData) (table : List ℤ) (version : ℕ) → IsAttended w catch_up b new table version → IsNumber (length (book_next catch_up new w).claims) w
+next_workers w catch_up b new table version is =
+    subst (λ n. IsNumber n w) (sym (is.ready.next.follows.goes_on.workers ∙ is.ready.taken.follows.goes_on.workers)) is.number
+
+-- the table is as long as the problem
+pub next_long : (w : ℕ) (catch_up : Bool) (b new : BookData) (table : List ℤ) (version : ℕ) → IsAttended w catch_up b new table version → length (table_taken catch_up new table) ≡ persons_of (book_next catch_up new w)
+next_long w catch_up b new table version is = is.ready.own.long.long ∙ is.ready.next.free.sizes.priced
+
+pub after_claim-base : (b : BookData) (w : ℕ) (answer : Claim) → (after_claim b w answer).base ≡ b.base
+after_claim-base b w (claim.Person person ask) = refl
+after_claim-base b w claim.Refuted = refl
+after_claim-base b w claim.Done = refl
+after_claim-base b w claim.Stopped = refl
+after_claim-base b w claim.Wait = refl
+
+pub same_seats : (t u : List ℤ) (v w : ℕ) (o p : Option Offer) (m n : ℕ) → t ≡ u → v ≡ w → o ≡ p → m ≡ n →
+    let first : Seat = record { table = t; version = v; offer = o; accepted = m } in let second : Seat = record { table = u; version = w; offer = p; accepted = n } in first ≡ second
+same_seats t u v w o p m n e f g h = rw (e, f, g, h) refl
+
+-- the offer that is prepared
+pub same_offers : (s r : ScaledProblem) (t u : List ℤ) (v w : ℕ) (x y : Claim) → s ≡ r → t ≡ u → v ≡ w → x ≡ y → prepared s t v x ≡ prepared r u w y
+same_offers s r t u v w x y e f g h =
+    ap (λ z. prepared z t v x) e ∙ ap (λ z. prepared r z v x) f ∙ ap (λ z. prepared r u z x) g ∙ ap (prepared r u w) h

@@ -1,0 +1,10 @@
+pub mod Book
+pub mod Free
+pub mod Phases
+pub mod Changes
+pub mod Submissions
+pub mod Claims
+pub mod Follows
+pub mod Answers
+pub mod Session
+pub mod Schedule

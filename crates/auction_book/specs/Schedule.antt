@@ -1,0 +1,72 @@
+-- The core: a book and its workers, over lists of events.
+use Rattle.std.specs.Prelude.{◌≡◌, ℕ, ℤ, List, [], ◌∷◌, None, Bool, MatchBool, nat_le, ◌&&◌, length, replicate}
+use Rattle.assign_core.specs.Numbered.{IsNumber, numbered, renumbered}
+use Rattle.assign_core.specs.Prices.{IsBelow}
+use Rattle.scaled_values.specs.Scaled.{ScaledProblem}
+use Rattle.price_log.specs.History.{IsEarlier}
+use Rattle.auction_book.specs.declared.schedule.Event.{Event}
+use Rattle.auction_book.specs.declared.schedule.Seat.{Seat}
+use Rattle.auction_book.specs.Book.{BookData, prices_of}
+use Rattle.auction_book.specs.Claims.{claim_of}
+use Rattle.auction_book.specs.Free.{IsFree}
+use Rattle.auction_book.specs.Phases.{opened}
+use Rattle.auction_book.specs.Session.{IsPrepared, Submits, book_left, book_next, prepared, table_taken, version_taken}
+
+-- the book, and for each worker its table with its version, its prepared offer and the acceptances that it was told
+pub record CoreData : Type 0 where
+  pub book : BookData
+  pub seats : List Seat
+
+abbrev pub seat_of_prices : List ℤ → Seat
+seat_of_prices prices = record { table = prices; version = 0; offer = None; accepted = 0 }
+
+-- before the first event
+abbrev pub core_opened : ScaledProblem → List ℤ → ℕ → CoreData
+core_opened s prices workers = record { book = opened s prices workers; seats = replicate workers (seat_of_prices prices) }
+
+-- the rest of an event, once the offer was submitted
+abbrev pub seat_next : Event → BookData → Seat → Seat
+seat_next e b seat = record {
+  table = table_taken e.catch_up b seat.table;
+  version = version_taken e.catch_up b seat.version;
+  offer = prepared (book_next e.catch_up b e.worker).base (table_taken e.catch_up b seat.table) (version_taken e.catch_up b seat.version) (claim_of (book_next e.catch_up b e.worker));
+  accepted = numbered b.counts e.worker 0;
+}
+
+abbrev pub goes_on : CoreData → Event → Seat → BookData → CoreData
+goes_on core e seat b = record {
+  book = book_left e.catch_up b e.worker;
+  seats = renumbered core.seats e.worker (seat_next e b seat);
+}
+
+-- there is such a worker
+abbrev pub is_worker : CoreData → ℕ → Bool
+is_worker core worker = nat_le 1 worker && nat_le worker (length core.seats)
+
+abbrev pub seat_at : CoreData → ℕ → Seat
+seat_at core worker = numbered core.seats worker (seat_of_prices [])
+
+-- an event of a number that no worker has changes nothing
+abbrev pub Happens : CoreData → Event → CoreData → Type 0
+Happens core e new = MatchBool (is_worker core e.worker)
+    ((b : BookData) × Submits core.book e.worker (seat_at core e.worker).offer b × (new ≡ goes_on core e (seat_at core e.worker) b))
+    (new ≡ core)
+
+-- one event after another
+abbrev pub Run : CoreData → List Event → CoreData → Type 0
+Run core [] new = new ≡ core
+Run core (e ∷ events) new = (mid : CoreData) × Happens core e mid × Run mid events new
+
+-- what holds of each worker: no price of its table is above the book's, the table is the log's as far back as the log
+-- reaches, what it was told is the book's, and its prepared offer is that of the person that it claimed
+pub record IsSeat (b : BookData) (worker : ℕ) (seat : Seat) : Type 0 where
+  pub long : IsBelow seat.table (prices_of b)
+  pub earlier : IsEarlier b.log seat.table seat.version
+  pub told : seat.accepted ≡ numbered b.counts worker 0
+  pub prepared : IsPrepared b worker seat.table seat.version seat.offer
+
+-- what holds after each event
+pub record IsFit (core : CoreData) : Type 0 where
+  pub book : IsFree core.book
+  pub seats : length core.seats ≡ length core.book.claims
+  pub each : (worker : ℕ) → IsNumber (length core.seats) worker → IsSeat core.book worker (seat_at core worker)

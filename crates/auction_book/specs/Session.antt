@@ -1,0 +1,69 @@
+-- What one worker's session with the book does.
+use Rattle.std.specs.Prelude.{◌≡◌, ℕ, ℤ, List, Option, None, Some, Bool, cond, Result, Err, ◌≢◌}
+use Rattle.assign_core.specs.Hall.{HallLists}
+use Rattle.assign_core.specs.Numbered.{numbered}
+use Rattle.scaled_values.specs.Scaled.{ScaledProblem}
+use Rattle.bidder.specs.declared.offers.Offer.{Offer}
+use Rattle.bidder.specs.declared.offers.Offer.TheVariants as made
+use Rattle.bidder.specs.Offers.{IsOffer, offer_of}
+use Rattle.hall_refuter.specs.Search.{IsRefuted}
+use Rattle.auction_book.specs.declared.answers.Claim.{Claim}
+use Rattle.auction_book.specs.declared.answers.Claim.TheVariants as claim
+use Rattle.auction_book.specs.declared.answers.Accepted.{Accepted}
+use Rattle.auction_book.specs.declared.answers.Refused.{Refused}
+use Rattle.auction_book.specs.declared.answers.Refused.TheVariants.{Memory}
+use Rattle.auction_book.specs.Book.{BookData, Holds, ask_of, prices_of, version_of}
+use Rattle.auction_book.specs.Changes.{caught_up, phased, recorded}
+use Rattle.auction_book.specs.Claims.{after_claim, claim_of}
+use Rattle.auction_book.specs.Phases.{is_over}
+use Rattle.auction_book.specs.Submissions.{IsSubmitted}
+
+-- a prepared offer is the offer of the claimed person in this phase, from the worker's table
+abbrev pub IsPrepared : BookData → ℕ → List ℤ → ℕ → Option Offer → Type 0
+IsPrepared b worker table version None = numbered b.claims worker None ≡ None
+IsPrepared b worker table version (Some offer) = (person : ℕ) × Holds b worker person × IsOffer b.base table version (ask_of b) person offer
+
+-- the Hall set of all that a person reaches was recorded, and the claim is over
+abbrev pub IsFound : BookData → ℕ → ℕ → BookData → Type 0
+IsFound b worker person new = (lists : HallLists) × IsRefuted b.base.problem b.owners person lists × (new ≡ recorded b worker person lists)
+
+-- the prepared offer is submitted, or searched and recorded; no growth is refused
+abbrev pub Submits : BookData → ℕ → Option Offer → BookData → Type 0
+Submits b worker None new = new ≡ b
+Submits b worker (Some (made.Bid bid)) new = (answer : Result Accepted Refused) × (answer ≢ Err Memory) × IsSubmitted b worker bid answer new
+Submits b worker (Some (made.Below below)) new = IsFound b worker below.person new
+
+-- what stands where a growth was refused: the bid is refused, and a search changes nothing
+abbrev pub IsLeftUndone : BookData → ℕ → Option Offer → BookData → Type 0
+IsLeftUndone b worker None new = new ≡ b
+IsLeftUndone b worker (Some (made.Bid bid)) new = IsSubmitted b worker bid (Err Memory) new
+IsLeftUndone b worker (Some (made.Below below)) new = new ≡ b
+
+-- the book, the worker's table and its version once the worker has caught up, if it does
+abbrev pub book_taken : Bool → BookData → ℕ → BookData
+book_taken catch_up b worker = cond catch_up (caught_up b worker) b
+
+abbrev pub table_taken : Bool → BookData → List ℤ → List ℤ
+table_taken catch_up b table = cond catch_up (prices_of b) table
+
+abbrev pub version_taken : Bool → BookData → ℕ → ℕ
+version_taken catch_up b version = cond catch_up (version_of b) version
+
+abbrev pub next_if_over : BookData → BookData
+next_if_over b = cond (is_over b) (phased b) b
+
+-- once the offer was submitted: the book before the claim
+abbrev pub book_next : Bool → BookData → ℕ → BookData
+book_next catch_up b worker = next_if_over (book_taken catch_up b worker)
+
+-- and the book at the end of the session
+abbrev pub book_left : Bool → BookData → ℕ → BookData
+book_left catch_up b worker = after_claim (book_next catch_up b worker) worker (claim_of (book_next catch_up b worker))
+
+-- the offer that the worker prepares: of the person that it got, from its own table
+abbrev pub prepared : ScaledProblem → List ℤ → ℕ → Claim → Option Offer
+prepared s table version (claim.Person person ask) = Some (offer_of s table version ask person)
+prepared s table version claim.Refuted = None
+prepared s table version claim.Done = None
+prepared s table version claim.Stopped = None
+prepared s table version claim.Wait = None

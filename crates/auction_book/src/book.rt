@@ -1,0 +1,160 @@
+// The book.
+ghost use Rattle.std.specs.Prelude.{◌≡◌, ◌↔◌, ◌<◌, IsTrue, length};
+ghost use Rattle.std.specs.Arc.{arc_value};
+ghost use Rattle.std.specs.VecDeque.{deque_capacity};
+ghost use Rattle.assign_core.specs.Numbered.{IsNumber};
+ghost use Rattle.auction_book.specs.Book.{Holds};
+ghost use Rattle.auction_book.specs.Changes.{released, requeued};
+ghost use Rattle.auction_book.specs.Phases.{is_assigned, is_done};
+ghost use Rattle.auction_book.specs.Free.{IsFree};
+
+mod answering;
+mod catching_up;
+mod claiming;
+mod opening;
+mod phases;
+mod reading;
+mod submitting;
+
+use assign_core::{HallSet, Person, Price, Prices};
+use price_log::PriceLog;
+use scaled_values::Scaled;
+use std::collections::VecDeque;
+use std::marker::Model;
+use std::sync::Arc;
+
+/// A running auction: who owns each object, who waits, who was claimed by which worker, and the
+/// prices with their log.
+///
+/// Workers are numbered from 1. Seen as plain data, of which between any two calls all that
+/// `IsFree` names holds.
+#[derive(Drop)]
+pub struct Book {
+    scaled: Arc<Scaled>,
+    phase: u16,
+    eps: i64,
+    floor: Price,
+    start: Prices,
+    start_version: u128,
+    owners: Vec<Option<Person>>,
+    queue: VecDeque<Person>,
+    claims: Vec<Option<Person>>,
+    counts: Vec<u128>,
+    taken: Vec<u128>,
+    log: PriceLog,
+    refuted: Option<HallSet>,
+    stopped: bool,
+    // How many objects are owned.
+    owned: u16,
+    workers: u16,
+}
+
+impl Model for Book {
+    ghost use Rattle.std.specs.Prelude.{◌≡◌, ◌≤◌, count_by, length};
+    ghost use Rattle.std.specs.Arc.{arc_value};
+    ghost use Rattle.std.specs.VecDeque.{deque_capacity};
+    ghost use Rattle.auction_book.specs.Book.{BookData, is_some};
+    ghost use Rattle.auction_book.specs.Free.{IsFree};
+
+    ghost Value = { BookData };
+
+    ghost view = { λ b. record {
+      base = arc_value b.scaled;
+      phase = b.phase;
+      eps = b.eps;
+      floor = b.floor;
+      start = b.start;
+      start_version = b.start_version;
+      owners = b.owners.items;
+      queue = b.queue.items;
+      claims = b.claims.items;
+      counts = b.counts.items;
+      taken = b.taken.items;
+      log = b.log;
+      refuted = b.refuted;
+      stopped = b.stopped;
+    } };
+
+    ghost invariant = { λ b. (length b.owners.items ≤ deque_capacity b.queue)
+        × (b.owned ≡ count_by is_some b.owners.items)
+        × (b.workers ≡ length b.claims.items)
+        × IsFree record {
+          base = arc_value b.scaled;
+          phase = b.phase;
+          eps = b.eps;
+          floor = b.floor;
+          start = b.start;
+          start_version = b.start_version;
+          owners = b.owners.items;
+          queue = b.queue.items;
+          claims = b.claims.items;
+          counts = b.counts.items;
+          taken = b.taken.items;
+          log = b.log;
+          refuted = b.refuted;
+          stopped = b.stopped;
+        } };
+}
+
+// The person, if there is one, waits at the back of the queue.
+fn requeue(queue: &mut VecDeque<Person>, person: Option<Person>)
+    requires { length queue.old.items < deque_capacity queue.old }
+    ensures queue { queue.new.items ≡ requeued queue.old.items person }
+    ensures capacity { deque_capacity queue.new ≡ deque_capacity queue.old }
+{
+    if let Some(person) = person {
+        queue.push_back_reserved(person);
+    }
+}
+
+impl Book {
+    fn phase(&self) -> u16
+        ensures { result ≡ self.now.phase }
+    {
+        self.phase
+    }
+
+    fn eps(&self) -> i64
+        ensures { result ≡ self.now.eps }
+    {
+        self.eps
+    }
+
+    // Whether the worker holds the person's claim.
+    fn holds(&self, worker: u16, person: Person) -> bool
+        requires { IsNumber (length self.now.claims) worker }
+        ensures holds { IsTrue result ↔ Holds self.now worker person }
+        ensures free { IsFree self.now }
+    {
+        match self.claims[worker as usize - 1] {
+            Some(held) => held == person,
+            None => false,
+        }
+    }
+
+    // The worker's claim is over, and its person waits again.
+    fn release(&mut self, worker: u16, person: Person)
+        requires worker { IsNumber (length self.old.claims) worker }
+        requires held { Holds self.old worker person }
+        ensures book { self.new ≡ released self.old worker person }
+        ensures free { IsFree self.new }
+    {
+        requeue(&mut self.queue, Some(person));
+        self.claims[worker as usize - 1] = None;
+    }
+
+    // Whether everybody is assigned.
+    fn is_assigned(&self) -> bool
+        ensures { result ≡ is_assigned self.now }
+    {
+        self.owned == self.scaled.n()
+    }
+
+    // Whether everybody is assigned in the last phase.
+    fn is_done(&self) -> bool
+        ensures done { result ≡ is_done self.now }
+        ensures free { IsFree self.now }
+    {
+        self.is_assigned() && self.eps == 1
+    }
+}

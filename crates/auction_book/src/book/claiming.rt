@@ -1,0 +1,89 @@
+// Claims, and how they end without a bid.
+ghost use Rattle.std.specs.Prelude.{◌≡◌, ℕ, List, [], ◌∷◌, None, false, true, IfNone, IfSome, length};
+ghost use Rattle.assign_core.specs.Numbered.{IsNumber, numbered};
+ghost use Rattle.auction_book.specs.Book.{is_refuted};
+ghost use Rattle.auction_book.specs.Changes.{claimed, given_up};
+ghost use Rattle.auction_book.specs.Claims.{IsAsked, after_claim, claim_of};
+ghost use Rattle.auction_book.specs.Free.{IsFree};
+
+use super::super::answers::Claim;
+use super::Book;
+use assign_core::Person;
+
+impl Book {
+    fn is_refuted(&self) -> bool
+        ensures refuted { result ≡ is_refuted self.now.refuted }
+        ensures free { IsFree self.now }
+    {
+        self.refuted.is_some()
+    }
+
+    // The front of the queue is claimed, if somebody waits.
+    fn claim_first(&mut self, worker: u16) -> Option<Person>
+        requires worker { IsNumber (length self.old.claims) worker }
+        requires none { numbered self.old.claims worker None ≡ None }
+        ensures some { IfSome result (λ person. (rest : List ℕ) × (self.old.queue ≡ person ∷ rest)
+            × (self.new ≡ claimed self.old worker)) }
+        ensures none { IfNone result ((self.old.queue ≡ []) × (self.new ≡ self.old)) }
+        ensures free { IsFree self.new }
+    {
+        let person = self.queue.pop_front()?;
+        self.claims[worker as usize - 1] = Some(person);
+        Some(person)
+    }
+
+    /// A worker without a claim asks for a person. The answer is the first of `Refuted`, `Done`,
+    /// `Stopped`, `Person` and `Wait` that applies, and only `Person` changes the book. Takes no
+    /// memory.
+    pub fn claim(&mut self, worker: u16) -> Claim
+        requires worker { IsNumber (length self.old.claims) worker }
+        requires none { numbered self.old.claims worker None ≡ None }
+        ensures answer { result ≡ claim_of self.old }
+        ensures asked { IsAsked self.old.base result }
+        ensures book { self.new ≡ after_claim self.old worker result }
+        ensures free { IsFree self.new }
+    {
+        if self.is_refuted() {
+            return Claim::Refuted;
+        }
+        if self.is_done() {
+            return Claim::Done;
+        }
+        if self.stopped() {
+            return Claim::Stopped;
+        }
+        let ask = self.ask();
+        match self.claim_first(worker) {
+            Some(person) => Claim::Person(person, ask),
+            None => Claim::Wait,
+        }
+    }
+
+    /// A worker's claim, if it has one, is over, and its person waits at the back of the queue. Takes
+    /// no memory.
+    pub fn give_up(&mut self, worker: u16)
+        requires { IsNumber (length self.old.claims) worker }
+        ensures book { self.new ≡ given_up self.old worker (numbered self.old.claims worker None) }
+        ensures free { IsFree self.new }
+    {
+        if let Some(person) = self.claimed_by(worker) {
+            self.release(worker, person);
+        }
+    }
+
+    /// Nobody is claimed from now on.
+    pub fn stop(&mut self)
+        ensures book { self.new ≡ record self.old { stopped = true } }
+        ensures free { IsFree self.new }
+    {
+        self.stopped = true;
+    }
+
+    /// Persons are claimed again after a stop.
+    pub fn resume(&mut self)
+        ensures book { self.new ≡ record self.old { stopped = false } }
+        ensures free { IsFree self.new }
+    {
+        self.stopped = false;
+    }
+}

@@ -1,0 +1,104 @@
+// What a book holds.
+ghost use Rattle.std.specs.Prelude.{◌≡◌, None, Some, MatchOption, length};
+ghost use Rattle.std.specs.Arc.{arc_value};
+ghost use Rattle.assign_core.specs.Numbered.{IsNumber, numbered};
+ghost use Rattle.auction_book.specs.Book.{ask_of, prices_of, version_of};
+ghost use Rattle.auction_book.specs.Free.{IsFree};
+
+use super::Book;
+use assign_core::{HallSet, Person, Prices};
+use bidder::Ask;
+use scaled_values::Scaled;
+use std::sync::Arc;
+
+impl Book {
+    /// The problem with its benefits.
+    pub fn scaled(&self) -> &Arc<Scaled>
+        ensures scaled { arc_value result.now ≡ self.now.base }
+        ensures free { IsFree self.now }
+    {
+        &self.scaled
+    }
+
+    /// How many workers there are.
+    pub fn workers(&self) -> u16
+        ensures workers { result ≡ length self.now.claims }
+        ensures free { IsFree self.now }
+    {
+        self.workers
+    }
+
+    /// Today's prices.
+    pub fn prices(&self) -> &Prices
+        ensures prices { result.now ≡ prices_of self.now }
+        ensures free { IsFree self.now }
+    {
+        self.log.prices()
+    }
+
+    /// How many bids were accepted since the opening, each one a version of the prices.
+    pub fn version(&self) -> u128
+        ensures version { result ≡ version_of self.now }
+        ensures free { IsFree self.now }
+    {
+        self.log.version()
+    }
+
+    /// The first version of the prices that the book still reaches.
+    pub fn first_kept(&self) -> u128
+        ensures { result ≡ self.now.log.first_kept }
+    {
+        self.log.first_kept()
+    }
+
+    /// Who owns objects 1, 2, ..
+    pub fn owners(&self) -> &[Option<Person>]
+        ensures owners { result.now ≡ self.now.owners }
+        ensures free { IsFree self.now }
+    {
+        self.owners.as_slice()
+    }
+
+    /// What the phase asks of a bid.
+    pub fn ask(&self) -> Ask
+        ensures { result ≡ ask_of self.now }
+    {
+        Ask {
+            phase: self.phase,
+            eps: self.eps,
+            floor: self.floor,
+        }
+    }
+
+    /// How many bids of a worker were accepted since the opening.
+    pub fn accepted_by(&self, worker: u16) -> u128
+        requires { IsNumber (length self.now.claims) worker }
+        ensures { result ≡ numbered self.now.counts worker 0 }
+    {
+        let _claim = &self.claims;
+        self.counts[worker as usize - 1]
+    }
+
+    /// The person that a worker claimed, if its claim isn't over.
+    pub fn claimed_by(&self, worker: u16) -> Option<Person>
+        requires { IsNumber (length self.now.claims) worker }
+        ensures claim { result ≡ numbered self.now.claims worker None }
+        ensures free { IsFree self.now }
+    {
+        self.claims[worker as usize - 1]
+    }
+
+    /// The recorded Hall set, if there is one. There is no assignment then.
+    pub fn refuted(&self) -> Option<&HallSet>
+        ensures { MatchOption result (self.now.refuted ≡ None) (λ hall. self.now.refuted ≡ Some hall.now) }
+    {
+        self.refuted.as_ref()
+    }
+
+    /// Whether the auction was stopped.
+    pub fn stopped(&self) -> bool
+        ensures { result ≡ self.now.stopped }
+    {
+        self.stopped
+    }
+}

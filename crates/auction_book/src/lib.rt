@@ -1,0 +1,19 @@
+//! The book of an auction: who owns what, who waits, who was claimed, and the prices; and the run of
+//! any number of workers over any list of events.
+#![tactic(auto)]
+
+mod answers;
+mod book;
+mod law;
+mod schedule;
+#[cfg(test)]
+mod schedule_tests;
+mod session;
+
+pub use answers::{Accepted, Claim, Refused};
+pub use book::Book;
+pub use law::{changes_follow, floor_is_exact, fresh_bids_are_high, phase_is_bounded};
+pub use schedule::{
+    Event, Seat, World, run_schedule, run_schedule_from, runs_are_fit, worlds_go_on,
+};
+pub use session::{begin_next_if_over, prepare, record_below, submit_offer, take_prices};

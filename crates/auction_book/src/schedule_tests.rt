@@ -1,0 +1,2 @@
+// Runs of the core on small problems.
+mod worked;
