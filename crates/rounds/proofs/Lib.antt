@@ -1,0 +1,9 @@
+pub mod Filled
+pub mod Runs
+pub mod Waiting
+pub mod Claiming
+pub mod Rooms
+pub mod Turning
+pub mod Phasing
+pub mod Running
+pub mod Ending

@@ -1,0 +1,118 @@
+-- Phases follow each other, and a round is one of the plain definition.
+use Rattle.std.proofs.Common.{◌≡◌, ℕ, ℤ, pos, zero, suc, ◌+◌, ◌<◌, ◌≤◌, ◌&&◌, List, [], ◌∷◌, Option, None, Some, option_map, Bool, true, false, not, cond, length, map, refl, ap, sym, ◌∙◌, subst, arith}
+use Rattle.std.specs.Ordering.{int_eq}
+use Rattle.std.proofs.lemmas.List.{length-map}
+use Rattle.scaled_values.specs.Scaled.{ScaledProblem, fifth, next_eps}
+use Rattle.scaled_values.proofs.EpsList.{next_is}
+use Rattle.bidder.specs.declared.offers.Offer.{Offer}
+use Rattle.bidder.specs.Offers.{offer_of}
+use Rattle.auction_book.specs.Book.{BookData, ask_of, persons_of, prices_of}
+use Rattle.auction_book.specs.Changes.{phased}
+use Rattle.auction_book.specs.Free.{IsFree}
+use Rattle.auction_book.specs.Phases.{IsOver, is_assigned, is_done, is_over, persons}
+use Rattle.auction_book.proofs.Opening.{length-persons}
+use Rattle.auction_book.proofs.Following.{over_is}
+use Rattle.rounds.specs.declared.rounds.Round.TheVariants as came
+use Rattle.rounds.specs.Books.{AreClaimed, AreTurned, HaveOffered, IsAtRest, IsClaimed, IsRound, phased_by, plain_of, room}
+use Rattle.rounds.specs.Offers.{offers_of}
+use Rattle.rounds.specs.Plain.{Plain, Progress, Goes, Ends, Finished, Halted, all_turned, asked_of, begun, ready, ready_by, round}
+use Rattle.rounds.proofs.Waiting.{assigned_empty, empty_assigned}
+
+both_true : (x y : Bool) → x ≡ true → y ≡ true → x && y ≡ true
+both_true true true h k = refl
+both_true true false h k = cc
+both_true false y h k = absurd cc
+
+not_false : (x : Bool) → not x ≡ false → x ≡ true
+not_false true h = refl
+not_false false h = cc
+
+and_true : (x y : Bool) → x ≡ true → x && y ≡ false → y ≡ false
+and_true true y h k = k
+and_true false y h k = absurd cc
+
+both_left : (x y : Bool) → x && y ≡ true → x ≡ true
+both_left true true h = refl
+both_left true false h = cc
+both_left false true h = cc
+both_left false false h = cc
+
+-- where nobody waits or is claimed and no phase follows, it is the last phase
+last_phase : (b : BookData) → IsAtRest b → b.queue ≡ [] → is_over b ≡ false → int_eq b.eps (pos 1) ≡ true
+last_phase b rest none last = not_false (int_eq b.eps (pos 1)) (and_true (is_assigned b) (not (int_eq b.eps (pos 1))) (empty_assigned b rest none) last)
+
+-- so everything is done
+pub all_done : (b : BookData) → IsAtRest b → b.queue ≡ [] → is_over b ≡ false → is_done b ≡ true
+all_done b rest none last = both_true (is_assigned b) (int_eq b.eps (pos 1)) (empty_assigned b rest none) (last_phase b rest none last)
+
+ready_as : (s : ScaledProblem) (b : Plain) (queue : List ℕ) → b.queue ≡ queue → ready s b ≡ ready_by s b queue
+ready_as s b queue e = ap (ready_by s b) e
+
+-- and no round follows
+pub none_ready : (b : BookData) → IsAtRest b → b.queue ≡ [] → is_over b ≡ false → ready b.base (plain_of b) ≡ None
+none_ready b rest none last =
+    let one = last_phase b rest none last in
+    let no : next_eps b.eps ≡ None = ap (λ t. cond t None (Some (fifth b.eps))) one in
+    ready_as b.base (plain_of b) [] none ∙ ap (option_map (begun b.base (prices_of b) (b.phase + 1))) no
+
+-- somebody waits: a round follows
+pub some_ready : (s : ScaledProblem) (b : Plain) → 0 < length b.queue → ready s b ≡ Some b
+some_ready s b some = by_queue s b b.queue refl some where
+  by_queue : (s : ScaledProblem) (b : Plain) (queue : List ℕ) → b.queue ≡ queue → 0 < length queue → ready s b ≡ Some b
+  by_queue s b [] e lt = absurd (omega arith)
+  by_queue s b (i ∷ queue) e lt = ready_as s b (i ∷ queue) e
+
+-- the phase is over: the next one follows
+pub phase_ready : (b : BookData) → IsFree b → is_over b ≡ true → ready b.base (plain_of b) ≡ Some (plain_of (phased b))
+phase_ready b free over =
+    let is = over_is b over in
+    let none = assigned_empty b free (both_left (is_assigned b) (not (int_eq b.eps (pos 1))) over) in
+    ready_as b.base (plain_of b) [] none ∙ ap (option_map (begun b.base (prices_of b) (b.phase + 1))) (next_is b.eps is.more)
+
+-- what follows a book at rest, once its next phase has begun where it does
+pub went_on : (b : BookData) (t : Bool) → IsAtRest b → is_over b ≡ t → 0 < length (phased_by t b).queue → ready b.base (plain_of b) ≡ Some (plain_of (phased_by t b))
+went_on b true rest over some = phase_ready b rest.going.free over
+went_on b false rest over some = some_ready b.base (plain_of b) some
+
+-- a phase that begins has waiting persons, so where nobody waits none has begun
+pub not_begun : (b : BookData) (t : Bool) → IsAtRest b → (phased_by t b).queue ≡ [] → t ≡ false
+not_begun b true rest none =
+    let long = length-persons (persons_of b) in
+    let some = rest.going.free.problem.size.some in
+    let zero_long : length (persons (persons_of b)) ≡ 0 = ap length none in
+    absurd (omega arith)
+not_begun b false rest none = refl
+
+pub phased_rest : (b : BookData) → IsAtRest b → IsFree (phased b) → IsAtRest (phased b)
+phased_rest b rest free = record { going = record { free = free; unrefuted = rest.going.unrefuted; unstopped = rest.going.unstopped; workers = rest.going.workers }; unclaimed = rest.unclaimed }
+
+-- ---- a round
+-- the offers of all who waited, submitted over the book whose queue was claimed
+pub round_is : (old mid : BookData) (persons : List ℕ) (offers : List Offer) → IsClaimed old persons mid → HaveOffered mid persons offers → round old.base (plain_of old) ≡ all_turned offers (plain_of mid)
+round_is old mid persons offers claimed have =
+    let made = have.made ∙ ap (offers_of mid.base (prices_of mid) (ask_of mid)) claimed.all ∙ ap (λ (b : BookData). offers_of b.base (prices_of b) (ask_of b) old.queue) claimed.rest in
+    let plain : plain_of mid ≡ record (plain_of old) { queue = [] } = ap plain_of claimed.rest in
+    sym (ap (λ xs. all_turned xs (plain_of mid)) made ∙ ap (all_turned (offers_of old.base (prices_of old) (ask_of old) old.queue)) plain)
+
+-- a round that ends at a person
+pub round_halted : (old mid new : BookData) (persons : List ℕ) (offers : List Offer) (person : ℕ) → IsClaimed old persons mid → 0 < length persons → HaveOffered mid persons offers → AreTurned mid offers (Some person) new → IsRound old (came.Halted person) new
+round_halted old mid new persons offers person claimed some have turned =
+    (subst (λ q. 0 < length q) claimed.all some, round_is old mid persons offers claimed have ∙ turned.0, turned.1)
+
+-- a round after which the run goes on
+pub round_more : (old mid new : BookData) (persons : List ℕ) (offers : List Offer) → IsClaimed old persons mid → 0 < length persons → HaveOffered mid persons offers → AreTurned mid offers None new → IsRound old came.More new
+round_more old mid new persons offers claimed some have turned =
+    let long : length offers ≡ length persons = ap length have.made ∙ length-map persons (offer_of mid.base (prices_of mid) 0 (ask_of mid)) in
+    let same : prices_of mid ≡ prices_of old = ap prices_of claimed.rest in
+    (subst (λ q. 0 < length q) claimed.all some, round_is old mid persons offers claimed have ∙ turned.0, turned.1, subst (λ p. room (prices_of new) < room p) same (turned.2 (omega arith)))
+
+-- nobody waited
+pub round_over : (old new : BookData) (persons : List ℕ) → IsAtRest old → IsClaimed old persons new → length persons ≡ 0 → IsRound old came.Over new
+round_over old new persons rest claimed none =
+    let empty = no_persons persons none in
+    let waits : old.queue ≡ [] = sym claimed.all ∙ empty in
+    let plain : plain_of new ≡ plain_of old = ap plain_of claimed.rest ∙ ap (λ q. record (plain_of old) { queue = q }) (sym waits) in
+    (waits, plain, record { going = claimed.going; unclaimed = subst (λ xs. AreClaimed xs 0 new.claims) empty claimed.claimed }) where
+      no_persons : (xs : List ℕ) → length xs ≡ 0 → xs ≡ []
+      no_persons [] e = refl
+      no_persons (x ∷ xs) e = absurd (omega arith)

@@ -1,0 +1,272 @@
+-- Offers are submitted in turn.
+use Rattle.std.proofs.Common.{◌≡◌, ℕ, ℤ, pos, zero, suc, ◌+◌, ◌<◌, ◌≤◌, ◌+ℤ◌, ◌≤ℤ◌, ◌<ℤ◌, ◌⊎◌, inl, inr, List, [], ◌∷◌, ◌++◌, Option, None, Some, Bool, true, false, length, get_or, drop, map, refl, ap, sym, ◌∙◌, subst, arith}
+use Rattle.std.proofs.lemmas.Int.{ints}
+use Rattle.std.proofs.lemmas.List.{at_drop_more, get_or-map, length-map}
+use Rattle.std.specs.Int.Signed.{lt_z}
+use Rattle.assign_core.specs.declared.numbers.TheConstants.{MOST_PERSONS}
+use Rattle.assign_core.specs.Numbered.{IsNumber, numbered, renumbered}
+use Rattle.std.specs.List.{All}
+use Rattle.assign_core.specs.Prices.{IsBelow, IsPrice, price_of}
+use Rattle.assign_core.proofs.NumberedLemmas.{length-renumbered, numbered_in}
+use Rattle.assign_core.proofs.Matchings.{below_itself, below_through}
+use Rattle.scaled_values.specs.Scaled.{ScaledProblem}
+use Rattle.scaled_values.proofs.RowFacts.{benefit_row_is}
+use Rattle.bidder.specs.declared.offers.Ask.{Ask}
+use Rattle.bidder.specs.declared.offers.Bid.{Bid}
+use Rattle.bidder.specs.declared.offers.BelowFloor.{BelowFloor}
+use Rattle.bidder.specs.declared.offers.Offer.{Offer}
+use Rattle.bidder.specs.declared.offers.Offer.TheVariants as made
+use Rattle.bidder.specs.Offers.{IsBid, IsOffer, IsSound, IsUnder, benefits_at, offer_of}
+use Rattle.bidder.proofs.Sound.{bid_high, bid_sound, offer_is}
+use Rattle.price_log.proofs.Histories.{today-after_raise, today_is_table}
+use Rattle.auction_book.specs.Book.{BookData, Holds, ask_of, persons_of, prices_of}
+use Rattle.auction_book.specs.Changes.{accepted, released}
+use Rattle.auction_book.specs.Submissions.{IsFitting, IsHigh}
+use Rattle.auction_book.specs.Free.{IsFree}
+use Rattle.auction_book.proofs.Claiming.{ask_is}
+use Rattle.auction_book.proofs.Accepting.{accepted_follows, bid_range, eps_least}
+use Rattle.rounds.specs.Books.{AreClaimed, AreTurned, HaveOffered, IsAtRest, IsBelowFloor, IsGoing, book_after, book_turned, plain_of, room}
+use Rattle.rounds.specs.Offers.{CanOffer, offers_of}
+use Rattle.rounds.specs.Plain.{Plain, after_bid, all_turned, submitted}
+use Rattle.rounds.proofs.Claiming.{claimed_less}
+use Rattle.rounds.proofs.Rooms.{room_falls}
+use Rattle.rounds.proofs.Waiting.{claimed_number}
+
+-- ---- a book's change is the plain one
+pub plain-after : (low : Bool) (b : BookData) (worker : ℕ) (bid : Bid) → plain_of (book_after low b worker bid) ≡ after_bid low (plain_of b) bid
+plain-after true b worker bid = refl
+plain-after false b worker bid = ap (λ (prices : List ℤ). record (after_bid false (plain_of b) bid) { prices = prices }) (today-after_raise b.log bid.object bid.level)
+
+-- ---- the offers of a round
+-- the offer at a place is that of the person at that place, who is claimed
+pub record IsMade (b : BookData) (persons : List ℕ) (offers : List Offer) (i : ℕ) (offer : Offer) : Type 0 where
+  pub within : i < length offers
+  pub many : i < length persons
+  pub here : get_or offers i offer ≡ offer
+  pub person : ℕ
+  pub held : numbered b.claims (suc i) None ≡ Some person
+  pub at : (d : ℕ) → get_or persons i d ≡ person
+  pub is : IsOffer b.base (prices_of b) 0 (ask_of b) person offer
+
+held_same : (x y : ℕ) → Some x ≡ Some y → x ≡ y
+held_same x y h = cc
+
+pub made_at : (b : BookData) (persons : List ℕ) (offers : List Offer) (i : ℕ) (offer : Offer) → HaveOffered b persons offers → i < length offers → get_or offers i offer ≡ offer → IsMade b persons offers i offer
+made_at b persons offers i offer have within here =
+    let f = offer_of b.base (prices_of b) 0 (ask_of b) in
+    let long : length offers ≡ length persons = ap length have.made ∙ length-map persons f in
+    let many : i < length persons = omega arith in
+    let person = get_or persons i 0 in
+    let held = have.claimed.held i 0 (omega arith) many in
+    let number = claimed_number b (suc i) person have.going.free held in
+    let made_is : get_or offers i offer ≡ f person = ap (λ (xs : List Offer). get_or xs i offer) have.made ∙ get_or-map f persons i 0 offer many in
+    record {
+      within = within;
+      many = many;
+      here = here;
+      person = person;
+      held = held;
+      at = λ d. held_same (get_or persons i d) person (sym (have.claimed.held i d (omega arith) many) ∙ held);
+      is = subst (IsOffer b.base (prices_of b) 0 (ask_of b) person) (sym made_is ∙ here) (offer_is b.base (prices_of b) 0 (ask_of b) person (benefit_row_is b.base person have.going.free.problem number).rising);
+    }
+
+-- claimed persons can make offers from the book's prices
+pub can_offer : (b : BookData) (persons : List ℕ) → IsGoing b → AreClaimed persons 0 b.claims → CanOffer b.base (prices_of b) (ask_of b) persons
+can_offer b persons going claimed =
+    record {
+      numbers = λ k d lt. claimed_number b (suc k) (get_or persons k d) going.free (claimed.held k d (omega arith) lt);
+      priced = going.free.sizes.priced;
+      asked = ask_is b going.free;
+    }
+
+pub can_offer_as : (b : BookData) (persons waiting : List ℕ) (s : ScaledProblem) (prices : List ℤ) (ask : Ask) → IsGoing b → AreClaimed persons 0 b.claims → s ≡ b.base → prices ≡ prices_of b → ask ≡ ask_of b → waiting ≡ persons → CanOffer s prices ask waiting
+can_offer_as b persons waiting s prices ask going claimed e f g h =
+    subst (λ x. CanOffer x prices ask waiting) (sym e) (subst (λ x. CanOffer b.base x ask waiting) (sym f) (subst (λ x. CanOffer b.base (prices_of b) x waiting) (sym g) (subst (CanOffer b.base (prices_of b) (ask_of b)) (sym h) (can_offer b persons going claimed))))
+
+pub have_offered : (b : BookData) (persons waiting : List ℕ) (s : ScaledProblem) (prices : List ℤ) (ask : Ask) (offers : List Offer) → IsGoing b → AreClaimed persons 0 b.claims → s ≡ b.base → prices ≡ prices_of b → ask ≡ ask_of b → waiting ≡ persons → offers ≡ offers_of s prices ask waiting → HaveOffered b persons offers
+have_offered b persons waiting s prices ask offers going claimed e f g h made = record {
+  going = going;
+  claimed = claimed;
+  made = made ∙ ap (λ x. offers_of x prices ask waiting) e ∙ ap (λ x. offers_of b.base x ask waiting) f ∙ ap (λ x. offers_of b.base (prices_of b) x waiting) g ∙ ap (offers_of b.base (prices_of b) (ask_of b)) h;
+}
+
+-- ---- turns
+-- the first i offers have been submitted
+pub record IsTurning (old now : BookData) (persons : List ℕ) (offers : List Offer) (i : ℕ) : Type 0 where
+  pub going : IsGoing now
+  pub left : all_turned (drop i offers) (plain_of now) ≡ all_turned offers (plain_of old)
+  pub claimed : AreClaimed persons i now.claims
+  pub base : now.base ≡ old.base
+  pub asked : ask_of now ≡ ask_of old
+  pub below : IsBelow (prices_of old) (prices_of now)
+  pub first : i ≡ 0 → now ≡ old
+  pub fell : 0 < i → room (prices_of now) < room (prices_of old)
+
+pub turning_none : (b : BookData) (persons : List ℕ) (offers : List Offer) → HaveOffered b persons offers → IsTurning b b persons offers 0
+turning_none b persons offers have = record {
+  going = have.going;
+  left = refl;
+  claimed = have.claimed;
+  base = refl;
+  asked = refl;
+  below = below_itself (prices_of b);
+  first = λ e. refl;
+  fell = λ lt. absurd (omega arith);
+}
+
+-- what holds of the bid at place i, when it is submitted
+pub record IsNext (old now : BookData) (i : ℕ) (bid : Bid) : Type 0 where
+  pub held : Holds now (suc i) bid.person
+  pub places : suc i ≤ length now.claims
+  pub phase : bid.phase ≡ now.phase
+  pub made : IsBid old.base (prices_of old) (ask_of old) bid
+  pub fitting : IsFitting now bid
+
+pub next_bid : (old now : BookData) (persons : List ℕ) (offers : List Offer) (i : ℕ) (bid : Bid) → HaveOffered old persons offers → IsTurning old now persons offers i → i < length offers → get_or offers i (made.Bid bid) ≡ made.Bid bid → IsNext old now i bid
+next_bid old now persons offers i bid have is within here =
+    let m = made_at old persons offers i (made.Bid bid) have within here in
+    let held = is.claimed.held i 0 (omega arith) m.many ∙ ap Some (m.at 0 ∙ sym m.is.0) in
+    let b = m.is.3 in
+    let sound = bid_sound old.base (prices_of old) (ask_of old) bid b in
+    record {
+      held = held;
+      places = held_in now.claims i bid.person held;
+      phase = m.is.1 ∙ ap (λ a. a.phase) (sym is.asked);
+      made = b;
+      fitting = λ e. (prices_of old, is.below, subst (λ a. IsSound now.base a (prices_of old) bid) (sym is.asked) (subst (λ s. IsSound s (ask_of old) (prices_of old) bid) (sym is.base) sound));
+    } where
+      held_in : (claims : List (Option ℕ)) (i p : ℕ) → numbered claims (suc i) None ≡ Some p → suc i ≤ length claims
+      held_in claims i p e = (numbered_in claims (suc i) p e).1
+
+not_less : (v w : ℤ) → lt_z v w ≡ false → w ≤ℤ v
+not_less v w h = grind (arith, ints)
+
+is_less : (v w : ℤ) → lt_z v w ≡ true → v <ℤ w
+is_less v w h = grind (arith, ints)
+
+zero_or_more : (i : ℕ) → (i ≡ 0) ⊎ (0 < i)
+zero_or_more zero = inl refl
+zero_or_more (suc k) = inr (omega arith)
+
+-- the first bid of a round is made from today's prices, so it is high
+first_high : (old now : BookData) (i : ℕ) (bid : Bid) → now ≡ old → IsNext old now i bid → IsHigh now bid
+first_high old now i bid same next = subst (λ b. IsHigh b bid) (sym same) (bid_high old.base (prices_of old) (ask_of old) bid next.made)
+
+turned_by : (low : Bool) (old now : BookData) (persons : List ℕ) (offers : List Offer) (i : ℕ) (bid : Bid) → lt_z bid.level (price_of (prices_of now) bid.object +ℤ now.eps) ≡ low → IsNext old now i bid → IsFree (book_after low now (suc i) bid) → IsTurning old now persons offers i
+    → all_turned (drop (i + 1) offers) (plain_of (book_after low now (suc i) bid)) ≡ all_turned offers (plain_of old) → IsTurning old (book_after low now (suc i) bid) persons offers (i + 1)
+turned_by true old now persons offers i bid t next free is left =
+    let low = is_less bid.level (price_of (prices_of now) bid.object +ℤ now.eps) t in
+    let places = next.places in
+    record {
+      going = record { free = free; unrefuted = is.going.unrefuted; unstopped = is.going.unstopped; workers = length-renumbered now.claims (suc i) None ∙ is.going.workers };
+      left = left;
+      claimed = claimed_less persons now.claims i (omega arith) is.claimed;
+      base = is.base;
+      asked = is.asked;
+      below = is.below;
+      first = λ e. absurd (omega arith);
+      fell = λ lt. elim (zero_or_more i) [
+        | inl z ↦ let high = first_high old now i bid (is.first z) next in absurd (omega (arith, ints))
+        | inr more ↦ is.fell more
+      ];
+    }
+turned_by false old now persons offers i bid t next free is left =
+    let high = not_less bid.level (price_of (prices_of now) bid.object +ℤ now.eps) t in
+    let places = next.places in
+    let fit = next.fitting next.phase in
+    let follows = accepted_follows now (suc i) bid fit.0 is.going.free fit.1 fit.2 high in
+    let range = bid_range now fit.0 bid is.going.free fit.2 in
+    let first = range.object.first in
+    let last = range.object.last in
+    let priced = is.going.free.sizes.priced in
+    let after = today-after_raise now.log bid.object bid.level in
+    let least = eps_least now is.going.free in
+    let table = today_is_table now.log is.going.free.log_ascends in
+    let later = subst (All IsPrice) after (today_is_table (accepted now (suc i) bid).log free.log_ascends).each in
+    let one = room_falls (prices_of now) bid.object bid.level first (omega arith) table.each later (omega (arith, ints)) in
+    let falls = subst (λ p. room p < room (prices_of now)) (sym after) one in
+    record {
+      going = record { free = free; unrefuted = is.going.unrefuted; unstopped = is.going.unstopped; workers = length-renumbered now.claims (suc i) None ∙ is.going.workers };
+      left = left;
+      claimed = claimed_less persons now.claims i (omega arith) is.claimed;
+      base = is.base;
+      asked = is.asked;
+      below = below_through (prices_of old) (prices_of now) (prices_of (accepted now (suc i) bid)) is.below follows.goes_on.below;
+      first = λ e. absurd (omega arith);
+      fell = λ lt. elim (zero_or_more i) [
+        | inl z ↦ subst (λ b. room (prices_of (accepted now (suc i) bid)) < room (prices_of b)) (is.first z) falls
+        | inr more ↦ let was = is.fell more in omega arith
+      ];
+    }
+
+-- one offer more
+pub turning_more : (old now new : BookData) (persons : List ℕ) (offers : List Offer) (i worker : ℕ) (bid : Bid) → HaveOffered old persons offers → IsTurning old now persons offers i → worker ≡ suc i → i < length offers → get_or offers i (made.Bid bid) ≡ made.Bid bid
+    → new ≡ book_turned now worker bid → IsFree new → IsTurning old new persons offers (i + 1)
+turning_more old now new persons offers i worker bid have is w within here e free =
+    let next = next_bid old now persons offers i bid have is within here in
+    let low = lt_z bid.level (price_of (prices_of now) bid.object +ℤ now.eps) in
+    let after : new ≡ book_after low now (suc i) bid = e ∙ ap (λ k. book_turned now k bid) w in
+    let turn = at_drop_more (λ l. all_turned l (plain_of now)) offers i (made.Bid bid) within ∙ ap (λ o. all_turned (o ∷ drop (i + 1) offers) (plain_of now)) here in
+    let left = ap (all_turned (drop (i + 1) offers)) (plain-after low now (suc i) bid) ∙ sym turn ∙ is.left in
+    subst (λ x. IsTurning old x persons offers (i + 1)) (sym after) (turned_by low old now persons offers i bid refl next (subst IsFree after free) is left)
+
+-- all offers have been submitted
+pub turning_done : (old now : BookData) (persons : List ℕ) (offers : List Offer) (i : ℕ) → HaveOffered old persons offers → IsTurning old now persons offers i → length offers ≤ i → AreTurned old offers None now
+turning_done old now persons offers i have is full =
+    let long : length offers ≡ length persons = ap length have.made ∙ length-map persons (offer_of old.base (prices_of old) 0 (ask_of old)) in
+    let over : drop i offers ≡ [] = past offers i full in (
+      sym is.left ∙ ap (λ l. all_turned l (plain_of now)) over,
+      record {
+        going = is.going;
+        unclaimed = record {
+          held = λ k d from lt. absurd (omega arith);
+          past = λ w le. is.claimed.past w (omega arith);
+          others = λ w lt. elim (here_or_past w i) [
+            | inl le ↦ is.claimed.past w le
+            | inr more ↦ is.claimed.others w (omega arith)
+          ];
+        };
+      },
+      λ lt. is.fell (omega arith),
+    ) where
+      past : (xs : List Offer) (i : ℕ) → length xs ≤ i → drop i xs ≡ []
+      past [] zero le = refl
+      past [] (suc i) le = refl
+      past (x ∷ xs) zero le = absurd (omega arith)
+      past (x ∷ xs) (suc i) le = past xs i (omega arith)
+
+      here_or_past : (w i : ℕ) → (w ≤ i) ⊎ (i < w)
+      here_or_past w i = grind arith
+
+-- a person finds nothing worth the floor
+pub turning_below : (old now : BookData) (persons : List ℕ) (offers : List Offer) (i : ℕ) (below : BelowFloor) → HaveOffered old persons offers → IsTurning old now persons offers i → i < length offers → get_or offers i (made.Below below) ≡ made.Below below → AreTurned old offers (Some below.person) now
+turning_below old now persons offers i below have is within here =
+    let m = made_at old persons offers i (made.Below below) have within here in
+    let held = is.claimed.held i 0 (omega arith) m.many ∙ ap Some (m.at 0 ∙ sym m.is.0) in
+    let turn = at_drop_more (λ l. all_turned l (plain_of now)) offers i (made.Below below) within ∙ ap (λ o. all_turned (o ∷ drop (i + 1) offers) (plain_of now)) here in
+    let under = subst (λ p. IsUnder (benefits_at old.base p) (prices_of old) old.floor) (sym m.is.0) m.is.2 in
+    let based = subst (λ s. IsUnder (benefits_at s below.person) (prices_of old) old.floor) (sym is.base) under in (
+      sym is.left ∙ turn,
+      record {
+        free = is.going.free;
+        worker = suc i;
+        held = held;
+        table = prices_of old;
+        below = is.below;
+        under = subst (λ floor. IsUnder (benefits_at now.base below.person) (prices_of old) floor) (ap (λ a. a.floor) (sym is.asked)) based;
+      },
+    )
+
+-- a bid that is high is accepted
+pub turned_high : (b : BookData) (worker : ℕ) (bid : Bid) → IsHigh b bid → accepted b worker bid ≡ book_turned b worker bid
+turned_high b worker bid high = ap (λ t. book_after t b worker bid) (sym (low_false bid.level (price_of (prices_of b) bid.object +ℤ b.eps) high)) where
+  low_false : (v w : ℤ) → w ≤ℤ v → lt_z v w ≡ false
+  low_false v w h = grind (arith, ints)
+
+-- a worker's number has 16 bits
+pub few_places : (old now : BookData) (persons : List ℕ) (offers : List Offer) (i : ℕ) (bid : Bid) → IsTurning old now persons offers i → IsNext old now i bid → i + 1 ≤ MOST_PERSONS
+few_places old now persons offers i bid is next =
+    let places = next.places in
+    let workers = is.going.workers in
+    let few = is.going.free.problem.size.few in
+    omega arith

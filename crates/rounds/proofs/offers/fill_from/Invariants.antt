@@ -1,0 +1,7 @@
+use Rattle.std.proofs.Common.{◌≡◌, ℕ, ◌+◌, ◌<◌, get_or}
+use Rattle.bidder.specs.declared.offers.Offer.{Offer}
+use Rattle.bidder.specs.Offers.{offer_of}
+use Rattle.rounds.proofs.offers.fill_from.Given as goal
+
+abbrev pub invariant-loop-i : goal.invariant-loop-i
+invariant-loop-i l = (k : ℕ) (d : Offer) (e : ℕ) → k < l.i → get_or l.offers k d ≡ offer_of l.scaled l.prices 0 l.ask (get_or l.persons (l.start + k) e)

@@ -1,0 +1,4 @@
+pub mod Offers
+pub mod Plain
+pub mod Books
+pub mod Outcomes

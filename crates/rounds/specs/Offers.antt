@@ -1,0 +1,17 @@
+-- The offers of several persons under one table of prices.
+use Rattle.std.specs.Prelude.{◌≡◌, ℕ, ℤ, List, length, map, All}
+use Rattle.assign_core.specs.Numbered.{IsNumber}
+use Rattle.scaled_values.specs.Scaled.{ScaledProblem}
+use Rattle.bidder.specs.declared.offers.Ask.{Ask}
+use Rattle.bidder.specs.declared.offers.Offer.{Offer}
+use Rattle.bidder.specs.Offers.{IsAsk, offer_of}
+
+-- what each of these persons offers, in their order, all from one table; rounds keep no versions, so each is 0
+abbrev pub offers_of : ScaledProblem → List ℤ → Ask → List ℕ → List Offer
+offers_of s prices ask persons = map (offer_of s prices 0 ask) persons
+
+-- persons of the problem, a price for each object, and what some phase asks
+pub record CanOffer (s : ScaledProblem) (prices : List ℤ) (ask : Ask) (persons : List ℕ) : Type 0 where
+  pub numbers : All (IsNumber (length s.problem)) persons
+  pub priced : length prices ≡ length s.problem
+  pub asked : IsAsk s ask

@@ -1,0 +1,38 @@
+-- What an outcome says.
+use Rattle.std.specs.Prelude.{◌≡◌, ◌↔◌, ℕ, ℤ, List, Option, Some, length}
+use Rattle.assign_core.specs.Numbered.{IsNumber, numbered}
+use Rattle.assign_core.specs.Matching.{owner_of}
+use Rattle.assign_core.specs.Assignment.{IsAssignment}
+use Rattle.assign_core.specs.Slackness.{IsCertificate}
+use Rattle.assign_core.specs.Hall.{IsHallSet}
+use Rattle.assign_core.specs.declared.outcome.Outcome.{Outcome}
+use Rattle.assign_core.specs.declared.outcome.Outcome.TheVariants.{Best, Hall}
+use Rattle.scaled_values.specs.Scaled.{ScaledProblem}
+use Rattle.hall_refuter.specs.Search.{IsRefuted}
+use Rattle.rounds.specs.Plain.{End, Ends, Finished, Halted, opening, run}
+
+-- each of n persons owns its object and no other
+pub record IsOwned (owners : List (Option ℕ)) (n : ℕ) (xs : List ℕ) : Type 0 where
+  pub long : length xs ≡ n
+  pub owned : (i j : ℕ) → IsNumber n i → (numbered xs i 0 ≡ j) ↔ (owner_of owners j ≡ Some i)
+
+-- the outcome of a run that ends so: the objects owned with the prices, or what the halted person reaches
+abbrev pub IsOutcome : ScaledProblem → End → Outcome → Type 0
+IsOutcome s (Finished b) (Best c) = IsOwned b.owners (length s.problem) c.assignment × (c.prices ≡ b.prices)
+IsOutcome s (Halted person b) (Hall h) = IsRefuted s.problem b.owners person h
+IsOutcome s (Finished b) (Hall h) = ⊥
+IsOutcome s (Halted person b) (Best c) = ⊥
+
+-- the outcome of plain rounds that begin at these prices
+abbrev pub IsOfRounds : ScaledProblem → List ℤ → Outcome → Type 0
+IsOfRounds s prices outcome = (m : ℕ) × (end : End) × (run s m (opening s prices) ≡ Ends end) × IsOutcome s end outcome
+
+-- an assignment with prices that prove it best, or a set that proves that there is none
+abbrev pub IsProof : ScaledProblem → Outcome → Type 0
+IsProof s (Best c) = IsCertificate s.sense s.problem c.assignment c.prices
+IsProof s (Hall h) = IsHallSet s.problem h.persons h.objects
+
+-- a best assignment where there is one, and a Hall set where there is none
+abbrev pub IsDecided : ScaledProblem → Outcome → Type 0
+IsDecided s (Best c) = (xs : List ℕ) × IsAssignment s.problem xs
+IsDecided s (Hall h) = (xs : List ℕ) → IsAssignment s.problem xs → ⊥

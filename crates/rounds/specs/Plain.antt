@@ -1,0 +1,106 @@
+-- Plain rounds of the auction (Bertsekas, Network Optimization, 1998, section 7.1, in Jacobi's form): what one thread
+-- comes to that takes all offers of a round from one table.
+use Rattle.std.specs.Prelude.{ℕ, zero, suc, ℤ, ◌+◌, ◌+ℤ◌, List, [], ◌∷◌, ◌++◌, Option, None, Some, option_map, Bool, true, false, replicate, length}
+use Rattle.std.specs.Int.Signed.{lt_z}
+use Rattle.assign_core.specs.Numbered.{renumbered}
+use Rattle.assign_core.specs.Prices.{price_of}
+use Rattle.assign_core.specs.Matching.{owner_of}
+use Rattle.scaled_values.specs.Scaled.{ScaledProblem, first_eps, next_eps, floor_of, greatest_of}
+use Rattle.bidder.specs.declared.offers.Ask.{Ask}
+use Rattle.bidder.specs.declared.offers.Bid.{Bid}
+use Rattle.bidder.specs.declared.offers.Offer.{Offer}
+use Rattle.bidder.specs.declared.offers.Offer.TheVariants as made
+use Rattle.auction_book.specs.Changes.{requeued}
+use Rattle.auction_book.specs.Phases.{persons}
+use Rattle.rounds.specs.Offers.{offers_of}
+
+-- prices, the owner of each object, who waits, and the phase
+pub record Plain : Type 0 where
+  pub prices : List ℤ
+  pub owners : List (Option ℕ)
+  pub queue : List ℕ
+  pub phase : ℕ
+  pub eps : ℤ
+  pub floor : ℤ
+
+-- how a run ends: nobody waits in the last phase, or a person finds nothing worth the floor
+pub data End : Type 0 where
+  Finished : Plain → End
+  Halted : ℕ → Plain → End
+
+-- a run goes on, or has ended
+pub data Progress : Type 0 where
+  Goes : Plain → Progress
+  Ends : End → Progress
+
+-- what the phase asks of a bid
+abbrev pub asked_of : Plain → Ask
+asked_of b = record { phase = b.phase; eps = b.eps; floor = b.floor }
+
+-- after a bid, which is too low or is accepted
+abbrev pub after_bid : Bool → Plain → Bid → Plain
+after_bid true b bid = record b { queue = b.queue ++ bid.person ∷ [] }
+after_bid false b bid = record b {
+  prices = renumbered b.prices bid.object bid.level;
+  owners = renumbered b.owners bid.object (Some bid.person);
+  queue = requeued b.queue (owner_of b.owners bid.object);
+}
+
+-- a bid is accepted at a level of eps above the price or more
+abbrev pub submitted : Plain → Bid → Plain
+submitted b bid = after_bid (lt_z bid.level (price_of b.prices bid.object +ℤ b.eps)) b bid
+
+-- the next offer in turn
+abbrev pub turned : Plain → Offer → Progress
+turned b (made.Bid bid) = Goes (submitted b bid)
+turned b (made.Below below) = Ends (Halted below.person b)
+
+-- what comes next, where the run goes on
+abbrev pub and_then : Progress → (Plain → Progress) → Progress
+and_then (Goes b) next = next b
+and_then (Ends e) next = Ends e
+
+-- offers in turn, up to one of a person that finds nothing worth the floor
+abbrev pub all_turned : List Offer → Plain → Progress
+all_turned [] b = Goes b
+all_turned (offer ∷ offers) b = and_then (turned b offer) (all_turned offers)
+
+-- nobody waits, each person who waited makes an offer from the same table, and these are submitted in turn
+abbrev pub round : ScaledProblem → Plain → Progress
+round s b = all_turned (offers_of s b.prices (asked_of b) b.queue) (record b { queue = [] })
+
+-- the start of a phase: nobody owns anything, all persons wait, and prices are kept
+abbrev pub begun : ScaledProblem → List ℤ → ℕ → ℤ → Plain
+begun s prices phase eps = record {
+  prices = prices;
+  owners = replicate (length s.problem) None;
+  queue = persons (length s.problem);
+  phase = phase;
+  eps = eps;
+  floor = floor_of s (greatest_of prices) eps;
+}
+
+-- the start of a run with these prices
+abbrev pub opening : ScaledProblem → List ℤ → Plain
+opening s prices = begun s prices 1 (first_eps s)
+
+-- where nobody waits the next phase begins, if there is one
+abbrev pub ready_by : ScaledProblem → Plain → List ℕ → Option Plain
+ready_by s b [] = option_map (begun s b.prices (b.phase + 1)) (next_eps b.eps)
+ready_by s b (i ∷ queue) = Some b
+
+abbrev pub ready : ScaledProblem → Plain → Option Plain
+ready s b = ready_by s b b.queue
+
+-- one round more, of a phase that has begun
+abbrev pub round_or_end : ScaledProblem → Plain → Option Plain → Progress
+round_or_end s b None = Ends (Finished b)
+round_or_end s b (Some c) = round s c
+
+abbrev pub next_round : ScaledProblem → Plain → Progress
+next_round s b = round_or_end s b (ready s b)
+
+-- what m rounds come to
+unfoldable pub run : ScaledProblem → ℕ → Plain → Progress
+run s zero b = Goes b
+run s (suc m) b = and_then (run s m b) (next_round s)

@@ -1,0 +1,12 @@
+//! Rounds of offers: the solver whose answer is the same for any number of threads.
+#![tactic(auto)]
+
+mod law;
+mod offers;
+mod rounds;
+#[cfg(test)]
+mod tests;
+
+pub use law::{rounds_end_once, rounds_have_one_outcome};
+pub use offers::make_offers;
+pub use rounds::{solve_rounds, solve_rounds_from};

@@ -1,0 +1,148 @@
+// The offers of a round, from one table of prices.
+ghost use Rattle.std.specs.Prelude.{◌≡◌, ℕ, ◌+◌, ◌<◌, ◌≤◌, length, All, OnOk, slice_index_or};
+ghost use Rattle.assign_core.specs.Numbered.{IsNumber};
+ghost use Rattle.bidder.specs.Offers.{offer_of};
+ghost use Rattle.rounds.specs.Offers.{CanOffer, offers_of};
+
+use assign_core::{Person, Prices};
+use bidder::{Ask, BelowFloor, Offer, make_bid};
+use rayon::prelude::*;
+use scaled_values::{Row, Scaled};
+use std::alloc::AllocError;
+use std::thread::Threads;
+
+/// A piece of a round for a thread of its own has at least so many listed pairs, and a round of less
+/// than four such pieces is computed by the calling thread. A thread costs some 15 microseconds to
+/// start, which is what some 15,000 pairs cost.
+pub const LEAST_PAIRS: usize = 1 << 16;
+
+// What stands in a buffer before it is filled.
+const NOTHING: Offer = Offer::Below(BelowFloor {
+    person: Person(0),
+    phase: 0,
+});
+
+// The offers of the persons from a place on.
+fn fill_from(
+    scaled: &Scaled,
+    prices: &Prices,
+    ask: Ask,
+    persons: &[Person],
+    start: usize,
+    offers: &mut [Offer],
+)
+    requires within { start + length offers.old ≤ length persons.now }
+    requires can { CanOffer scaled.now prices.now ask persons.now }
+    ensures { (k : ℕ) (d : _) (e : ℕ) → k < length offers.old
+        → slice_index_or offers.new k d
+        ≡ offer_of scaled.now prices.now 0 ask (slice_index_or persons.now (start + k) e) }
+{
+    for i in 0..offers.len() {
+        offers[i] = make_bid(scaled, prices, 0, ask, persons[start + i]);
+    }
+}
+
+// The offers of the persons, made by several threads, each of which has pieces of so many persons.
+fn fill_pieces(
+    rt: &(impl Threads + Sync),
+    piece: usize,
+    scaled: &Scaled,
+    prices: &Prices,
+    ask: Ask,
+    persons: &[Person],
+    offers: &mut [Offer],
+)
+    requires piece { 0 < piece }
+    requires long { length offers.old ≡ length persons.now }
+    requires can { CanOffer scaled.now prices.now ask persons.now }
+    ensures { offers.new ≡ offers_of scaled.now prices.now ask persons.now }
+{
+    par_chunks_mut_for_each(
+        rt,
+        offers,
+        piece,
+        |start: usize, part: &mut [Offer]|
+            requires { (start + length part.old ≤ length persons.now)
+                × CanOffer scaled.now prices.now ask persons.now }
+            ensures { (k : ℕ) (d : _) (e : ℕ) → k < length part.old
+                → slice_index_or part.new k d
+                ≡ offer_of scaled.entry.now prices.entry.now 0 ask
+                (slice_index_or persons.entry.now (start + k) e) }
+        { fill_from(scaled, prices, ask, persons, start, part) },
+    );
+}
+
+// The offers of the persons, made by the calling thread.
+fn fill_here(scaled: &Scaled, prices: &Prices, ask: Ask, persons: &[Person], offers: &mut [Offer])
+    requires long { length offers.old ≡ length persons.now }
+    requires can { CanOffer scaled.now prices.now ask persons.now }
+    ensures { offers.new ≡ offers_of scaled.now prices.now ask persons.now }
+{
+    fill_from(scaled, prices, ask, persons, 0, offers);
+}
+
+// How many objects a person lists.
+fn listed_by(scaled: &Scaled, person: Person) -> usize
+    requires { IsNumber (length scaled.now.problem) person }
+{
+    match scaled.row(person) {
+        Row::Full(benefits) => benefits.len(),
+        Row::Pairs(pairs) => pairs.len(),
+    }
+}
+
+// How many pairs the persons list, or the greatest `usize` if they are more.
+fn pairs_of(scaled: &Scaled, persons: &[Person]) -> usize
+    requires { All (IsNumber (length scaled.now.problem)) persons.now }
+{
+    let mut pairs: usize = 0;
+    for person in persons {
+        pairs = pairs.saturating_add(listed_by(scaled, *person));
+    }
+    pairs
+}
+
+// How many persons a piece has: as many as list `least` pairs or more, if all list as many, and all
+// persons where these list less than four times as many.
+fn piece_of(persons: usize, pairs: usize, least: usize) -> usize
+    ensures { 0 < result }
+{
+    if pairs / 4 < least {
+        return persons.max(1);
+    }
+    let pieces = pairs / least.max(1);
+    persons.div_ceil(pieces.max(1)).max(1)
+}
+
+/// The offers of the persons from one table, in their order, into a buffer that is reused. Threads
+/// are started where the persons list at least four times `least` pairs, one for a piece of at
+/// least some `least` pairs.
+pub fn make_offers(
+    rt: &(impl Threads + Sync),
+    least: usize,
+    scaled: &Scaled,
+    prices: &Prices,
+    ask: Ask,
+    persons: &[Person],
+    offers: &mut Vec<Offer>,
+) -> Result<(), AllocError>
+    requires { CanOffer scaled.now prices.now ask persons.now }
+    ensures { OnOk result (offers.new.items ≡ offers_of scaled.now prices.now ask persons.now) }
+{
+    offers.resize(persons.len(), NOTHING)?;
+    let piece = piece_of(persons.len(), pairs_of(scaled, persons), least);
+    if persons.len() <= piece {
+        fill_here(scaled, prices, ask, persons, offers.as_mut_slice());
+    } else {
+        fill_pieces(
+            rt,
+            piece,
+            scaled,
+            prices,
+            ask,
+            persons,
+            offers.as_mut_slice(),
+        );
+    }
+    Ok(())
+}

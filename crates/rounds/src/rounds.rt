@@ -1,0 +1,248 @@
+// Rounds of offers over a book.
+ghost use Rattle.std.specs.Prelude.{◌≡◌, ◌∷◌, ◌≤ℤ◌, pos, None, [], false, length, replicate, IfOk, IfErr, IfSome, IfNone, OnOk, List, ℕ};
+ghost use Rattle.std.specs.Arc.{arc_value};
+ghost use Rattle.assign_core.specs.Numbered.{IsNumber, numbered};
+ghost use Rattle.scaled_values.specs.Scaled.{greatest_of};
+ghost use Rattle.auction_book.specs.Book.{Holds};
+ghost use Rattle.auction_book.specs.Changes.{claimed};
+ghost use Rattle.auction_book.specs.Free.{IsFree};
+ghost use Rattle.auction_book.specs.Phases.{is_over};
+ghost use Rattle.auction_book.specs.Submissions.{IsFitting};
+ghost use Rattle.rounds.specs.Plain.{Finished, Halted};
+ghost use Rattle.rounds.specs.Books.{plain_of, AreTurned, HaveOffered, IsAtRest, IsBelowFloor, IsClaimed, IsGoing, IsRound, book_turned, phased_by};
+ghost use Rattle.rounds.specs.Outcomes.{IsDecided, IsOfRounds, IsOutcome, IsProof};
+
+use super::offers::{LEAST_PAIRS, make_offers};
+use assign_core::{GREATEST_FIRST_PRICE, Outcome, Person, Prices, SolveFault};
+use auction_book::{Book, Claim, Refused};
+use bidder::{Bid, Offer};
+use hall_refuter::{Search, refute};
+use scaled_values::Scaled;
+use std::alloc::{AllocError, Global};
+use std::sync::Arc;
+use std::thread::Threads;
+
+/// What a round comes to.
+#[derive(Clone, Copy, Debug, PartialEq, Eq)]
+pub enum Round {
+    /// Nobody waited.
+    Over,
+    /// This person finds nothing worth the floor.
+    Halted(Person),
+    More,
+}
+
+// The front of the queue is claimed, if somebody waits.
+fn claim_next(book: &mut Book, worker: u16) -> Option<Person>
+    requires worker { IsNumber (length book.old.claims) worker }
+    requires none { numbered book.old.claims worker None ≡ None }
+    requires going { IsGoing book.old }
+    ensures some { IfSome result (λ person. (rest : List ℕ) × (book.old.queue ≡ person ∷ rest)
+        × (book.new ≡ claimed book.old worker) × IsGoing book.new) }
+    ensures none { IfNone result ((book.old.queue ≡ []) × (book.new ≡ book.old)) }
+{
+    match book.claim(worker) {
+        Claim::Person(person, _) => Some(person),
+        _ => None,
+    }
+}
+
+// Workers 1, 2, .. claim all who wait.
+fn claim_all(book: &mut Book, persons: &mut Vec<Person>) -> Result<(), AllocError>
+    requires { IsAtRest book.old }
+    ensures { OnOk result (IsClaimed book.old persons.new.items book.new) }
+{
+    persons.clear();
+    let n = book.scaled().n();
+    for i in 0..n {
+        match claim_next(book, i + 1) {
+            Some(person) => persons.push(person)?,
+            None => break,
+        }
+    }
+    Ok(())
+}
+
+// A claimed person's bid of this phase is submitted.
+fn submit_bid(book: &mut Book, worker: u16, bid: Bid) -> Result<(), AllocError>
+    requires worker { IsNumber (length book.old.claims) worker }
+    requires held { Holds book.old worker bid.person }
+    requires phase { bid.phase ≡ book.old.phase }
+    requires fitting { IsFitting book.old bid }
+    ensures turned { OnOk result (book.new ≡ book_turned book.old worker bid) }
+    ensures free { OnOk result (IsFree book.new) }
+{
+    match book.submit(worker, bid) {
+        Ok(_) => Ok(()),
+        Err(Refused::TooLow(_)) => Ok(()),
+        Err(Refused::Memory) => Err(AllocError),
+        Err(Refused::NotClaimed) => unreachable!(),
+        Err(Refused::WrongPhase) => unreachable!(),
+    }
+}
+
+// Offers in turn, up to a person that finds nothing worth the floor.
+fn submit_all(book: &mut Book, offers: &[Offer]) -> Result<Option<Person>, AllocError>
+    requires { (persons : List ℕ) × HaveOffered book.old persons offers.now }
+    ensures turned { IfOk result (λ below. AreTurned book.old offers.now below book.new) }
+    ensures base { OnOk result (book.new.base ≡ book.old.base) }
+{
+    for i in 0..offers.len() {
+        match offers[i] {
+            Offer::Bid(bid) => submit_bid(book, i as u16 + 1, bid)?,
+            Offer::Below(below) => return Ok(Some(below.person)),
+        }
+    }
+    Ok(None)
+}
+
+// One round: all who wait make their offers from one table, and these are submitted in turn. A
+// person that finds nothing worth the floor ends it at its turn.
+fn run_round(
+    rt: &(impl Threads + Sync),
+    least: usize,
+    book: &mut Book,
+    persons: &mut Vec<Person>,
+    offers: &mut Vec<Offer>,
+) -> Result<Round, AllocError>
+    requires { IsAtRest book.old }
+    ensures round { IfOk result (λ came. IsRound book.old came book.new) }
+    ensures base { OnOk result (book.new.base ≡ book.old.base) }
+{
+    claim_all(book, persons)?;
+    if persons.is_empty() {
+        return Ok(Round::Over);
+    }
+    let ask = book.ask();
+    make_offers(
+        rt,
+        least,
+        book.scaled(),
+        book.prices(),
+        ask,
+        persons.as_slice(),
+        offers,
+    )?;
+    match submit_all(book, offers.as_slice())? {
+        Some(person) => Ok(Round::Halted(person)),
+        None => Ok(Round::More),
+    }
+}
+
+// The next phase begins, if this one is over.
+fn go_on(alloc: Global, book: &mut Book) -> Result<(), AllocError>
+    requires { IsAtRest book.old }
+    ensures phased { OnOk result (book.new ≡ phased_by (is_over book.old) book.old) }
+    ensures rest { OnOk result (IsAtRest book.new) }
+{
+    if book.phase_over() {
+        book.next_phase(alloc)?;
+    }
+    Ok(())
+}
+
+// What everybody owns in the last phase.
+fn finish(alloc: Global, book: &Book) -> Result<Outcome, AllocError>
+    requires rest { IsAtRest book.now }
+    requires queue { book.now.queue ≡ [] }
+    requires last { is_over book.now ≡ false }
+    ensures outcome { IfOk result (IsOutcome book.now.base (Finished (plain_of book.now))) }
+    ensures proof { IfOk result (IsProof book.now.base) }
+{
+    match book.answer(alloc)? {
+        Some(certificate) => Ok(Outcome::Best(certificate)),
+        None => unreachable!(),
+    }
+}
+
+// What a person reaches that finds nothing worth the floor: never a free object, since the floor is
+// exact.
+fn halt(alloc: Global, book: &Book, person: Person) -> Result<Outcome, AllocError>
+    requires { IsBelowFloor book.now person }
+    ensures outcome { IfOk result (IsOutcome book.now.base (Halted person (plain_of book.now))) }
+    ensures proof { IfOk result (IsProof book.now.base) }
+{
+    match refute(alloc, book.scaled(), book.owners(), person)? {
+        Search::Hall(hall) => Ok(Outcome::Hall(hall)),
+        Search::Path(_) => unreachable!(),
+    }
+}
+
+// Rounds from these prices up to their end, in pieces of at least so many listed pairs.
+pub(super) fn run_rounds(
+    rt: &(impl Threads + Sync),
+    least: usize,
+    alloc: Global,
+    scaled: Arc<Scaled>,
+    prices: Prices,
+) -> Result<Outcome, AllocError>
+    requires long { length prices ≡ length (arc_value scaled).problem }
+    requires low { greatest_of prices ≤ℤ GREATEST_FIRST_PRICE }
+    ensures rounds { IfOk result (IsOfRounds (arc_value scaled) prices) }
+    ensures proof { IfOk result (IsProof (arc_value scaled)) }
+{
+    let n = scaled.n();
+    let mut book = Book::open_from(alloc, scaled, prices, n)?;
+    let mut persons = Vec::new(alloc);
+    let mut offers = Vec::new(alloc);
+    'rounds: loop {
+        go_on(alloc, &mut book)?;
+        match run_round(rt, least, &mut book, &mut persons, &mut offers)? {
+            Round::Over => return finish(alloc, &book),
+            Round::Halted(person) => return halt(alloc, &book, person),
+            Round::More => {}
+        }
+    }
+}
+
+/// Solves by rounds of offers that begin at these prices, one for each object and each at most
+/// `GREATEST_FIRST_PRICE`. The outcome is that of plain rounds, so it is the same for any number of
+/// threads: a best assignment with prices that prove it where there is an assignment, and a Hall
+/// set where there is none (Bertsekas, A distributed algorithm for the assignment problem, 1979;
+/// the rounds are in Jacobi's form).
+///
+/// It returns, but first prices that are far apart, or a problem without an assignment, may cost
+/// very many rounds. A round costs the pairs that its persons list, and takes memory only where
+/// more persons wait than in the rounds before.
+///
+/// # Errors
+/// Only where memory is refused.
+pub fn solve_rounds_from(
+    rt: &(impl Threads + Sync),
+    alloc: Global,
+    scaled: Arc<Scaled>,
+    prices: Prices,
+) -> Result<Outcome, SolveFault>
+    requires long { length prices ≡ length (arc_value scaled).problem }
+    requires low { greatest_of prices ≤ℤ GREATEST_FIRST_PRICE }
+    ensures rounds { IfOk result (IsOfRounds (arc_value scaled) prices) }
+    ensures proof { IfOk result (IsProof (arc_value scaled)) }
+    ensures decided { IfOk result (IsDecided (arc_value scaled)) }
+    ensures memory { IfErr result (λ fault. fault ≡ SolveFault.Memory) }
+{
+    match run_rounds(rt, LEAST_PAIRS, alloc, scaled, prices) {
+        Ok(outcome) => Ok(outcome),
+        Err(_) => Err(SolveFault::Memory),
+    }
+}
+
+/// Solves by rounds of offers as `solve_rounds_from` does, with all first prices 0.
+///
+/// # Errors
+/// Only where memory is refused.
+pub fn solve_rounds(
+    rt: &(impl Threads + Sync),
+    alloc: Global,
+    scaled: Arc<Scaled>,
+) -> Result<Outcome, SolveFault>
+    ensures rounds { IfOk result (λ outcome. let s = arc_value scaled in
+        IsOfRounds s (replicate (length s.problem) (pos 0)) outcome) }
+    ensures proof { IfOk result (IsProof (arc_value scaled)) }
+    ensures decided { IfOk result (IsDecided (arc_value scaled)) }
+    ensures memory { IfErr result (λ fault. fault ≡ SolveFault.Memory) }
+{
+    match Prices::zeros(alloc, scaled.n()) {
+        Ok(zeros) => solve_rounds_from(rt, alloc, scaled, zeros),
+        Err(_) => Err(SolveFault::Memory),
+    }
+}
