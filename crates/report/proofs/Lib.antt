@@ -1,0 +1,14 @@
+pub mod WordLemmas
+pub mod NumeralLemmas
+pub mod LineLemmas
+pub mod RisingLoop
+pub mod OrderLemmas
+pub mod Streams
+pub mod SaidLemmas
+pub mod Openings
+pub mod StepLemmas
+pub mod TextLengths
+pub mod Judged
+pub mod Written
+pub mod TextParts
+pub mod Allowed

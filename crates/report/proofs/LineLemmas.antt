@@ -1,0 +1,263 @@
+-- Lines: what is read was written so, and what is written is read.
+use Rattle.std.proofs.Common.{◌≡◌, ℕ, ℤ, pos, negsuc, nat_abs, suc, ◌<◌, ◌≤◌, ◌+◌, ◌^◌, List, [], ◌∷◌, Bool, true, false, cond, eqb, ltb, Option, Some, None, length, map, refl, sym, ap, subst, ◌∙◌, arith, decimal, codes}
+use Rattle.std.specs.Fmt.{signed_decimal}
+use Rattle.std.specs.List.{AllByRecursion}
+use Rattle.std.specs.Str.{bytes_eq}
+use Rattle.std.proofs.lemmas.Bool.{eqb-true, eq-eqb, lt-ltb, ltb-true}
+use Rattle.std.proofs.lemmas.Option.{cond_some}
+use Rattle.std.proofs.lemmas.Slice.Eq.{bytes_eq-Decides}
+use Rattle.assign_core.specs.declared.numbers.TheConstants.{MOST_PERSONS}
+use Rattle.assign_core.specs.declared.sense.Sense.{Sense}
+use Rattle.assign_core.specs.declared.sense.Sense.TheVariants.{Min, Max}
+use Rattle.report.specs.Words.{joined, words_of}
+use Rattle.report.specs.Reports.{IsRisingFrom}
+use Rattle.report.specs.Lines.{Line, sense_line, cost_line, assign_line, price_line, infeasible_line, persons_line, objects_line, sense_word, line_words, line_text}
+use Rattle.report.specs.Numerals.{◌>>=◌, cost_in, price_in, number_in}
+use Rattle.report.specs.Reading.{first_by, at_end, sense_in, read_sense, read_cost, read_assign, read_price, read_infeasible, read_rising, read_list, read_behind, read_words, line_in, IsInRange}
+use Rattle.report.proofs.WordLemmas.{IsWord, words_again, word_by_test, joined-words_of, HasNoFeed, no_feed_joined}
+use Rattle.report.proofs.NumeralLemmas.{bind_some, word_decimal, number_again, cost_again, price_again, within_takes, cost_takes, price_takes}
+
+-- ---- the words of a line are words
+
+word_signed : (c : ℤ) → nat_abs c < 10 ^ 64 → IsWord (signed_decimal c)
+word_signed (pos n) h = word_decimal n h
+word_signed (negsuc n) h = (omega arith, word_decimal (suc n) h)
+
+words_rising : (last : ℕ) (xs : List ℕ) → IsRisingFrom last xs → AllByRecursion IsWord (map decimal xs)
+words_rising last [] h = tt
+words_rising last (x ∷ xs) h = (word_decimal x (omega (arith, h.1)), words_rising x xs h.2)
+
+pub rising_short : (last : ℕ) (xs : List ℕ) → last ≤ MOST_PERSONS → IsRisingFrom last xs → length xs + last ≤ MOST_PERSONS
+rising_short last [] l h = omega arith
+rising_short last (x ∷ xs) l h = omega (arith, h.0, rising_short x xs h.1 h.2)
+
+line_words_are : (line : Line) → IsInRange line → AllByRecursion IsWord (line_words line)
+line_words_are (sense_line Min) h = (word_by_test (codes "sense") refl, (word_by_test (codes "min") refl, tt))
+line_words_are (sense_line Max) h = (word_by_test (codes "sense") refl, (word_by_test (codes "max") refl, tt))
+line_words_are (cost_line c) h = (word_by_test (codes "cost") refl, (word_signed c (omega (arith, h)), tt))
+line_words_are (assign_line i j c) h = (word_by_test (codes "assign") refl, (word_decimal i (omega (arith, h.0)), (word_decimal j (omega (arith, h.1)), (word_signed c (omega (arith, h.2)), tt))))
+line_words_are (price_line j (pos p)) h = (word_by_test (codes "price") refl, (word_decimal j (omega (arith, h.0)), (word_decimal p (omega (arith, h.1)), tt)))
+line_words_are (price_line j (negsuc p)) h = absurd h
+line_words_are infeasible_line h = (word_by_test (codes "infeasible") refl, tt)
+line_words_are (persons_line xs) h = (word_by_test (codes "persons") refl, (word_decimal (length xs) (omega (arith, rising_short 0 xs (omega arith) h)), words_rising 0 xs h))
+line_words_are (objects_line xs) h = (word_by_test (codes "objects") refl, (word_decimal (length xs) (omega (arith, rising_short 0 xs (omega arith) h)), words_rising 0 xs h))
+
+line_some : (line : Line) → 0 < length (line_words line)
+line_some (sense_line sense) = omega arith
+line_some (cost_line c) = omega arith
+line_some (assign_line i j c) = omega arith
+line_some (price_line j p) = omega arith
+line_some infeasible_line = omega arith
+line_some (persons_line xs) = omega arith
+line_some (objects_line xs) = omega arith
+
+pub line_no_feed : (line : Line) → IsInRange line → HasNoFeed (line_text line)
+line_no_feed line h = no_feed_joined (line_words line) (line_words_are line h)
+
+-- ---- what is written is read
+
+rising_again : (last : ℕ) (xs : List ℕ) → IsRisingFrom last xs → read_rising last (map decimal xs) ≡ Some xs
+unfolding read_rising
+rising_again last [] h = refl
+rising_again last (x ∷ xs) h =
+    let above : ltb last x ≡ true = lt-ltb _ _ h.0 in
+    rw (number_again x h.1, above, rising_again x xs h.2) refl
+
+list_again : (xs : List ℕ) → IsRisingFrom 0 xs → read_list (decimal (length xs) ∷ map decimal xs) ≡ Some xs
+unfolding read_list
+list_again xs h =
+    let few : length xs ≤ MOST_PERSONS = omega (arith, rising_short 0 xs (omega arith) h) in
+    let same : eqb (length xs) (length xs) ≡ true = eq-eqb _ _ refl in
+    rw (number_again (length xs) few, rising_again 0 xs h, same) refl
+
+read_again : (line : Line) → IsInRange line → read_words (line_words line) ≡ Some line
+unfolding read_sense read_cost read_assign read_price read_infeasible
+read_again (sense_line Min) h = refl
+read_again (sense_line Max) h = refl
+read_again (cost_line c) h = rw (cost_again c h) refl
+read_again (assign_line i j c) h = rw (number_again i h.0, number_again j h.1, cost_again c h.2) refl
+read_again (price_line j (pos p)) h = rw (number_again j h.0, price_again p h.1) refl
+read_again (price_line j (negsuc p)) h = absurd h
+read_again infeasible_line h = refl
+read_again (persons_line xs) h = rw (list_again xs h) refl
+read_again (objects_line xs) h = rw (list_again xs h) refl
+
+pub line_again : (line : Line) → IsInRange line → line_in (line_text line) ≡ Some line
+unfolding line_in
+line_again line h = ap read_words (words_again (line_words line) (line_some line) (line_words_are line h)) ∙ read_again line h
+
+-- ---- what is read was written so
+
+first_takes : {A : Type 0} (read : List ℕ → Option A) (ws : List (List ℕ)) (x : A × List (List ℕ)) → first_by read ws ≡ Some x → (w : List ℕ) × (ws ≡ w ∷ x.1) × (read w ≡ Some x.0)
+first_takes read [] x e = absurd cc
+first_takes {A} read (w ∷ ws) x e =
+    let b = bind_some (read w) (λ y. Some (y, ws)) x e in
+    let pair : ◌≡◌ {A = A × List (List ℕ)} (b.0, ws) x = cc (b.2) in
+    (w, ap (λ (p : A × List (List ℕ)). w ∷ p.1) pair, b.1 ∙ ap (λ (p : A × List (List ℕ)). Some p.0) pair)
+
+end_takes : {A : Type 0} (x y : A) (ws : List (List ℕ)) → at_end x ws ≡ Some y → (ws ≡ []) × (x ≡ y)
+end_takes x y [] e = (refl, cc)
+end_takes x y (w ∷ ws) e = absurd cc
+
+abbrev IsWritten : List ℕ → List (List ℕ) → Line → Type 0
+IsWritten word ws line = (line_words line ≡ word ∷ ws) × IsInRange line
+
+one_written : (word : List ℕ) (ws r : List (List ℕ)) (w x : List ℕ) → ws ≡ w ∷ r → r ≡ [] → w ≡ x → word ∷ x ∷ [] ≡ word ∷ ws
+one_written word ws r w x e f g = cc
+
+two_written : (word : List ℕ) (ws r s : List (List ℕ)) (v w x y : List ℕ) → ws ≡ v ∷ r → r ≡ w ∷ s → s ≡ [] → v ≡ x → w ≡ y → word ∷ x ∷ y ∷ [] ≡ word ∷ ws
+two_written word ws r s v w x y e f g h k = cc
+
+three_written : (word : List ℕ) (ws r s t : List (List ℕ)) (u v w x y z : List ℕ) → ws ≡ u ∷ r → r ≡ v ∷ s → s ≡ w ∷ t → t ≡ [] → u ≡ x → v ≡ y → w ≡ z → word ∷ x ∷ y ∷ z ∷ [] ≡ word ∷ ws
+three_written word ws r s t u v w x y z e f g h i j k = cc
+
+pushed : (w x : List ℕ) (ws xs : List (List ℕ)) → w ≡ x → ws ≡ xs → w ∷ ws ≡ x ∷ xs
+pushed w x ws xs e f = cc
+
+listed : (ws r : List (List ℕ)) (w x y : List ℕ) (xs : List (List ℕ)) → ws ≡ w ∷ r → w ≡ x → y ≡ x → r ≡ xs → ws ≡ y ∷ xs
+listed ws r w x y xs e f g h = cc
+
+sense_word_is : (word : List ℕ) (sense : Sense) → sense_in word ≡ Some sense → word ≡ sense_word sense
+sense_word_is word sense e = picked_sense (bytes_eq word (codes "min")) (bytes_eq word (codes "max")) refl refl e
+  where
+    picked_sense : (s t : Bool) → bytes_eq word (codes "min") ≡ s → bytes_eq word (codes "max") ≡ t → cond s (Some Min) (cond t (Some Max) None) ≡ Some sense → word ≡ sense_word sense
+    picked_sense true t p q e = let is : Min ≡ sense = cc in (bytes_eq-Decides word (codes "min")).0 p ∙ ap sense_word is
+    picked_sense false true p q e = let is : Max ≡ sense = cc in (bytes_eq-Decides word (codes "max")).0 q ∙ ap sense_word is
+    picked_sense false false p q e = absurd cc
+
+sense_takes : (ws : List (List ℕ)) (line : Line) → read_sense ws ≡ Some line → IsWritten (codes "sense") ws line
+unfolding read_sense
+sense_takes ws line e =
+    let s = bind_some (first_by sense_in ws) (λ s. at_end (sense_line s.0) s.1) line e in
+    let w = first_takes sense_in ws s.0 s.1 in
+    let z = end_takes (sense_line s.0.0) line s.0.1 s.2 in
+    let word = sense_word_is w.0 s.0.0 w.2 in
+    subst (IsWritten (codes "sense") ws) z.1 (one_written (codes "sense") ws s.0.1 w.0 (sense_word s.0.0) w.1 z.0 word, tt)
+
+cost_line_takes : (ws : List (List ℕ)) (line : Line) → read_cost ws ≡ Some line → IsWritten (codes "cost") ws line
+unfolding read_cost
+cost_line_takes ws line e =
+    let s = bind_some (first_by cost_in ws) (λ s. at_end (cost_line s.0) s.1) line e in
+    let w = first_takes cost_in ws s.0 s.1 in
+    let z = end_takes (cost_line s.0.0) line s.0.1 s.2 in
+    let word = cost_takes w.0 s.0.0 w.2 in
+    subst (IsWritten (codes "cost") ws) z.1 (one_written (codes "cost") ws s.0.1 w.0 (signed_decimal s.0.0) w.1 z.0 word.0, word.1)
+
+assign_takes : (ws : List (List ℕ)) (line : Line) → read_assign ws ≡ Some line → IsWritten (codes "assign") ws line
+unfolding read_assign
+assign_takes ws line e =
+    let i = bind_some (first_by number_in ws) (λ i. first_by number_in i.1 >>= λ j. first_by cost_in j.1 >>= λ c. at_end (assign_line i.0 j.0 c.0) c.1) line e in
+    let j = bind_some (first_by number_in i.0.1) (λ j. first_by cost_in j.1 >>= λ c. at_end (assign_line i.0.0 j.0 c.0) c.1) line i.2 in
+    let c = bind_some (first_by cost_in j.0.1) (λ c. at_end (assign_line i.0.0 j.0.0 c.0) c.1) line j.2 in
+    let wi = first_takes number_in ws i.0 i.1 in
+    let wj = first_takes number_in i.0.1 j.0 j.1 in
+    let wc = first_takes cost_in j.0.1 c.0 c.1 in
+    let z = end_takes (assign_line i.0.0 j.0.0 c.0.0) line c.0.1 c.2 in
+    let ti = within_takes MOST_PERSONS wi.0 i.0.0 wi.2 in
+    let tj = within_takes MOST_PERSONS wj.0 j.0.0 wj.2 in
+    let tc = cost_takes wc.0 c.0.0 wc.2 in
+    subst (IsWritten (codes "assign") ws) z.1 (three_written (codes "assign") ws i.0.1 j.0.1 c.0.1 wi.0 wj.0 wc.0 (decimal i.0.0) (decimal j.0.0) (signed_decimal c.0.0) wi.1 wj.1 wc.1 z.0 ti.0 tj.0 tc.0, (ti.1, tj.1, tc.1))
+
+price_line_takes : (ws : List (List ℕ)) (line : Line) → read_price ws ≡ Some line → IsWritten (codes "price") ws line
+unfolding read_price
+price_line_takes ws line e =
+    let j = bind_some (first_by number_in ws) (λ j. first_by price_in j.1 >>= λ p. at_end (price_line j.0 p.0) p.1) line e in
+    let p = bind_some (first_by price_in j.0.1) (λ p. at_end (price_line j.0.0 p.0) p.1) line j.2 in
+    let wj = first_takes number_in ws j.0 j.1 in
+    let wp = first_takes price_in j.0.1 p.0 p.1 in
+    let z = end_takes (price_line j.0.0 p.0.0) line p.0.1 p.2 in
+    let tj = within_takes MOST_PERSONS wj.0 j.0.0 wj.2 in
+    let tp = price_takes wp.0 p.0.0 wp.2 in
+    let price : price_line j.0.0 (pos tp.0) ≡ line = ap (price_line j.0.0) (sym tp.1) ∙ z.1 in
+    subst (IsWritten (codes "price") ws) price (two_written (codes "price") ws j.0.1 p.0.1 wj.0 wp.0 (decimal j.0.0) (decimal tp.0) wj.1 wp.1 z.0 tj.0 tp.2, (tj.1, tp.3))
+
+infeasible_takes : (ws : List (List ℕ)) (line : Line) → read_infeasible ws ≡ Some line → IsWritten (codes "infeasible") ws line
+unfolding read_infeasible
+infeasible_takes ws line e = let z = end_takes infeasible_line line ws e in subst (IsWritten (codes "infeasible") ws) z.1 (ap (λ (r : List (List ℕ)). codes "infeasible" ∷ r) (sym z.0), tt)
+
+rising_takes : (last : ℕ) (ws : List (List ℕ)) (xs : List ℕ) → read_rising last ws ≡ Some xs → (ws ≡ map decimal xs) × IsRisingFrom last xs
+unfolding read_rising
+rising_takes last [] xs e = let is : [] ≡ xs = cc in subst (λ ys. ([] ≡ map decimal ys) × IsRisingFrom last ys) is (refl, tt)
+rising_takes last (w ∷ ws) xs e =
+    let n = bind_some (number_in w) (λ n. cond (ltb last n) (read_rising n ws) None >>= λ ns. Some (n ∷ ns)) xs e in
+    let ns = bind_some (cond (ltb last n.0) (read_rising n.0 ws) None) (λ ns. Some (n.0 ∷ ns)) xs n.2 in
+    let t = within_takes MOST_PERSONS w n.0 n.1 in
+    let c = cond_same (ltb last n.0) (read_rising n.0 ws) ns.0 ns.1 in
+    let r = rising_takes n.0 ws ns.0 c.1 in
+    let is : n.0 ∷ ns.0 ≡ xs = cc (ns.2) in
+    subst (λ ys. (w ∷ ws ≡ map decimal ys) × IsRisingFrom last ys) is (pushed w (decimal n.0) ws (map decimal ns.0) t.0 r.0, (ltb-true _ _ c.0, t.1, r.1))
+  where
+    cond_same : (b : Bool) (x : Option (List ℕ)) (y : List ℕ) → cond b x None ≡ Some y → (b ≡ true) × (x ≡ Some y)
+    cond_same true x y e = (refl, e)
+    cond_same false x y e = absurd cc
+
+list_takes : (ws : List (List ℕ)) (xs : List ℕ) → read_list ws ≡ Some xs → (ws ≡ decimal (length xs) ∷ map decimal xs) × IsRisingFrom 0 xs
+unfolding read_list
+list_takes ws xs e =
+    let n = bind_some (first_by number_in ws) (λ n. read_rising 0 n.1 >>= λ ns. cond (eqb (length ns) n.0) (Some ns) None) xs e in
+    let ns = bind_some (read_rising 0 n.0.1) (λ ns. cond (eqb (length ns) n.0.0) (Some ns) None) xs n.2 in
+    let w = first_takes number_in ws n.0 n.1 in
+    let t = within_takes MOST_PERSONS w.0 n.0.0 w.2 in
+    let r = rising_takes 0 n.0.1 ns.0 ns.1 in
+    let c = cond_some (eqb (length ns.0) n.0.0) ns.0 xs ns.2 in
+    let count = eqb-true (length ns.0) n.0.0 c.0 in
+    subst (λ ys. (ws ≡ decimal (length ys) ∷ map decimal ys) × IsRisingFrom 0 ys) c.1 (listed ws n.0.1 w.0 (decimal n.0.0) (decimal (length ns.0)) (map decimal ns.0) w.1 t.0 (ap decimal count) r.0, r.1)
+
+persons_takes : (ws : List (List ℕ)) (line : Line) → (read_list ws >>= λ xs. Some (persons_line xs)) ≡ Some line → IsWritten (codes "persons") ws line
+persons_takes ws line e =
+    let xs = bind_some (read_list ws) (λ xs. Some (persons_line xs)) line e in
+    let t = list_takes ws xs.0 xs.1 in
+    let is : persons_line xs.0 ≡ line = cc (xs.2) in
+    subst (IsWritten (codes "persons") ws) is (ap (λ (r : List (List ℕ)). codes "persons" ∷ r) (sym t.0), t.1)
+
+objects_takes : (ws : List (List ℕ)) (line : Line) → (read_list ws >>= λ xs. Some (objects_line xs)) ≡ Some line → IsWritten (codes "objects") ws line
+objects_takes ws line e =
+    let xs = bind_some (read_list ws) (λ xs. Some (objects_line xs)) line e in
+    let t = list_takes ws xs.0 xs.1 in
+    let is : objects_line xs.0 ≡ line = cc (xs.2) in
+    subst (IsWritten (codes "objects") ws) is (ap (λ (r : List (List ℕ)). codes "objects" ∷ r) (sym t.0), t.1)
+
+picked : {R : Type 0} (b : Bool) (x y : Option Line) (line : Line) → cond b x y ≡ Some line → (b ≡ true → x ≡ Some line → R) → (y ≡ Some line → R) → R
+picked true x y line e f g = f refl e
+picked false x y line e f g = g e
+
+at_word : (word given : List ℕ) (ws : List (List ℕ)) (line : Line) → bytes_eq word given ≡ true → IsWritten given ws line → IsWritten word ws line
+at_word word given ws line t w = subst (λ g. IsWritten g ws line) (sym ((bytes_eq-Decides word given).0 t)) w
+
+abbrev from_objects : List ℕ → List (List ℕ) → Option Line
+from_objects w ws = cond (bytes_eq w (codes "objects")) (read_list ws >>= λ xs. Some (objects_line xs)) None
+
+abbrev from_persons : List ℕ → List (List ℕ) → Option Line
+from_persons w ws = cond (bytes_eq w (codes "persons")) (read_list ws >>= λ xs. Some (persons_line xs)) (from_objects w ws)
+
+abbrev from_infeasible : List ℕ → List (List ℕ) → Option Line
+from_infeasible w ws = cond (bytes_eq w (codes "infeasible")) (read_infeasible ws) (from_persons w ws)
+
+abbrev from_price : List ℕ → List (List ℕ) → Option Line
+from_price w ws = cond (bytes_eq w (codes "price")) (read_price ws) (from_infeasible w ws)
+
+abbrev from_assign : List ℕ → List (List ℕ) → Option Line
+from_assign w ws = cond (bytes_eq w (codes "assign")) (read_assign ws) (from_price w ws)
+
+abbrev from_cost : List ℕ → List (List ℕ) → Option Line
+from_cost w ws = cond (bytes_eq w (codes "cost")) (read_cost ws) (from_assign w ws)
+
+behind_takes : (w : List ℕ) (ws : List (List ℕ)) (line : Line) → read_behind w ws ≡ Some line → IsWritten w ws line
+behind_takes w ws line e =
+    picked (bytes_eq w (codes "sense")) (read_sense ws) (from_cost w ws) line e (λ t r. at_word w (codes "sense") ws line t (sense_takes ws line r)) (λ e.
+    picked (bytes_eq w (codes "cost")) (read_cost ws) (from_assign w ws) line e (λ t r. at_word w (codes "cost") ws line t (cost_line_takes ws line r)) (λ e.
+    picked (bytes_eq w (codes "assign")) (read_assign ws) (from_price w ws) line e (λ t r. at_word w (codes "assign") ws line t (assign_takes ws line r)) (λ e.
+    picked (bytes_eq w (codes "price")) (read_price ws) (from_infeasible w ws) line e (λ t r. at_word w (codes "price") ws line t (price_line_takes ws line r)) (λ e.
+    picked (bytes_eq w (codes "infeasible")) (read_infeasible ws) (from_persons w ws) line e (λ t r. at_word w (codes "infeasible") ws line t (infeasible_takes ws line r)) (λ e.
+    picked (bytes_eq w (codes "persons")) (read_list ws >>= λ xs. Some (persons_line xs)) (from_objects w ws) line e (λ t r. at_word w (codes "persons") ws line t (persons_takes ws line r)) (λ e.
+    picked (bytes_eq w (codes "objects")) (read_list ws >>= λ xs. Some (objects_line xs)) None line e (λ t r. at_word w (codes "objects") ws line t (objects_takes ws line r)) (λ e. absurd cc)))))))
+
+words_take : (ws : List (List ℕ)) (line : Line) → read_words ws ≡ Some line → (line_words line ≡ ws) × IsInRange line
+words_take [] line e = absurd cc
+words_take (w ∷ ws) line e = behind_takes w ws line e
+
+pub line_takes : (bytes : List ℕ) (line : Line) → line_in bytes ≡ Some line → (line_text line ≡ bytes) × IsInRange line
+unfolding line_in
+line_takes bytes line e =
+    let t = words_take (words_of bytes) line e in
+    (ap joined t.0 ∙ joined-words_of bytes, t.1)

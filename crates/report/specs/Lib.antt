@@ -1,0 +1,15 @@
+pub mod Reports
+pub mod Words
+pub mod WordsLeft
+pub mod Lines
+pub mod Order
+pub mod Answers
+pub mod Numerals
+pub mod Reading
+pub mod Steps
+pub mod SeenLines
+pub mod SeenDrafts
+pub mod SeenReports
+pub mod SeenSteps
+pub mod Writing
+pub mod Outcomes

@@ -1,0 +1,96 @@
+-- Which line may stand where.
+use Rattle.std.specs.Prelude.{ℕ, ℤ, pos, negsuc, ◌+◌, List, [], ◌∷◌, ◌++◌, Option, None, Some, Bool, true, false, nat_lt, nat_le, ◌==◌, ◌&&◌, if◌then◌else◌, length, nat_abs}
+use Rattle.assign_core.specs.declared.numbers.TheConstants.{MOST_PERSONS}
+use Rattle.assign_core.specs.declared.sense.Sense.{Sense}
+use Rattle.report.specs.Reports.{Report, best, hall, cost_limit, total_limit, price_end}
+use Rattle.report.specs.Lines.{Line, sense_line, cost_line, assign_line, price_line, infeasible_line, persons_line, objects_line}
+
+-- what the lines so far have said
+pub data Draft : Type 0 where
+  nothing : Draft
+  with_sense : Sense → Draft
+  -- a cost, and the rows so far
+  with_rows : Option Sense → ℤ → List (ℕ × ℤ) → Draft
+  -- a cost, all rows, and the prices so far, one at least
+  with_prices : Option Sense → ℤ → List (ℕ × ℤ) → List ℤ → Draft
+  infeasible : Option Sense → Draft
+  with_persons : Option Sense → List ℕ → Draft
+  -- a whole Hall set
+  with_objects : Option Sense → List ℕ → List ℕ → Draft
+
+abbrev pub is_cost : Option Sense → ℤ → Bool
+is_cost sense c = nat_le (nat_abs c) (cost_limit sense)
+
+abbrev pub is_total : Option Sense → ℤ → Bool
+is_total sense c = nat_le (nat_abs c) (total_limit sense)
+
+abbrev pub is_price : Option Sense → ℤ → Bool
+is_price sense (pos p) = nat_lt p (price_end sense)
+is_price sense (negsuc p) = false
+
+-- each number is above the one before it, the first above this number, none above the most persons
+abbrev pub is_rising : ℕ → List ℕ → Bool
+is_rising last [] = true
+is_rising last (x ∷ xs) = nat_lt last x && nat_le x MOST_PERSONS && is_rising x xs
+
+abbrev pub is_entry : Option Sense → ℕ → ℤ → Bool
+is_entry sense j c = nat_lt 0 j && nat_le j MOST_PERSONS && is_cost sense c
+
+abbrev pub with_cost : Option Sense → ℤ → Option Draft
+with_cost sense c = if is_total sense c then Some (with_rows sense c []) else None
+
+-- the next row
+abbrev pub row_more : Option Sense → ℤ → List (ℕ × ℤ) → ℕ → ℕ → ℤ → Option Draft
+row_more sense cost rows i j c =
+    if (i == length rows + 1) && nat_le i MOST_PERSONS && is_entry sense j c
+    then Some (with_rows sense cost (rows ++ (j, c) ∷ [])) else None
+
+-- the first price, behind one row at least
+abbrev pub first_price : Option Sense → ℤ → List (ℕ × ℤ) → ℕ → ℤ → Option Draft
+first_price sense cost rows j p =
+    if (j == 1) && nat_lt 0 (length rows) && is_price sense p
+    then Some (with_prices sense cost rows (p ∷ [])) else None
+
+-- the next price, as long as there are rows
+abbrev pub price_more : Option Sense → ℤ → List (ℕ × ℤ) → List ℤ → ℕ → ℤ → Option Draft
+price_more sense cost rows prices j p =
+    if (j == length prices + 1) && nat_lt (length prices) (length rows) && is_price sense p
+    then Some (with_prices sense cost rows (prices ++ p ∷ [])) else None
+
+-- what a line adds, where it may stand
+abbrev pub follow : Draft → Line → Option Draft
+follow nothing (sense_line sense) = Some (with_sense sense)
+follow nothing (cost_line c) = with_cost None c
+follow nothing infeasible_line = Some (infeasible None)
+follow (with_sense sense) (cost_line c) = with_cost (Some sense) c
+follow (with_sense sense) infeasible_line = Some (infeasible (Some sense))
+follow (with_rows sense cost rows) (assign_line i j c) = row_more sense cost rows i j c
+follow (with_rows sense cost rows) (price_line j p) = first_price sense cost rows j p
+follow (with_prices sense cost rows prices) (price_line j p) = price_more sense cost rows prices j p
+follow (infeasible sense) (persons_line xs) =
+    if nat_lt 0 (length xs) && is_rising 0 xs then Some (with_persons sense xs) else None
+follow (with_persons sense persons) (objects_line xs) =
+    if is_rising 0 xs then Some (with_objects sense persons xs) else None
+follow draft line = None
+
+-- the report, where the text may end
+abbrev pub finish : Draft → Option Report
+finish (with_rows sense cost rows) =
+    if nat_lt 0 (length rows) then Some (best sense cost rows None) else None
+finish (with_prices sense cost rows prices) =
+    if length prices == length rows then Some (best sense cost rows (Some prices)) else None
+finish (with_objects sense persons objects) = Some (hall sense persons objects)
+finish draft = None
+
+abbrev pub and_follow : Option Draft → Line → Option Draft
+and_follow None line = None
+and_follow (Some draft) line = follow draft line
+
+-- what these lines add, one after the other
+abbrev pub follow_all : Option Draft → List Line → Option Draft
+follow_all draft [] = draft
+follow_all draft (line ∷ lines) = follow_all (and_follow draft line) lines
+
+-- what lines from the start of a text have said
+abbrev pub said_by : List Line → Option Draft
+said_by lines = follow_all (Some nothing) lines

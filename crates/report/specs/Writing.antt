@@ -1,0 +1,24 @@
+-- What goes out, and what is held back.
+use Rattle.std.specs.Prelude.{◌≡◌, ℕ, ◌<◌, List, ◌++◌, Option, Result, Ok, Err, length}
+use Rattle.std.specs.Io.KnownBytes.{Appends}
+use Rattle.report.specs.declared.fault.WriteFault.{WriteFault}
+
+-- a beginning of the text went out, and this is left of it
+abbrev pub Sent : Option (List ℕ) → Option (List ℕ) → List ℕ → List ℕ → Type 0
+Sent old new text left = (out : List ℕ) × Appends old new out × (text ≡ out ++ left)
+
+-- a beginning of the text went out, and not all of it
+abbrev pub IsCutOff : Option (List ℕ) → Option (List ℕ) → List ℕ → Type 0
+IsCutOff old new text = (left : List ℕ) × (0 < length left) × Sent old new text left
+
+-- what was held back and this text went out, but for what is held back then
+abbrev pub Puts : {X : Type 0} → Option (List ℕ) → Option (List ℕ) → List ℕ → List ℕ
+    → Result X WriteFault → List ℕ → Type 0
+Puts old new kept held (Ok x) text = Sent old new (kept ++ text) held
+Puts old new kept held (Err e) text = IsCutOff old new (kept ++ text)
+
+-- all of the text went out, or a beginning of it where the writer fails
+abbrev pub Writes : {X : Type 0} → Option (List ℕ) → Option (List ℕ)
+    → Result X WriteFault → List ℕ → Type 0
+Writes old new (Ok x) text = Appends old new text
+Writes old new (Err e) text = IsCutOff old new text

@@ -1,0 +1,51 @@
+// Laws of the definitions.
+ghost use Rattle.std.specs.Prelude.{◌≡◌, ℕ, ◌≤◌, Bool, List, None, Some, Result, length};
+ghost use Rattle.assign_core.specs.declared.sense.Sense.{Sense};
+ghost use Rattle.assign_core.specs.declared.outcome.Outcome.{Outcome};
+ghost use Rattle.assign_core.specs.Rows.{Listing, IsProblem};
+ghost use Rattle.report.specs.declared.fault.ReportFault.{ReportFault};
+ghost use Rattle.report.specs.declared.limits.TheConstants.{TEXT_LIMIT};
+ghost use Rattle.report.specs.Answers.{Answers, BeginsReport, IsVerdict};
+ghost use Rattle.report.specs.Lines.{Line, report_lines, report_text};
+ghost use Rattle.report.specs.Order.{Draft, finish, said_by};
+ghost use Rattle.report.specs.Outcomes.{IsOutcome, outcome_report};
+ghost use Rattle.report.specs.Reports.{Report, IsReport};
+
+/// No two reports have one text.
+pub fn one_text()
+    ensures { (first second : Report) → IsReport first → IsReport second
+        → report_text first ≡ report_text second → first ≡ second }
+{}
+
+/// Each text has an answer that speaks of the text alone, and no other: where the answer is a
+/// fault, that fault stands exactly where the definition says.
+pub fn one_answer()
+    ensures some { (bytes : List ℕ) → (answer : Result Report ReportFault)
+        × IsVerdict answer × Answers bytes answer }
+    ensures one { (bytes : List ℕ) (first second : Result Report ReportFault)
+        → IsVerdict first → IsVerdict second
+        → Answers bytes first → Answers bytes second → first ≡ second }
+{}
+
+/// Lines may stand at the start of a text exactly where some report begins with them, and the text
+/// may end behind them only where they are all lines of a report.
+pub fn lines_begin_reports()
+    ensures some { (lines : List Line) (draft : Draft)
+        → said_by lines ≡ Some draft → BeginsReport lines }
+    ensures none { (lines : List Line) → said_by lines ≡ None → BeginsReport lines → ⊥ }
+    ensures end { (lines : List Line) (draft : Draft) → said_by lines ≡ Some draft
+        → finish draft ≡ None
+        → (report : Report) → IsReport report → report_lines report ≡ lines → ⊥ }
+{}
+
+/// Each report's text is within the limit of texts.
+pub fn short_text()
+    ensures { (report : Report) → IsReport report → length (report_text report) ≤ TEXT_LIMIT }
+{}
+
+/// What is written is the text of a report, so that it can be read.
+pub fn written_is_report()
+    ensures { (rows : List Listing) (sense : Sense) (outcome : Outcome) (prices : Bool)
+        → IsProblem rows → IsOutcome rows outcome
+        → IsReport (outcome_report rows sense outcome prices) }
+{}

@@ -1,0 +1,50 @@
+// Lets bytes go out.
+ghost use Rattle.std.specs.Prelude.{◌≡◌, ◌+◌, ◌≤◌, [], length, OnOk};
+ghost use Rattle.report.specs.Writing.{Puts, Writes};
+
+use crate::fault::WriteFault;
+use crate::pending::{PART_ROOM, Pending, ROOM};
+use std::io::Write;
+
+// Writes all of a text, in as few pieces as the writer takes.
+fn write_all_of<W: Write>(w: &mut W, text: &[u8]) -> Result<(), WriteFault>
+    ensures { Writes (W.contents w.old) (W.contents w.new) result text.now }
+{
+    let mut at: usize = 0;
+    while at < text.len() {
+        let (_, rest) = text.split_at(at);
+        match w.write(rest) {
+            Ok(0) => return Err(WriteFault::Write),
+            Ok(count) => at += count,
+            Err(_) => return Err(WriteFault::Write),
+        }
+    }
+    Ok(())
+}
+
+/// Lets what is held back go out.
+///
+/// # Errors
+/// `Write` where the writer fails or takes no byte.
+pub fn flush<W: Write>(w: &mut W, pending: &mut Pending) -> Result<(), WriteFault>
+    ensures writes { Writes (W.contents w.old) (W.contents w.new) result pending.old }
+    ensures empty { OnOk result (pending.new ≡ []) }
+{
+    write_all_of(w, pending.as_slice())?;
+    pending.clear();
+    Ok(())
+}
+
+/// Makes room for a part: lets all go out that is held back, where there is none.
+///
+/// # Errors
+/// As for `flush`.
+pub fn make_room<W: Write>(w: &mut W, pending: &mut Pending) -> Result<(), WriteFault>
+    ensures puts { Puts (W.contents w.old) (W.contents w.new) pending.old pending.new result [] }
+    ensures room { OnOk result (length pending.new + PART_ROOM ≤ ROOM) }
+{
+    if pending.has_room() {
+        return Ok(());
+    }
+    flush(w, pending)
+}
