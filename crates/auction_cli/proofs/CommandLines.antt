@@ -1,7 +1,7 @@
 -- Command lines that are written out.
-use Rattle.std.proofs.Common.{◌≡◌, ◌∙◌, refl, sym, ap, ap₂, codes, Bool, true, false, List, [], ◌∷◌, Option, Some, None, option_map}
+use Rattle.std.proofs.Common.{◌≡◌, ◌∙◌, refl, sym, ap, ap₂, subst, codes, Bool, true, false, List, [], ◌∷◌, Option, Some, None, option_map}
 use Rattle.std.specs.Option.{option_and_then}
-use Rattle.clap.specs.Words.{App, HasMatchesOf, Row, Text, found_of, is_simple, kind_of, one_of, one_text, rows_of, subcommand_of, subcommand_rows_of, takes}
+use Rattle.clap.specs.Words.{App, HasMatchesOf, Row, Text, fault_of, found_of, is_simple, is_simple_and_free, kind_of, one_of, one_text, rows_of, subcommand_of, subcommand_rows_of, takes}
 use Rattle.clap.specs.declared.parser.matches.ArgMatches.{ArgMatches}
 use Rattle.clap.proofs.WalkLemmas.{one_text-rows}
 use Rattle.clap.specs.declared.error.Error.{Error}
@@ -23,6 +23,10 @@ simple_program : is_simple program ≡ true
 unfolding clap_on_literals
 simple_program = refl
 
+free_program : is_simple_and_free program ≡ true
+unfolding clap_on_literals
+free_program = refl
+
 pub solve_flag : (name : Text) → flag_of (subcommand_of program (name ∷ codes "solve" ∷ [])) ≡ Some (codes "solve", Some (codes "false"))
 unfolding clap_on_literals
 solve_flag name = refl
@@ -35,6 +39,15 @@ sparse_flag name = refl
 pub flag_is : (app : App) (words given : List Text) (m : ArgMatches) (flag : Option (Text × Option Text)) → app ≡ program → words ≡ given → HasMatchesOf app words m → flag_of (subcommand_of program given) ≡ flag →
     flag_of (subcommand_rows_of m) ≡ flag
 flag_is app words given m flag a w h e = ap flag_of ((h (ap is_simple a ∙ simple_program)).1 ∙ ap₂ subcommand_of a w) ∙ e
+
+-- words that are taken have no fault, and the flag of the matches
+pub taken_words : (app : App) (words : List Text) (m : ArgMatches) (flag : Bool) → app ≡ program → (is_simple_and_free app ≡ true → fault_of app words ≡ []) → HasMatchesOf app words m →
+    IsFlag (flag_of (subcommand_rows_of m)) flag → (fault_of program words ≡ []) × IsFlag (flag_of (subcommand_of program words)) flag
+taken_words app words m flag a none h f =
+    let rows = (h (ap is_simple a ∙ simple_program)).1 ∙ ap (λ x. subcommand_of x words) a in (
+      subst (λ x. fault_of x words ≡ []) a (none (ap is_simple_and_free a ∙ free_program)),
+      subst (λ found. IsFlag (flag_of found) flag) rows f,
+    )
 
 flag_text : (found : Option (Text × List Row)) (rows : List Row) (name : Text) (text : Option Text) → option_map (λ p. p.1) found ≡ Some rows → flag_of found ≡ Some (name, text) → one_of (codes "sparse") rows ≡ text
 flag_text None rows name text h e = cc

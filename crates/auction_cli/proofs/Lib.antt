@@ -1,5 +1,4 @@
-pub mod Bids
 pub mod CommandLines
+pub mod Ends
 pub mod Lines
-pub mod Room
 pub mod Written

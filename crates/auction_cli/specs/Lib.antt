@@ -1,4 +1,4 @@
-pub mod Auction
 pub mod Report
 pub mod Solve
 pub mod Words
+pub mod Program

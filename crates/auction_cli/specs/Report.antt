@@ -2,7 +2,7 @@
 use Rattle.std.specs.Prelude.{ℕ, ℤ, ◌+◌, ◌<◌, List, [], ◌∷◌, ◌++◌, Option, codes, decimal, length, take}
 use Rattle.std.specs.Fmt.{signed_decimal}
 use Rattle.std.specs.Io.KnownBytes.{Appends}
-use Rattle.assign_core.specs.Rows.{Row, listed_or_zero}
+use Rattle.assign_core.specs.Rows.{Listing, listed_or_zero}
 use Rattle.assign_core.specs.Assignment.{total}
 
 -- the pair of person i and object j, with its cost
@@ -10,7 +10,7 @@ abbrev pub pair_line : ℕ → ℕ → ℤ → List ℕ
 pair_line i j cost = codes "assign " ++ decimal i ++ codes " " ++ decimal j ++ codes " " ++ signed_decimal cost ++ codes "\n"
 
 -- the pairs of the persons i, i + 1, ..
-abbrev pub pair_lines : ℕ → List Row → List ℕ → List ℕ
+abbrev pub pair_lines : ℕ → List Listing → List ℕ → List ℕ
 pair_lines i [] xs = []
 pair_lines i (row ∷ rows) [] = []
 pair_lines i (row ∷ rows) (j ∷ xs) = pair_line i j (listed_or_zero row j) ++ pair_lines (i + 1) rows xs
@@ -20,7 +20,7 @@ abbrev pub cost_line : ℤ → List ℕ
 cost_line cost = codes "cost " ++ signed_decimal cost ++ codes "\n"
 
 -- the report on an assignment
-abbrev pub report_of : List Row → List ℕ → List ℕ
+abbrev pub report_of : List Listing → List ℕ → List ℕ
 report_of rows xs = cost_line (total rows xs) ++ pair_lines 1 rows xs
 
 -- numbers, each behind a space

@@ -1,11 +1,11 @@
 // The text of a report, and the writing of it.
-ghost use Rattle.std.specs.Prelude.{◌≡◌, ◌++◌, codes, decimal, length, IfOk, OnOk, MatchResult};
+ghost use Rattle.std.specs.Prelude.{◌≡◌, ◌++◌, codes, decimal, length, map, IfOk, OnOk, MatchResult};
 ghost use Rattle.std.specs.Fmt.{signed_decimal};
 ghost use Rattle.std.specs.Io.KnownBytes.{Appends};
 ghost use Rattle.assign_core.specs.Assignment.{IsAssignment};
 ghost use Rattle.auction_cli.specs.Report.{AppendsPart, cost_line, pair_line, refutation_of, report_of, spaced};
 
-use assign_core::{Assignment, Cost, Object, Person, Problem};
+use assign_core::{Assignment, Cost, Numbered, Object, Person, Problem};
 use itoa::{Buffer, Integer};
 use std::alloc::{AllocError, Global};
 use std::io::Write;
@@ -63,6 +63,7 @@ pub fn report_text(
 {
     let mut text = Vec::new(alloc);
     push_cost(&mut text, problem.total(assignment))?;
+    // Its clause says how many persons there are at most, so that their numbers fit.
     let _persons = problem.n();
     for (i, object) in assignment.objects().iter().enumerate() {
         let person = Person(i as u16 + 1);
@@ -80,22 +81,13 @@ fn push_spaced(text: &mut Vec<u8>, number: u16) -> Result<(), AllocError>
     push_number(text, number)
 }
 
-// Adds the persons, each behind a space.
-fn push_persons(text: &mut Vec<u8>, persons: &[Person]) -> Result<(), AllocError>
-    ensures { OnOk result (text.new.items ≡ text.old.items ++ spaced persons.now) }
+// Adds the numbers of persons or of objects, each behind a space.
+fn push_numbers<T: Numbered>(text: &mut Vec<u8>, all: &[T]) -> Result<(), AllocError>
+    ensures { OnOk result (text.new.items
+        ≡ text.old.items ++ spaced (map T.number_of all.now)) }
 {
-    for person in persons {
-        push_spaced(text, person.0)?;
-    }
-    Ok(())
-}
-
-// Adds the objects, each behind a space.
-fn push_objects(text: &mut Vec<u8>, objects: &[Object]) -> Result<(), AllocError>
-    ensures { OnOk result (text.new.items ≡ text.old.items ++ spaced objects.now) }
-{
-    for object in objects {
-        push_spaced(text, object.0)?;
+    for one in all {
+        push_spaced(text, one.number())?;
     }
     Ok(())
 }
@@ -114,10 +106,10 @@ pub fn refutation_text(
     let mut text = Vec::new(alloc);
     text.extend_from_slice(b"infeasible\npersons ")?;
     push_number(&mut text, persons.len())?;
-    push_persons(&mut text, persons)?;
+    push_numbers(&mut text, persons)?;
     text.extend_from_slice(b"\nobjects ")?;
     push_number(&mut text, objects.len())?;
-    push_objects(&mut text, objects)?;
+    push_numbers(&mut text, objects)?;
     text.extend_from_slice(b"\n")?;
     Ok(text)
 }

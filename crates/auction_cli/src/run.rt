@@ -1,19 +1,25 @@
 // From the bytes that come in to the bytes that go out.
-ghost use Rattle.std.specs.Prelude.{◌≡◌, IfOk, IfErr, IfSome};
-ghost use Rattle.assign_core.specs.Assignment.{IsBest};
+ghost use Rattle.std.specs.Prelude.{◌≡◌, ℕ, List, IfOk, IfErr, IfSome};
+ghost use Rattle.std.specs.Arc.{arc_value};
+ghost use Rattle.assign_core.specs.Assignment.{IsAssignment, IsBest};
+ghost use Rattle.assign_core.specs.Hall.{IsHallSet};
 ghost use Rattle.assign_core.specs.Slackness.{IsCertificate};
-ghost use Rattle.auction_cli.specs.Solve.{IsReportOn, IsUnsolved, Reads, SolveOutcome, end_status, status};
+ghost use Rattle.rounds.specs.Outcomes.{IsProof};
+ghost use Rattle.auction_cli.specs.Report.{refutation_of, report_of};
+ghost use Rattle.auction_cli.specs.Solve.{IsReportOn, IsSettled, Reads, SolveOutcome, end_of, end_status, least_cost, status, text_of};
 
-use crate::auction::{AuctionEnd, hold_auction};
-use crate::report::{refutation_text, report_text, write_text};
+use crate::report::{WriteFailed, refutation_text, report_text, write_text};
 use crate::words::SolveOpts;
-use assign_core::{Assignment, Certificate, HallSet, Object, Person, Prices, Problem, Sense};
+use assign_core::{Certificate, HallSet, Outcome, Person, Problem, Sense};
 use dual_checker::{HallVerdict, Verdict, check, check_hall};
 use orlib_reader::{InputFault, read_dense, read_sparse};
-use scaled_values::scale;
-use std::alloc::Global;
+use rounds::solve_rounds;
+use scaled_values::{Scaled, scale};
+use std::alloc::{AllocError, Global};
 use std::fmt;
 use std::io::{Read, Write};
+use std::sync::Arc;
+use std::thread::Threads;
 
 /// How a run ended, where nothing failed.
 #[derive(Clone, Copy, Debug, PartialEq, Eq)]
@@ -33,11 +39,16 @@ pub enum CliFault {
     Write,
     /// Memory was refused.
     Memory,
-    /// No answer was found that a checker takes.
+    /// A person is stuck between a floor and a free object. Kept for callers; no run ends so.
     Stuck(Person),
 }
 
 impl fmt::Display for CliFault {
+    ghost use Rattle.std.specs.Prelude.{Some};
+    ghost use Rattle.auction_cli.specs.Solve.{fault_line};
+
+    ghost output = { λ fault. Some (fault_line fault) };
+
     fn fmt<W: fmt::Write>(&self, f: &mut fmt::Formatter<W>) -> fmt::Result {
         match self {
             CliFault::Input(fault) => write!(f, "{fault}"),
@@ -45,6 +56,39 @@ impl fmt::Display for CliFault {
             CliFault::Memory => write!(f, "memory refused"),
             CliFault::Stuck(person) => write!(f, "stuck at person {}", person.0),
         }
+    }
+}
+
+impl From<AllocError> for CliFault {
+    ghost use Rattle.std.specs.Prelude.{◌≡◌};
+    ghost use Rattle.auction_cli.specs.declared.run.CliFault.TheVariants.{Memory};
+
+    ghost from_gives = { λ _ fault. fault ≡ Memory };
+
+    fn from(_refused: AllocError) -> CliFault {
+        CliFault::Memory
+    }
+}
+
+impl From<InputFault> for CliFault {
+    ghost use Rattle.std.specs.Prelude.{◌≡◌};
+    ghost use Rattle.auction_cli.specs.declared.run.CliFault.TheVariants.{Input};
+
+    ghost from_gives = { λ input fault. fault ≡ Input input };
+
+    fn from(input: InputFault) -> CliFault {
+        CliFault::Input(input)
+    }
+}
+
+impl From<WriteFailed> for CliFault {
+    ghost use Rattle.std.specs.Prelude.{◌≡◌};
+    ghost use Rattle.auction_cli.specs.declared.run.CliFault.TheVariants.{Write};
+
+    ghost from_gives = { λ _ fault. fault ≡ Write };
+
+    fn from(_failed: WriteFailed) -> CliFault {
+        CliFault::Write
     }
 }
 
@@ -89,130 +133,112 @@ fn read_problem<R: Read>(alloc: Global, r: &mut R, sparse: bool) -> Result<Probl
     }
 }
 
-// The assignment with the prices that prove it best, where the checker takes them.
-fn certified(
-    alloc: Global,
-    problem: &Problem,
-    objects: Vec<Object>,
-    prices: Prices,
-) -> Result<Certificate, CliFault>
-    ensures certified { IfOk result (λ c. IsCertificate Sense.Min problem.now c.assignment c.prices) }
-    ensures best { IfOk result (λ c. IsBest Sense.Min problem.now c.assignment) }
-    ensures unsolved { IfErr result IsUnsolved }
-{
-    let _n = problem.n();
-    match check(
-        alloc,
-        problem,
-        Sense::Min,
-        objects.as_slice(),
-        prices.as_slice(),
-    ) {
-        Ok(Verdict::Yes) => Ok(Certificate {
-            assignment: Assignment::new(objects),
-            prices,
-        }),
-        Ok(_) => Err(CliFault::Stuck(Person(1))),
-        Err(_) => Err(CliFault::Memory),
-    }
-}
-
-// The report on an assignment, once the checker has taken it.
+// The report on an assignment with the prices that prove it best, once the checker has said so.
 fn assignment_report(
     alloc: Global,
     problem: &Problem,
-    objects: Vec<Object>,
-    prices: Prices,
-) -> Result<Report, CliFault>
-    ensures report { IfOk result (λ report. IsReportOn problem.now report.ended report.text.items) }
-    ensures unsolved { IfErr result IsUnsolved }
+    certificate: &Certificate,
+) -> Result<Report, AllocError>
+    requires { let c = certificate.now in IsCertificate Sense.Min problem.now c.assignment c.prices }
+    ensures ended { IfOk result (λ report. report.ended ≡ Ended.Optimal) }
+    ensures text { IfOk result (λ report.
+        report.text.items ≡ report_of problem.now certificate.now.assignment) }
+    ensures best { IfOk result (λ _. IsBest Sense.Min problem.now certificate.now.assignment) }
 {
-    let certificate = match certified(alloc, problem, objects, prices) {
-        Ok(certificate) => certificate,
-        Err(fault) => return Err(fault),
-    };
-    match report_text(alloc, problem, &certificate.assignment) {
-        Ok(text) => Ok(Report {
-            ended: Ended::Optimal,
-            text,
-        }),
-        Err(_) => Err(CliFault::Memory),
+    let objects = certificate.assignment.objects();
+    let prices = certificate.prices.as_slice();
+    let verdict = check(alloc, problem, Sense::Min, objects, prices)?;
+    if verdict != Verdict::Yes {
+        unreachable!();
+    }
+    let text = report_text(alloc, problem, &certificate.assignment)?;
+    Ok(Report {
+        ended: Ended::Optimal,
+        text,
+    })
+}
+
+// The report on a Hall set, once the checker has said that it is one.
+fn refutation_report(alloc: Global, problem: &Problem, hall: &HallSet) -> Result<Report, AllocError>
+    requires { IsHallSet problem.now hall.now.persons hall.now.objects }
+    ensures ended { IfOk result (λ report. report.ended ≡ Ended.Infeasible) }
+    ensures text { IfOk result (λ report.
+        report.text.items ≡ refutation_of hall.now.persons hall.now.objects) }
+    ensures none { IfOk result (λ _. (xs : List ℕ) → IsAssignment problem.now xs → ⊥) }
+{
+    let verdict = check_hall(alloc, problem, hall.persons(), hall.objects())?;
+    if verdict != HallVerdict::Yes {
+        unreachable!();
+    }
+    let text = refutation_text(alloc, hall.persons(), hall.objects())?;
+    Ok(Report {
+        ended: Ended::Infeasible,
+        text,
+    })
+}
+
+// The report on the outcome of the rounds.
+fn outcome_report(alloc: Global, problem: &Problem, outcome: &Outcome) -> Result<Report, AllocError>
+    requires { IsProof (least_cost problem.now) outcome.now }
+    ensures ended { IfOk result (λ report. report.ended ≡ end_of outcome.now) }
+    ensures text { IfOk result (λ report. report.text.items ≡ text_of problem.now outcome.now) }
+    ensures settled { IfOk result (λ _. IsSettled problem.now outcome.now) }
+{
+    match outcome {
+        Outcome::Best(certificate) => assignment_report(alloc, problem, certificate),
+        Outcome::Hall(hall) => refutation_report(alloc, problem, hall),
     }
 }
 
-// The report on a Hall set, once the checker has taken it.
-fn refutation_report(alloc: Global, problem: &Problem, hall: &HallSet) -> Result<Report, CliFault>
-    ensures report { IfOk result (λ report. IsReportOn problem.now report.ended report.text.items) }
-    ensures unsolved { IfErr result IsUnsolved }
+// The problem with its benefits where little cost is wanted.
+fn shared(alloc: Global, problem: Problem) -> Result<Arc<Scaled>, AllocError>
+    ensures { IfOk result (λ scaled. arc_value scaled ≡ least_cost problem) }
 {
-    match check_hall(alloc, problem, hall.persons(), hall.objects()) {
-        Ok(HallVerdict::Yes) => {}
-        Ok(_) => return Err(CliFault::Stuck(Person(1))),
-        Err(_) => return Err(CliFault::Memory),
-    }
-    match refutation_text(alloc, hall.persons(), hall.objects()) {
-        Ok(text) => Ok(Report {
-            ended: Ended::Infeasible,
-            text,
-        }),
-        Err(_) => Err(CliFault::Memory),
-    }
-}
-
-// The report on what the auction found, once a checker has taken it.
-fn checked_report(alloc: Global, problem: &Problem, end: AuctionEnd) -> Result<Report, CliFault>
-    ensures report { IfOk result (λ report. IsReportOn problem.now report.ended report.text.items) }
-    ensures unsolved { IfErr result IsUnsolved }
-{
-    match end {
-        AuctionEnd::Assigned(objects, prices) => assignment_report(alloc, problem, objects, prices),
-        AuctionEnd::Refuted(hall) => refutation_report(alloc, problem, &hall),
-        AuctionEnd::Stuck(person) => Err(CliFault::Stuck(person)),
-    }
+    let scaled = scale(alloc, problem, Sense::Min)?;
+    Ok(Arc::new(alloc, scaled)?)
 }
 
 // The report on a problem.
-fn report_on(alloc: Global, problem: Problem) -> Result<Report, CliFault>
+fn report_on(
+    rt: &(impl Threads + Sync),
+    alloc: Global,
+    problem: Problem,
+) -> Result<Report, CliFault>
     ensures report { IfOk result (λ report. IsReportOn problem report.ended report.text.items) }
-    ensures unsolved { IfErr result IsUnsolved }
+    ensures memory { IfErr result (λ fault. fault ≡ CliFault.Memory) }
 {
-    let scaled = match scale(alloc, problem, Sense::Min) {
-        Ok(scaled) => scaled,
+    let scaled = shared(alloc, problem)?;
+    let kept = scaled.clone()?;
+    let outcome = match solve_rounds(rt, alloc, scaled) {
+        Ok(outcome) => outcome,
         Err(_) => return Err(CliFault::Memory),
     };
-    match hold_auction(alloc, &scaled) {
-        Ok(end) => checked_report(alloc, scaled.problem(), end),
-        Err(_) => Err(CliFault::Memory),
-    }
+    let report = outcome_report(alloc, kept.problem(), &outcome)?;
+    Ok(report)
 }
 
 /// Reads a problem, and writes the report on an assignment of least cost, or on persons who list
 /// fewer objects than they are, and nothing else.
 ///
-/// The report goes out once a checker has taken the auction's answer, so no other fault than
-/// `Write` leaves anything written.
+/// What is reported is the outcome of plain rounds, so the bytes written depend on the bytes read
+/// alone, and on no number of threads. The report goes out once a checker has taken it, and no
+/// other fault than `Write` leaves anything written.
 ///
 /// # Errors
-/// `Input` for a text that is refused, `Write` with a beginning of the report written, `Memory`,
-/// and `Stuck` where the auction ends without an answer that a checker takes.
+/// `Input` for a text that is refused, `Write` with a beginning of the report written, and
+/// `Memory`; `Stuck` never.
 pub fn run_solve<R: Read, W: Write>(
+    rt: &(impl Threads + Sync),
     alloc: Global,
     r: &mut R,
     w: &mut W,
     options: SolveOpts,
 ) -> Result<Ended, CliFault>
-    ensures { SolveOutcome options.sparse (R.remaining r.old) (W.contents w.old) (W.contents w.new) result }
+    ensures { SolveOutcome options.sparse
+        (R.remaining r.old) (W.contents w.old) (W.contents w.new) result }
 {
-    let problem = match read_problem(alloc, r, options.sparse) {
-        Ok(problem) => problem,
-        Err(fault) => return Err(CliFault::Input(fault)),
-    };
-    let report = match report_on(alloc, problem) {
-        Ok(report) => report,
-        Err(fault) => return Err(fault),
-    };
-    match write_text(w, report.text.as_slice()) {
-        Ok(()) => Ok(report.ended),
-        Err(_) => Err(CliFault::Write),
-    }
+    let problem = read_problem(alloc, r, options.sparse)?;
+    let report = report_on(rt, alloc, problem)?;
+    write_text(w, report.text.as_slice())?;
+    Ok(report.ended)
 }

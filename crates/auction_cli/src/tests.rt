@@ -1,12 +1,13 @@
 // Texts with the reports, lines and statuses that they are told to give.
-use crate::run::{CliFault, end_status_of, run_solve, status_of};
-use crate::words::{SolveOpts, Words, WordsFault, read_words};
+use crate::program::{NoWords, ProgramEnd, Told, run_program};
+use crate::run::{CliFault, status_of};
 use assign_core::{Person, Sense, plain_best};
 use orlib_reader::{InputFault, read_dense, read_sparse};
 use std::alloc::{AllocError, Global};
 use std::io;
 use std::io::{Read, Write};
 use std::test::Fail;
+use std::thread::Threads;
 
 // Gives a text in pieces of at most so many bytes, and fails behind it where told so.
 #[derive(Drop)]
@@ -66,29 +67,38 @@ impl Write for Sheet {
     }
 }
 
-// The status of a run, what it wrote, and its line on standard error.
+// The status of a run, what it wrote on each stream, and whether that was all it had to say.
 #[derive(Drop)]
 struct Seen {
     status: u8,
     out: Vec<u8>,
-    line: String,
+    errors: Vec<u8>,
+    whole: bool,
+}
+
+// Whether standard error took all that it was told.
+fn is_whole(end: &ProgramEnd) -> bool {
+    !matches!(
+        end,
+        ProgramEnd::Refused(Told::Part) | ProgramEnd::Failed(_, Told::Part)
+    )
 }
 
 fn watched_run(
+    rt: &(impl Threads + Sync),
     alloc: Global,
-    reader: &mut Pieces<'_>,
+    words: Result<Vec<&str>, NoWords>,
+    mut reader: Pieces<'_>,
     mut sheet: Sheet,
-    sparse: bool,
-) -> Result<Seen, AllocError> {
-    let (status, line) = match run_solve(alloc, reader, &mut sheet, SolveOpts { sparse }) {
-        Ok(ended) => (end_status_of(ended), String::new(alloc)),
-        Err(fault) => (status_of(&fault), format!(in alloc; "{fault}")?),
-    };
-    Ok(Seen {
-        status,
+    mut errors: Sheet,
+) -> Seen {
+    let end = run_program(rt, alloc, words, &mut reader, &mut sheet, &mut errors);
+    Seen {
+        status: end.status(),
         out: sheet.taken,
-        line,
-    })
+        errors: errors.taken,
+        whole: is_whole(&end),
+    }
 }
 
 fn blank_sheet(alloc: Global, room: usize, most: usize, full: Full) -> Sheet {
@@ -100,19 +110,61 @@ fn blank_sheet(alloc: Global, room: usize, most: usize, full: Full) -> Sheet {
     }
 }
 
-// A run on a text in pieces of at most so many bytes, written in such pieces too.
-fn solved(alloc: Global, text: &[u8], most: usize, sparse: bool) -> Result<Seen, AllocError> {
-    let mut reader = Pieces {
+// A sheet with more room than any report here.
+fn ample_sheet(alloc: Global) -> Sheet {
+    blank_sheet(alloc, 1 << 20, 1 << 20, Full::Fails)
+}
+
+// The words for solving.
+fn solve_words(sparse: bool) -> &'static [&'static str] {
+    if sparse {
+        &["auction_cli", "solve", "--sparse"]
+    } else {
+        &["auction_cli", "solve"]
+    }
+}
+
+// A run with these words on a text in pieces of at most so many bytes, written in such pieces too.
+fn run_on(
+    rt: &(impl Threads + Sync),
+    alloc: Global,
+    words: &[&str],
+    text: &[u8],
+    most: usize,
+) -> Result<Seen, AllocError> {
+    let reader = Pieces {
         text,
         most,
         fails: false,
     };
-    watched_run(
+    Ok(watched_run(
+        rt,
         alloc,
-        &mut reader,
+        Ok(Vec::from_slice(alloc, words)?),
+        reader,
         blank_sheet(alloc, 1 << 20, most, Full::Fails),
-        sparse,
-    )
+        blank_sheet(alloc, 1 << 20, most, Full::Fails),
+    ))
+}
+
+fn solved(
+    rt: &(impl Threads + Sync),
+    alloc: Global,
+    text: &[u8],
+    most: usize,
+    sparse: bool,
+) -> Result<Seen, AllocError> {
+    run_on(rt, alloc, solve_words(sparse), text, most)
+}
+
+// The bytes up to the first line feed.
+fn first_line(text: &[u8]) -> &[u8] {
+    let end = text
+        .iter()
+        .position(|byte| *byte == b'\n')
+        .unwrap_or(text.len());
+    let (line, _) = text.split_at(end);
+    line
 }
 
 #[test]
@@ -147,9 +199,9 @@ fn reports(rt: HostRuntime) -> Result<(), Fail> {
     ];
     for (text, report) in table {
         for most in [1, 65536] {
-            let seen = solved(rt.alloc(), text, most, false)?;
+            let seen = solved(&rt, rt.alloc(), text, most, false)?;
             assert_eq!(rt; seen.out.as_slice(), report.as_bytes());
-            assert_eq!(rt; seen.line.as_str(), "");
+            assert_eq!(rt; seen.errors.len(), 0);
             assert_eq!(rt; seen.status, 0);
         }
     }
@@ -159,22 +211,23 @@ fn reports(rt: HostRuntime) -> Result<(), Fail> {
 #[test]
 fn refused_texts(rt: HostRuntime) -> Result<(), Fail> {
     let table: [(&[u8], &str); 11] = [
-        (b"", "input: empty"),
-        (b" \t\r\n\x0b\x0c", "input: empty"),
-        (b"8193 1", "input: size out of range"),
-        (b"0", "input: size out of range"),
-        (b"x", "input: bad number at byte 0"),
-        (b"1 3.0", "input: bad number at byte 2"),
-        (b"1 1000000000001", "input: cost out of range at byte 2"),
-        (b"2 1 2", "input: truncated after 3 numbers"),
-        (b"2 1 2 3", "input: truncated after 4 numbers"),
-        (b"1 7 8", "input: extra data at byte 4"),
-        (b"1 7 x", "input: extra data at byte 4"),
+        (b"", "input: empty\n"),
+        (b" \t\r\n\x0b\x0c", "input: empty\n"),
+        (b"8193 1", "input: size out of range\n"),
+        (b"0", "input: size out of range\n"),
+        (b"x", "input: bad number at byte 0\n"),
+        (b"1 3.0", "input: bad number at byte 2\n"),
+        (b"1 1000000000001", "input: cost out of range at byte 2\n"),
+        (b"2 1 2", "input: truncated after 3 numbers\n"),
+        (b"2 1 2 3", "input: truncated after 4 numbers\n"),
+        (b"1 7 8", "input: extra data at byte 4\n"),
+        (b"1 7 x", "input: extra data at byte 4\n"),
     ];
     for (text, line) in table {
         for most in [1, 65536] {
-            let seen = solved(rt.alloc(), text, most, false)?;
-            assert_eq!(rt; seen.line.as_str(), line);
+            let seen = solved(&rt, rt.alloc(), text, most, false)?;
+            assert_eq!(rt; seen.errors.as_slice(), line.as_bytes());
+            assert!(rt; seen.whole);
             assert_eq!(rt; seen.status, 3);
             assert_eq!(rt; seen.out.len(), 0);
         }
@@ -204,13 +257,13 @@ fn sparse_texts(rt: HostRuntime) -> Result<(), Fail> {
             "cost 9\nassign 1 2 4\nassign 2 1 5\n",
             "",
         ),
-        (b"2 1 1 5 2 1", 3, "", "input: truncated after 6 numbers"),
-        (b"2 3 1 5", 3, "", "input: index out of range at byte 2"),
+        (b"2 1 1 5 2 1", 3, "", "input: truncated after 6 numbers\n"),
+        (b"2 3 1 5", 3, "", "input: index out of range at byte 2\n"),
     ];
     for (text, status, out, line) in table {
         for most in [1, 65536] {
-            let seen = solved(rt.alloc(), text, most, true)?;
-            assert_eq!(rt; seen.line.as_str(), line);
+            let seen = solved(&rt, rt.alloc(), text, most, true)?;
+            assert_eq!(rt; seen.errors.as_slice(), line.as_bytes());
             assert_eq!(rt; seen.status, status);
             assert_eq!(rt; seen.out.as_slice(), out.as_bytes());
         }
@@ -219,42 +272,129 @@ fn sparse_texts(rt: HostRuntime) -> Result<(), Fail> {
 }
 
 #[test]
-fn devices_that_fail(rt: HostRuntime) -> Result<(), Fail> {
+fn input_that_fails(rt: HostRuntime) -> Result<(), Fail> {
     let alloc = rt.alloc();
     let texts: [&[u8]; 3] = [b"", b"2 1 2", b"2 1 2 3 5"];
     for text in texts {
-        let mut reader = Pieces {
+        let reader = Pieces {
             text,
             most: 2,
             fails: true,
         };
+        let words = Ok(Vec::from_slice(alloc, solve_words(false))?);
         let seen = watched_run(
+            &rt,
             alloc,
-            &mut reader,
-            blank_sheet(alloc, 100, 100, Full::Fails),
-            false,
-        )?;
-        assert_eq!(rt; seen.line.as_str(), "device: read failed");
+            words,
+            reader,
+            ample_sheet(alloc),
+            ample_sheet(alloc),
+        );
+        assert_eq!(rt; seen.errors.as_slice(), b"device: read failed\n".as_slice());
         assert_eq!(rt; seen.status, 4);
         assert_eq!(rt; seen.out.len(), 0);
     }
-    for full in [Full::Fails, Full::TakesNone] {
-        for most in [1, 3, 100] {
-            let mut reader = Pieces {
-                text: b"2 1 2 3 5",
+    Ok(())
+}
+
+// A run whose output has room for ten bytes.
+fn on_short_output(
+    rt: &(impl Threads + Sync),
+    alloc: Global,
+    words: &[&str],
+    most: usize,
+    full: Full,
+) -> Result<Seen, AllocError> {
+    let reader = Pieces {
+        text: b"2 1 2 3 5",
+        most: 100,
+        fails: false,
+    };
+    Ok(watched_run(
+        rt,
+        alloc,
+        Ok(Vec::from_slice(alloc, words)?),
+        reader,
+        blank_sheet(alloc, 10, most, full),
+        ample_sheet(alloc),
+    ))
+}
+
+#[test]
+fn output_that_fails(rt: HostRuntime) -> Result<(), Fail> {
+    let table: [(&[&str], &[u8]); 2] = [
+        (&["auction_cli", "solve"], b"cost 5\nass"),
+        (&["auction_cli", "--help"], b"Usage: auc"),
+    ];
+    for (words, out) in table {
+        for full in [Full::Fails, Full::TakesNone] {
+            for most in [1, 3, 100] {
+                let seen = on_short_output(&rt, rt.alloc(), words, most, full)?;
+                assert_eq!(rt;
+                    seen.errors.as_slice(),
+                    b"device: write failed\n".as_slice()
+                );
+                assert_eq!(rt; seen.status, 4);
+                assert_eq!(rt; seen.out.as_slice(), out);
+            }
+        }
+    }
+    Ok(())
+}
+
+// Where standard error fails, the status is what it would have been.
+#[test]
+fn errors_that_fail(rt: HostRuntime) -> Result<(), Fail> {
+    let alloc = rt.alloc();
+    let table: [(&[&str], u8, &[u8]); 3] = [
+        (&["auction_cli", "solve"], 3, b"input: bad"),
+        (&["auction_cli", "verify"], 2, b"error: unr"),
+        (&["auction_cli", "solve", "--fast"], 2, b"error: une"),
+    ];
+    for (words, status, start) in table {
+        for room in [0, 10] {
+            let reader = Pieces {
+                text: b"x",
                 most: 100,
                 fails: false,
             };
-            let seen = watched_run(
-                alloc,
-                &mut reader,
-                blank_sheet(alloc, 10, most, full),
-                false,
-            )?;
-            assert_eq!(rt; seen.line.as_str(), "device: write failed");
-            assert_eq!(rt; seen.status, 4);
-            assert_eq!(rt; seen.out.as_slice(), b"cost 5\nass".as_slice());
+            let errors = blank_sheet(alloc, room, 3, Full::TakesNone);
+            let given = Ok(Vec::from_slice(alloc, words)?);
+            let seen = watched_run(&rt, alloc, given, reader, ample_sheet(alloc), errors);
+            let (wanted, _) = start.split_at(room);
+            assert_eq!(rt; seen.errors.as_slice(), wanted);
+            assert_eq!(rt; seen.status, status);
+            assert!(rt; !seen.whole);
+            assert_eq!(rt; seen.out.len(), 0);
         }
+    }
+    Ok(())
+}
+
+#[test]
+fn no_words(rt: HostRuntime) -> Result<(), Fail> {
+    let alloc = rt.alloc();
+    let table = [
+        (NoWords::NoText, 2, "error: the words are no text\n"),
+        (NoWords::Memory, 4, "memory refused\n"),
+    ];
+    for (none, status, line) in table {
+        let reader = Pieces {
+            text: b"1 7",
+            most: 100,
+            fails: false,
+        };
+        let seen = watched_run(
+            &rt,
+            alloc,
+            Err(none),
+            reader,
+            ample_sheet(alloc),
+            ample_sheet(alloc),
+        );
+        assert_eq!(rt; seen.status, status);
+        assert_eq!(rt; seen.errors.as_slice(), line.as_bytes());
+        assert_eq!(rt; seen.out.len(), 0);
     }
     Ok(())
 }
@@ -311,40 +451,61 @@ fn lines_and_statuses(rt: HostRuntime) -> Result<(), Fail> {
     Ok(())
 }
 
-// Which of the faults of a command line it is.
-fn told(fault: &WordsFault) -> &'static str {
-    match fault {
-        WordsFault::Clap(error) => {
-            if error.use_stderr() {
-                "refused"
-            } else {
-                "help"
-            }
-        }
-        WordsFault::Memory => "memory",
-    }
-}
-
+// The words with the status and the first lines that they give on a text that is valid in both
+// layouts. None of them are answered as refused memory, which no clause rules out.
 #[test]
 fn command_lines(rt: HostRuntime) -> Result<(), Fail> {
-    let table: [(&[&str], &str); 10] = [
-        (&["auction_cli", "solve"], "dense"),
-        (&["auction_cli", "solve", "--sparse"], "sparse"),
-        (&["auction_cli", "solve", "--sparse=yes"], "refused"),
-        (&["auction_cli", "--help"], "help"),
-        (&["auction_cli", "solve", "--help"], "help"),
-        (&["auction_cli"], "refused"),
-        (&["auction_cli", "verify"], "refused"),
-        (&["auction_cli", "solve", "2"], "refused"),
-        (&["auction_cli", "solve", "--fast"], "refused"),
-        (&["auction_cli", "--fast", "solve"], "refused"),
+    let about = "Read a problem and write a best assignment, or why there is none";
+    let usage = "Usage: auction_cli <COMMAND>";
+    let table: [(&[&str], u8, &str, &str); 11] = [
+        (&["auction_cli", "solve"], 0, "cost 6", ""),
+        (&["auction_cli", "solve", "--sparse"], 0, "cost 9", ""),
+        (&["", "solve", "--sparse"], 0, "cost 9", ""),
+        (
+            &["auction_cli", "solve", "--sparse=yes"],
+            2,
+            "",
+            "error: unexpected value 'yes' for '--sparse' found; no more were expected",
+        ),
+        (&["auction_cli", "--help"], 0, usage, ""),
+        (&["auction_cli", "solve", "--help"], 0, about, ""),
+        (
+            &["auction_cli"],
+            2,
+            "",
+            "error: 'auction_cli' requires a subcommand but one was not provided",
+        ),
+        (
+            &["auction_cli", "verify"],
+            2,
+            "",
+            "error: unrecognized subcommand 'verify'",
+        ),
+        (
+            &["auction_cli", "solve", "2"],
+            2,
+            "",
+            "error: unexpected argument '2' found",
+        ),
+        (
+            &["auction_cli", "solve", "--fast"],
+            2,
+            "",
+            "error: unexpected argument '--fast' found",
+        ),
+        (
+            &["auction_cli", "--fast", "solve"],
+            2,
+            "",
+            "error: unexpected argument '--fast' found",
+        ),
     ];
-    for (words, wanted) in table {
-        let told = match read_words(rt.alloc(), words) {
-            Ok(Words::Solve(options)) => { if options.sparse { "sparse" } else { "dense" } }
-            Err(fault) => told(&fault),
-        };
-        assert_eq!(rt; told, wanted);
+    for (words, status, out, errors) in table {
+        let seen = run_on(&rt, rt.alloc(), words, b"3 1 1 3 2 2 3 3 3 3", 100)?;
+        assert_eq!(rt; first_line(seen.out.as_slice()), out.as_bytes());
+        assert_eq!(rt; first_line(seen.errors.as_slice()), errors.as_bytes());
+        assert_eq!(rt; seen.status, status);
+        assert!(rt; seen.whole);
     }
     Ok(())
 }
@@ -419,7 +580,7 @@ fn small_problems(rt: HostRuntime) -> Result<(), Fail> {
         } else {
             small_text(alloc, &mut seed)?
         };
-        let seen = solved(alloc, text.as_bytes(), 65536, sparse)?;
+        let seen = solved(&rt, alloc, text.as_bytes(), 65536, sparse)?;
         match plain_start(alloc, text.as_str(), sparse)? {
             Some((status, line)) => {
                 assert_eq!(rt; seen.status, status, "on {text}");

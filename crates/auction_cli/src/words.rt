@@ -28,6 +28,17 @@ pub enum WordsFault {
     Memory,
 }
 
+impl From<AllocError> for WordsFault {
+    ghost use Rattle.std.specs.Prelude.{◌≡◌};
+    ghost use Rattle.auction_cli.specs.declared.words.WordsFault.TheVariants.{Memory};
+
+    ghost from_gives = { λ _ fault. fault ≡ Memory };
+
+    fn from(_refused: AllocError) -> WordsFault {
+        WordsFault::Memory
+    }
+}
+
 // The program's command with its subcommands.
 fn command<'a>(alloc: Global) -> Result<Command<'a>, AllocError>
     ensures { IfOk result (λ c. app_of c ≡ program) }
@@ -74,14 +85,14 @@ fn words_fault(error: Error) -> WordsFault
 /// `Memory`.
 pub fn read_words<'a, S: AsStr>(alloc: Global, words: &'a [S]) -> Result<Words, WordsFault>
     ensures outcome { WordsOutcome (map S.text words.entry.now) result }
-    ensures solve { (name : Text) → map S.text words.entry.now ≡ name ∷ codes "solve" ∷ [] → AsksFor false result }
-    ensures sparse { (name : Text) → map S.text words.entry.now ≡ name ∷ codes "solve" ∷ codes "--sparse" ∷ [] → AsksFor true result }
+    ensures solve { (name : Text)
+        → map S.text words.entry.now ≡ name ∷ codes "solve" ∷ [] → AsksFor false result }
+    ensures sparse { (name : Text)
+        → map S.text words.entry.now ≡ name ∷ codes "solve" ∷ codes "--sparse" ∷ []
+        → AsksFor true result }
     ensures alone { (name : Text) → map S.text words.entry.now ≡ name ∷ [] → IsErr result }
 {
-    let command = match command(alloc) {
-        Ok(command) => command,
-        Err(_) => return Err(WordsFault::Memory),
-    };
+    let command = command(alloc)?;
     match command.try_get_matches_from(words) {
         Ok(matches) => Ok(Words::Solve(solve_options(&matches))),
         Err(error) => Err(words_fault(error)),

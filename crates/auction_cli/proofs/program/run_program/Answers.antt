@@ -1,0 +1,5 @@
+use Rattle.std.proofs.Common.{codes, refl}
+use Rattle.auction_cli.proofs.program.run_program.Goals as goal
+
+pub returns-in-Err-NoText-clause-errors : goal.returns-in-Err-NoText-clause-errors
+returns-in-Err-NoText-clause-errors g c = rw c.in-Err-NoText.is (codes "error: the words are no text\n", refl, c.tell.ensures)
