@@ -2,7 +2,7 @@
 """Measures `auction_cli solve` beside a plain Rust program of the same method, on the same inputs, in one run.
 
 Run it at the top of the repository after `rt run` built the program: bench/measure.py [PROGRAM].
-It writes its inputs below bench/out and needs rustc; scipy is measured too where python3 has it.
+It writes its inputs below bench/out and needs rustc and cc; scipy is measured too where python3 has it.
 """
 import os
 import subprocess
@@ -13,6 +13,7 @@ HERE = os.path.dirname(os.path.abspath(__file__))
 OUT = os.path.join(HERE, "out")
 PROGRAM = sys.argv[1] if len(sys.argv) > 1 else os.path.join(HERE, "..", "crates", "auction_cli", "out", "auction_cli")
 PLAIN = os.path.join(OUT, "plain_auction")
+PEAK = os.path.join(OUT, "peak")
 
 
 def problem(name, *words, maker="make_problem.py", tail=""):
@@ -29,16 +30,16 @@ def problem(name, *words, maker="make_problem.py", tail=""):
 def run(program, *words, stdin, wanted):
     """Seconds, peak memory in MB and standard output, the fastest of three runs."""
     best = None
+    peak = os.path.join(OUT, "peak.txt")
     for _ in range(3):
         with open(stdin) as file:
             start = time.monotonic()
-            process = subprocess.Popen([program, *words], stdin=file, stdout=subprocess.PIPE, stderr=subprocess.DEVNULL)
-            output = process.stdout.read()
-            _, status, used = os.wait4(process.pid, 0)
+            ran = subprocess.run([PEAK, peak, program, *words], stdin=file, stdout=subprocess.PIPE, stderr=subprocess.DEVNULL)
             took = time.monotonic() - start
-        assert os.waitstatus_to_exitcode(status) == wanted, (program, words, status)
+        assert ran.returncode == wanted, (program, words, ran.returncode)
         if best is None or took < best[0]:
-            best = (took, used.ru_maxrss / 1024, output)
+            with open(peak) as file:
+                best = (took, int(file.read()) / 1024, ran.stdout)
     return best
 
 
@@ -109,10 +110,10 @@ def main():
     os.makedirs(OUT, exist_ok=True)
     source = os.path.join(HERE, "plain", "auction.rs")
     subprocess.run(["rustc", "--edition", "2024", "-O", "-C", "target-cpu=x86-64-v2", "-o", PLAIN, source], check=True)
+    subprocess.run(["cc", "-O1", "-o", PEAK, os.path.join(HERE, "peak.c")], check=True)
     reading()
     reading_sparse()
     solving_sparse()
-    # A child's peak counts that of this process at its start, so scipy comes last.
     solving(500, 1000)
     solving(1000, 1000)
 

@@ -1,7 +1,7 @@
 #!/usr/bin/env bash
 # Refuses each growth of a run in turn, and looks for an answer other than "memory refused" with
 # status 4 and nothing written, or the answer that ample memory gives.
-# Wants the built program (rt run in crates/auction_cli) and cc: tests/refused_growths.sh [PROGRAM]
+# Wants the built program (rt run in crates/auction_cli, or rt ci) and cc: tests/refused_growths.sh [PROGRAM]
 set -euo pipefail
 top=$(cd "$(dirname "$0")/.." && pwd)
 program=${1:-$top/crates/auction_cli/out/auction_cli}
@@ -14,6 +14,8 @@ cat > "$work/refuse.c" <<'C'
 #include <errno.h>
 #include <stdio.h>
 #include <stdlib.h>
+#include <sys/syscall.h>
+#include <unistd.h>
 
 static long calls;
 
@@ -27,13 +29,24 @@ static int refused(void) {
     return 0;
 }
 
-__attribute__((destructor)) static void tell(void) {
+static void tell(void) {
     const char *path = getenv("GROWTHS_TOLD");
     FILE *file = path ? fopen(path, "w") : NULL;
     if (file) {
         fprintf(file, "%ld", calls);
         fclose(file);
     }
+}
+
+__attribute__((destructor)) static void at_exit(void) {
+    tell();
+}
+
+/* The program may end by this, which runs no destructor. */
+void _exit(int status) {
+    tell();
+    syscall(SYS_exit_group, status);
+    __builtin_unreachable();
 }
 
 void *malloc(size_t size) {
@@ -74,10 +87,8 @@ try_all() {
         fi
     done
     echo "$(basename "$input") $*: status $wanted, $growths growths, $refusals answered with status 4"
-    passed=$((passed + 1))
 }
 
-passed=0
 failed=0
 printf '1 7' > "$work/one_person"
 printf '2 1 2 3' > "$work/truncated"
@@ -90,5 +101,4 @@ try_all "$top/examples/two_persons.txt" --help
 try_all "$top/examples/hundred_persons.txt" solve
 try_all "$top/examples/roster.txt" solve --sparse
 try_all "$top/examples/short_roster.txt" solve --sparse
-echo "$passed passed, $failed failed"
 [ "$failed" = 0 ]

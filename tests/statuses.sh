@@ -1,19 +1,16 @@
 #!/usr/bin/env bash
-# What the built program prints where, and how it ends: each status, and the lines on standard error.
-# Wants the built program (rt run in crates/auction_cli): tests/statuses.sh [PROGRAM]
+# What the built program prints where, and how it ends: each status, and the lines on standard error. Prints what
+# differs. Wants the built program (rt run in crates/auction_cli, or rt ci): tests/statuses.sh [PROGRAM]
 set -uo pipefail
 top=$(cd "$(dirname "$0")/.." && pwd)
 program=${1:-$top/crates/auction_cli/out/auction_cli}
 work=$(mktemp -d)
 trap 'rm -rf "$work"' EXIT
-passed=0
 failed=0
 
-# Counts one case.
-count() {
-    if [ "$2" = "$3" ]; then
-        passed=$((passed + 1))
-    else
+# Compares one case.
+compare() {
+    if [ "$2" != "$3" ]; then
         echo "$1: wanted $(printf %q "$2"), got $(printf %q "$3")"
         failed=$((failed + 1))
     fi
@@ -24,7 +21,7 @@ expect() {
     local input=$1 wanted=$2 out=$3 err=$4 status=0
     shift 4
     printf "$input" | "$program" "$@" > "$work/out" 2> "$work/err" || status=$?
-    count "'$input' $*" "$wanted|$(printf "$out")|$err" "$status|$(cat "$work/out")|$(cat "$work/err")"
+    compare "'$input' $*" "$wanted|$(printf "$out")|$err" "$status|$(cat "$work/out")|$(cat "$work/err")"
 }
 
 # firsts STATUS OUT ERR WORD..: the status, and the first lines of both.
@@ -32,7 +29,7 @@ firsts() {
     local wanted=$1 out=$2 err=$3 status=0
     shift 3
     "$program" "$@" < /dev/null > "$work/out" 2> "$work/err" || status=$?
-    count "$*" "$wanted|$out|$err" "$status|$(head -1 "$work/out")|$(head -1 "$work/err")"
+    compare "$*" "$wanted|$out|$err" "$status|$(head -1 "$work/out")|$(head -1 "$work/err")"
 }
 
 expect '1 7' 0 'cost 7\nassign 1 1 7\n' '' solve
@@ -54,12 +51,21 @@ firsts 0 'Usage: auction_cli <COMMAND>' '' --help
 firsts 2 '' "error: unexpected argument '--greatest' found" solve --greatest
 firsts 2 '' "error: unrecognized subcommand 'verify'" verify
 firsts 2 '' "error: 'auction_cli' requires a subcommand but one was not provided"
+firsts 2 '' 'error: the words are no text' solve $'\xff'
 
 status=0
 printf '2 1 2 3 5' | "$program" solve > /dev/full 2> "$work/err" || status=$?
-count 'a full device' '4|device: write failed' "$status|$(cat "$work/err")"
+compare 'a full device' '4|device: write failed' "$status|$(cat "$work/err")"
 status=0
 "$program" solve < "$work" > "$work/out" 2> "$work/err" || status=$?
-count 'a folder as input' '4||device: read failed' "$status|$(cat "$work/out")|$(cat "$work/err")"
-echo "$passed passed, $failed failed"
+compare 'a folder as input' '4||device: read failed' "$status|$(cat "$work/out")|$(cat "$work/err")"
+status=0
+"$program" solve --help > /dev/full 2> "$work/err" || status=$?
+compare 'help on a full device' '4|device: write failed' "$status|$(cat "$work/err")"
+status=0
+printf x | "$program" solve > "$work/out" 2> /dev/full || status=$?
+compare 'a fault on a full device' '3|' "$status|$(cat "$work/out")"
+status=0
+"$program" verify > "$work/out" 2> /dev/full || status=$?
+compare 'refused words on a full device' '2|' "$status|$(cat "$work/out")"
 [ "$failed" = 0 ]
