@@ -1,5 +1,5 @@
 -- Each verdict on a Hall set excludes the others.
-use Rattle.std.proofs.Common.{ℕ, ◌<◌, ◌≤◌, List, length, arith, ap, ◌∙◌, refl, subst, get_or}
+use Rattle.std.proofs.Common.{ℕ, List, length, arith, ap, ◌∙◌, refl, subst, get_or}
 use Rattle.std.specs.List.{All, Contains}
 use Rattle.std.proofs.lemmas.List.Elements.{All-contains, Contains-get_or}
 use Rattle.assign_core.specs.Numbered.{IsNumber}

@@ -3,11 +3,11 @@ use Rattle.std.proofs.Common.{◌≡◌, ℕ, ◌<◌, ◌≤◌, ◌↔◌, Lis
 use Rattle.std.specs.List.{All, Contains}
 use Rattle.std.proofs.lemmas.List.{get_or_default}
 use Rattle.std.proofs.lemmas.List.Elements.{All-contains}
-use Rattle.assign_core.specs.Numbered.{IsNumber}
+use Rattle.assign_core.specs.Numbered.{IsNumber, IsMarked}
 use Rattle.assign_core.specs.Rows.{Listing, IsListed}
 use Rattle.assign_core.specs.Hall.{IsNeighbour}
 use Rattle.dual_checker.specs.Faults.{IsFirst}
-use Rattle.dual_checker.specs.HallMarks.{AddsMarks, IsMarked}
+use Rattle.dual_checker.specs.HallMarks.{AddsMarks}
 use Rattle.dual_checker.specs.HallVerdicts.{AreNeighbours, HasNeighbours, IsExtra, Lacks, ListsUnnamed}
 use Rattle.dual_checker.proofs.HallFirsts.{first_same}
 use Rattle.dual_checker.proofs.HallMarking.{just_added}

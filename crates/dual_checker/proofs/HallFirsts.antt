@@ -5,11 +5,10 @@ use Rattle.std.specs.List.Sorted.{IsStrictlyIncreasing}
 use Rattle.std.proofs.lemmas.Bool.{cases_order}
 use Rattle.std.proofs.lemmas.List.{get_or_default}
 use Rattle.std.proofs.lemmas.Map.Keys.{below_from_sorted, sorted_from_strictly_increasing}
-use Rattle.assign_core.specs.Numbered.{IsNumber}
+use Rattle.assign_core.specs.Numbered.{IsNumber, IsMarked}
 use Rattle.assign_core.specs.Rows.{Listing, IsRow, IsRising, IsListed, listed_in, row_of}
 use Rattle.assign_core.proofs.Listed.{all_listed, rising_listed}
 use Rattle.dual_checker.specs.Faults.{IsFirst}
-use Rattle.dual_checker.specs.HallMarks.{IsMarked}
 use Rattle.dual_checker.specs.HallVerdicts.{ListsUnnamed}
 use Rattle.dual_checker.proofs.HallMarking.{Earlier}
 

@@ -2,9 +2,9 @@
 use Rattle.std.proofs.Common.{◌≡◌, ℕ, ◌<◌, ◌+◌, ◌-◌, ◌↔◌, zero, suc, List, Bool, true, false, length, get_or, replicate, set, inl, inr, arith, refl, ap, subst, sym, ◌∙◌}
 use Rattle.std.proofs.lemmas.Bool.{cases_lt}
 use Rattle.std.proofs.lemmas.Bool.Decides.{eqb_tells}
-use Rattle.assign_core.specs.Numbered.{IsNumber, numbered, renumbered}
+use Rattle.assign_core.specs.Numbered.{IsNumber, numbered, renumbered, IsMarked}
 use Rattle.assign_core.proofs.NumberedLemmas.{numbered-same, numbered-other, renumber-set}
-use Rattle.dual_checker.specs.HallMarks.{IsMarked, AddsMarks}
+use Rattle.dual_checker.specs.HallMarks.{AddsMarks}
 
 -- j stands in relation R to one of the first i places
 abbrev pub Earlier : (ℕ → ℕ → Type 0) → ℕ → ℕ → Type 0

@@ -1,19 +1,20 @@
 -- Rows of benefits, and what breaks slackness in them.
-use Rattle.std.proofs.Common.{◌≡◌, ℕ, ℤ, pos, ◌+ℤ◌, ◌-ℤ◌, ◌≤ℤ◌, ◌<ℤ◌, ◌<◌, zero, suc, List, [], ◌∷◌, length, Some, IsSome, arith, inl, inr, refl, ap, ◌∙◌, sym, unwrap_or, get_or, subst}
+use Rattle.std.proofs.Common.{◌≡◌, ℕ, ℤ, pos, ◌+ℤ◌, ◌-ℤ◌, ◌≤ℤ◌, ◌<ℤ◌, ◌<◌, List, [], length, Some, IsSome, arith, inl, inr, refl, ap, ◌∙◌, sym, unwrap_or, get_or, ◌+◌, subst}
 use Rattle.std.specs.List.{All}
-use Rattle.std.proofs.Math.ListN.{get_or-map}
 use Rattle.std.proofs.lemmas.Int.{ints}
 use Rattle.std.proofs.lemmas.Bool.{cases_order}
-use Rattle.std.proofs.lemmas.Bool.Decides.{eqb_tells}
-use Rattle.std.proofs.lemmas.List.{length-map, get_or_default}
+use Rattle.std.proofs.lemmas.List.{get_or_default}
 use Rattle.std.proofs.lemmas.List.Elements.{All-map}
 use Rattle.assign_core.specs.declared.sense.Sense.{Sense}
-use Rattle.assign_core.specs.Numbered.{IsNumber}
-use Rattle.assign_core.specs.Rows.{Listing, IsRow, IsRising, listed_in, listed_or_zero, row_of}
+use Rattle.assign_core.specs.Numbered.{IsNumber, numbered}
+use Rattle.assign_core.specs.Assignment.{AreListed}
+use Rattle.assign_core.proofs.Zips.{pair_number}
+use Rattle.assign_core.proofs.NumberedLemmas.{numbered-next}
+use Rattle.assign_core.specs.Rows.{Listing, IsListed, IsProblem, IsRow, IsRising, listed_in, listed_or_zero, row_of}
 use Rattle.assign_core.specs.Benefits.{benefit, benefit_row, benefit_rows}
 use Rattle.assign_core.specs.Prices.{price_of}
 use Rattle.assign_core.specs.Slackness.{HasSlack, IsWorth}
-use Rattle.assign_core.proofs.Listed.{all_listed, rising_listed}
+use Rattle.assign_core.proofs.Listed.{all_listed, listed_range, rising_listed}
 use Rattle.assign_core.proofs.BenefitRows.{row_of-benefits}
 use Rattle.assign_core.proofs.Duality.{benefit_listed, benefit_value}
 use Rattle.dual_checker.specs.Faults.{IsFirst, BreaksSlack, own_object}
@@ -23,6 +24,16 @@ slack_unbroken eps prices row j k h b =
     let worth = all_listed (IsWorth eps prices row j) row k h b.listed in
     let more = b.more in
     absurd (omega (arith, ints))
+
+-- the object at place i is listed for person i + 1
+pub own_listed : (rows : List Listing) (xs : List ℕ) (i x : ℕ) → AreListed rows xs → length xs ≡ length rows → i < length xs → x ≡ get_or xs i x → IsListed rows (i + 1) x
+own_listed rows xs i x listed long lt is =
+    let own : x ≡ numbered xs (i + 1) 0 = is ∙ get_or_default xs i x 0 lt ∙ sym (numbered-next xs i 0) in
+    rw own (pair_number (λ row j. IsSome (listed_in row j)) rows xs (i + 1) [] 0 listed (omega arith) (omega arith))
+
+-- and it is an object that has a price
+pub own_priced : (rows : List Listing) (xs : List ℕ) (prices : List ℤ) (i x : ℕ) → IsProblem rows → length prices ≡ length rows → AreListed rows xs → length xs ≡ length rows → i < length xs → x ≡ get_or xs i x → IsNumber (length prices) x
+own_priced rows xs prices i x is priced listed long lt own = rw priced (listed_range rows (i + 1) x is (own_listed rows xs i x listed long lt own)).object
 
 -- entry e, with its cost, is worth at most 1 more than own
 abbrev pub IsUnder : Sense → ℕ → List ℤ → ℤ → ℕ × ℤ → Type 0

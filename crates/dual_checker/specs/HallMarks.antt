@@ -1,10 +1,6 @@
 -- Marks for the numbers 1, 2, ..
-use Rattle.std.specs.Prelude.{◌≡◌, ℕ, ◌⊎◌, ◌↔◌, List, Bool, true, false}
-use Rattle.assign_core.specs.Numbered.{numbered}
-
--- the number is marked
-abbrev pub IsMarked : List Bool → ℕ → Type 0
-IsMarked marks j = numbered marks j false ≡ true
+use Rattle.std.specs.Prelude.{ℕ, ◌⊎◌, ◌↔◌, List, Bool}
+use Rattle.assign_core.specs.Numbered.{IsMarked}
 
 -- marked are now those that were marked before, and those with property P
 abbrev pub AddsMarks : List Bool → (ℕ → Type 0) → List Bool → Type 0

@@ -1,11 +1,11 @@
 // Marks for objects, and the first objects without one.
 ghost use Rattle.std.specs.Prelude.{◌≡◌, ℕ, length, All, Contains, MatchOption};
 ghost use Rattle.std.specs.List.Sorted.{IsStrictlyIncreasing};
-ghost use Rattle.assign_core.specs.Numbered.{IsNumber};
+ghost use Rattle.assign_core.specs.Numbered.{IsNumber, IsMarked};
 ghost use Rattle.assign_core.specs.Rows.{IsListed};
 ghost use Rattle.assign_core.specs.Hall.{IsNeighbour};
 ghost use Rattle.dual_checker.specs.Faults.{IsFirst};
-ghost use Rattle.dual_checker.specs.HallMarks.{AddsMarks, IsMarked};
+ghost use Rattle.dual_checker.specs.HallMarks.{AddsMarks};
 ghost use Rattle.dual_checker.specs.HallVerdicts.{HasNeighbours, Lacks, ListsUnnamed};
 
 use assign_core::{Object, Person, Problem};

@@ -41,6 +41,7 @@ fn own_worth(
 ) -> Price
     requires person { IsNumber (length problem.now) person }
     requires listed { IsListed problem.now person object }
+    requires number { IsNumber (length prices.now) object }
     requires priced { length prices.now ≡ length problem.now }
     requires in_range { All IsPrice prices.now }
     ensures value { let cost = listed_or_zero (row_of problem.now person) object in
@@ -65,6 +66,7 @@ fn first_broken(
     requires size { IsSize (length prices.now) }
     requires row { IsRow (length prices.now) row.now }
     requires in_range { All IsPrice prices.now }
+    requires number { IsNumber (length prices.now) own }
     requires own { let cost = listed_or_zero row.now own in
         own_worth ≡ (benefit sense (length prices.now) cost -ℤ price_of prices.now own) }
     requires most { own_worth ≤ℤ (pos (MOST_PERSONS + 1) *ℤ GREATEST_COST) }

@@ -2,14 +2,14 @@
 use Rattle.std.proofs.Common.{◌≡◌, ℕ, ℤ, pos, ◌+◌, ◌-◌, ◌<◌, ◌≤◌, List, [], ◌∷◌, ◌++◌, Option, None, Some, IsSome, Bool, true, false, length, length-append, get_or, ap, arith, refl, sym, subst, ◌∙◌, inl, inr, ◌⊎◌}
 use Rattle.std.proofs.lemmas.Bool.{cases_eq}
 use Rattle.std.proofs.lemmas.List.{get_or_append_left, get_or_push, get_or_read}
-use Rattle.assign_core.specs.Numbered.{IsNumber, numbered, renumbered}
+use Rattle.assign_core.specs.Numbered.{IsNumber, numbered, renumbered, IsMarked}
 use Rattle.assign_core.proofs.NumberedLemmas.{length-renumbered, low_or_same, numbered-index, numbered-other}
 use Rattle.assign_core.proofs.Listed.{entry_listed, place_of}
 use Rattle.assign_core.specs.Rows.{Listing, IsListed, listed_in, row_of}
 use Rattle.assign_core.specs.Matching.{owner_of}
 use Rattle.hall_refuter.specs.declared.reach.Arrival.{Arrival}
 use Rattle.hall_refuter.specs.declared.reach.Found.{Found}
-use Rattle.hall_refuter.specs.Found.{beginner, owner_through, person_at, arrival_at, arrival_object, object_at, IsMarked, IsArrived, IsReach, Grows}
+use Rattle.hall_refuter.specs.Found.{beginner, owner_through, person_at, arrival_at, arrival_object, object_at, IsArrived, IsReach, Grows}
 use Rattle.hall_refuter.proofs.Marks.{marked_same, marked_kept, count_more}
 
 old_entry : (found : List Found) (e : Found) (t : ℕ) → t < length found → get_or (found ++ e ∷ []) t (beginner 0) ≡ get_or found t (beginner 0)

@@ -6,10 +6,10 @@ use Rattle.std.specs.Ordering.{nat_cmp}
 use Rattle.std.proofs.lemmas.Bool.{cases_eq}
 use Rattle.std.proofs.lemmas.Bool.Decides.{nat_tests}
 use Rattle.std.proofs.lemmas.Map.Keys.{IsStrictlyIncreasing-from_sorted}
-use Rattle.assign_core.specs.Numbered.{IsNumber, renumbered}
+use Rattle.assign_core.specs.Numbered.{IsNumber, renumbered, IsMarked}
 use Rattle.assign_core.proofs.NumberedLemmas.{low_or_same, numbered-other, renumber-set}
 use Rattle.hall_refuter.specs.declared.reach.Found.{Found}
-use Rattle.hall_refuter.specs.Found.{person_at, IsMarked, IsAmongFirst, marked_from}
+use Rattle.hall_refuter.specs.Found.{person_at, IsAmongFirst, marked_from}
 use Rattle.hall_refuter.proofs.Marks.{marked_same, marked_kept}
 use Rattle.hall_refuter.proofs.Growing.{person_read}
 

@@ -2,9 +2,8 @@
 use Rattle.std.proofs.Common.{◌≡◌, ℕ, ◌+◌, List, Bool, true, false, cond, length, ap, arith, sym, subst, ◌∙◌, inl, inr}
 use Rattle.std.specs.List.{count_by}
 use Rattle.std.proofs.lemmas.Bool.{cases_eq}
-use Rattle.assign_core.specs.Numbered.{IsNumber, numbered, renumbered}
+use Rattle.assign_core.specs.Numbered.{IsNumber, numbered, renumbered, IsMarked}
 use Rattle.assign_core.proofs.NumberedLemmas.{numbered-same, numbered-other, count-renumbered}
-use Rattle.hall_refuter.specs.Found.{IsMarked}
 
 pub marked_same : (marks : List Bool) (j : ℕ) → IsNumber (length marks) j → IsMarked (renumbered marks j true) j
 marked_same marks j number = numbered-same marks j true false number.first number.last

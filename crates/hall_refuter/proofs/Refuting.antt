@@ -6,7 +6,7 @@ use Rattle.std.proofs.lemmas.Bool.Decides.{eqb_tells}
 use Rattle.std.proofs.lemmas.List.{get_or-map, length-map}
 use Rattle.std.proofs.lemmas.List.Elements.{Contains-get_or, recursion_from_All}
 use Rattle.std.proofs.lemmas.Map.Keys.{IsDistinct-cons, IsDistinct-from_apart, below_from_sorted, sorted_from_strictly_increasing}
-use Rattle.assign_core.specs.Numbered.{IsNumber}
+use Rattle.assign_core.specs.Numbered.{IsNumber, IsMarked}
 use Rattle.assign_core.specs.Rows.{Listing, IsListed}
 use Rattle.assign_core.specs.Matching.{IsMatching, owner_of}
 use Rattle.assign_core.specs.Hall.{HallLists, IsNeighbour}
@@ -16,7 +16,7 @@ use Rattle.assign_core.proofs.HallSets.{few_among}
 use Rattle.assign_core.proofs.HallReach.{reached_itself, reached_on, reached_within}
 use Rattle.hall_refuter.specs.declared.reach.Arrival.{Arrival}
 use Rattle.hall_refuter.specs.declared.reach.Found.{Found}
-use Rattle.hall_refuter.specs.Found.{person_at, arrival_at, arrival_object, object_at, IsMarked, IsAmongFirst, IsArrived, IsReach, IsWalked}
+use Rattle.hall_refuter.specs.Found.{person_at, arrival_at, arrival_object, object_at, IsAmongFirst, IsArrived, IsReach, IsWalked}
 use Rattle.hall_refuter.specs.Search.{IsRefuted}
 use Rattle.hall_refuter.proofs.Climbing.{arrived_as}
 

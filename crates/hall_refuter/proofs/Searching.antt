@@ -3,7 +3,7 @@ use Rattle.std.proofs.Common.{◌≡◌, ℕ, ◌+◌, ◌<◌, zero, suc, List,
 use Rattle.std.specs.List.{All}
 use Rattle.std.proofs.lemmas.List.{get_or_default, length-replicate}
 use Rattle.std.proofs.lemmas.List.Folds.{sum_by-replicate}
-use Rattle.assign_core.specs.Numbered.{IsNumber}
+use Rattle.assign_core.specs.Numbered.{IsNumber, IsMarked}
 use Rattle.assign_core.specs.Rows.{Listing, IsListed}
 use Rattle.assign_core.specs.Matching.{IsMatching, owner_of}
 use Rattle.assign_core.specs.Hall.{HallLists}
@@ -11,7 +11,7 @@ use Rattle.assign_core.specs.Reach.{IsBlocked, IsPath}
 use Rattle.assign_core.proofs.NumberedLemmas.{low_or_same}
 use Rattle.assign_core.proofs.HallReach.{path_open}
 use Rattle.hall_refuter.specs.declared.reach.Found.{Found}
-use Rattle.hall_refuter.specs.Found.{beginner, person_at, arrival_object, IsMarked, IsArrived, IsReach, IsWalked, IsVisited, Grows, Climbs}
+use Rattle.hall_refuter.specs.Found.{beginner, person_at, arrival_object, IsArrived, IsReach, IsWalked, IsVisited, Grows, Climbs}
 use Rattle.hall_refuter.specs.Search.{IsFound, IsHall, IsRefuted}
 use Rattle.hall_refuter.specs.declared.search.Search.{Search}
 use Rattle.hall_refuter.specs.declared.search.Search.TheVariants.{Hall, Path}

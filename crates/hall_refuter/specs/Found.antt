@@ -1,7 +1,7 @@
 -- What a search has found so far: persons in the order in which they were reached, and the objects met on
 -- the way.
 use Rattle.std.specs.Prelude.{◌≡◌, ℕ, ◌+◌, ◌<◌, ◌≤◌, List, [], ◌∷◌, Option, None, Some, Bool, true, false, if◌then◌else◌, length, count_by, slice_index_or}
-use Rattle.assign_core.specs.Numbered.{numbered}
+use Rattle.assign_core.specs.Numbered.{numbered, IsMarked}
 use Rattle.assign_core.specs.Rows.{Listing, IsListed}
 use Rattle.assign_core.specs.Matching.{owner_of}
 use Rattle.hall_refuter.specs.declared.reach.Arrival.{Arrival}
@@ -31,10 +31,6 @@ arrival_object (Some a) = Some a.object
 -- the object through which that person was reached
 abbrev pub object_at : List Found → ℕ → Option ℕ
 object_at found t = arrival_object (arrival_at found t)
-
--- the number is marked
-abbrev pub IsMarked : List Bool → ℕ → Type 0
-IsMarked marks j = numbered marks j false ≡ true
 
 -- person x stands at one of the first h places
 abbrev pub IsAmongFirst : List Found → ℕ → ℕ → Type 0

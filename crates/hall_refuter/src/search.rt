@@ -1,10 +1,10 @@
 // The search for a Hall set or an alternating path.
 ghost use Rattle.std.specs.Prelude.{◌≡◌, ℕ, ◌≤◌, ◌↔◌, Some, IfOk, length, All, Contains};
 ghost use Rattle.std.specs.List.Sorted.{IsStrictlyIncreasing};
-ghost use Rattle.assign_core.specs.Numbered.{IsNumber};
+ghost use Rattle.assign_core.specs.Numbered.{IsNumber, IsMarked};
 ghost use Rattle.assign_core.specs.Matching.{IsMatching, owner_of};
 ghost use Rattle.assign_core.specs.Reach.{IsBlocked};
-ghost use Rattle.hall_refuter.specs.Found.{IsAmongFirst, IsMarked};
+ghost use Rattle.hall_refuter.specs.Found.{IsAmongFirst};
 ghost use Rattle.hall_refuter.specs.Search.{IsFound, IsHall};
 
 use super::lists::{marked, marks_of};

@@ -1,4 +1,4 @@
-use Rattle.std.proofs.Common.{ℕ, ◌<◌, ◌≤◌, length, sym, subst, All, ◌∙◌}
+use Rattle.std.proofs.Common.{ℕ, length, sym, subst, All, ◌∙◌}
 use Rattle.std.proofs.lemmas.List.Elements.{All-weaker, All-from_recursion}
 use Rattle.assign_core.specs.Numbered.{IsNumber}
 use Rattle.assign_core.specs.Rows.{IsRow, IsWithin}

@@ -1,4 +1,4 @@
-use Rattle.std.proofs.Common.{length, ◌+◌}
+use Rattle.std.proofs.Common.{length}
 use Rattle.dual_checker.proofs.HallFaults.{told_lacking, told_unnamed, told_neighbours, told_extra, told_equal}
 use Rattle.dual_checker.proofs.hall.first_hall_fault.Goals as goal
 

@@ -1,5 +1,5 @@
 use Rattle.std.proofs.Common.{ℕ, length}
-use Rattle.dual_checker.specs.HallMarks.{IsMarked}
+use Rattle.assign_core.specs.Numbered.{IsMarked}
 use Rattle.dual_checker.specs.HallVerdicts.{ListsUnnamed}
 use Rattle.dual_checker.proofs.HallFaults.{neighbours_marked}
 use Rattle.dual_checker.proofs.HallFirsts.{first_named}

@@ -1,6 +1,6 @@
 use Rattle.std.proofs.Common.{ℕ, ◌<◌, slice_index}
+use Rattle.assign_core.specs.Numbered.{IsMarked}
 use Rattle.assign_core.specs.Rows.{IsListed}
-use Rattle.dual_checker.specs.HallMarks.{IsMarked}
 use Rattle.dual_checker.proofs.hall_marks.first_missing.Given as goal
 
 -- what the persons that were passed list is marked

@@ -1,6 +1,6 @@
 use Rattle.std.proofs.Common.{ℕ, false, refl, length, arith, ◌∙◌, subst}
+use Rattle.assign_core.specs.Numbered.{IsMarked}
 use Rattle.std.proofs.lemmas.List.{get_or_default}
-use Rattle.dual_checker.specs.HallMarks.{IsMarked}
 use Rattle.dual_checker.proofs.HallFirsts.{first_named}
 use Rattle.dual_checker.proofs.Places.{at_place, number_read}
 use Rattle.dual_checker.proofs.hall_marks.first_unmarked.Goals as goal

@@ -1,9 +1,6 @@
 use Rattle.std.proofs.Common.{ℕ, false, length, subst, sym, ap}
 use Rattle.assign_core.specs.Numbered.{IsNumber}
 use Rattle.dual_checker.proofs.Places.{at_place}
-use Rattle.dual_checker.specs.Faults.{IsFirst}
-use Rattle.dual_checker.specs.HallMarks.{IsMarked}
-use Rattle.dual_checker.specs.HallVerdicts.{ListsUnnamed}
 use Rattle.dual_checker.proofs.HallFirsts.{all_marked, first_unmarked_entry}
 use Rattle.dual_checker.proofs.hall_marks.first_unnamed.Goals as goal
 

@@ -1,5 +1,5 @@
 use Rattle.std.proofs.Common.{ℕ, ℤ, ◌<◌, slice_index_or}
-use Rattle.dual_checker.specs.HallMarks.{IsMarked}
+use Rattle.assign_core.specs.Numbered.{IsMarked}
 use Rattle.dual_checker.proofs.hall_marks.first_unnamed.Given as goal
 
 -- the objects that were passed are marked

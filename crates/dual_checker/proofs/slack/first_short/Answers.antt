@@ -1,14 +1,14 @@
-use Rattle.std.proofs.Common.{◌+◌, pos, [], length, arith, sym, ◌∙◌, IsSome}
+use Rattle.std.proofs.Common.{◌+◌, pos, [], length, arith, sym, ◌∙◌}
 use Rattle.std.proofs.lemmas.List.{get_or_default}
-use Rattle.assign_core.specs.Rows.{listed_in, row_of}
+use Rattle.assign_core.specs.Rows.{row_of}
 use Rattle.assign_core.specs.Benefits.{benefit_rows}
 use Rattle.assign_core.specs.Slackness.{HasSlack}
 use Rattle.dual_checker.specs.Faults.{BreaksSlack, IsFirst, IsShort, own_object}
 use Rattle.dual_checker.proofs.Firsts.{first_at, one_more}
 use Rattle.assign_core.proofs.NumberedLemmas.{numbered-next}
-use Rattle.assign_core.proofs.Zips.{pair_number, pairs_from}
+use Rattle.assign_core.proofs.Zips.{pairs_from}
 use Rattle.assign_core.proofs.BenefitRows.{length-benefit_rows}
-use Rattle.dual_checker.proofs.Worths.{by_number, slack_unbroken}
+use Rattle.dual_checker.proofs.Worths.{by_number, own_listed, own_priced, slack_unbroken}
 use Rattle.dual_checker.proofs.slack.first_short.Goals as goal
 
 pub loop-i-init : goal.loop-i-init
@@ -16,9 +16,15 @@ loop-i-init c = λ k h. absurd (omega arith)
 
 pub own_worth-own_worth-requires-clause-listed : goal.own_worth-own_worth-requires-clause-listed
 own_worth-own_worth-requires-clause-listed c =
-    let xs = c.args.objects.now in
-    let object = c.index-objects-i.is ∙ get_or_default xs c.loop-i.i c.index-objects-i.result 0 c.loop-i-test.true ∙ sym (numbered-next xs c.loop-i.i 0) in
-    rw object (pair_number (λ row j. IsSome (listed_in row j)) c.args.problem.now xs (c.loop-i.i + 1) [] 0 c.requires.listed (omega arith) (omega (arith, c.requires.long, c.loop-i-test.true)))
+    own_listed c.args.problem.now c.args.objects.now c.loop-i.i c.index-objects-i.result c.requires.listed c.requires.long c.loop-i-test.true c.index-objects-i.is
+
+pub own_worth-own_worth-requires-clause-number : goal.own_worth-own_worth-requires-clause-number
+own_worth-own_worth-requires-clause-number c =
+    own_priced c.args.problem.now c.args.objects.now c.args.prices.now c.loop-i.i c.index-objects-i.result c.n-persons.ensures.problem c.requires.priced c.requires.listed c.requires.long c.loop-i-test.true c.index-objects-i.is
+
+pub first_broken-requires-clause-number : goal.first_broken-requires-clause-number
+first_broken-requires-clause-number c =
+    own_priced c.args.problem.now c.args.objects.now c.args.prices.now c.loop-i.i c.index-objects-i.result c.n-persons.ensures.problem c.requires.priced c.requires.listed c.requires.long c.loop-i-test.true c.index-objects-i.is
 
 pub returns-in-Some : goal.returns-in-Some
 returns-in-Some c =

@@ -1,13 +1,8 @@
-use Rattle.std.proofs.Common.{length, pos, unwrap_or, sym, ap, ◌∙◌, subst, rules, SFits, w64}
+use Rattle.std.proofs.Common.{pos, unwrap_or, sym, ap, ◌∙◌, subst, rules, SFits, w64}
 use Rattle.std.proofs.lemmas.Int.{to_z-of_z}
 use Rattle.assign_core.specs.Rows.{IsCost}
-use Rattle.assign_core.proofs.Listed.{object_within}
 use Rattle.assign_core.proofs.RowLemmas.{IsCost-listed}
 use Rattle.dual_checker.proofs.slack.own_worth.Goals as goal
-
-pub price_at-requires-clause-object : goal.price_at-requires-clause-object
-price_at-requires-clause-object c =
-    rw c.requires.priced (object_within (length c.args.problem.now) _ c.args.object (rw (sym c.row-listed.ensures.row) c.row-listed.ensures.rule.within) c.requires.listed)
 
 pub worth-requires-clause-cost : goal.worth-requires-clause-cost
 worth-requires-clause-cost c =
