@@ -1,31 +1,49 @@
 #!/usr/bin/env bash
-# Scans of rows of 8192 and 8191 objects: best_two_full and best_two beside the same loops in plain
-# Rust, on one input in one run. The proved crates are copied, with a small program over them
+# Scans of rows: best_two_full and best_two beside the same loops in plain Rust, on the same inputs
+# in one run. Four rows of 8192 and of 1000 objects in turn, which stay in the cache, and the 4000
+# rows of a problem that doesn't fit. The proved crates are copied, with a small program over them
 # (main.rt.txt and the answer for its one open goal), which is proved, built and run there.
+# With the name of another tree of this project, its scans are measured beside.
 set -euo pipefail
 here=$(cd "$(dirname "$0")" && pwd)
 top=$(cd "$here/../.." && pwd)
 work=$(mktemp -d)
 trap 'rm -rf "$work"' EXIT
-crate=$work/crates/scan
-mkdir -p "$crate/src" "$crate/proofs/scan"
-grep -v '^#' "$top/crates.txt" | grep -E '^(assign_core|orlib_reader|scaled_values|bidder):' > "$work/crates.txt"
-echo 'scan: assign_core orlib_reader scaled_values bidder' >> "$work/crates.txt"
-for name in assign_core orlib_reader scaled_values bidder; do
-    cp -r "$top/crates/$name" "$work/crates/$name"
-done
-cp "$here/main.rt.txt" "$crate/src/main.rt"
-cp "$here/Answers.antt.txt" "$crate/proofs/scan/Answers.antt"
-git -C "$work" init -q
 
-awk 'BEGIN { n = 8192; seed = 7; print n
-    for (i = 1; i <= 2; i++) for (j = 1; j <= n + 1 - i; j++) {
-        seed = (seed * 16807) % 2147483647
-        print i, j, 1 + seed % 1000000
-    } }' > "$work/input"
+# A program over the crates of a tree.
+build() {
+    local tree=$1 place=$2 name crate=$2/crates/scan
+    mkdir -p "$crate/src" "$crate/proofs/scan"
+    grep -v '^#' "$tree/crates.txt" | grep -E '^(assign_core|orlib_reader|scaled_values|bidder):' > "$place/crates.txt"
+    echo 'scan: assign_core orlib_reader scaled_values bidder' >> "$place/crates.txt"
+    for name in assign_core orlib_reader scaled_values bidder; do
+        cp -r "$tree/crates/$name" "$place/crates/$name"
+    done
+    cp "$here/main.rt.txt" "$crate/src/main.rt"
+    cp "$here/Answers.antt.txt" "$crate/proofs/scan/Answers.antt"
+    git -C "$place" init -q
+    (cd "$crate" && rt run < /dev/null > "$place/log" 2>&1) || { tail -5 "$place/log"; exit 1; }
+}
+
+# A sparse problem of n persons: the first list all objects, the next all but one.
+rows() {
+    awk -v n="$1" -v full="$2" -v fewer="$3" 'BEGIN { seed = 7; print n
+        for (i = 1; i <= full + fewer; i++) for (j = 1; j <= (i <= full ? n : n - 1); j++) {
+            seed = (seed * 16807) % 2147483647
+            print i, j, 1 + seed % 1000000
+        } }'
+}
+
+build "$top" "$work/proved"
+[ $# = 0 ] || build "$(cd "$1" && pwd)" "$work/other"
 rustc --edition 2024 -O -C target-cpu=x86-64-v2 -o "$work/plain" "$here/scan.rs"
-(cd "$crate" && rt run < "$work/input" > "$work/log" 2>&1) || { tail -5 "$work/log"; exit 1; }
-for _ in 1 2 3; do
-    echo "proved: $("$crate/out/scan" < "$work/input")"
-    echo "plain:  $("$work/plain" < "$work/input")"
+for case in "8192 4 4" "1000 4 4" "4000 4000 0"; do
+    rows $case > "$work/input"
+    for _ in 1 2 3; do
+        echo "$case proved:"
+        "$work/proved/crates/scan/out/scan" < "$work/input"
+        [ $# = 0 ] || { echo "$case other:"; "$work/other/crates/scan/out/scan" < "$work/input"; }
+        echo "$case plain:"
+        "$work/plain" < "$work/input"
+    done
 done

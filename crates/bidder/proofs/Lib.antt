@@ -3,3 +3,5 @@ pub mod Once
 pub mod Sound
 pub mod Entries
 pub mod Accepted
+pub mod Skips
+pub mod Lanes

@@ -90,12 +90,6 @@ no_better row q b w j v a is second up worth no_more =
       others = subst (IsSecond (row ++ (j, a) ∷ []) q b.object) (sym second) (All-push (λ e. e.0 ≢ b.object → e.1 ≤ℤ (w +ℤ price_of q e.0)) row (j, a) next.0 (λ _. omega (arith, ints)), next.1, next.2, listed_more row _ next.1 _ next.3);
     }
 
--- a value up to the limit changes nothing
-pub within_limit : (row : Listing) (q : List ℤ) (b : BestTwo) (limit : ℤ) (j : ℕ) (a p : ℤ) → IsLimit b.second limit → neg_ℤ (pos 9223372036854775808) <ℤ (a -ℤ p) → (a -ℤ p) ≤ℤ limit → IsBestTwo row q b → All (λ e. e.0 < j) row → price_of q j ≡ p → IsBestTwo (row ++ (j, a) ∷ []) q b
-within_limit row q b limit j a p bound above le is up price =
-    let w = bound (a -ℤ p) above le in
-    no_better row q b w.0 j (a -ℤ p) a is w.1 up (omega (arith, ints)) w.2
-
 -- the entries before entry i are of lower objects
 pub taken_below : (row : Listing) (i : ℕ) (d : ℕ × ℤ) → IsRising row → i < length row → All (λ e. e.0 < (get_or row i d).0) (take i row)
 taken_below row i d up lt = λ k f below.

@@ -1,13 +1,17 @@
 // The best object of a row, and the second value, in one pass.
-ghost use Rattle.std.specs.Prelude.{◌≡◌, ℤ, ◌+ℤ◌, ◌<◌, List, [], ◌∷◌, ◌++◌, length, All, MatchOption, IsTrue, pos, neg_ℤ, ◌-ℤ◌, ◌≤ℤ◌, ◌<ℤ◌, ◌^◌};
+ghost use Rattle.std.specs.Prelude.{◌≡◌, ℤ, ◌+ℤ◌, ◌<◌, ◌≤◌, ◌+◌, List, [], ◌∷◌, ◌++◌, length, take, All, MatchOption, IsTrue, ◌-ℤ◌, ◌≤ℤ◌};
+ghost use Rattle.assign_core.specs.declared.numbers.TheConstants.{MOST_PERSONS};
+ghost use Rattle.assign_core.specs.Numbered.{IsNumber};
 ghost use Rattle.assign_core.specs.Dense.{row_from};
 ghost use Rattle.assign_core.specs.Rows.{Listing};
 ghost use Rattle.assign_core.specs.Benefits.{IsBenefit};
-ghost use Rattle.assign_core.specs.Prices.{IsPrice, price_of};
+ghost use Rattle.assign_core.specs.Prices.{IsNarrow, IsPrice, price_of};
 ghost use Rattle.scaled_values.specs.Scaled.{IsBenefitRow};
+ghost use Rattle.bidder.specs.declared.blocks.TheConstants.{LANES};
 ghost use Rattle.bidder.specs.BestTwo.{IsBestTwo, IsLimit, best_two, greater_of};
 
-use assign_core::{Benefit, NARROW_END, Object, Price, Prices};
+use super::blocks::{LANES, none_above};
+use assign_core::{Benefit, Object, Price, Prices};
 
 /// The best object of a row under a table of prices. An object's value is its benefit less its
 /// price.
@@ -37,14 +41,13 @@ fn value_of(benefit: Benefit, price: Price) -> i128
     i128::from(benefit) - price
 }
 
-// Whether an object's value is at most the limit, as far as 64 bits tell.
-fn is_within(limit: i64, benefit: Benefit, price: Price) -> bool
+// Whether a benefit is at most the limit above a narrow price.
+fn is_within(limit: i64, benefit: Benefit, narrow: i64) -> bool
     requires benefit { IsBenefit benefit }
-    requires price { IsPrice price }
-    ensures { IsTrue result
-        → (neg_ℤ (pos (2 ^ 63)) <ℤ (benefit -ℤ price)) × ((benefit -ℤ price) ≤ℤ limit) }
+    requires narrow { IsNarrow narrow }
+    ensures { IsTrue result → (benefit -ℤ narrow) ≤ℤ limit }
 {
-    price < Price::from(NARROW_END) && benefit - price as i64 <= limit
+    benefit - narrow <= limit
 }
 
 // The limit that a second value sets.
@@ -115,20 +118,60 @@ impl Scan {
         }
     }
 
-    // One object more, whose number is above those of the row.
-    fn read(self, object: Object, benefit: Benefit, price: Price) -> Scan
+    // One object more, whose number is above those of the row. Its narrow price is at most its
+    // price, so it gives no value that is too low.
+    fn read(self, object: Object, benefit: Benefit, prices: &Prices) -> Scan
         requires limit { IsLimit self.found.second self.limit }
+        requires object { IsNumber (length prices.now) object }
         requires benefit { IsBenefit benefit }
-        requires price { IsPrice price }
-        ensures found { (row : Listing) (prices : List ℤ) → IsBestTwo row prices self.found
-            → All (λ e. e.0 < object) row → price_of prices object ≡ price
-            → IsBestTwo (row ++ (object, benefit) ∷ []) prices result.found }
+        ensures found { (row : Listing) → IsBestTwo row prices.now self.found
+            → All (λ e. e.0 < object) row
+            → IsBestTwo (row ++ (object, benefit) ∷ []) prices.now result.found }
         ensures limit { IsLimit result.found.second result.limit }
     {
-        if is_within(self.limit, benefit, price) {
+        if is_within(self.limit, benefit, prices.narrow()[object.place()]) {
             return self;
         }
-        Scan::new(self.found.with(object, value_of(benefit, price)))
+        Scan::new(
+            self.found
+                .with(object, value_of(benefit, prices.price(object))),
+        )
+    }
+
+    // The objects from one place to another of a full row, after those before them.
+    fn read_each(self, benefits: &[Benefit], prices: &Prices, from: usize, to: usize) -> Scan
+        requires limit { IsLimit self.found.second self.limit }
+        requires long { length benefits.now ≡ length prices.now }
+        requires few { length benefits.now ≤ MOST_PERSONS }
+        requires benefits { All IsBenefit benefits.now }
+        requires from { from ≤ to }
+        requires to { to ≤ length benefits.now }
+        ensures found { IsBestTwo (row_from 1 (take from benefits.now)) prices.now self.found
+            → IsBestTwo (row_from 1 (take to benefits.now)) prices.now result.found }
+        ensures limit { IsLimit result.found.second result.limit }
+    {
+        let mut scan = self;
+        for i in from..to {
+            scan = scan.read(Object(i as u16 + 1), benefits[i], prices);
+        }
+        scan
+    }
+
+    // A block of objects of a full row, which changes nothing where none is above the limit.
+    fn read_block(self, benefits: &[Benefit], prices: &Prices, from: usize) -> Scan
+        requires limit { IsLimit self.found.second self.limit }
+        requires long { length benefits.now ≡ length prices.now }
+        requires few { length benefits.now ≤ MOST_PERSONS }
+        requires benefits { All IsBenefit benefits.now }
+        requires room { from + LANES ≤ length benefits.now }
+        ensures found { IsBestTwo (row_from 1 (take from benefits.now)) prices.now self.found
+            → IsBestTwo (row_from 1 (take (from + LANES) benefits.now)) prices.now result.found }
+        ensures limit { IsLimit result.found.second result.limit }
+    {
+        if none_above(benefits, prices.narrow(), from, self.limit) {
+            return self;
+        }
+        self.read_each(benefits, prices, from, from + LANES)
     }
 }
 
@@ -147,7 +190,7 @@ pub fn best_two(row: &[(Object, Benefit)], prices: &Prices) -> Option<BestTwo>
     let mut scan = Scan::new(BestTwo::only(object, first));
     for i in 1..row.len() {
         let (object, benefit) = row[i];
-        scan = scan.read(object, benefit, prices.price(object));
+        scan = scan.read(object, benefit, prices);
     }
     Some(scan.found)
 }
@@ -164,11 +207,13 @@ pub fn best_two_full(benefits: &[Benefit], prices: &Prices) -> Option<BestTwo>
     if benefits.is_empty() {
         return None;
     }
-    let table = prices.as_slice();
-    let first = value_of(benefits[0], table[0]);
-    let mut scan = Scan::new(BestTwo::only(Object(1), first));
-    for i in 1..benefits.len() {
-        scan = scan.read(Object(i as u16 + 1), benefits[i], table[i]);
+    let first = value_of(benefits[0], prices.as_slice()[0]);
+    let start = Scan::new(BestTwo::only(Object(1), first));
+    let mut at = benefits.len().min(LANES);
+    let mut scan = start.read_each(benefits, prices, 1, at);
+    while benefits.len() - at >= LANES {
+        scan = scan.read_block(benefits, prices, at);
+        at += LANES;
     }
-    Some(scan.found)
+    Some(scan.read_each(benefits, prices, at, benefits.len()).found)
 }

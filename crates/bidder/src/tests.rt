@@ -7,7 +7,7 @@ ghost use Rattle.bidder.specs.Offers.{IsAsk};
 
 use super::*;
 use assign_core::{
-    Benefit, MOST_PERSONS, Object, PRICE_END, Person, Price, Prices, Problem, Sense,
+    Benefit, MOST_PERSONS, NARROW_END, Object, PRICE_END, Person, Price, Prices, Problem, Sense,
 };
 use scaled_values::{Scaled, next_eps, scale};
 use std::alloc::{AllocError, Global};
@@ -26,14 +26,49 @@ fn pairs_of(alloc: Global, benefits: &[Benefit]) -> Result<Vec<(Object, Benefit)
     Ok(row)
 }
 
-// Prices of n objects, from 0 to 999.
-fn prices_of(alloc: Global, n: u16) -> Result<Prices, AllocError>
+// How great the prices of a table are.
+#[derive(Clone, Copy, Debug)]
+enum Size {
+    // From 0 to 891.
+    Small,
+    // One below the end of narrow prices, at it and one above it, and the greatest there are.
+    Mixed,
+    // The greatest, less 0 to 8.
+    Great,
+}
+
+// The price of the object at a place.
+fn price_at(size: Size, i: u16) -> Price
+    ensures { IsPrice result }
+{
+    match size {
+        Size::Small => Price::from(i % 100) * 9,
+        Size::Mixed if i % 5 < 3 => Price::from(NARROW_END) - 1 + Price::from(i % 5),
+        Size::Mixed => PRICE_END - 1,
+        Size::Great => PRICE_END - 1 - Price::from(i % 9),
+    }
+}
+
+// What makes up for the differences of the prices, but those of the greatest among the mixed ones.
+fn offset_at(size: Size, i: u16) -> Benefit
+    ensures least { neg_ℤ (pos 9) ≤ℤ result }
+    ensures greatest { result ≤ℤ pos 900 }
+{
+    match size {
+        Size::Small => Benefit::from(i % 100) * 9,
+        Size::Mixed => Benefit::from(i % 5),
+        Size::Great => 0 - Benefit::from(i % 9),
+    }
+}
+
+// A table of n prices.
+fn prices_of(alloc: Global, size: Size, n: u16) -> Result<Prices, AllocError>
     requires { n ≤ MOST_PERSONS }
     ensures { IfOk result (λ prices. length prices ≡ n) }
 {
     let mut prices = Vec::with_capacity(alloc, n as usize)?;
     for i in 0..n {
-        prices.push(Price::from(i % 100) * 9)?;
+        prices.push(price_at(size, i))?;
     }
     Prices::new(alloc, prices)
 }
@@ -50,22 +85,28 @@ fn worth(i: u16, first: u16, second: u16) -> Benefit
     }
 }
 
-// The benefit of an object that is worth as much at the price of `prices_of`.
-fn benefit_of(i: u16, first: u16, second: u16) -> Benefit
+// The benefit of an object that is worth so much under the table.
+fn benefit_of(size: Size, i: u16, first: u16, second: u16) -> Benefit
     ensures { IsBenefit result }
 {
-    Benefit::from(i % 100) * 9 + worth(i, first, second)
+    offset_at(size, i) + worth(i, first, second)
 }
 
-// Benefits of n objects that are worth 0 at two places and less elsewhere, under those prices.
-fn benefits_of(alloc: Global, n: u16, first: u16, second: u16) -> Result<Vec<Benefit>, AllocError>
+// Benefits of n objects, those at two places greater than the others where prices are alike.
+fn benefits_of(
+    alloc: Global,
+    size: Size,
+    n: u16,
+    first: u16,
+    second: u16,
+) -> Result<Vec<Benefit>, AllocError>
     requires { n ≤ MOST_PERSONS }
     ensures long { IfOk result (λ v. length v.items ≡ n) }
     ensures range { IfOk result (λ v. All IsBenefit v.items) }
 {
     let mut benefits = Vec::with_capacity(alloc, n as usize)?;
     for i in 0..n {
-        benefits.push(benefit_of(i, first, second))?;
+        benefits.push(benefit_of(size, i, first, second))?;
     }
     Ok(benefits)
 }
@@ -111,24 +152,48 @@ fn searched(benefits: &[Benefit], prices: &[Price]) -> Option<BestTwo> {
     })
 }
 
+// Whether both calls and the search agree, where the objects at two places are the best.
+fn agree(alloc: Global, size: Size, n: u16, first: u16, second: u16) -> Result<bool, AllocError>
+    requires { n ≤ MOST_PERSONS }
+{
+    let prices = prices_of(alloc, size, n)?;
+    let benefits = benefits_of(alloc, size, n, first, second)?;
+    let plain = searched(benefits.as_slice(), prices.as_slice());
+    Ok(answers(alloc, benefits.as_slice(), &prices)? == [plain, plain])
+}
+
 #[test]
 fn rows_of_many_lengths(rt: HostRuntime) -> Result<(), Fail> {
-    for n in [0u16, 1, 2, 63, 64, 65, 127, 128, 129, MOST_PERSONS] {
-        let prices = prices_of(rt.alloc(), n)?;
+    for n in [
+        0u16,
+        1,
+        2,
+        15,
+        16,
+        17,
+        31,
+        32,
+        33,
+        63,
+        64,
+        65,
+        127,
+        128,
+        129,
+        MOST_PERSONS,
+    ] {
         for (first, second) in [
             (0, 0),
             (n.wrapping_sub(1), 9000),
             (1, n / 2),
             (5, 70),
             (70, 64),
+            (20, n.wrapping_sub(2)),
         ] {
-            let benefits = benefits_of(rt.alloc(), n, first, second)?;
-            let plain = searched(benefits.as_slice(), prices.as_slice());
-            assert_eq!(rt;
-                answers(rt.alloc(), benefits.as_slice(), &prices)?,
-                [plain, plain],
-                "{n} {first} {second}"
-            );
+            for size in [Size::Small, Size::Mixed, Size::Great] {
+                let same = agree(rt.alloc(), size, n, first, second)?;
+                assert!(rt; same, "{size:?} {n} {first} {second}");
+            }
         }
     }
     Ok(())
