@@ -40,10 +40,6 @@ last_or_before j n h = elim (eqb_tells j (n + 1)) [
   | inr t ↦ inr (let ne = t.1 in omega arith)
 ]
 
-pub inverse_start : (owners : List (Option ℕ)) (objects : List ℕ) → IsInverse owners objects 0
-inverse_start owners objects i zero h e = absurd cc
-inverse_start owners objects i (suc j) h e = absurd (omega arith)
-
 -- one owner more
 pub inverse_more : (owners : List (Option ℕ)) (objects : List ℕ) (n p : ℕ) → OwnsOne owners → IsNumber (length objects) p → owner_of owners (n + 1) ≡ Some p → IsInverse owners objects n →
     IsInverse owners (renumbered objects p (n + 1)) (n + 1)
@@ -62,14 +58,6 @@ inverse_on owners objects n none was i j h e = elim (last_or_before j n h) [
   | inl last ↦ absurd (let f : owner_of owners j ≡ None = ap (owner_of owners) last ∙ none in cc)
   | inr before ↦ was i j before e
 ]
-
-pub inverse_whole : (owners : List (Option ℕ)) (objects : List ℕ) (n : ℕ) → length owners ≤ n → IsInverse owners objects n → (i j : ℕ) → owner_of owners j ≡ Some i → numbered objects i 0 ≡ j
-inverse_whole owners objects n long was i j e = elim (le_or j (length owners)) [
-  | inl within ↦ was i j (omega arith) e
-  | inr past ↦ absurd (let f : owner_of owners j ≡ None = numbered-past owners j None past in cc)
-] where
-  le_or : (a b : ℕ) → (a ≤ b) ⊎ (b < a)
-  le_or a b = grind arith
 
 -- who is counted stands somewhere
 there : (i : ℕ) (xs : List (Option ℕ)) → 0 < count_by (is_person i) xs → (k : ℕ) × (get_or xs k None ≡ Some i)

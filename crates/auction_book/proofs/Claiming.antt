@@ -19,14 +19,3 @@ cond_by P false x y f g = g refl
 -- what the book asks is of a phase
 pub ask_is : (b : BookData) → IsFree b → IsAsk b.base (ask_of b)
 ask_is b free = let i = free.in_phase in record { slackness = is_eps b.base b.phase b.eps b.floor b.start i; start = greatest_of b.start; price = greatest_is_price b.start i.start_prices; floor = i.floor_is }
-
-front_asked : (b : BookData) (queue : List ℕ) → IsFree b → b.queue ≡ queue → IsAsked b.base (claim_front b queue)
-front_asked b [] free e = tt
-front_asked b (person ∷ rest) free e = (claimed_person (persons_of b) b.owners b.queue b.claims person rest free.placed_once e, ask_is b free)
-
-pub claim_asked : (b : BookData) → IsFree b → IsAsked b.base (claim_of b)
-claim_asked b free =
-    cond_by (IsAsked b.base) (is_refuted b.refuted) claim.Refuted (cond (is_done b) claim.Done (cond b.stopped claim.Stopped (claim_front b b.queue))) (λ h. tt)
-    (λ h. cond_by (IsAsked b.base) (is_done b) claim.Done (cond b.stopped claim.Stopped (claim_front b b.queue)) (λ h. tt)
-    (λ h. cond_by (IsAsked b.base) b.stopped claim.Stopped (claim_front b b.queue) (λ h. tt)
-    (λ h. front_asked b b.queue free refl)))

@@ -12,3 +12,4 @@ pub mod Answering
 pub mod Gap
 pub mod Floor
 pub mod Runs
+pub mod Calling

@@ -56,23 +56,6 @@ set_free b lists free hall = record {
 pub recorded_free : (b : BookData) (worker person : ℕ) (lists : HallLists) → IsFree b → Holds b worker person → IsHallSet b.base.problem lists.persons lists.objects → IsFree (recorded b worker person lists)
 recorded_free b worker person lists free held hall = set_free (released b worker person) lists (released_free b worker person free held) hall
 
-pub stopped_free : (b : BookData) → IsFree b → IsFree (record b { stopped = true })
-stopped_free b free = record {
-  problem = free.problem;
-  sizes = free.sizes;
-  owners_match = free.owners_match;
-  owners_slack = free.owners_slack;
-  placed_once = free.placed_once;
-  log_ascends = free.log_ascends;
-  priced = free.priced;
-  topped = free.topped;
-  in_phase = free.in_phase;
-  counts_total = free.counts_total;
-  progress = free.progress;
-  recorded = free.recorded;
-  taken_before = free.taken_before;
-}
-
 pub least_le : (taken : List ℕ) (now : ℕ) → fold min now taken ≤ now
 least_le [] now = omega arith
 least_le (v ∷ taken) now = let i = least_le taken (min now v) in omega arith

@@ -29,9 +29,6 @@ one_yes n k h l = grind (arith, nat_tests)
 one_no : (n k : ℕ) → n < k → one_if_person n k ≡ 0
 one_no n k h = grind (arith, nat_tests)
 
-one_zero : (n : ℕ) → one_if_person n 0 ≡ 0
-one_zero n = refl
-
 -- among 1 to n a person is once, and another number is not
 up_to_one : (n k : ℕ) → up_to (λ i. cond (nat_eq i k) 1 0) n ≡ one_if_person n k
 up_to_one zero zero = refl
@@ -246,7 +243,3 @@ owned_more owners j p k was more old e h l w o m =
     let s : count_by is_some (set owners k (Some p)) ≡ count_by is_some (renumbered owners j (Some p)) = ap (λ x. count_by is_some (set owners x (Some p))) e ∙ ap (count_by is_some) (sym (renumber-set owners j (Some p) h)) in
     let d : cond {A = ℕ} (is_some old) 1 0 ≡ cond {A = ℕ} (is_some (numbered owners j None)) 1 0 = ap (λ (x : Option ℕ). cond {A = ℕ} (is_some x) 1 0) o in
     omega arith
-
--- no more objects are owned than there are persons
-pub owned_few : (n : ℕ) (owners : List (Option ℕ)) (queue : List ℕ) (claims : List (Option ℕ)) → IsPlaced n owners queue claims → count_by is_some owners ≤ n
-owned_few n owners queue claims placed = let e = everyone n owners queue claims placed in omega arith

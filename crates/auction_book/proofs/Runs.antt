@@ -24,7 +24,7 @@ use Rattle.auction_book.specs.declared.answers.Claim.{Claim}
 use Rattle.auction_book.specs.declared.answers.Claim.TheVariants as claim
 use Rattle.auction_book.specs.declared.schedule.Event.{Event}
 use Rattle.auction_book.specs.declared.schedule.Seat.{Seat}
-use Rattle.auction_book.specs.Book.{BookData, Holds, ask_of, is_refuted, persons_of, prices_of}
+use Rattle.auction_book.specs.Book.{BookData, Holds, ask_of, is_refuted, persons_of, prices_of, version_of}
 use Rattle.auction_book.specs.Changes.{accepted, caught_up, claimed, phased, recorded, released}
 use Rattle.auction_book.specs.Claims.{after_claim, claim_front, claim_of}
 use Rattle.auction_book.specs.Follows.{Follows, GoesOn}
@@ -118,9 +118,9 @@ step_taken : (catch_up : Bool) (w : ℕ) (b : BookData) → IsFree b → IsStep 
 step_taken false w b free = record { free = free; follows = follows_itself b w }
 step_taken true w b free = record { free = caught_up_free b w free; follows = caught_up_follows b w free }
 
-own_taken : (catch_up : Bool) (w : ℕ) (b : BookData) (table : List ℤ) (version : ℕ) → IsFree b → IsOwn b table version → IsOwn (book_taken catch_up b w) (table_taken catch_up b table) (version_taken catch_up b version)
-own_taken false w b table version free own = own
-own_taken true w b table version free own =
+-- today's table and version are a worker's own once it has caught up
+pub caught_up_own : (w : ℕ) (b : BookData) → IsFree b → IsOwn (caught_up b w) (prices_of b) (version_of b)
+caught_up_own w b free =
     let t = caught_up_trimmed b w free in
     let v = t.version in
     let log = (caught_up b w).log in
@@ -132,6 +132,10 @@ own_taken true w b table version free own =
         below = λ h. absurd (omega arith);
       };
     }
+
+own_taken : (catch_up : Bool) (w : ℕ) (b : BookData) (table : List ℤ) (version : ℕ) → IsFree b → IsOwn b table version → IsOwn (book_taken catch_up b w) (table_taken catch_up b table) (version_taken catch_up b version)
+own_taken false w b table version free own = own
+own_taken true w b table version free own = caught_up_own w b free
 
 taken_same : (catch_up : Bool) (w : ℕ) (b : BookData) → ((book_taken catch_up b w).claims ≡ b.claims) × ((book_taken catch_up b w).counts ≡ b.counts)
 taken_same false w b = (refl, refl)

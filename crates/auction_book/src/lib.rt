@@ -4,6 +4,8 @@
 
 mod answers;
 mod book;
+#[cfg(test)]
+mod book_tests;
 mod law;
 mod schedule;
 #[cfg(test)]

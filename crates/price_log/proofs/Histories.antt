@@ -337,13 +337,6 @@ pub record GoesOn (old new : History) : Type 0 where
 pub goes_on_itself : (l : History) → IsHistory l → GoesOn l l
 goes_on_itself l is = record { continues = continues-refl l; below = below_itself (today l); log = is }
 
-pub goes_on_raise : (old l : History) (j : ℕ) (level : ℤ) → GoesOn old l → IsNumber (length (today l)) j → price_of (today l) j <ℤ level → IsPrice level → GoesOn old (after_raise l j level)
-goes_on_raise old l j level goes number above price = record {
-  continues = continues-trans old l (after_raise l j level) goes.continues (continues-kept_raise l j level);
-  below = below_through (today old) (today l) (today (after_raise l j level)) goes.below (after_raise_up l j level number above price);
-  log = after_raise_is l j level goes.log number above price;
-}
-
 pub goes_on_through : (a b c : History) → GoesOn a b → Continues b c → IsBelow (today b) (today c) → IsHistory c → GoesOn a c
 goes_on_through a b c goes continues below log = record {
   continues = continues-trans a b c goes.continues continues;

@@ -7,6 +7,7 @@ ghost use Rattle.price_log.specs.History.{Continues, IsHistory, today};
 use super::*;
 use assign_core::{Object, PRICE_END, Price, Prices};
 use std::alloc::{AllocError, Global};
+use std::process::Abort;
 use std::test::Fail;
 
 fn one_price(alloc: Global, price: Price) -> Result<Prices, AllocError>
@@ -101,5 +102,30 @@ fn a_trim_keeps_prices_and_version(rt: HostRuntime) -> Result<(), Fail> {
     assert_eq!(rt; log.first_kept(), 5);
     assert_eq!(rt; log.version(), 5);
     assert_eq!(rt; log.prices().as_slice(), [12].as_slice());
+    Ok(())
+}
+
+// The version, the first version that is kept, and the first price.
+fn seen(log: &PriceLog) -> (u128, u128, Option<Price>) {
+    let price = log.prices().as_slice().first().copied();
+    (log.version(), log.first_kept(), price)
+}
+
+// A raise, after which a log is as before where the raise was refused.
+fn raise_or_keep(rt: &impl Abort, log: &mut PriceLog) -> Result<(), AllocError> {
+    let before = seen(log);
+    let raised = raise_by_one(log);
+    assert!(rt; raised.is_ok() || seen(log) == before);
+    raised
+}
+
+// The refusals come from runs in which one allocation after the other fails.
+#[test]
+fn a_refused_raise_leaves_the_log(rt: HostRuntime) -> Result<(), Fail> {
+    let mut log = PriceLog::start(rt.alloc(), one_price(rt.alloc(), 0)?)?;
+    for _ in 0..1000 {
+        raise_or_keep(&rt, &mut log)?;
+    }
+    assert_eq!(rt; seen(&log), (1000, 0, Some(1000)));
     Ok(())
 }

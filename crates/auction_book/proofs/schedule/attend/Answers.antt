@@ -1,4 +1,4 @@
-use Rattle.std.proofs.Common.{◌≡◌, None, Option, length, sym, ap, subst, ◌∙◌, List, ℤ}
+use Rattle.std.proofs.Common.{◌≡◌, None, Option, length, sym, ap, subst, ◌∙◌}
 use Rattle.assign_core.specs.Numbered.{IsNumber, numbered}
 use Rattle.bidder.specs.declared.offers.Offer.{Offer}
 use Rattle.scaled_values.specs.Scaled.{ScaledProblem}

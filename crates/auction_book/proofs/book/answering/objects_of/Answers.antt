@@ -1,4 +1,4 @@
-use Rattle.std.proofs.Common.{◌≡◌, ◌+◌, length, set, ap, sym, arith, ◌∙◌, Vec, Global}
+use Rattle.std.proofs.Common.{◌≡◌, ◌+◌, set, ap, sym, arith, ◌∙◌, Vec, Global}
 use Rattle.assign_core.specs.Numbered.{renumbered}
 use Rattle.assign_core.specs.declared.numbers.Object.{Object}
 use Rattle.assign_core.proofs.NumberedLemmas.{length-renumbered, renumber-set}

@@ -1,4 +1,4 @@
-use Rattle.std.proofs.Common.{◌≡◌, ℤ, pos, ◌+ℤ◌, ◌*◌, ◌≤◌, ◌^◌, drop}
+use Rattle.std.proofs.Common.{◌≡◌, pos, ◌+ℤ◌, ◌*◌, ◌≤◌, ◌^◌, drop}
 use Rattle.auction_book.specs.Book.{room_under}
 use Rattle.auction_book.proofs.book.phases.room_under.Given as goal
 

@@ -1,0 +1,30 @@
+// What tests see of a book beside what everybody does.
+use super::Book;
+use assign_core::{Person, Prices};
+use std::alloc::{AllocError, Global};
+
+impl Book {
+    // Who waits, from the front on.
+    pub(crate) fn waiting(&self, alloc: Global) -> Result<Vec<Person>, AllocError> {
+        let mut persons = Vec::new(alloc);
+        for person in self.queue.iter() {
+            persons.push(*person)?;
+        }
+        Ok(persons)
+    }
+
+    // The version that each worker last took.
+    pub(crate) fn taken(&self) -> &[u128] {
+        self.taken.as_slice()
+    }
+
+    // The prices at the phase's start.
+    pub(crate) fn start(&self) -> &Prices {
+        &self.start
+    }
+
+    // The version at the phase's start.
+    pub(crate) fn start_version(&self) -> u128 {
+        self.start_version
+    }
+}
