@@ -1,8 +1,7 @@
 -- Workers claim the queue in turn.
-use Rattle.std.proofs.Common.{◌≡◌, ℕ, zero, suc, ◌+◌, ◌<◌, ◌≤◌, ◌⊎◌, inl, inr, List, [], ◌∷◌, ◌++◌, Option, None, Some, length, get_or, drop, set, refl, ap, sym, ◌∙◌, subst, arith, append_assoc, append-nil, length-append, length-set, get_or-set_same, get_or-set_other}
+use Rattle.std.proofs.Common.{◌≡◌, ℕ, zero, suc, ◌+◌, ◌<◌, ◌≤◌, ◌⊎◌, inl, inr, List, [], ◌∷◌, ◌++◌, Option, None, Some, length, get_or, drop, set, refl, ap, sym, ◌∙◌, subst, arith, append_assoc, append-nil, length-append, get_or-set_same, get_or-set_other}
 use Rattle.std.proofs.lemmas.List.{length_push, get_or_push, get_or_append_left}
 use Rattle.assign_core.specs.Numbered.{numbered, renumbered}
-use Rattle.assign_core.proofs.NumberedLemmas.{length-renumbered}
 use Rattle.auction_book.specs.Book.{BookData, persons_of}
 use Rattle.auction_book.specs.Changes.{claimed}
 use Rattle.rounds.specs.Books.{AreClaimed, IsAtRest, IsClaimed, IsGoing}
@@ -90,10 +89,6 @@ claiming_more old now new persons i worker p rest is w within front e going =
       rest = ap (λ (b : BookData). record b { queue = rest; claims = renumbered now.claims (suc i) (Some p) }) is.rest;
       claimed = subst (λ k. AreClaimed (persons ++ p ∷ []) 0 (renumbered now.claims (suc k) (Some p))) count (claimed_more persons now.claims p (omega arith) is.claimed);
     })
-
--- nobody is claimed yet
-pub claiming_none : (b : BookData) → IsAtRest b → IsClaiming b b [] 0
-claiming_none b rest = record { going = rest.going; count = refl; all = refl; rest = refl; claimed = rest.unclaimed }
 
 -- all who waited are claimed
 pub claiming_done : (old now : BookData) (persons : List ℕ) (i : ℕ) → IsClaiming old now persons i → now.queue ≡ [] → IsClaimed old persons now

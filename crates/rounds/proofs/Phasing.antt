@@ -1,21 +1,18 @@
 -- Phases follow each other, and a round is one of the plain definition.
-use Rattle.std.proofs.Common.{◌≡◌, ℕ, ℤ, pos, zero, suc, ◌+◌, ◌<◌, ◌≤◌, ◌&&◌, List, [], ◌∷◌, Option, None, Some, option_map, Bool, true, false, not, cond, length, map, refl, ap, sym, ◌∙◌, subst, arith}
+use Rattle.std.proofs.Common.{◌≡◌, ℕ, pos, ◌+◌, ◌<◌, ◌&&◌, List, [], ◌∷◌, None, Some, option_map, Bool, true, false, not, cond, length, refl, ap, sym, ◌∙◌, arith}
 use Rattle.std.specs.Ordering.{int_eq}
-use Rattle.std.proofs.lemmas.List.{length-map}
 use Rattle.scaled_values.specs.Scaled.{ScaledProblem, fifth, next_eps}
 use Rattle.scaled_values.proofs.EpsList.{next_is}
 use Rattle.bidder.specs.declared.offers.Offer.{Offer}
-use Rattle.bidder.specs.Offers.{offer_of}
 use Rattle.auction_book.specs.Book.{BookData, ask_of, persons_of, prices_of}
 use Rattle.auction_book.specs.Changes.{phased}
 use Rattle.auction_book.specs.Free.{IsFree}
-use Rattle.auction_book.specs.Phases.{IsOver, is_assigned, is_done, is_over, persons}
+use Rattle.auction_book.specs.Phases.{is_assigned, is_done, is_over, persons}
 use Rattle.auction_book.proofs.Opening.{length-persons}
 use Rattle.auction_book.proofs.Following.{over_is}
-use Rattle.rounds.specs.declared.rounds.Round.TheVariants as came
-use Rattle.rounds.specs.Books.{AreClaimed, AreTurned, HaveOffered, IsAtRest, IsClaimed, IsRound, phased_by, plain_of, room}
+use Rattle.rounds.specs.Books.{HaveOffered, IsAtRest, IsClaimed, phased_by, plain_of}
 use Rattle.rounds.specs.Offers.{offers_of}
-use Rattle.rounds.specs.Plain.{Plain, Progress, Goes, Ends, Finished, Halted, all_turned, asked_of, begun, ready, ready_by, round}
+use Rattle.rounds.specs.Plain.{Plain, all_turned, begun, ready, ready_by, round}
 use Rattle.rounds.proofs.Waiting.{assigned_empty, empty_assigned}
 
 both_true : (x y : Bool) → x ≡ true → y ≡ true → x && y ≡ true
@@ -83,9 +80,6 @@ not_begun b true rest none =
     absurd (omega arith)
 not_begun b false rest none = refl
 
-pub phased_rest : (b : BookData) → IsAtRest b → IsFree (phased b) → IsAtRest (phased b)
-phased_rest b rest free = record { going = record { free = free; unrefuted = rest.going.unrefuted; unstopped = rest.going.unstopped; workers = rest.going.workers }; unclaimed = rest.unclaimed }
-
 -- ---- a round
 -- the offers of all who waited, submitted over the book whose queue was claimed
 pub round_is : (old mid : BookData) (persons : List ℕ) (offers : List Offer) → IsClaimed old persons mid → HaveOffered mid persons offers → round old.base (plain_of old) ≡ all_turned offers (plain_of mid)
@@ -93,26 +87,3 @@ round_is old mid persons offers claimed have =
     let made = have.made ∙ ap (offers_of mid.base (prices_of mid) (ask_of mid)) claimed.all ∙ ap (λ (b : BookData). offers_of b.base (prices_of b) (ask_of b) old.queue) claimed.rest in
     let plain : plain_of mid ≡ record (plain_of old) { queue = [] } = ap plain_of claimed.rest in
     sym (ap (λ xs. all_turned xs (plain_of mid)) made ∙ ap (all_turned (offers_of old.base (prices_of old) (ask_of old) old.queue)) plain)
-
--- a round that ends at a person
-pub round_halted : (old mid new : BookData) (persons : List ℕ) (offers : List Offer) (person : ℕ) → IsClaimed old persons mid → 0 < length persons → HaveOffered mid persons offers → AreTurned mid offers (Some person) new → IsRound old (came.Halted person) new
-round_halted old mid new persons offers person claimed some have turned =
-    (subst (λ q. 0 < length q) claimed.all some, round_is old mid persons offers claimed have ∙ turned.0, turned.1)
-
--- a round after which the run goes on
-pub round_more : (old mid new : BookData) (persons : List ℕ) (offers : List Offer) → IsClaimed old persons mid → 0 < length persons → HaveOffered mid persons offers → AreTurned mid offers None new → IsRound old came.More new
-round_more old mid new persons offers claimed some have turned =
-    let long : length offers ≡ length persons = ap length have.made ∙ length-map persons (offer_of mid.base (prices_of mid) 0 (ask_of mid)) in
-    let same : prices_of mid ≡ prices_of old = ap prices_of claimed.rest in
-    (subst (λ q. 0 < length q) claimed.all some, round_is old mid persons offers claimed have ∙ turned.0, turned.1, subst (λ p. room (prices_of new) < room p) same (turned.2 (omega arith)))
-
--- nobody waited
-pub round_over : (old new : BookData) (persons : List ℕ) → IsAtRest old → IsClaimed old persons new → length persons ≡ 0 → IsRound old came.Over new
-round_over old new persons rest claimed none =
-    let empty = no_persons persons none in
-    let waits : old.queue ≡ [] = sym claimed.all ∙ empty in
-    let plain : plain_of new ≡ plain_of old = ap plain_of claimed.rest ∙ ap (λ q. record (plain_of old) { queue = q }) (sym waits) in
-    (waits, plain, record { going = claimed.going; unclaimed = subst (λ xs. AreClaimed xs 0 new.claims) empty claimed.claimed }) where
-      no_persons : (xs : List ℕ) → length xs ≡ 0 → xs ≡ []
-      no_persons [] e = refl
-      no_persons (x ∷ xs) e = absurd (omega arith)

@@ -1,5 +1,5 @@
 -- Each accepted bid brings the prices nearer to their end.
-use Rattle.std.proofs.Common.{◌≡◌, ℕ, ℤ, pos, zero, suc, ◌-◌, ◌+◌, ◌<◌, ◌≤◌, ◌<ℤ◌, ◌-ℤ◌, ◌≤ℤ◌, List, length, get_or, arith, sym, subst}
+use Rattle.std.proofs.Common.{◌≡◌, ℕ, ℤ, pos, zero, suc, ◌<◌, ◌≤◌, ◌<ℤ◌, ◌-ℤ◌, List, length, get_or, arith, subst}
 use Rattle.std.proofs.lemmas.Int.{ints}
 use Rattle.std.proofs.lemmas.List.Sums.{sum_by-set}
 use Rattle.std.specs.List.{All}

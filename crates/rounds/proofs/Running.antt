@@ -1,23 +1,20 @@
 -- A run of rounds over a book, up to its end.
-use Rattle.std.proofs.Common.{◌≡◌, ℕ, ℤ, pos, zero, suc, ◌<◌, ◌≤◌, ◌&&◌, List, [], Option, None, Some, Bool, true, false, not, nat_eq, replicate, length, refl, ap, sym, ◌∙◌, subst, arith, Result, Ok, Err, IfOk}
+use Rattle.std.proofs.Common.{◌≡◌, ℕ, ℤ, pos, suc, ◌<◌, ◌&&◌, List, [], None, Some, Bool, true, false, not, nat_eq, length, refl, ap, sym, ◌∙◌, subst, arith, Result, Ok, Err, IfOk}
 use Rattle.std.specs.List.{count_by}
 use Rattle.std.specs.Ordering.{int_eq}
 use Rattle.std.proofs.lemmas.List.{length-replicate}
-use Rattle.assign_core.specs.Assignment.{IsAssignment}
 use Rattle.assign_core.specs.declared.outcome.Outcome.{Outcome}
 use Rattle.assign_core.specs.declared.outcome.Outcome.TheVariants.{Best, Hall}
 use Rattle.assign_core.proofs.HallSets.{no_assignment}
 use Rattle.scaled_values.specs.Scaled.{ScaledProblem}
-use Rattle.price_log.specs.History.{started, today}
-use Rattle.auction_book.specs.Book.{BookData, is_some, persons_of, prices_of}
-use Rattle.auction_book.specs.Changes.{phased}
+use Rattle.auction_book.specs.Book.{BookData, is_some, prices_of}
 use Rattle.auction_book.specs.Free.{IsFree}
 use Rattle.auction_book.specs.Phases.{is_over, opened}
 use Rattle.auction_book.proofs.Opening.{no_owner}
 use Rattle.rounds.specs.declared.rounds.Round.TheVariants as came
-use Rattle.rounds.specs.Books.{AreClaimed, IsAtRest, IsRound, phased_by, plain_of, room}
+use Rattle.rounds.specs.Books.{IsAtRest, IsRound, phased_by, plain_of, room}
 use Rattle.rounds.specs.Outcomes.{IsDecided, IsOfRounds, IsOutcome, IsProof}
-use Rattle.rounds.specs.Plain.{Plain, End, Progress, Goes, Ends, Finished, Halted, next_round, opening, ready, round, round_or_end, run}
+use Rattle.rounds.specs.Plain.{Plain, Goes, Ends, Finished, Halted, next_round, opening, ready, round, round_or_end, run}
 use Rattle.rounds.proofs.Runs.{run-goes, run-zero}
 use Rattle.rounds.proofs.Phasing.{none_ready, not_begun, went_on}
 
@@ -103,9 +100,6 @@ running_last s prices b mid new is e round_is same =
     let last = over_last b mid is.rest e round_is.0 in
     let to = same_book b mid e last in
     over_is_of new ∙ ap (λ p. over_of p new.base) round_is.1 ∙ ap (over_of (plain_of mid)) same ∙ sym (over_is_of mid) ∙ ap is_over to ∙ last
-
-pub running_empty : (mid new : BookData) → IsRound mid came.Over new → new.queue ≡ []
-running_empty mid new round_is = ap (λ (p : Plain). p.queue) round_is.1 ∙ round_is.0
 
 -- the run ends where nobody waits in the last phase
 pub running_over : (s : ScaledProblem) (prices : List ℤ) (b mid new : BookData) (outcome : Outcome) → IsRunning s prices b → mid ≡ phased_by (is_over b) b → IsRound mid came.Over new → new.base ≡ mid.base → IsOutcome new.base (Finished (plain_of new)) outcome → IsOfRounds s prices outcome

@@ -1,14 +1,14 @@
 -- Offers are submitted in turn.
-use Rattle.std.proofs.Common.{◌≡◌, ℕ, ℤ, pos, zero, suc, ◌+◌, ◌<◌, ◌≤◌, ◌+ℤ◌, ◌≤ℤ◌, ◌<ℤ◌, ◌⊎◌, inl, inr, List, [], ◌∷◌, ◌++◌, Option, None, Some, Bool, true, false, length, get_or, drop, map, refl, ap, sym, ◌∙◌, subst, arith}
+use Rattle.std.proofs.Common.{◌≡◌, ℕ, ℤ, zero, suc, ◌+◌, ◌<◌, ◌≤◌, ◌+ℤ◌, ◌≤ℤ◌, ◌<ℤ◌, ◌⊎◌, inl, inr, List, [], ◌∷◌, Option, None, Some, Bool, true, false, length, get_or, drop, refl, ap, sym, ◌∙◌, subst, arith}
 use Rattle.std.proofs.lemmas.Int.{ints}
 use Rattle.std.proofs.lemmas.List.{at_drop_more, get_or-map, length-map}
 use Rattle.std.specs.Int.Signed.{lt_z}
 use Rattle.assign_core.specs.declared.numbers.TheConstants.{MOST_PERSONS}
-use Rattle.assign_core.specs.Numbered.{IsNumber, numbered, renumbered}
+use Rattle.assign_core.specs.Numbered.{numbered}
 use Rattle.std.specs.List.{All}
 use Rattle.assign_core.specs.Prices.{IsBelow, IsPrice, price_of}
 use Rattle.assign_core.proofs.NumberedLemmas.{length-renumbered, numbered_in}
-use Rattle.assign_core.proofs.Matchings.{below_itself, below_through}
+use Rattle.assign_core.proofs.Matchings.{below_through}
 use Rattle.scaled_values.specs.Scaled.{ScaledProblem}
 use Rattle.scaled_values.proofs.RowFacts.{benefit_row_is}
 use Rattle.bidder.specs.declared.offers.Ask.{Ask}
@@ -19,15 +19,15 @@ use Rattle.bidder.specs.declared.offers.Offer.TheVariants as made
 use Rattle.bidder.specs.Offers.{IsBid, IsOffer, IsSound, IsUnder, benefits_at, offer_of}
 use Rattle.bidder.proofs.Sound.{bid_high, bid_sound, offer_is}
 use Rattle.price_log.proofs.Histories.{today-after_raise, today_is_table}
-use Rattle.auction_book.specs.Book.{BookData, Holds, ask_of, persons_of, prices_of}
-use Rattle.auction_book.specs.Changes.{accepted, released}
+use Rattle.auction_book.specs.Book.{BookData, Holds, ask_of, prices_of}
+use Rattle.auction_book.specs.Changes.{accepted}
 use Rattle.auction_book.specs.Submissions.{IsFitting, IsHigh}
 use Rattle.auction_book.specs.Free.{IsFree}
 use Rattle.auction_book.proofs.Claiming.{ask_is}
 use Rattle.auction_book.proofs.Accepting.{accepted_follows, bid_range, eps_least}
-use Rattle.rounds.specs.Books.{AreClaimed, AreTurned, HaveOffered, IsAtRest, IsBelowFloor, IsGoing, book_after, book_turned, plain_of, room}
-use Rattle.rounds.specs.Offers.{CanOffer, offers_of}
-use Rattle.rounds.specs.Plain.{Plain, after_bid, all_turned, submitted}
+use Rattle.rounds.specs.Books.{AreClaimed, AreTurned, HaveOffered, IsGoing, book_after, book_turned, plain_of, room}
+use Rattle.rounds.specs.Offers.{CanOffer}
+use Rattle.rounds.specs.Plain.{after_bid, all_turned}
 use Rattle.rounds.proofs.Claiming.{claimed_less}
 use Rattle.rounds.proofs.Rooms.{room_falls}
 use Rattle.rounds.proofs.Waiting.{claimed_number}
@@ -83,13 +83,6 @@ pub can_offer_as : (b : BookData) (persons waiting : List ℕ) (s : ScaledProble
 can_offer_as b persons waiting s prices ask going claimed e f g h =
     subst (λ x. CanOffer x prices ask waiting) (sym e) (subst (λ x. CanOffer b.base x ask waiting) (sym f) (subst (λ x. CanOffer b.base (prices_of b) x waiting) (sym g) (subst (CanOffer b.base (prices_of b) (ask_of b)) (sym h) (can_offer b persons going claimed))))
 
-pub have_offered : (b : BookData) (persons waiting : List ℕ) (s : ScaledProblem) (prices : List ℤ) (ask : Ask) (offers : List Offer) → IsGoing b → AreClaimed persons 0 b.claims → s ≡ b.base → prices ≡ prices_of b → ask ≡ ask_of b → waiting ≡ persons → offers ≡ offers_of s prices ask waiting → HaveOffered b persons offers
-have_offered b persons waiting s prices ask offers going claimed e f g h made = record {
-  going = going;
-  claimed = claimed;
-  made = made ∙ ap (λ x. offers_of x prices ask waiting) e ∙ ap (λ x. offers_of b.base x ask waiting) f ∙ ap (λ x. offers_of b.base (prices_of b) x waiting) g ∙ ap (offers_of b.base (prices_of b) (ask_of b)) h;
-}
-
 -- ---- turns
 -- the first i offers have been submitted
 pub record IsTurning (old now : BookData) (persons : List ℕ) (offers : List Offer) (i : ℕ) : Type 0 where
@@ -101,18 +94,6 @@ pub record IsTurning (old now : BookData) (persons : List ℕ) (offers : List Of
   pub below : IsBelow (prices_of old) (prices_of now)
   pub first : i ≡ 0 → now ≡ old
   pub fell : 0 < i → room (prices_of now) < room (prices_of old)
-
-pub turning_none : (b : BookData) (persons : List ℕ) (offers : List Offer) → HaveOffered b persons offers → IsTurning b b persons offers 0
-turning_none b persons offers have = record {
-  going = have.going;
-  left = refl;
-  claimed = have.claimed;
-  base = refl;
-  asked = refl;
-  below = below_itself (prices_of b);
-  first = λ e. refl;
-  fell = λ lt. absurd (omega arith);
-}
 
 -- what holds of the bid at place i, when it is submitted
 pub record IsNext (old now : BookData) (i : ℕ) (bid : Bid) : Type 0 where
@@ -209,34 +190,6 @@ turning_more old now new persons offers i worker bid have is w within here e fre
     let turn = at_drop_more (λ l. all_turned l (plain_of now)) offers i (made.Bid bid) within ∙ ap (λ o. all_turned (o ∷ drop (i + 1) offers) (plain_of now)) here in
     let left = ap (all_turned (drop (i + 1) offers)) (plain-after low now (suc i) bid) ∙ sym turn ∙ is.left in
     subst (λ x. IsTurning old x persons offers (i + 1)) (sym after) (turned_by low old now persons offers i bid refl next (subst IsFree after free) is left)
-
--- all offers have been submitted
-pub turning_done : (old now : BookData) (persons : List ℕ) (offers : List Offer) (i : ℕ) → HaveOffered old persons offers → IsTurning old now persons offers i → length offers ≤ i → AreTurned old offers None now
-turning_done old now persons offers i have is full =
-    let long : length offers ≡ length persons = ap length have.made ∙ length-map persons (offer_of old.base (prices_of old) 0 (ask_of old)) in
-    let over : drop i offers ≡ [] = past offers i full in (
-      sym is.left ∙ ap (λ l. all_turned l (plain_of now)) over,
-      record {
-        going = is.going;
-        unclaimed = record {
-          held = λ k d from lt. absurd (omega arith);
-          past = λ w le. is.claimed.past w (omega arith);
-          others = λ w lt. elim (here_or_past w i) [
-            | inl le ↦ is.claimed.past w le
-            | inr more ↦ is.claimed.others w (omega arith)
-          ];
-        };
-      },
-      λ lt. is.fell (omega arith),
-    ) where
-      past : (xs : List Offer) (i : ℕ) → length xs ≤ i → drop i xs ≡ []
-      past [] zero le = refl
-      past [] (suc i) le = refl
-      past (x ∷ xs) zero le = absurd (omega arith)
-      past (x ∷ xs) (suc i) le = past xs i (omega arith)
-
-      here_or_past : (w i : ℕ) → (w ≤ i) ⊎ (i < w)
-      here_or_past w i = grind arith
 
 -- a person finds nothing worth the floor
 pub turning_below : (old now : BookData) (persons : List ℕ) (offers : List Offer) (i : ℕ) (below : BelowFloor) → HaveOffered old persons offers → IsTurning old now persons offers i → i < length offers → get_or offers i (made.Below below) ≡ made.Below below → AreTurned old offers (Some below.person) now

@@ -1,5 +1,5 @@
 -- Who waits, who is claimed, and when nobody does.
-use Rattle.std.proofs.Common.{◌≡◌, ℕ, pos, zero, suc, ◌+◌, ◌<◌, ◌≤◌, ◌&&◌, List, [], ◌∷◌, length, get_or, Option, None, Some, Bool, true, false, cond, nat_eq, not, slice_index, refl, ap, arith, sym, ◌∙◌, subst}
+use Rattle.std.proofs.Common.{◌≡◌, ℕ, pos, zero, suc, ◌<◌, ◌≤◌, ◌&&◌, List, [], ◌∷◌, length, get_or, Option, None, Some, Bool, true, false, cond, nat_eq, slice_index, refl, ap, arith, sym, ◌∙◌, subst}
 use Rattle.std.specs.List.{count_by}
 use Rattle.std.specs.Ordering.{int_eq}
 use Rattle.std.proofs.lemmas.List.Sums.{sum_by-cons, get_or-le-sum_by}
@@ -16,7 +16,7 @@ use Rattle.auction_book.specs.Claims.{after_claim, claim_front, claim_of}
 use Rattle.auction_book.specs.Free.{IsFree}
 use Rattle.auction_book.specs.Phases.{is_assigned, is_done}
 use Rattle.auction_book.proofs.Places.{everyone}
-use Rattle.rounds.specs.Books.{AreClaimed, IsAtRest, IsGoing}
+use Rattle.rounds.specs.Books.{IsAtRest, IsGoing}
 
 -- ---- claimed persons are persons
 one_at_least : (n k : ℕ) → 0 < one_if_person n k → IsNumber n k

@@ -15,7 +15,7 @@ use Rattle.auction_book.specs.Free.{IsFree}
 use Rattle.rounds.specs.declared.rounds.Round.{Round}
 use Rattle.rounds.specs.declared.rounds.Round.TheVariants as came
 use Rattle.rounds.specs.Offers.{offers_of}
-use Rattle.rounds.specs.Plain.{Plain, Progress, Goes, Ends, Halted, all_turned, round}
+use Rattle.rounds.specs.Plain.{Plain, Goes, Ends, Halted, all_turned, round}
 
 -- without its log, its claims and its counts
 abbrev pub plain_of : BookData → Plain

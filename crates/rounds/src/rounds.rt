@@ -1,5 +1,5 @@
 // Rounds of offers over a book.
-ghost use Rattle.std.specs.Prelude.{◌≡◌, ◌∷◌, ◌≤ℤ◌, pos, None, [], false, length, replicate, IfOk, IfErr, IfSome, IfNone, OnOk, List, ℕ};
+ghost use Rattle.std.specs.Prelude.{◌≡◌, ◌∷◌, ◌<◌, ◌≤ℤ◌, pos, None, [], false, length, replicate, slice_index_or, IfOk, IfErr, IfSome, IfNone, OnOk, List, ℕ};
 ghost use Rattle.std.specs.Arc.{arc_value};
 ghost use Rattle.assign_core.specs.Numbered.{IsNumber, numbered};
 ghost use Rattle.scaled_values.specs.Scaled.{greatest_of};
@@ -81,6 +81,14 @@ fn submit_bid(book: &mut Book, worker: u16, bid: Bid) -> Result<(), AllocError>
     }
 }
 
+// The offer whose turn it is.
+fn offer_in_turn(offers: &[Offer], turn: usize) -> Offer
+    requires { turn < length offers.now }
+    ensures { (d : _) → result ≡ slice_index_or offers.now turn d }
+{
+    offers[turn]
+}
+
 // Offers in turn, up to a person that finds nothing worth the floor.
 fn submit_all(book: &mut Book, offers: &[Offer]) -> Result<Option<Person>, AllocError>
     requires { (persons : List ℕ) × HaveOffered book.old persons offers.now }
@@ -88,7 +96,7 @@ fn submit_all(book: &mut Book, offers: &[Offer]) -> Result<Option<Person>, Alloc
     ensures base { OnOk result (book.new.base ≡ book.old.base) }
 {
     for i in 0..offers.len() {
-        match offers[i] {
+        match offer_in_turn(offers, i) {
             Offer::Bid(bid) => submit_bid(book, i as u16 + 1, bid)?,
             Offer::Below(below) => return Ok(Some(below.person)),
         }
@@ -98,7 +106,7 @@ fn submit_all(book: &mut Book, offers: &[Offer]) -> Result<Option<Person>, Alloc
 
 // One round: all who wait make their offers from one table, and these are submitted in turn. A
 // person that finds nothing worth the floor ends it at its turn.
-fn run_round(
+pub(super) fn run_round(
     rt: &(impl Threads + Sync),
     least: usize,
     book: &mut Book,
@@ -130,7 +138,7 @@ fn run_round(
 }
 
 // The next phase begins, if this one is over.
-fn go_on(alloc: Global, book: &mut Book) -> Result<(), AllocError>
+pub(super) fn go_on(alloc: Global, book: &mut Book) -> Result<(), AllocError>
     requires { IsAtRest book.old }
     ensures phased { OnOk result (book.new ≡ phased_by (is_over book.old) book.old) }
     ensures rest { OnOk result (IsAtRest book.new) }

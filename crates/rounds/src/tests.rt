@@ -1,18 +1,23 @@
 // Worked problems, and drawn ones beside a search of all assignments and a plain transcription of
 // rounds.
-ghost use Rattle.std.specs.Prelude.{◌≡◌, ◌≤ℤ◌, length, All, IfOk};
+ghost use Rattle.std.specs.Prelude.{◌≡◌, ◌≤ℤ◌, length, true, IfOk};
+ghost use Rattle.std.specs.Arc.{arc_value};
 ghost use Rattle.assign_core.specs.Numbered.{IsNumber};
 ghost use Rattle.assign_core.specs.Prices.{IsPrice};
 ghost use Rattle.assign_core.specs.Rows.{IsCost, IsSize};
 ghost use Rattle.assign_core.specs.Sparse.{IsTriple};
+ghost use Rattle.scaled_values.specs.Scaled.{greatest_of};
+ghost use Rattle.rounds.specs.Books.{IsAtRest};
 
 use super::offers::LEAST_PAIRS;
-use super::rounds::run_rounds;
+use super::rounds::{Round, go_on, run_round, run_rounds};
 use super::*;
 use assign_core::{
     Cost, GREATEST_COST, GREATEST_FIRST_PRICE, MOST_PERSONS, Object, Outcome, Person, Price,
     Prices, Problem, Sense, plain_best,
 };
+use auction_book::Book;
+use bidder::Offer;
 use scaled_values::{Scaled, scale};
 use std::alloc::{AllocError, Global};
 use std::sync::Arc;
@@ -80,7 +85,7 @@ fn first_price(price: Price) -> Price
 fn first_prices(alloc: Global, n: u16, given: &[Price]) -> Result<Prices, AllocError>
     requires { IsSize n }
     ensures long { IfOk result (λ prices. length prices ≡ n) }
-    ensures low { IfOk result (λ prices. All (λ p. p ≤ℤ GREATEST_FIRST_PRICE) prices) }
+    ensures low { IfOk result (λ prices. greatest_of prices ≤ℤ GREATEST_FIRST_PRICE) }
 {
     let mut values = Vec::with_capacity(alloc, n as usize)?;
     for i in 0..n {
@@ -120,6 +125,15 @@ fn told(alloc: Global, outcome: &Outcome) -> Result<Seen, AllocError> {
     }
 }
 
+// The benefits of the problem that lists these pairs.
+fn scaled_of(alloc: Global, n: u16, pairs: &[Pair], sense: Sense) -> Result<Arc<Scaled>, AllocError>
+    requires { IsSize n }
+    ensures { IfOk result (λ scaled. length (arc_value scaled).problem ≡ n) }
+{
+    let problem = problem_of(alloc, n, pairs)?;
+    Ok(Arc::new(alloc, scale(alloc, problem, sense)?)?)
+}
+
 // What rounds in pieces of at least so many pairs come to.
 fn solved(
     rt: &(impl Threads + Sync),
@@ -131,11 +145,30 @@ fn solved(
     first: &[Price],
 ) -> Result<Seen, AllocError> {
     let n = size(n);
-    let problem = problem_of(alloc, n, pairs)?;
-    let scaled = Arc::new(alloc, scale(alloc, problem, sense)?)?;
+    let scaled = scaled_of(alloc, n, pairs, sense)?;
     let prices = first_prices(alloc, n, first)?;
     let outcome = run_rounds(rt, least, alloc, scaled, prices)?;
     told(alloc, &outcome)
+}
+
+// What the public calls come to: from zeros, or from these first prices.
+fn publicly_solved(
+    rt: &(impl Threads + Sync),
+    alloc: Global,
+    n: u16,
+    pairs: &[Pair],
+    first: Option<&[Price]>,
+) -> Result<Seen, AllocError> {
+    let n = size(n);
+    let scaled = scaled_of(alloc, n, pairs, Sense::Min)?;
+    let outcome = match first {
+        Some(first) => solve_rounds_from(rt, alloc, scaled, first_prices(alloc, n, first)?),
+        None => solve_rounds(rt, alloc, scaled),
+    };
+    match outcome {
+        Ok(outcome) => told(alloc, &outcome),
+        Err(_) => Err(AllocError),
+    }
 }
 
 // The pairs of a dense problem, from its costs row by row.
@@ -219,6 +252,23 @@ fn worked_dense_problems(rt: HostRuntime) -> Result<(), Fail> {
 }
 
 #[test]
+fn public_calls(rt: HostRuntime) -> Result<(), Fail> {
+    let alloc = rt.alloc();
+    let pairs = [(1, 1, 1), (1, 2, 2), (2, 1, 3), (2, 2, 5)];
+    for (first, prices) in [
+        (None, [14, 12]),
+        (Some([].as_slice()), [14, 12]),
+        (Some(&[14, 12]), [26, 24]),
+    ] {
+        assert_eq!(rt;
+            publicly_solved(&rt, alloc, 2, &pairs, first)?,
+            best(alloc, &[2, 1], &prices)?
+        );
+    }
+    Ok(())
+}
+
+#[test]
 fn worked_sparse_problems(rt: HostRuntime) -> Result<(), Fail> {
     let alloc = rt.alloc();
     for (n, pairs, persons, objects) in [
@@ -242,6 +292,220 @@ fn worked_sparse_problems(rt: HostRuntime) -> Result<(), Fail> {
         panic!(rt; "no assignment");
     };
     assert_eq!(rt; objects.as_slice(), [2, 1].as_slice());
+    Ok(())
+}
+
+// ---- runs told round by round
+// Some prices in a line.
+fn prices_line(alloc: Global, prices: &[Price]) -> Result<String, AllocError> {
+    let mut line = String::new(alloc);
+    for price in prices {
+        write!(line, " {price}")?;
+    }
+    Ok(line)
+}
+
+// How many bids of workers 1, 2, .. were accepted.
+fn counts_of(alloc: Global, book: &Book) -> Result<Vec<u128>, AllocError> {
+    let mut counts = Vec::new(alloc);
+    for i in 0..book.workers() {
+        counts.push(book.accepted_by(i + 1))?;
+    }
+    Ok(counts)
+}
+
+// An offer in a line, with its answer.
+fn offer_line(alloc: Global, offer: Offer, accepted: bool) -> Result<String, AllocError> {
+    let answer = if accepted { "accepted" } else { "refused" };
+    match offer {
+        Offer::Bid(bid) => {
+            let (person, object) = (bid.person.0, bid.object.0);
+            format!(in alloc; "{person} bids {} for {object}, {answer}", bid.level)
+        }
+        Offer::Below(below) => format!(in alloc; "{} is below the floor", below.person.0),
+    }
+}
+
+// The offers of a round in turn, each with its answer: the worker of an accepted bid counts one more.
+fn tell_offers(
+    alloc: Global,
+    offers: &[Offer],
+    before: &[u128],
+    after: &[u128],
+    lines: &mut Vec<String>,
+) -> Result<(), AllocError> {
+    for ((offer, before), after) in offers.iter().zip(before).zip(after) {
+        lines.push(offer_line(alloc, *offer, before < after)?)?;
+    }
+    Ok(())
+}
+
+// A round told: what its phase asks, its table, and its offers in turn. Whether the run goes on.
+fn round_told(
+    rt: &(impl Threads + Sync),
+    alloc: Global,
+    book: &mut Book,
+    lines: &mut Vec<String>,
+) -> Result<bool, AllocError>
+    requires { IsAtRest book.old }
+    ensures { IfOk result (λ more. more ≡ true → IsAtRest book.new) }
+{
+    go_on(alloc, book)?;
+    let ask = book.ask();
+    let table = prices_line(alloc, book.prices().as_slice())?;
+    let before = counts_of(alloc, book)?;
+    let mut offers = Vec::new(alloc);
+    let came = run_round(rt, LEAST_PAIRS, book, &mut Vec::new(alloc), &mut offers)?;
+    let (phase, eps, floor) = (ask.phase, ask.eps, ask.floor);
+    lines.push(format!(in alloc; "phase {phase}, eps {eps}, floor {floor}, prices{table}")?)?;
+    let after = counts_of(alloc, book)?;
+    tell_offers(
+        alloc,
+        offers.as_slice(),
+        before.as_slice(),
+        after.as_slice(),
+        lines,
+    )?;
+    match came {
+        Round::More => Ok(true),
+        _ => Ok(false),
+    }
+}
+
+// The rounds of a run, at most a hundred.
+fn rounds_told(
+    rt: &(impl Threads + Sync),
+    alloc: Global,
+    n: u16,
+    pairs: &[Pair],
+    first: &[Price],
+) -> Result<Vec<String>, AllocError> {
+    let n = size(n);
+    let scaled = scaled_of(alloc, n, pairs, Sense::Min)?;
+    let prices = first_prices(alloc, n, first)?;
+    let mut book = Book::open_from(alloc, scaled, prices, n)?;
+    let mut lines = Vec::new(alloc);
+    for _ in 0..100 {
+        if !round_told(rt, alloc, &mut book, &mut lines)? {
+            break;
+        }
+    }
+    Ok(lines)
+}
+
+#[test]
+fn runs_round_by_round(rt: HostRuntime) -> Result<(), Fail> {
+    let alloc = rt.alloc();
+    let two = [(1, 1, 1), (1, 2, 2), (2, 1, 3), (2, 2, 5)];
+    let alike = dense(alloc, 3, &[2, 2, 2, 2, 2, 2, 2, 2, 2])?;
+    let contested = [(1, 1, 4), (2, 1, 6), (3, 2, 1), (3, 3, 2)];
+    for (n, pairs, first, lines) in [
+        (
+            2,
+            two.as_slice(),
+            [].as_slice(),
+            [
+                "phase 1, eps 2, floor -29, prices 0 0",
+                "1 bids 5 for 1, accepted",
+                "2 bids 8 for 1, accepted",
+                "phase 1, eps 2, floor -29, prices 8 0",
+                "1 bids 7 for 2, accepted",
+                "phase 2, eps 1, floor -36, prices 8 7",
+                "1 bids 11 for 1, accepted",
+                "2 bids 14 for 1, accepted",
+                "phase 2, eps 1, floor -36, prices 14 7",
+                "1 bids 12 for 2, accepted",
+                "phase 2, eps 1, floor -36, prices 14 12",
+            ]
+            .as_slice(),
+        ),
+        (
+            2,
+            &two,
+            &[14, 12],
+            &[
+                "phase 1, eps 2, floor -43, prices 14 12",
+                "1 bids 17 for 1, accepted",
+                "2 bids 20 for 1, accepted",
+                "phase 1, eps 2, floor -43, prices 20 12",
+                "1 bids 19 for 2, accepted",
+                "phase 2, eps 1, floor -48, prices 20 19",
+                "1 bids 23 for 1, accepted",
+                "2 bids 26 for 1, accepted",
+                "phase 2, eps 1, floor -48, prices 26 19",
+                "1 bids 24 for 2, accepted",
+                "phase 2, eps 1, floor -48, prices 26 24",
+            ],
+        ),
+        (
+            3,
+            alike.as_slice(),
+            &[],
+            &[
+                "phase 1, eps 1, floor -10, prices 0 0 0",
+                "1 bids 1 for 1, accepted",
+                "2 bids 1 for 1, refused",
+                "3 bids 1 for 1, refused",
+                "phase 1, eps 1, floor -10, prices 1 0 0",
+                "2 bids 1 for 2, accepted",
+                "3 bids 1 for 2, refused",
+                "phase 1, eps 1, floor -10, prices 1 1 0",
+                "3 bids 2 for 3, accepted",
+                "phase 1, eps 1, floor -10, prices 1 1 2",
+            ],
+        ),
+        (
+            3,
+            &contested,
+            &[],
+            &[
+                "phase 1, eps 4, floor -72, prices 0 0 0",
+                "1 bids 60 for 1, accepted",
+                "2 bids 52 for 1, refused",
+                "3 bids 8 for 2, accepted",
+                "phase 1, eps 4, floor -72, prices 60 8 0",
+                "2 is below the floor",
+            ],
+        ),
+    ] {
+        let told = rounds_told(&rt, alloc, n, pairs, first)?;
+        assert_eq!(rt; told.len(), lines.len());
+        for (told, line) in told.iter().zip(lines) {
+            assert_eq!(rt; told.as_str(), *line);
+        }
+    }
+    Ok(())
+}
+
+// Two persons who want different objects: in each phase one round, in which both prices rise by the
+// spread and eps.
+#[test]
+fn ten_phases_round_by_round(rt: HostRuntime) -> Result<(), Fail> {
+    let alloc = rt.alloc();
+    let pairs = dense(alloc, 2, &[1_000_000, -1_000_000, -1_000_000, 1_000_000])?;
+    let mut lines = Vec::new(alloc);
+    for (phase, eps, floor, price, level) in [
+        (1, 1200000, -10200000, 0, 7200000),
+        (2, 240000, -16440000, 7200000, 13440000),
+        (3, 48000, -22488000, 13440000, 19488000),
+        (4, 9600, -28497600, 19488000, 25497600),
+        (5, 1920, -34499520, 25497600, 31499520),
+        (6, 384, -40499904, 31499520, 37499904),
+        (7, 76, -46499980, 37499904, 43499980),
+        (8, 15, -52499995, 43499980, 49499995),
+        (9, 3, -58499998, 49499995, 55499998),
+        (10, 1, -64499999, 55499998, 61499999),
+    ] {
+        let start = format!(in alloc;
+            "phase {phase}, eps {eps}, floor {floor}, prices {price} {price}"
+        )?;
+        lines.push(start)?;
+        lines.push(format!(in alloc; "1 bids {level} for 2, accepted")?)?;
+        lines.push(format!(in alloc; "2 bids {level} for 1, accepted")?)?;
+    }
+    let end = format!(in alloc; "phase 10, eps 1, floor -64499999, prices 61499999 61499999")?;
+    lines.push(end)?;
+    assert_eq!(rt; rounds_told(&rt, alloc, 2, pairs.as_slice(), &[])?, lines);
     Ok(())
 }
 

@@ -1,4 +1,4 @@
-use Rattle.std.proofs.Common.{◌≡◌, ◌+◌, ◌<◌, suc, length, ap, subst, sym, ◌∙◌, arith}
+use Rattle.std.proofs.Common.{◌≡◌, ◌+◌, suc, length, ap, subst, sym, ◌∙◌, arith}
 use Rattle.scaled_values.specs.Scaled.{ScaledProblem}
 use Rattle.auction_book.specs.Book.{persons_of}
 use Rattle.rounds.proofs.Claiming.{IsClaiming, claiming_done, claiming_full, claiming_more, claiming_room}

@@ -1,4 +1,4 @@
-use Rattle.std.proofs.Common.{sym, ◌∙◌}
+use Rattle.std.proofs.Common.{◌∙◌}
 use Rattle.rounds.proofs.Turning.{can_offer_as}
 use Rattle.rounds.proofs.rounds.run_round.Goals as goal
 

@@ -1,10 +1,10 @@
-use Rattle.std.proofs.Common.{◌≡◌, length, ap, sym, ◌∙◌, subst}
+use Rattle.std.proofs.Common.{length, ap, ◌∙◌, subst}
 use Rattle.std.specs.Arc.{arc_value}
 use Rattle.scaled_values.specs.Scaled.{ScaledProblem}
 use Rattle.rounds.specs.Books.{IsRound, plain_of}
 use Rattle.rounds.specs.Outcomes.{IsOfRounds, IsOutcome, IsProof}
 use Rattle.rounds.specs.Plain.{Finished, Halted}
-use Rattle.rounds.proofs.Running.{if_ok, proof_of, running_empty, running_first, running_halted, running_last, running_more, running_over, running_smaller}
+use Rattle.rounds.proofs.Running.{if_ok, proof_of, running_first, running_halted, running_last, running_more, running_over, running_smaller}
 use Rattle.rounds.proofs.rounds.run_rounds.Goals as goal
 
 pub rounds-init : goal.rounds-init

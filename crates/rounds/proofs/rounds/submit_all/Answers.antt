@@ -1,7 +1,6 @@
-use Rattle.std.proofs.Common.{◌≡◌, ◌+◌, ◌<◌, ◌≤◌, suc, length, get_or, ◌∙◌, arith}
-use Rattle.std.proofs.lemmas.List.{get_or_default}
+use Rattle.std.proofs.Common.{◌≡◌, ◌+◌, suc, sym, ◌∙◌, arith}
 use Rattle.bidder.specs.declared.offers.Offer.TheVariants as made
-use Rattle.rounds.proofs.Turning.{few_places, next_bid, turning_below, turning_done, turning_more}
+use Rattle.rounds.proofs.Turning.{few_places, next_bid, turning_below, turning_more}
 use Rattle.rounds.proofs.rounds.submit_all.Goals as goal
 
 -- the bid at hand, which the loop reads, is the one at its place
@@ -12,7 +11,7 @@ loop-i-preserved c =
     let bid = c.in-Bid.bid in
     let offers = c.args.offers.now in
     let lt = c.loop-i-test.true in
-    let here = get_or_default offers i (made.Bid bid) _ lt ∙ c.in-Bid.is in
+    let here = sym (c.offer_in_turn.ensures (made.Bid bid)) ∙ c.in-Bid.is in
     let e = c.in_ok-submit_bid-in-Bid.ensures in
     let worker : i + 1 ≡ suc i = omega arith in
     (is.0, is.1, turning_more c.args.book.now c.loop-i.book c.submit_bid.new.book is.0 offers i (i + 1) bid is.1 is.2 worker lt here e.turned e.free)
@@ -22,7 +21,7 @@ returns-in-Below-clause-turned c =
     let is = c.loop-i.invariant in
     let below = c.in-Below.below in
     let offers = c.args.offers.now in
-    let here = get_or_default offers c.loop-i.i (made.Below below) _ c.loop-i-test.true ∙ c.in-Below.is in
+    let here = sym (c.offer_in_turn.ensures (made.Below below)) ∙ c.in-Below.is in
     turning_below c.args.book.now c.loop-i.book is.0 offers c.loop-i.i below is.1 is.2 c.loop-i-test.true here
 
 pub overflow_cast-i : goal.overflow_cast-i
@@ -32,7 +31,7 @@ overflow_cast-i c =
     let bid = c.in-Bid.bid in
     let offers = c.args.offers.now in
     let lt = c.loop-i-test.true in
-    let here = get_or_default offers i (made.Bid bid) _ lt ∙ c.in-Bid.is in
+    let here = sym (c.offer_in_turn.ensures (made.Bid bid)) ∙ c.in-Bid.is in
     let few = few_places c.args.book.now c.loop-i.book is.0 offers i bid is.2 (next_bid c.args.book.now c.loop-i.book is.0 offers i bid is.1 is.2 lt here) in
     omega arith
 
@@ -43,7 +42,7 @@ overflow_add-i c =
     let bid = c.in-Bid.bid in
     let offers = c.args.offers.now in
     let lt = c.loop-i-test.true in
-    let here = get_or_default offers i (made.Bid bid) _ lt ∙ c.in-Bid.is in
+    let here = sym (c.offer_in_turn.ensures (made.Bid bid)) ∙ c.in-Bid.is in
     let few = few_places c.args.book.now c.loop-i.book is.0 offers i bid is.2 (next_bid c.args.book.now c.loop-i.book is.0 offers i bid is.1 is.2 lt here) in
     omega arith
 
@@ -54,7 +53,7 @@ submit_bid-requires-clause-worker c =
     let bid = c.in-Bid.bid in
     let offers = c.args.offers.now in
     let lt = c.loop-i-test.true in
-    let here = get_or_default offers i (made.Bid bid) _ lt ∙ c.in-Bid.is in
+    let here = sym (c.offer_in_turn.ensures (made.Bid bid)) ∙ c.in-Bid.is in
     let places = (next_bid c.args.book.now c.loop-i.book is.0 offers i bid is.1 is.2 lt here).places in
     record { first = omega arith; last = omega arith }
 
@@ -65,7 +64,7 @@ submit_bid-requires-clause-held c =
     let bid = c.in-Bid.bid in
     let offers = c.args.offers.now in
     let lt = c.loop-i-test.true in
-    let here = get_or_default offers i (made.Bid bid) _ lt ∙ c.in-Bid.is in
+    let here = sym (c.offer_in_turn.ensures (made.Bid bid)) ∙ c.in-Bid.is in
     let worker : i + 1 ≡ suc i = omega arith in
     rw worker (next_bid c.args.book.now c.loop-i.book is.0 offers i bid is.1 is.2 lt here).held
 
@@ -76,7 +75,7 @@ submit_bid-requires-clause-phase c =
     let bid = c.in-Bid.bid in
     let offers = c.args.offers.now in
     let lt = c.loop-i-test.true in
-    let here = get_or_default offers i (made.Bid bid) _ lt ∙ c.in-Bid.is in
+    let here = sym (c.offer_in_turn.ensures (made.Bid bid)) ∙ c.in-Bid.is in
     (next_bid c.args.book.now c.loop-i.book is.0 offers i bid is.1 is.2 lt here).phase
 
 pub submit_bid-requires-clause-fitting : goal.submit_bid-requires-clause-fitting
@@ -86,5 +85,5 @@ submit_bid-requires-clause-fitting c =
     let bid = c.in-Bid.bid in
     let offers = c.args.offers.now in
     let lt = c.loop-i-test.true in
-    let here = get_or_default offers i (made.Bid bid) _ lt ∙ c.in-Bid.is in
+    let here = sym (c.offer_in_turn.ensures (made.Bid bid)) ∙ c.in-Bid.is in
     (next_bid c.args.book.now c.loop-i.book is.0 offers i bid is.1 is.2 lt here).fitting
