@@ -1,5 +1,5 @@
 -- The reading byte by byte gives just the answers that the definitions allow.
-use Rattle.std.proofs.Common.{◌≡◌, ◌≢◌, ℕ, ◌<◌, ◌≤◌, ◌+◌, inl, inr, List, [], ◌∷◌, ◌++◌, Bool, true, false, cond, eqb, leb, Option, Some, None, Result, Ok, Err, length, take, drop, length-take-le, length-drop, take-append-drop, refl, sym, ap, subst, ◌∙◌, arith, append_assoc, append-nil}
+use Rattle.std.proofs.Common.{◌≡◌, ◌≢◌, ℕ, ◌<◌, ◌≤◌, ◌+◌, inl, inr, List, [], ◌∷◌, ◌++◌, Bool, true, false, cond, eqb, leb, Option, Some, None, Result, Ok, Err, IfOk, rules, length, take, drop, length-take-le, length-drop, take-append-drop, refl, sym, ap, subst, ◌∙◌, arith, append_assoc, append-nil}
 use Rattle.std.proofs.lemmas.Bool.{eqb-true, eqb-false, leb-true, leb-false, le-leb}
 use Rattle.std.proofs.lemmas.List.{length-append, take_at}
 use Rattle.report.specs.declared.fault.ReportFault.{ReportFault}
@@ -12,7 +12,7 @@ use Rattle.report.specs.Answers.{IsWithinLine, Begins, IsNoLine, HasBadLine, End
 use Rattle.report.specs.Reading.{line_in}
 use Rattle.report.specs.Steps.{State, with_line, taken, step, after, start, ended, finished_state, finished, reading}
 use Rattle.report.specs.SeenSteps.{Reads}
-use Rattle.report.specs.SeenReports.{seen_result}
+use Rattle.report.specs.SeenReports.{seen_report, seen_result}
 use Rattle.report.specs.declared.value.Report as values
 use Rattle.report.proofs.NumeralLemmas.{bind_some}
 use Rattle.report.proofs.LineLemmas.{line_again, line_takes}
@@ -291,3 +291,13 @@ answers_seen bytes (Err faults.TooLong) h = subst (Answers bytes) h (reading_ans
 answers_seen bytes (Err (faults.Ends k)) h = subst (Answers bytes) h (reading_answers bytes)
 answers_seen bytes (Err faults.Read) h = tt
 answers_seen bytes (Err faults.Memory) h = tt
+
+-- what is read of bytes that lead to this state is a report
+allowed_after : (bytes : List ℕ) (s : State) (report : Report) → after (Ok start) bytes ≡ Ok s → finished (Ok s) ≡ Ok report → IsReport report
+unfolding reading
+allowed_after bytes s report h e = (subst (Answers bytes) (ap finished h ∙ e) (reading_answers bytes)).allowed
+
+-- what came is a report, also where the bytes are unknown
+pub report_allowed : (s : State) (result : Result values.Report ReportFault) → ((bytes : List ℕ) × (after (Ok start) bytes ≡ Ok s)) → Reads result (finished (Ok s)) → IfOk result (λ report. IsReport (seen_report report))
+report_allowed s (Ok report) h e = allowed_after h.0 s (seen_report report) h.1 e
+report_allowed s (Err fault) h e = search rules

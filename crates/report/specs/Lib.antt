@@ -13,3 +13,5 @@ pub mod SeenReports
 pub mod SeenSteps
 pub mod Writing
 pub mod Outcomes
+pub mod FaultText
+pub mod Starts

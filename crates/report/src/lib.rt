@@ -31,7 +31,6 @@ mod limits;
 mod line;
 mod lists;
 mod machine;
-mod number;
 mod numerals;
 mod pending;
 #[cfg(test)]
@@ -40,14 +39,17 @@ mod put;
 mod ranges;
 mod read;
 mod send;
+mod start;
 #[cfg(test)]
 mod tests;
 mod value;
 mod words;
 mod write;
 
-pub use fault::{ReportFault, WriteFault};
+pub use fault::{ReportFault, StartFault, WriteFault};
 pub use law::{lines_begin_reports, one_answer, one_text, short_text, written_is_report};
 pub use read::read_report;
+pub use send::write_text;
+pub use start::start_prices;
 pub use value::Report;
 pub use write::write_report;

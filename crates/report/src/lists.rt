@@ -3,15 +3,15 @@ ghost use Rattle.std.specs.Prelude.{◌≡◌, IfOk, map};
 ghost use Rattle.std.specs.Option.{option_map};
 ghost use Rattle.report.specs.Reading.{read_list, read_rising};
 
-use crate::number::Number;
 use crate::numerals::number_in;
 use crate::words::Words;
+use assign_core::Numbered;
 use std::alloc::{AllocError, Global};
 
 // The numbers to the last word, if each is above the one before.
-fn rising<N: Number>(alloc: Global, words: &mut Words) -> Result<Option<Vec<N>>, AllocError>
+fn rising<N: Numbered>(alloc: Global, words: &mut Words) -> Result<Option<Vec<N>>, AllocError>
     ensures { IfOk result
-        (λ x. option_map (λ v. map N.value v.items) x ≡ read_rising 0 words.old) }
+        (λ x. option_map (λ v. map N.number_of v.items) x ≡ read_rising 0 words.old) }
 {
     let mut numbers = Vec::new(alloc);
     let mut last = 0;
@@ -22,7 +22,7 @@ fn rising<N: Number>(alloc: Global, words: &mut Words) -> Result<Option<Vec<N>>,
         if number <= last {
             return Ok(None);
         }
-        numbers.push(N::from_number(number))?;
+        numbers.push(N::with_number(number))?;
         last = number;
     }
     Ok(Some(numbers))
@@ -33,8 +33,8 @@ fn rising<N: Number>(alloc: Global, words: &mut Words) -> Result<Option<Vec<N>>,
 /// # Errors
 /// Only where memory is refused.
 #[tactic(auto, unfolding(crate::specs::Reading::read_list))]
-pub fn list_in<N: Number>(alloc: Global, words: &mut Words) -> Result<Option<Vec<N>>, AllocError>
-    ensures { IfOk result (λ x. option_map (λ v. map N.value v.items) x ≡ read_list words.old) }
+pub fn list_in<N: Numbered>(alloc: Global, words: &mut Words) -> Result<Option<Vec<N>>, AllocError>
+    ensures { IfOk result (λ x. option_map (λ v. map N.number_of v.items) x ≡ read_list words.old) }
 {
     let Some(count) = words.number() else {
         return Ok(None);

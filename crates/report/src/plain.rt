@@ -1,7 +1,6 @@
 // The grammar of reports, transcribed plainly: the tests compare the reader with it.
 use super::{Report, ReportFault};
-use crate::number::Number;
-use assign_core::{Object, Price, Sense};
+use assign_core::{Numbered, Object, Price, Sense};
 use std::alloc::{AllocError, Global};
 
 // How far from 0 costs and their sums may be, and what prices are below.
@@ -223,7 +222,7 @@ fn add_prices(alloc: Global, text: &mut String, prices: &[Price]) -> Result<(), 
     Ok(())
 }
 
-fn add_list<N: Number>(
+fn add_list<N: Numbered>(
     alloc: Global,
     text: &mut String,
     word: &str,

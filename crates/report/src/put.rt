@@ -7,10 +7,9 @@ ghost use Rattle.report.specs.Lines.{lines_text};
 ghost use Rattle.report.specs.Writing.{Puts};
 
 use crate::fault::WriteFault;
-use crate::number::Number;
 use crate::pending::{Pending, WORD_ROOM};
 use crate::send::make_room;
-use assign_core::{Cost, Object, Person, Price, Sense};
+use assign_core::{Cost, Numbered, Object, Person, Price, Sense};
 use std::io::Write;
 
 /// Puts the line of the sense.
@@ -127,13 +126,13 @@ fn put_feed<W: Write>(w: &mut W, pending: &mut Pending) -> Result<(), WriteFault
 }
 
 // Puts the numbers of a list line.
-fn put_numbers<W: Write, N: Number>(
+fn put_numbers<W: Write, N: Numbered>(
     w: &mut W,
     pending: &mut Pending,
     numbers: &[N],
 ) -> Result<(), WriteFault>
     ensures { Puts (W.contents w.old) (W.contents w.new) pending.old pending.new result
-        (behind_spaces (map decimal (map N.value numbers.now))) }
+        (behind_spaces (map decimal (map N.number_of numbers.now))) }
 {
     for number in numbers {
         put_number(w, pending, number.number())?;
@@ -142,7 +141,7 @@ fn put_numbers<W: Write, N: Number>(
 }
 
 /// Puts a list line: a word, how many numbers follow, and the numbers.
-pub fn put_list<W: Write, N: Number>(
+pub fn put_list<W: Write, N: Numbered>(
     w: &mut W,
     pending: &mut Pending,
     word: &[u8],
@@ -150,7 +149,7 @@ pub fn put_list<W: Write, N: Number>(
 ) -> Result<(), WriteFault>
     requires { length word.now ≤ WORD_ROOM }
     ensures { Puts (W.contents w.old) (W.contents w.new) pending.old pending.new result
-        (joined (word.now ∷ decimal (length numbers.now) ∷ map decimal (map N.value numbers.now))
+        (joined (word.now ∷ decimal (length numbers.now) ∷ map decimal (map N.number_of numbers.now))
         ++ 10 ∷ []) }
 {
     put_head(w, pending, word, numbers.len())?;

@@ -1,8 +1,9 @@
 // Reads a report.
-ghost use Rattle.std.specs.Prelude.{◌≡◌, Ok, IfSome};
+ghost use Rattle.std.specs.Prelude.{◌≡◌, Ok, IfOk, IfSome};
 ghost use Rattle.report.specs.Steps.{reading};
 ghost use Rattle.report.specs.SeenSteps.{Reads};
-ghost use Rattle.report.specs.SeenReports.{seen_result};
+ghost use Rattle.report.specs.SeenReports.{seen_report, seen_result};
+ghost use Rattle.report.specs.Reports.{IsReport};
 ghost use Rattle.report.specs.Answers.{Answers};
 
 use crate::fault::ReportFault;
@@ -19,7 +20,8 @@ const PIECE: usize = 16384;
 // turns suffice for every text within the limit.
 #[tactic(auto, unfolding(crate::specs::Steps::reading))]
 fn read_all<R: Read>(alloc: Global, r: &mut R) -> Result<Report, ReportFault>
-    ensures { IfSome (R.remaining r.old) (λ bytes. Reads result (reading bytes)) }
+    ensures reading { IfSome (R.remaining r.old) (λ bytes. Reads result (reading bytes)) }
+    ensures allowed { IfOk result (λ report. IsReport (seen_report report)) }
 {
     let mut machine = Machine::new(alloc);
     let mut buffer = [0u8; PIECE];
@@ -46,7 +48,8 @@ fn read_all<R: Read>(alloc: Global, r: &mut R) -> Result<Report, ReportFault>
 /// The first fault of the text; `Read` where the reader fails, also where it is interrupted;
 /// `Memory` where a growth is refused. The reader stands where it stopped.
 pub fn read_report<R: Read>(alloc: Global, r: &mut R) -> Result<Report, ReportFault>
-    ensures { IfSome (R.remaining r.old) (λ bytes. Answers bytes (seen_result result)) }
+    ensures answer { IfSome (R.remaining r.old) (λ bytes. Answers bytes (seen_result result)) }
+    ensures allowed { IfOk result (λ report. IsReport (seen_report report)) }
 {
     read_all(alloc, r)
 }

@@ -6,8 +6,12 @@ use crate::fault::WriteFault;
 use crate::pending::{PART_ROOM, Pending, ROOM};
 use std::io::Write;
 
-// Writes all of a text, in as few pieces as the writer takes.
-fn write_all_of<W: Write>(w: &mut W, text: &[u8]) -> Result<(), WriteFault>
+/// Writes all of a text, in as few pieces as the writer takes. Takes no memory.
+///
+/// # Errors
+/// `Write` where the writer fails, also where it is interrupted, or takes no byte. A beginning of
+/// the text, and not all of it, has then gone out.
+pub fn write_text<W: Write>(w: &mut W, text: &[u8]) -> Result<(), WriteFault>
     ensures { Writes (W.contents w.old) (W.contents w.new) result text.now }
 {
     let mut at: usize = 0;
@@ -30,7 +34,7 @@ pub fn flush<W: Write>(w: &mut W, pending: &mut Pending) -> Result<(), WriteFaul
     ensures writes { Writes (W.contents w.old) (W.contents w.new) result pending.old }
     ensures empty { OnOk result (pending.new ≡ []) }
 {
-    write_all_of(w, pending.as_slice())?;
+    write_text(w, pending.as_slice())?;
     pending.clear();
     Ok(())
 }

@@ -1,6 +1,6 @@
 use Rattle.std.proofs.Common.{arith, sym}
 use Rattle.report.proofs.Written.{appends_more}
-use Rattle.report.proofs.send.write_all_of.Goals as goal
+use Rattle.report.proofs.send.write_text.Goals as goal
 
 pub loop-at-preserved : goal.loop-at-preserved
 loop-at-preserved g c = let b = c.in-Ok.ensures.bound in let l = c.split_at.ensures.back_len in let e = c.split_at.ensures.back in record {
