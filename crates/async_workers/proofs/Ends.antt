@@ -1,0 +1,95 @@
+-- What a book answers, and the counts of its workers.
+use Rattle.std.proofs.Common.{◌≡◌, ℕ, ℤ, zero, suc, ◌+◌, ◌≤◌, List, [], ◌∷◌, ◌++◌, length, get_or, sum, add-one, None, Some, MatchOption, refl, sym, ap, ◌∙◌, subst, arith}
+use Rattle.std.proofs.lemmas.List.{length-replicate}
+use Rattle.std.proofs.lemmas.List.Sums.{sum_by-cons}
+use Rattle.assign_core.specs.Hall.{HallLists, IsHallSet}
+use Rattle.assign_core.specs.Numbered.{numbered}
+use Rattle.assign_core.specs.Slackness.{IsCertificate}
+use Rattle.assign_core.specs.declared.certificate.Certificate.{Certificate}
+use Rattle.assign_core.specs.declared.outcome.Outcome.{Outcome}
+use Rattle.assign_core.specs.declared.outcome.Outcome.TheVariants.{Best, Hall}
+use Rattle.scaled_values.specs.Scaled.{ScaledProblem}
+use Rattle.auction_book.specs.Book.{BookData, persons_of}
+use Rattle.auction_book.specs.Follows.{GoesOn}
+use Rattle.auction_book.specs.Free.{IsFree}
+use Rattle.auction_book.specs.Phases.{opened}
+use Rattle.auction_book.proofs.Answering.{done_is}
+use Rattle.auction_book.proofs.Following.{goes_on_through}
+use Rattle.auction_book.proofs.Opening.{no_owner}
+use Rattle.async_workers.specs.declared.solving.Tally.{Tally}
+use Rattle.async_workers.specs.PlaceRule.{IsUntouched}
+use Rattle.async_workers.specs.Solving.{IsAnsweredBy, IsEnough, IsSolved, accepted_in_all, tallies, tally_of}
+
+-- the outcome of a run proves itself
+pub solved_best : (s : ScaledProblem) (prices : List ℤ) (workers : ℕ) (c : Certificate) (told : List Tally) → IsSolved s prices workers (Best c) told → IsCertificate s.sense s.problem c.assignment c.prices
+solved_best s prices workers c told is = subst (λ (s : ScaledProblem). IsCertificate s.sense s.problem c.assignment c.prices) is.goes_on.base is.answers.1.proves
+
+pub solved_hall : (s : ScaledProblem) (prices : List ℤ) (workers : ℕ) (h : HallLists) (told : List Tally) → IsSolved s prices workers (Hall h) told → IsHallSet s.problem h.persons h.objects
+solved_hall s prices workers h told is = subst (λ (s : ScaledProblem). IsHallSet s.problem h.persons h.objects) is.goes_on.base is.answers.1
+
+pub recorded_hall : (b : BookData) (hall copy : HallLists) → IsFree b → b.refuted ≡ Some hall → copy ≡ hall → IsAnsweredBy b (Hall copy)
+recorded_hall b hall copy free is same =
+    let set : IsHallSet b.base.problem hall.persons hall.objects = subst (λ o. MatchOption o (Unit {0}) (λ h. IsHallSet b.base.problem h.persons h.objects)) is free.recorded in
+    subst (λ (h : HallLists). (b.refuted ≡ Some h) × IsHallSet b.base.problem h.persons h.objects) (sym same) (is, set)
+
+-- ---- the counts of all workers
+first_sum : List ℕ → ℕ → ℕ
+first_sum xs zero = 0
+first_sum xs (suc n) = first_sum xs n + get_or xs n 0
+
+first_cons : (x : ℕ) (xs : List ℕ) (n : ℕ) → first_sum (x ∷ xs) (suc n) ≡ x + first_sum xs n
+unfolding first_sum
+first_cons x xs zero = let e : 0 + x ≡ x + 0 = omega arith in e
+first_cons x xs (suc n) =
+    let e : (x + first_sum xs n) + get_or xs n 0 ≡ x + (first_sum xs n + get_or xs n 0) = omega arith in
+    ap (λ m. m + get_or xs n 0) (first_cons x xs n) ∙ e
+
+first_all : (xs : List ℕ) → first_sum xs (length xs) ≡ sum xs
+unfolding first_sum
+first_all [] = refl
+first_all (x ∷ xs) = first_cons x xs (length xs) ∙ ap (λ m. x + m) (first_all xs) ∙ sym (sum_by-cons (λ y. y) x xs)
+
+in_all_more : (told : List Tally) (t : Tally) → accepted_in_all (told ++ t ∷ []) ≡ accepted_in_all told + t.accepted
+in_all_more [] t = let e : t.accepted + 0 ≡ 0 + t.accepted = omega arith in e
+in_all_more (u ∷ told) t =
+    let e : u.accepted + (accepted_in_all told + t.accepted) ≡ (u.accepted + accepted_in_all told) + t.accepted = omega arith in
+    ap (λ m. u.accepted + m) (in_all_more told t) ∙ e
+
+told_in_all : (b : BookData) (n : ℕ) → accepted_in_all (tallies b n) ≡ first_sum b.counts n
+unfolding first_sum
+told_in_all b zero = refl
+told_in_all b (suc n) =
+    let before = told_in_all b n in
+    let last : numbered b.counts (n + 1) 0 ≡ get_or b.counts n 0 = ap (λ k. numbered b.counts k 0) (add-one n) in
+    in_all_more (tallies b n) (tally_of b (n + 1)) ∙ (λ i. before i + last i)
+
+-- so many bids were accepted that each person was assigned by one
+pub solved_enough : (s : ScaledProblem) (prices : List ℤ) (workers : ℕ) (outcome : Outcome) (told : List Tally) → IsSolved s prices workers outcome told → IsEnough (length s.problem) outcome told
+solved_enough s prices workers (Hall h) told is = tt
+solved_enough s prices workers (Best c) told is =
+    let b = is.book in
+    let all = (done_is b is.answers.0).assigned in
+    let owned = is.free.progress.owned in
+    let total = is.free.counts_total in
+    let persons : persons_of b ≡ length s.problem = ap (λ (s : ScaledProblem). length s.problem) is.goes_on.base in
+    let long : length b.counts ≡ workers = is.free.sizes.counted ∙ is.goes_on.workers ∙ length-replicate workers None in
+    let sums : accepted_in_all told ≡ sum b.counts =
+    ap accepted_in_all is.tallied ∙ told_in_all b workers ∙ ap (first_sum b.counts) (sym long) ∙ first_all b.counts in
+    omega (arith, all, owned, total, persons, sums)
+
+-- ---- a whole run
+pub opened_untouched : (s : ScaledProblem) (prices : List ℤ) (workers : ℕ) (b : BookData) → b ≡ opened s prices workers → IsUntouched b
+opened_untouched s prices workers b is = subst IsUntouched (sym is) record { no_claims = no_owner workers; no_acceptances = refl }
+
+pub opened_workers : (s : ScaledProblem) (prices : List ℤ) (workers : ℕ) (b : BookData) → b ≡ opened s prices workers → length b.claims ≡ workers
+opened_workers s prices workers b is = ap (λ (b : BookData). length b.claims) is ∙ length-replicate workers None
+
+pub solved : (s : ScaledProblem) (prices : List ℤ) (workers : ℕ) (opening worked book : BookData) (outcome : Outcome) (told : List Tally) → opening ≡ opened s prices workers → GoesOn opening worked → GoesOn worked book →
+    IsFree book → IsAnsweredBy book outcome → told ≡ tallies book workers → IsSolved s prices workers outcome told
+solved s prices workers opening worked book outcome told is first then free answers tallied = record {
+  book = book;
+  free = free;
+  goes_on = subst (λ (b : BookData). GoesOn b book) is (goes_on_through opening worked book first then);
+  answers = answers;
+  tallied = tallied;
+}

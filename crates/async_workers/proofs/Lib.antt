@@ -1,0 +1,9 @@
+pub mod Untouched
+pub mod Steps
+pub mod Desks
+pub mod Hands
+pub mod Sessions
+pub mod Turning
+pub mod Runs
+pub mod Ends
+pub mod Single

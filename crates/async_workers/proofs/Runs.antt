@@ -1,0 +1,130 @@
+-- The desks before and after the workers' runs.
+use Rattle.std.proofs.Common.{◌≡◌, ℕ, zero, suc, ◌+◌, ◌<◌, List, [], ◌∷◌, ◌++◌, map, reverse, length, get_or, sym, ap, ◌∙◌, subst, refl, arith, append_assoc, add-one}
+use Rattle.std.specs.List.{All}
+use Rattle.std.proofs.lemmas.List.{reverse-append, map-append, length_push, length-map, length-reverse}
+use Rattle.atomic_table.specs.Seated.{TableId}
+use Rattle.crossbeam_utils.specs.declared.cache_padded.CachePadded.{CachePadded}
+use Rattle.auction_book.specs.Book.{BookData}
+use Rattle.auction_book.specs.Follows.{GoesOn}
+use Rattle.auction_book.proofs.Following.{goes_on_itself, goes_on_through}
+use Rattle.async_workers.specs.declared.working.Worker.{Worker}
+use Rattle.async_workers.specs.Desk.{DeskData, IsAway, IsReady, IsTrueOf, new_desk, new_desks}
+use Rattle.async_workers.specs.Solving.{HasWorked, IsMemory, desk_in, fault_in}
+use Rattle.async_workers.specs.Turns.{CanTurn, WorksOn}
+
+-- ---- moving from the end of one list to the end of another
+pub moved : {A B : Type 0} (f : A → B) (done : List A) (left old : List B) (x : A) → old ≡ left ++ f x ∷ [] → map f (done ++ x ∷ []) ++ reverse left ≡ map f done ++ reverse old
+moved f done left old x is = ap (λ l. l ++ reverse left) (map-append f done (x ∷ [])) ∙ append_assoc (map f done) (f x ∷ []) (reverse left) ∙ ap (λ l. map f done ++ l) (sym (ap reverse is ∙ reverse-append left (f x ∷ [])))
+
+pub moved_out : {A B : Type 0} (f : A → B) (done : List B) (left old : List A) (x : A) → old ≡ left ++ x ∷ [] → (done ++ f x ∷ []) ++ reverse (map f left) ≡ done ++ reverse (map f old)
+moved_out f done left old x is = append_assoc done (f x ∷ []) (reverse (map f left)) ∙ ap (λ l. done ++ l) (sym (ap (λ l. reverse (map f l)) is ∙ ap reverse (map-append f left (x ∷ [])) ∙ reverse-append (map f left) (f x ∷ [])))
+
+-- ---- a fact of each element, as a recursion
+abbrev Each : {A : Type 0} → (A → Type 0) → List A → Type 0
+Each P [] = Unit {0}
+Each P (x ∷ xs) = P x × Each P xs
+
+each_append : {A : Type 0} (P : A → Type 0) (xs ys : List A) → Each P xs → Each P ys → Each P (xs ++ ys)
+each_append P [] ys a b = b
+each_append P (x ∷ xs) ys a b = (a.0, each_append P xs ys a.1 b)
+
+each_reverse : {A : Type 0} (P : A → Type 0) (xs : List A) → Each P xs → Each P (reverse xs)
+each_reverse P [] a = tt
+each_reverse P (x ∷ xs) a = subst (Each P) (sym (reverse-append (x ∷ []) xs)) (each_append P (reverse xs) (x ∷ []) (each_reverse P xs a.1) (a.0, tt))
+
+each_at : {A : Type 0} (P : A → Type 0) (xs : List A) → Each P xs → (k : ℕ) (d : A) → k < length xs → P (get_or xs k d)
+each_at P [] a k d lt = absurd (omega arith)
+each_at P (x ∷ xs) a zero d lt = a.0
+each_at P (x ∷ xs) a (suc k) d lt = each_at P xs a.1 k d (omega arith)
+
+each_all : {A : Type 0} (P : A → Type 0) (xs : List A) → Each P xs → All P xs
+each_all P xs a = λ k d lt. each_at P xs a k d lt
+
+each_of_map : {A B : Type 0} (P : B → Type 0) (f : A → B) (xs : List A) → Each P (map f xs) → Each (λ x. P (f x)) xs
+each_of_map P f [] a = tt
+each_of_map P f (x ∷ xs) a = (a.0, each_of_map P f xs a.1)
+
+each_to_map : {A B : Type 0} (P : B → Type 0) (f : A → B) (xs : List A) → Each (λ x. P (f x)) xs → Each P (map f xs)
+each_to_map P f [] a = tt
+each_to_map P f (x ∷ xs) a = (a.0, each_to_map P f xs a.1)
+
+-- ---- what a run keeps
+pub works_through : (d e f : DeskData) → WorksOn d e → WorksOn e f → WorksOn d f
+works_through d e f first then = record {
+  place = then.place ∙ first.place;
+  base = then.base ∙ first.base;
+  number = then.number ∙ first.number;
+  goes_on = λ taken put away.
+      let g = first.goes_on taken put away in
+      let h = then.goes_on g.0 g.1 g.2 in
+      (h.0, h.1, h.2, goes_on_through put g.1 h.1 g.3 h.3);
+}
+
+pub works_itself : (d : DeskData) → WorksOn d d
+works_itself d = record { place = refl; base = refl; number = refl; goes_on = λ taken put away. (taken, put, away, goes_on_itself put) }
+
+-- a desk of the place, whose last book goes on from the opening one
+record IsFrom (place : TableId) (b : BookData) (d : DeskData) : Type 0 where
+  pub at : d.place ≡ place
+  pub goes_on : (taken : BookData) × (put : BookData) × IsAway d taken put × GoesOn b put
+
+worked_from : (place : TableId) (b : BookData) (d e : DeskData) → IsFrom place b d → WorksOn d e → IsFrom place b e
+worked_from place b d e f w =
+    let g = f.goes_on in
+    let h = w.goes_on g.0 g.1 g.2 in
+    record { at = w.place ∙ f.at; goes_on = (h.0, h.1, h.2, goes_on_through b g.1 h.1 g.3 h.3) }
+
+-- after the runs each worker's desk and fault are as its run leaves them
+abbrev pub AreWorked : List (CachePadded Worker) → List (CachePadded Worker) → Type 0
+AreWorked xs ys = (length ys ≡ length xs) × ((k : ℕ) (d : CachePadded Worker) → k < length xs → HasWorked (get_or xs k d) (get_or ys k d))
+
+each_worked : (place : TableId) (b : BookData) (xs ys : List (CachePadded Worker)) → AreWorked xs ys → Each (λ w. IsFrom place b (desk_in w)) xs → Each (λ w. IsFrom place b (desk_in w)) ys
+each_worked place b [] [] w a = tt
+each_worked place b [] (y ∷ ys) w a = absurd (let e = w.0 in omega (arith, e))
+each_worked place b (x ∷ xs) [] w a = absurd (let e = w.0 in omega (arith, e))
+each_worked place b (x ∷ xs) (y ∷ ys) w a =
+    let e = w.0 in
+    let same : length ys ≡ length xs = omega (arith, e) in
+    (worked_from place b (desk_in x) (desk_in y) a.0 (w.1 0 x (omega arith)).works, each_worked place b xs ys (same, λ k d lt. w.1 (suc k) d (omega (arith, lt))) a.1)
+
+pub faults_in : (xs ys : List (CachePadded Worker)) → AreWorked xs ys → All (λ w. IsMemory (fault_in w)) ys
+faults_in xs ys w = λ k d lt. let e = w.0 in (w.1 k d (omega (arith, e, lt))).fault
+
+-- ---- the new desks
+each_new : (place : TableId) (b : BookData) (n : ℕ) → Each (IsFrom place b) (new_desks place b n)
+each_new place b zero = tt
+each_new place b (suc n) = each_append (IsFrom place b) (new_desks place b n) (new_desk place b (n + 1) ∷ []) (each_new place b n) (record { at = refl; goes_on = (b, b, refl, goes_on_itself b) }, tt)
+
+each_can : (place : TableId) (b : BookData) (n : ℕ) → Each (CanTurn place) (new_desks place b n)
+each_can place b zero = tt
+each_can place b (suc n) = each_append (CanTurn place) (new_desks place b n) (new_desk place b (n + 1) ∷ []) (each_can place b n) (record { ready = (refl, (b, b, refl)); offer = refl }, tt)
+
+length-new_desks : (place : TableId) (b : BookData) (n : ℕ) → length (new_desks place b n) ≡ n
+length-new_desks place b zero = refl
+length-new_desks place b (suc n) = length_push (new_desks place b n) (new_desk place b (n + 1)) ∙ ap (λ k. k + 1) (length-new_desks place b n) ∙ add-one n
+
+-- the workers may start
+pub workers_can : (place : TableId) (b : BookData) (n : ℕ) (xs : List (CachePadded Worker)) → map desk_in xs ≡ reverse (new_desks place b n) → All (λ w. CanTurn place (desk_in w)) xs
+workers_can place b n xs is = each_all (λ w. CanTurn place (desk_in w)) xs (each_of_map (CanTurn place) desk_in xs (subst (Each (CanTurn place)) (sym is) (each_reverse (CanTurn place) (new_desks place b n) (each_can place b n))))
+
+pub length_workers : (place : TableId) (b : BookData) (n : ℕ) (xs : List (CachePadded Worker)) → map desk_in xs ≡ reverse (new_desks place b n) → length xs ≡ n
+length_workers place b n xs is = sym (length-map xs desk_in) ∙ ap length is ∙ length-reverse (new_desks place b n) ∙ length-new_desks place b n
+
+-- ---- the desks that come back
+pub length_back : (xs : List (CachePadded Worker)) → length (reverse (map desk_in xs)) ≡ length xs
+length_back xs = length-reverse (map desk_in xs) ∙ length-map xs desk_in
+
+each_back : (place : TableId) (b : BookData) (n : ℕ) (xs ys : List (CachePadded Worker)) (ds : List DeskData) → map desk_in xs ≡ reverse (new_desks place b n) → AreWorked xs ys → ds ≡ reverse (map desk_in ys) → Each (IsFrom place b) ds
+each_back place b n xs ys ds is w back =
+    let from = each_of_map (IsFrom place b) desk_in xs (subst (Each (IsFrom place b)) (sym is) (each_reverse (IsFrom place b) (new_desks place b n) (each_new place b n))) in
+    subst (Each (IsFrom place b)) (sym back) (each_reverse (IsFrom place b) (map desk_in ys) (each_to_map (IsFrom place b) desk_in ys (each_worked place b xs ys w from)))
+
+pub back_ready : (place : TableId) (b : BookData) (n : ℕ) (xs ys : List (CachePadded Worker)) (ds : List DeskData) → map desk_in xs ≡ reverse (new_desks place b n) → AreWorked xs ys → ds ≡ reverse (map desk_in ys) → All (IsReady place) ds
+back_ready place b n xs ys ds is w back = λ k d lt. let f = each_at (IsFrom place b) ds (each_back place b n xs ys ds is w back) k d lt in (f.at, (f.goes_on.0, f.goes_on.1, f.goes_on.2))
+
+-- the book of which all that a desk was told is true goes on from the opening one
+pub back_goes_on : (place : TableId) (b c : BookData) (n : ℕ) (xs ys : List (CachePadded Worker)) (ds : List DeskData) → map desk_in xs ≡ reverse (new_desks place b n) → AreWorked xs ys → ds ≡ reverse (map desk_in ys) → 0 < length ds → All (IsTrueOf c) ds → GoesOn b c
+back_goes_on place b c n xs ys ds is w back some told =
+    let d = new_desk place b 0 in
+    let g = (each_at (IsFrom place b) ds (each_back place b n xs ys ds is w back) 0 d some).goes_on in
+    goes_on_through b g.1 c g.3 (told 0 d some g.0 g.1 g.2).put_on

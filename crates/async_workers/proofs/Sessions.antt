@@ -1,0 +1,221 @@
+-- What the steps of a session make of the book in hand.
+use Rattle.std.proofs.Common.{◌≡◌, ◌≢◌, ℕ, ℤ, ◌+◌, List, [], ◌∷◌, ◌++◌, Bool, true, false, length, Option, None, Some, Result, Ok, Err, OnErr, IfOk, inl, inr, refl, sym, ap, ◌∙◌, subst, arith, length-append}
+use Rattle.assign_core.specs.Numbered.{numbered}
+use Rattle.assign_core.specs.Prices.{IsBelow}
+use Rattle.assign_core.proofs.NumberedLemmas.{numbered-same, numbered_in}
+use Rattle.bidder.specs.declared.offers.Bid.{Bid}
+use Rattle.bidder.specs.declared.offers.Offer.{Offer}
+use Rattle.bidder.specs.declared.offers.Offer.TheVariants as made
+use Rattle.auction_book.specs.declared.answers.Accepted.{Accepted}
+use Rattle.auction_book.specs.declared.answers.Claim.{Claim}
+use Rattle.auction_book.specs.declared.answers.Claim.TheVariants as claim
+use Rattle.auction_book.specs.declared.answers.Refused.{Refused}
+use Rattle.auction_book.specs.declared.answers.Refused.TheVariants.{NotClaimed, WrongPhase, TooLow, Memory}
+use Rattle.auction_book.specs.Book.{BookData, Holds, persons_of, prices_of}
+use Rattle.auction_book.specs.Changes.{phased, released}
+use Rattle.auction_book.specs.Claims.{IsAsked, after_claim, claim_of}
+use Rattle.auction_book.specs.Follows.{Follows}
+use Rattle.auction_book.specs.Free.{IsFree}
+use Rattle.auction_book.specs.Phases.{is_over}
+use Rattle.auction_book.specs.Session.{IsPrepared, Submits, book_next, book_taken, next_if_over}
+use Rattle.auction_book.specs.Submissions.{IsSubmitted}
+use Rattle.auction_book.proofs.Accepting.{released_follows, released_free}
+use Rattle.auction_book.proofs.Claiming.{cond_by}
+use Rattle.auction_book.proofs.Following.{claimed_follows, follows_itself, follows_through, over_is}
+use Rattle.auction_book.proofs.Places.{everyone}
+use Rattle.auction_book.proofs.Runs.{IsLeft, judged_left, offer_left, ready}
+use Rattle.scaled_values.specs.Scaled.{ScaledProblem}
+use Rattle.async_workers.specs.declared.gate.Note.{Note}
+use Rattle.async_workers.specs.Desk.{DeskData}
+use Rattle.async_workers.specs.Hand.{IsInHand}
+use Rattle.async_workers.specs.Session.{Ends, EndsUndone, IsHandedIn, IsNoted, IsUndone, Leaves, catches_up, caught_in, counted, is_too_low, note_of, with_table}
+use Rattle.async_workers.proofs.Hands.{hand_follows, hand_own}
+
+-- a submission in the words of the core
+pub submits_of : (b new : BookData) (worker : ℕ) (offer : Option Offer) (told : Note) → IsNoted b worker offer new told → Submits b worker offer new
+submits_of b new worker None told noted = noted.0
+submits_of b new worker (Some (made.Bid bid)) told noted = (noted.0, noted.1, noted.2)
+submits_of b new worker (Some (made.Below below)) told noted = noted.0
+
+-- what the worker's offer leaves: no claim, and a stop where there was one
+pub record IsHanded (worker : ℕ) (b new : BookData) : Type 0 where
+  pub left : IsLeft worker b new
+  pub stopped : new.stopped ≡ b.stopped
+
+judged_stopped : (b new : BookData) (worker : ℕ) (bid : Bid) (answer : Result Accepted Refused) → IsSubmitted b worker bid answer new → new.stopped ≡ b.stopped
+judged_stopped b new worker bid (Ok a) s = ap (λ (b : BookData). b.stopped) s.4
+judged_stopped b new worker bid (Err NotClaimed) s = ap (λ (b : BookData). b.stopped) s.1
+judged_stopped b new worker bid (Err WrongPhase) s = ap (λ (b : BookData). b.stopped) s.2
+judged_stopped b new worker bid (Err (TooLow price)) s = ap (λ (b : BookData). b.stopped) s.4
+judged_stopped b new worker bid (Err Memory) s = ap (λ (b : BookData). b.stopped) s.3
+
+pub noted_stopped : (b new : BookData) (worker : ℕ) (offer : Option Offer) (told : Note) → IsNoted b worker offer new told → new.stopped ≡ b.stopped
+noted_stopped b new worker None told noted = ap (λ (b : BookData). b.stopped) noted.0
+noted_stopped b new worker (Some (made.Bid bid)) told noted = judged_stopped b new worker bid noted.0 noted.2
+noted_stopped b new worker (Some (made.Below below)) told noted = ap (λ (b : BookData). b.stopped) noted.0.2
+
+pub released_handed : (b new : BookData) (worker person : ℕ) → IsFree b → Holds b worker person → new ≡ released b worker person → IsHanded worker b new
+released_handed b new worker person free held is =
+    let r = numbered_in b.claims worker person held in
+    subst (IsHanded worker b) (sym is) record {
+      left = record {
+        step = record { free = released_free b worker person free held; follows = released_follows b worker person };
+        none = numbered-same b.claims worker None None r.0 r.1;
+      };
+      stopped = refl;
+    }
+
+undone_handed : (b new : BookData) (worker : ℕ) (table : List ℤ) (version : ℕ) (offer : Option Offer) (told : Note) → IsFree b → IsBelow table (prices_of b) → IsPrepared b worker table version offer → IsUndone b worker offer new told → IsHanded worker b new
+undone_handed b new worker table version None told free below prepared undone = absurd undone
+undone_handed b new worker table version (Some (made.Bid bid)) told free below h undone = record {
+  left = judged_left worker h.0 b new table bid (Err Memory) free below h.1 h.2.0 h.2.1 h.2.3 undone.0;
+  stopped = judged_stopped b new worker bid (Err Memory) undone.0;
+}
+undone_handed b new worker table version (Some (made.Below below_floor)) told free below h undone = released_handed b new worker below_floor.person free undone.0 undone.1
+
+pub handed_in : {E : Type 0} (b new : BookData) (worker : ℕ) (table : List ℤ) (version : ℕ) (offer : Option Offer) (told : Note) (outcome : Result (Unit {0}) E) → IsFree b → IsBelow table (prices_of b) → IsPrepared b worker table version offer →
+    IsHandedIn b worker offer new told outcome → IsHanded worker b new
+handed_in b new worker table version offer told (Ok done) free below prepared is =
+    record { left = offer_left worker b new table version offer free below prepared (submits_of b new worker offer told is); stopped = noted_stopped b new worker offer told is }
+handed_in b new worker table version offer told (Err refused) free below prepared is = undone_handed b new worker table version offer told free below prepared is
+
+-- an offer prepared from the desk's table may go in
+pub may_go_in : (d : DeskData) (taken b c : BookData) (worker : ℕ) (offer given : Option Offer) → IsInHand d taken b → IsPrepared b d.number d.table d.version offer → c ≡ b → worker ≡ d.number → given ≡ offer →
+    (table : List ℤ) × (version : ℕ) × IsBelow table (prices_of c) × IsPrepared c worker table version given
+may_go_in d taken b c worker offer given hand prepared same_book same_worker same_offer = (
+  d.table,
+  d.version,
+  subst (λ (c : BookData). IsBelow d.table (prices_of c)) (sym same_book) hand.may.below,
+  subst (λ (z : BookData × ℕ × Option Offer). IsPrepared z.0 z.1 d.table d.version z.2) (λ i. (sym same_book i, sym same_worker i, sym same_offer i)) prepared,
+)
+
+pub hand_handed : {E : Type 0} (d : DeskData) (taken b c new : BookData) (worker : ℕ) (offer given : Option Offer) (told : Note) (outcome : Result (Unit {0}) E) → IsInHand d taken b → IsPrepared b d.number d.table d.version offer → c ≡ b → worker ≡ d.number → given ≡ offer →
+    IsHandedIn c worker given new told outcome → IsHanded d.number b new
+hand_handed d taken b c new worker offer given told outcome hand prepared same_book same_worker same_offer is =
+    handed_in b new d.number d.table d.version offer told outcome hand.may.free hand.may.below prepared
+    (subst (λ (z : BookData × ℕ × Option Offer). IsHandedIn z.0 z.1 z.2 new told outcome) (λ i. (same_book i, same_worker i, same_offer i)) is)
+
+pub handed_hand : (d : DeskData) (taken b new : BookData) → IsInHand d taken b → IsHanded d.number b new → IsInHand d taken new
+handed_hand d taken b new hand is = hand_follows d taken b new hand is.left.step.follows is.stopped is.left.step.free
+
+-- claims and phases
+pub next_stopped : (b : BookData) → (next_if_over b).stopped ≡ b.stopped
+next_stopped b = cond_by (λ (n : BookData). n.stopped ≡ b.stopped) (is_over b) (phased b) b (λ h. refl) (λ h. refl)
+
+claim_follows : (b : BookData) (worker : ℕ) (answer : Claim) → Follows worker b (after_claim b worker answer)
+claim_follows b worker (claim.Person person ask) = claimed_follows b worker
+claim_follows b worker claim.Refuted = follows_itself b worker
+claim_follows b worker claim.Done = follows_itself b worker
+claim_follows b worker claim.Stopped = follows_itself b worker
+claim_follows b worker claim.Wait = follows_itself b worker
+
+claim_stopped : (b : BookData) (worker : ℕ) (answer : Claim) → (after_claim b worker answer).stopped ≡ b.stopped
+claim_stopped b worker (claim.Person person ask) = refl
+claim_stopped b worker claim.Refuted = refl
+claim_stopped b worker claim.Done = refl
+claim_stopped b worker claim.Stopped = refl
+claim_stopped b worker claim.Wait = refl
+
+next_follows : (d : DeskData) (taken b : BookData) → IsInHand d taken b → numbered b.claims d.number None ≡ None → Follows d.number b (next_if_over b)
+next_follows d taken b hand none = (ready d.number false b d.table d.version hand.may.free none (hand_own d taken b hand)).next.follows
+
+-- the next phase where it is time, and then a claim
+pub hand_moved : (d : DeskData) (taken b c mid over new : BookData) (worker : ℕ) (answer : Claim) → IsInHand d taken b → numbered b.claims d.number None ≡ None → c ≡ b → mid ≡ next_if_over c → over ≡ mid → worker ≡ d.number →
+    new ≡ after_claim over worker answer → IsFree new → IsInHand d taken new
+hand_moved d taken b c mid over new worker answer hand none same next again same_worker is free =
+    let n = next_if_over b in
+    let book : over ≡ n = again ∙ next ∙ ap next_if_over same in
+    let new_is : new ≡ after_claim n d.number answer = is ∙ (λ i. after_claim (book i) (same_worker i) answer) in
+    let follows = follows_through b n (after_claim n d.number answer) d.number (next_follows d taken b hand none) (claim_follows n d.number answer) in
+    hand_follows d taken b new hand (subst (Follows d.number b) (sym new_is) follows) (ap (λ (b : BookData). b.stopped) new_is ∙ claim_stopped n d.number answer ∙ next_stopped b) free
+
+pub asked_in_hand : (d : DeskData) (taken b c mid over : BookData) (answer : Claim) → IsInHand d taken b → numbered b.claims d.number None ≡ None → c ≡ b → mid ≡ next_if_over c → over ≡ mid → IsAsked over.base answer → IsAsked d.base answer
+asked_in_hand d taken b c mid over answer hand none same next again asked =
+    let book : over ≡ next_if_over b = again ∙ next ∙ ap next_if_over same in
+    subst (λ (s : ScaledProblem). IsAsked s answer) (ap (λ (b : BookData). b.base) book ∙ (next_follows d taken b hand none).goes_on.base ∙ sym hand.same_base) asked
+
+-- where somebody waits the phase isn't over
+waiting : (b : BookData) (queue : List ℕ) (person : ℕ) → IsFree b → b.queue ≡ queue ++ person ∷ [] → is_over b ≡ true → ⊥
+waiting b queue person free is over =
+    let whole = everyone (persons_of b) b.owners b.queue b.claims free.placed_once in
+    let all = (over_is b over).assigned in
+    let long : length b.queue ≡ length queue + 1 = ap length is ∙ length-append queue (person ∷ []) in
+    omega arith
+
+taken_queue : (caught : Bool) (b : BookData) (worker : ℕ) → (book_taken caught b worker).queue ≡ b.queue
+taken_queue true b worker = refl
+taken_queue false b worker = refl
+
+released_over : (b left : BookData) (worker person : ℕ) (caught : Bool) → IsFree (book_taken caught left worker) → left.queue ≡ b.queue ++ person ∷ [] → is_over (book_taken caught left worker) ≡ true → ⊥
+released_over b left worker person caught free queue over = waiting (book_taken caught left worker) b.queue person free (taken_queue caught left worker ∙ queue) over
+
+-- what stands where the next phase was refused memory
+judged_leaves : (refresh : ℕ) (d : DeskData) (b left : BookData) (bid : Bid) (answer : Result Accepted Refused) (told : Note) (caught : Bool) → Holds b d.number bid.person → answer ≢ Err Memory → IsSubmitted b d.number bid answer left → told ≡ note_of answer →
+    caught ≡ caught_in refresh d told → IsFree (book_taken caught left d.number) → is_over (book_taken caught left d.number) ≡ true → Leaves refresh d (Some (made.Bid bid)) b left caught
+judged_leaves refresh d b left bid (Ok a) told caught held not_memory s noted is free over = inl (a, s, is ∙ ap (caught_in refresh d) noted)
+judged_leaves refresh d b left bid (Err NotClaimed) told caught held not_memory s noted is free over = absurd (s.0 held)
+judged_leaves refresh d b left bid (Err WrongPhase) told caught held not_memory s noted is free over = absurd (released_over b left d.number bid.person caught free (ap (λ (b : BookData). b.queue) s.2) over)
+judged_leaves refresh d b left bid (Err (TooLow price)) told caught held not_memory s noted is free over = absurd (released_over b left d.number bid.person caught free (ap (λ (b : BookData). b.queue) s.4) over)
+judged_leaves refresh d b left bid (Err Memory) told caught held not_memory s noted is free over = absurd (not_memory refl)
+
+over_leaves : (refresh : ℕ) (d : DeskData) (b left : BookData) (offer : Option Offer) (told : Note) (caught : Bool) → IsPrepared b d.number d.table d.version offer → IsNoted b d.number offer left told → caught ≡ caught_in refresh d told →
+    IsFree (book_taken caught left d.number) → is_over (book_taken caught left d.number) ≡ true → Leaves refresh d offer b left caught
+over_leaves refresh d b left None told caught prepared noted is free over = (noted.0, is ∙ ap (caught_in refresh d) noted.1)
+over_leaves refresh d b left (Some (made.Bid bid)) told caught prepared noted is free over =
+    judged_leaves refresh d b left bid noted.0 told caught (prepared.1 ∙ ap Some (sym prepared.2.0)) noted.1 noted.2 noted.3 is free over
+over_leaves refresh d b left (Some (made.Below below)) told caught prepared noted is free over =
+    absurd (released_over b left d.number below.person caught free (ap (λ (b : BookData). b.queue) noted.0.2) over)
+
+-- a session whose offer was refused memory
+undone_leaves : (refresh : ℕ) (d : DeskData) (b left : BookData) (offer : Option Offer) (told : Note) → IsUndone b d.number offer left told → Leaves refresh d offer b left false
+undone_leaves refresh d b left None told undone = absurd undone
+undone_leaves refresh d b left (Some (made.Bid bid)) told undone = inr (undone.0, refl)
+undone_leaves refresh d b left (Some (made.Below below)) told undone = (undone.0, undone.1, refl)
+
+pub ends_undone : {E : Type 0} (refresh : ℕ) (d e : DeskData) (b left : BookData) (offer : Option Offer) (told : Note) (outcome : Result (Unit {0}) E) (refused : E) → outcome ≡ Err refused → IsHandedIn b d.number offer left told outcome → numbered left.claims d.number None ≡ None → e ≡ counted false d →
+    EndsUndone refresh d offer b e left
+ends_undone {E} refresh d e b left offer told outcome refused failed handed none is = record {
+  left = left;
+  caught = false;
+  leaves = undone_leaves refresh d b left offer told (subst (λ (o : Result (Unit {0}) E). IsHandedIn b d.number offer left told o) failed handed);
+  none = none;
+  book = refl;
+  desk = is;
+}
+
+pub taken_claims : (caught : Bool) (b : BookData) (worker : ℕ) → (book_taken caught b worker).claims ≡ b.claims
+taken_claims true b worker = refl
+taken_claims false b worker = refl
+
+pub taken_stopped : (caught : Bool) (b : BookData) (worker : ℕ) → (book_taken caught b worker).stopped ≡ b.stopped
+taken_stopped true b worker = refl
+taken_stopped false b worker = refl
+
+pub noted_of : {E : Type 0} (b new : BookData) (worker : ℕ) (offer : Option Offer) (told : Note) (outcome : Result (Unit {0}) E) (done : Unit {0}) → outcome ≡ Ok done → IsHandedIn b worker offer new told outcome → IsNoted b worker offer new told
+noted_of {E} b new worker offer told outcome done went handed = subst (λ (o : Result (Unit {0}) E). IsHandedIn b worker offer new told o) went handed
+
+-- a session whose offer went in
+pub ends : {E : Type 0} (refresh : ℕ) (d e : DeskData) (b left kept new : BookData) (offer : Option Offer) (told : Note) (too_low : Bool) (outcome : Result Claim E) → IsPrepared b d.number d.table d.version offer → IsNoted b d.number offer left told → numbered left.claims d.number None ≡ None → too_low ≡ is_too_low told →
+    kept ≡ book_taken (catches_up refresh too_low d.since) left d.number → e ≡ counted (catches_up refresh too_low d.since) (with_table (catches_up refresh too_low d.since) left d) → IsFree kept →
+    IfOk outcome (λ answer. (answer ≡ claim_of (next_if_over kept)) × (new ≡ after_claim (next_if_over kept) e.number answer)) → OnErr outcome ((new ≡ kept) × (is_over kept ≡ true)) → Ends refresh d offer b e new told outcome
+ends refresh d e b left kept new offer told too_low (Ok answer) prepared noted none low kept_is desk_is free ok err =
+    let c : catches_up refresh too_low d.since ≡ caught_in refresh d told = ap (λ t. catches_up refresh t d.since) low in
+    let kept_now : kept ≡ book_taken (caught_in refresh d told) left d.number = kept_is ∙ ap (λ c. book_taken c left d.number) c in
+    let number : e.number ≡ d.number = ap (λ (d : DeskData). d.number) desk_is in
+    let answered : answer ≡ claim_of (book_next (caught_in refresh d told) left d.number) = ok.0 ∙ ap (λ k. claim_of (next_if_over k)) kept_now in
+    record {
+      submitted = left;
+      noted = noted;
+      answered = answered;
+      book = ok.1 ∙ (λ i. after_claim (next_if_over (kept_now i)) (number i) (answered i));
+      desk = desk_is ∙ ap (λ c. counted c (with_table c left d)) c;
+    }
+ends refresh d e b left kept new offer told too_low (Err refused) prepared noted none low kept_is desk_is free ok err =
+    record {
+      left = left;
+      caught = catches_up refresh too_low d.since;
+      leaves = over_leaves refresh d b left offer told (catches_up refresh too_low d.since) prepared noted (ap (λ t. catches_up refresh t d.since) low) (subst IsFree kept_is free) (sym (ap is_over kept_is) ∙ err.1);
+      none = ap (λ (b : BookData). numbered b.claims d.number None) (err.0 ∙ kept_is) ∙ ap (λ c. numbered c d.number None) (taken_claims (catches_up refresh too_low d.since) left d.number) ∙ none;
+      book = err.0 ∙ kept_is;
+      desk = desk_is;
+    }

@@ -1,0 +1,98 @@
+-- One thread goes on with a book as worker 1.
+use Rattle.std.proofs.Common.{◌≡◌, ◌≢◌, ℕ, ℤ, zero, suc, ◌+◌, ◌<◌, ◌≤◌, List, [], ◌∷◌, Option, None, Some, cond, length, get_or, true, refl, sym, ap, ◌∙◌, subst, arith, Result, Ok, Err, OnOk, false}
+use Rattle.assign_core.specs.Numbered.{IsNumber, numbered}
+use Rattle.assign_core.specs.Prices.{IsBelow}
+use Rattle.assign_core.proofs.Matchings.{below_itself}
+use Rattle.assign_core.proofs.NumberedLemmas.{numbered-same, numbered_in}
+use Rattle.scaled_values.specs.Scaled.{ScaledProblem}
+use Rattle.scaled_values.proofs.RowFacts.{benefit_row_is}
+use Rattle.bidder.specs.declared.offers.Offer.{Offer}
+use Rattle.bidder.proofs.Sound.{offer_is}
+use Rattle.auction_book.specs.declared.answers.Claim.{Claim}
+use Rattle.auction_book.specs.declared.answers.Claim.TheVariants as claim
+use Rattle.auction_book.specs.Book.{BookData, ask_of, is_refuted, persons_of, prices_of}
+use Rattle.auction_book.specs.Changes.{given_up, phased}
+use Rattle.auction_book.specs.Claims.{after_claim, claim_front, claim_of}
+use Rattle.auction_book.specs.Follows.{Follows, GoesOn}
+use Rattle.auction_book.specs.Free.{IsFree}
+use Rattle.auction_book.specs.Phases.{is_done, is_over}
+use Rattle.auction_book.specs.Session.{IsPrepared, Submits, next_if_over, prepared}
+use Rattle.auction_book.proofs.Claiming.{cond_by}
+use Rattle.auction_book.proofs.Following.{claimed_follows, follows_itself, given_up_follows, goes_on_through, over_is, phased_follows, stop_follows}
+use Rattle.auction_book.proofs.Places.{claimed_person}
+use Rattle.auction_book.proofs.Runs.{IsLeft, offer_left}
+
+given_none : (b : BookData) (worker : ℕ) (o : Option ℕ) → numbered b.claims worker None ≡ o → numbered (given_up b worker o).claims worker None ≡ None
+given_none b worker None is = is
+given_none b worker (Some person) is = let r = numbered_in b.claims worker person is in numbered-same b.claims worker None None r.0 r.1
+
+-- once worker 1 has given up its claim it has none, whoever gives up next
+pub one_given_up : (b : BookData) (before : ℕ) → (0 < before → numbered b.claims 1 None ≡ None) → numbered (given_up b (before + 1) (numbered b.claims (before + 1) None)).claims 1 None ≡ None
+one_given_up b zero h = given_none b 1 (numbered b.claims 1 None) refl
+one_given_up b (suc k) h = (given_up_follows b (suc k + 1)).claims 1 (λ e. omega (arith, e)) ∙ h (omega arith)
+
+-- what worker 1 has after a claim: an offer from today's prices, where it has a person
+record IsClaimed (b : BookData) (version : ℕ) (answer : Claim) : Type 0 where
+  pub follows : Follows 1 b (after_claim b 1 answer)
+  pub prices : prices_of (after_claim b 1 answer) ≡ prices_of b
+  pub base : (after_claim b 1 answer).base ≡ b.base
+  pub prepared : IsPrepared (after_claim b 1 answer) 1 (prices_of b) version (prepared b.base (prices_of b) version answer)
+
+claimed_front : (b : BookData) (version : ℕ) (queue : List ℕ) → IsFree b → IsNumber (length b.claims) 1 → numbered b.claims 1 None ≡ None → b.queue ≡ queue → IsClaimed b version (claim_front b queue)
+claimed_front b version [] free number none e = record { follows = follows_itself b 1; prices = refl; base = refl; prepared = none }
+claimed_front b version (person ∷ rest) free number none e =
+    let p = claimed_person (persons_of b) b.owners b.queue b.claims person rest free.placed_once e in
+    let row = benefit_row_is b.base person free.problem p in
+    record {
+      follows = claimed_follows b 1;
+      prices = refl;
+      base = refl;
+      prepared = (person, numbered-same b.claims 1 (Some (get_or b.queue 0 0)) None number.first number.last ∙ ap (λ q. Some (get_or q 0 0)) e, offer_is b.base (prices_of b) version (ask_of b) person row.rising);
+    }
+
+claimed_is : (b : BookData) (version : ℕ) → IsFree b → IsNumber (length b.claims) 1 → numbered b.claims 1 None ≡ None → IsClaimed b version (claim_of b)
+claimed_is b version free number none =
+    cond_by (IsClaimed b version) (is_refuted b.refuted) claim.Refuted (cond (is_done b) claim.Done (cond b.stopped claim.Stopped (claim_front b b.queue))) (λ h. record { follows = follows_itself b 1; prices = refl; base = refl; prepared = none })
+    (λ h. cond_by (IsClaimed b version) (is_done b) claim.Done (cond b.stopped claim.Stopped (claim_front b b.queue)) (λ h. record { follows = follows_itself b 1; prices = refl; base = refl; prepared = none })
+    (λ h. cond_by (IsClaimed b version) b.stopped claim.Stopped (claim_front b b.queue) (λ h. record { follows = follows_itself b 1; prices = refl; base = refl; prepared = none })
+    (λ h. claimed_front b version b.queue free number none refl)))
+
+-- the offer that is made of the claim is prepared
+pub alone_prepared : (b new : BookData) (s : ScaledProblem) (table : List ℤ) (version : ℕ) (answer : Claim) (offer : Option Offer) → IsFree b → IsNumber (length b.claims) 1 → numbered b.claims 1 None ≡ None →
+    answer ≡ claim_of b → new ≡ after_claim b 1 answer → s ≡ new.base → table ≡ prices_of new → offer ≡ prepared s table version answer → IsPrepared new 1 (prices_of new) version offer
+alone_prepared b new s table version answer offer free number none is_answer is_new is_base is_table is_offer =
+    let c : IsClaimed b version answer = subst (IsClaimed b version) (sym is_answer) (claimed_is b version free number none) in
+    let prices : prices_of new ≡ prices_of b = ap prices_of is_new ∙ c.prices in
+    let base : new.base ≡ b.base = ap (λ (b : BookData). b.base) is_new ∙ c.base in
+    let made : offer ≡ prepared b.base (prices_of b) version answer = is_offer ∙ (λ i. prepared ((is_base ∙ base) i) ((is_table ∙ prices) i) version answer) in
+    subst (λ (z : BookData × List ℤ × Option Offer). IsPrepared z.0 1 z.1 version z.2) (λ i. (sym is_new i, sym prices i, sym made i)) c.prepared
+
+pub alone_claimed : (b new : BookData) (answer : Claim) → IsFree b → IsNumber (length b.claims) 1 → numbered b.claims 1 None ≡ None → answer ≡ claim_of b → new ≡ after_claim b 1 answer → Follows 1 b new
+alone_claimed b new answer free number none is_answer is_new =
+    subst (Follows 1 b) (sym is_new) (subst (IsClaimed b 0) (sym is_answer) (claimed_is b 0 free number none)).follows
+
+-- the book once worker 1 has claimed and submitted
+pub alone_left : (b mid new : BookData) (table : List ℤ) (version : ℕ) (offer : Option Offer) → Follows 1 b mid → IsFree mid → table ≡ prices_of mid → IsPrepared mid 1 table version offer → Submits mid 1 offer new → GoesOn b new × (numbered new.claims 1 None ≡ None)
+alone_left b mid new table version offer follows free is prepared submits =
+    let left = offer_left 1 mid new table version offer free (subst (λ t. IsBelow t (prices_of mid)) (sym is) (below_itself (prices_of mid))) prepared submits in
+    (goes_on_through b mid new follows.goes_on left.step.follows.goes_on, left.none)
+
+-- the next phase, if this one is over
+pub alone_next : (b mid new : BookData) → GoesOn b mid → IsFree mid → numbered mid.claims 1 None ≡ None → new ≡ next_if_over mid → GoesOn b new × (numbered new.claims 1 None ≡ None)
+alone_next b mid new on free none is = subst (λ (n : BookData). GoesOn b n × (numbered n.claims 1 None ≡ None)) (sym is)
+    (cond_by (λ (n : BookData). GoesOn b n × (numbered n.claims 1 None ≡ None)) (is_over mid) (phased mid) mid
+    (λ h. (goes_on_through b mid (phased mid) on (phased_follows mid 1 free (over_is mid h)).goes_on, none)) (λ h. (on, none)))
+
+pub on_ok : {T E : Type 0} (r : Result T E) (P Q : Type 0) → OnOk r P → (P → Q) → OnOk r Q
+on_ok (Ok v) P Q h f = f h
+on_ok (Err e) P Q h f = tt
+
+-- who resumes a book alone
+pub alone_resumed : (b mid new : BookData) → GoesOn b mid → new ≡ record mid { stopped = false } → GoesOn b new
+alone_resumed b mid new on is = subst (GoesOn b) (sym is) (goes_on_through b mid (record mid { stopped = false }) on (stop_follows mid 1 false).goes_on)
+
+pub one_of : (b new : BookData) → 0 < length b.claims → GoesOn b new → IsNumber (length new.claims) 1
+one_of b new some on = let same = on.workers in record { first = omega arith; last = omega (arith, some, same) }
+
+pub all_given_up : (old b new : BookData) (worker : ℕ) → GoesOn old b → new ≡ given_up b worker (numbered b.claims worker None) → GoesOn old new
+all_given_up old b new worker on is = goes_on_through old b new on (subst (GoesOn b) (sym is) (given_up_follows b worker).goes_on)

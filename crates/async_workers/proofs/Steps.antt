@@ -1,0 +1,450 @@
+-- Each step on the place keeps its rule.
+use Rattle.std.proofs.Common.{◌≡◌, ◌≢◌, ◌⊎◌, ℕ, ℤ, zero, suc, ◌+◌, ◌<◌, List, [], ◌∷◌, ◌++◌, length, set, Option, None, Some, Bool, true, refl, sym, ap, ◌∙◌, subst, inl, inr, ⊎_elim, arith, cond, eqb, eq-eqb, ne_eqb, add-one}
+use Rattle.std.proofs.lemmas.List.{length-set, set-set}
+use mathlib.Core.Option.{Option as Maybe, some, none, some-ne-none, some-injective}
+use lib.ListN.{get_elem?}
+use Rattle.crossbeam_queue.specs.Fifo.{Pushes, Pops, Forks, Merges, Learns}
+use Rattle.crossbeam_queue.proofs.Lists.{at_set, set_here, set_else, at_longer}
+use Rattle.assign_core.specs.Numbered.{IsNumber, numbered}
+use Rattle.auction_book.specs.Book.{BookData, ask_of}
+use Rattle.auction_book.specs.Follows.{Follows}
+use Rattle.auction_book.specs.Free.{IsFree}
+use Rattle.auction_book.proofs.Following.{goes_on_itself, goes_on_through}
+use Rattle.auction_book.proofs.Runs.{own_kept}
+use Rattle.async_workers.specs.declared.rule.Told.{Told}
+use Rattle.async_workers.specs.declared.rule.View.{View}
+use Rattle.async_workers.specs.declared.rule.View.TheVariants.{Fresh, Opening, Away, Holding, Meeting, Spent}
+use Rattle.async_workers.specs.Views.{claim_in, claim_with, desk_made, keeps_empty, met, opener_at, opener_next, told_at, told_first}
+use Rattle.async_workers.specs.PlaceRule.{Fits, Gave, IsClosing, IsRunning, IsSeated, IsTold, IsUnopened, IsUntouched, IsVacant, MayFollow, MetIsTold, Rule, Takes, Took, content}
+use Rattle.async_workers.proofs.Untouched.{first_told}
+
+-- what stands in a list with one more at its end
+at_end : (l : List View) (a b : View) (j : ℕ) → get_elem? (l ++ a ∷ []) j ≡ some b → ((j ≡ length l) × (a ≡ b)) ⊎ (get_elem? l j ≡ some b)
+at_end [] a b zero e = inl (refl, some-injective a b e)
+at_end [] a b (suc j) e = absurd (some-ne-none b (sym e))
+at_end (x ∷ xs) a b zero e = inr e
+at_end (x ∷ xs) a b (suc j) e = ⊎_elim (λ t. inl (ap suc t.0, t.1)) (λ t. inr t) (at_end xs a b j e)
+
+there_is : (l : List View) (j : ℕ) (v : View) → get_elem? l j ≡ some v → j < length l
+there_is [] j v e = absurd (some-ne-none v (sym e))
+there_is (x ∷ xs) zero v e = omega arith
+there_is (x ∷ xs) (suc j) v e = let h = there_is xs j v e in omega arith
+
+-- a fact of each view after one of them has changed
+each_set : (F : ℕ → View → Type 0) (views : List View) (pass : ℕ) (w : View) → F pass w → ((j : ℕ) (u : View) → j ≢ pass → get_elem? views j ≡ some u → F j u) →
+    (j : ℕ) (u : View) → get_elem? (set views pass w) j ≡ some u → F j u
+each_set F views pass w mine others j u e = ⊎_elim
+    (λ (x : (j ≡ pass) × (w ≡ u)). subst (λ (y : ℕ × View). F y.0 y.1) (λ i. (sym x.0 i, x.1 i)) mine)
+    (λ (x : (j ≢ pass) × (get_elem? views j ≡ some u)). others j u x.0 x.1)
+    (at_set views pass j w u e)
+
+-- in an unopened place there is the first view alone
+only_fresh : (views : List View) (pass : ℕ) (v : View) → views ≡ Fresh ∷ [] → get_elem? views pass ≡ some v → Fresh ≡ v
+only_fresh views zero v is at = some-injective Fresh v (ap (λ l. get_elem? l zero) (sym is) ∙ at)
+only_fresh views (suc pass) v is at = absurd (some-ne-none v (sym (ap (λ l. get_elem? l (suc pass)) (sym is) ∙ at)))
+
+running : (items : List BookData) (views : List View) (pass : ℕ) (v : View) → Rule items views → get_elem? views pass ≡ some v → Fresh ≢ v → IsRunning items views
+running items views pass v rule at other =
+    ⊎_elim (λ (x : IsUnopened items views). absurd (other (only_fresh views pass v x.1 at))) (λ (x : IsRunning items views). x) rule
+
+fresh_away : (t : Told) → Fresh ≢ Away t
+fresh_away t e = cc
+
+fresh_holding : (t : Told) (b : BookData) → Fresh ≢ Holding t b
+fresh_holding t b e = cc
+
+fresh_meeting : (t : Told) (b : BookData) (u : Told) → Fresh ≢ Meeting t b u
+fresh_meeting t b u e = cc
+
+fresh_opening : (b : BookData) (n : ℕ) → Fresh ≢ Opening b n
+fresh_opening b n e = cc
+
+-- another worker's claim, and what is asked of it, stay
+claim_kept : (b c : BookData) (number k : ℕ) (o : Option ℕ) → Follows number b c → k ≢ number → numbered b.claims k None ≡ o → claim_in b k ≡ claim_in c k
+claim_kept b c number k None follows other is =
+    ap (λ x. claim_with x (ask_of b)) is ∙ sym (ap (λ x. claim_with x (ask_of c)) (follows.claims k other ∙ is))
+claim_kept b c number k (Some person) follows other is =
+    let asked : ask_of b ≡ ask_of c = sym (follows.asked k person other is) in
+    ap (λ x. claim_with x (ask_of b)) is ∙ ap (λ a. claim_with (Some person) a) asked ∙ sym (ap (λ x. claim_with x (ask_of c)) (follows.claims k other ∙ is))
+
+-- what a desk was told stays true through a change by another worker
+told_kept : (b c : BookData) (number : ℕ) (t : Told) → IsFree b → IsTold b t → Follows number b c → (b.stopped ≡ true → c.stopped ≡ true) → t.number ≢ number → IsTold c t
+told_kept b c number t free told follows stays other =
+    let on = follows.goes_on in
+    let own = own_kept b c t.table t.version free on (record { long = told.below; earlier = told.earlier }) in
+    record {
+      taken_free = told.taken_free;
+      put_free = told.put_free;
+      taken_on = told.taken_on;
+      put_on = goes_on_through t.put b c told.put_on on;
+      base = told.base ∙ sym on.base;
+      number = subst (λ n. IsNumber n t.number) (sym on.workers) told.number;
+      below = own.long;
+      earlier = own.earlier;
+      accepted = told.accepted ∙ sym (follows.counts t.number other);
+      claim = told.claim ∙ claim_kept b c number t.number (numbered b.claims t.number None) follows other refl;
+      stopped = λ asked. stays (told.stopped asked);
+    }
+
+not_held : (pass : ℕ) (holder : Maybe ℕ) → holder ≡ none → holder ≢ some pass
+not_held pass holder a b = some-ne-none pass (sym b ∙ a)
+
+same_pass : (p q : ℕ) (holder : Maybe ℕ) → holder ≡ some p → holder ≡ some q → p ≡ q
+same_pass p q holder a b = some-injective p q (sym a ∙ b)
+
+-- a book that lies in the place is the book, and nobody holds it
+lies_there : (holder : Maybe ℕ) (b x : BookData) (items : List BookData) → x ∷ items ≡ content holder b → (holder ≡ none) × (x ≡ b) × (items ≡ [])
+lies_there none b x items e = (refl, cc, cc)
+lies_there (some p) b x items e = absurd cc
+
+-- the other views when a pass takes the book
+others_taken : (b : BookData) (holder : Maybe ℕ) (made : ℕ) (seat : ℕ → Maybe ℕ) (pass j : ℕ) (u : View) → holder ≡ none → j ≢ pass → Fits b holder made seat j u → Fits b (some pass) made seat j u
+others_taken b holder made seat pass j Fresh empty apart f = f
+others_taken b holder made seat pass j (Opening o n) empty apart f = absurd (not_held j holder empty f.0)
+others_taken b holder made seat pass j (Away t) empty apart f = ((λ e. apart (sym (some-injective pass j e))), f.1, f.2)
+others_taken b holder made seat pass j (Holding t taken) empty apart f = absurd (not_held j holder empty f.0)
+others_taken b holder made seat pass j (Meeting t taken u) empty apart f = absurd (not_held j holder empty f.0)
+others_taken b holder made seat pass j Spent empty apart f = λ e. apart (sym (some-injective pass j e))
+
+-- take
+takes : (pass : ℕ) (t : Told) → Pops Rule pass (Away t) (λ x w. Takes t x w)
+takes pass t x items views rule at =
+    let g : IsRunning (x ∷ items) views = running (x ∷ items) views pass (Away t) rule at (fresh_away t) in
+    let lies = lies_there g.holder g.book x items g.place in
+    let mine = g.each pass (Away t) at in
+    let w : View = Holding t x in
+    let F : ℕ → View → Type 0 = Fits g.book (some pass) g.made g.seat in (
+      w,
+      inr record {
+        book = g.book;
+        holder = some pass;
+        made = g.made;
+        seat = g.seat;
+        free = g.free;
+        place = lies.2;
+        held = λ q e. (w, subst (λ q. get_elem? (set views pass w) q ≡ some w) (some-injective pass q e) (set_here views pass w (there_is views pass (Away t) at)), refl);
+        each = each_set F views pass w (refl, lies.1, mine.1, mine.2) (λ j u apart e. others_taken g.book g.holder g.made g.seat pass j u lies.0 apart (g.each j u e));
+      },
+      record { view = refl; free = subst IsFree (sym lies.1) g.free; told = subst (λ b. IsTold b t) (sym lies.1) mine.1 },
+    )
+
+-- the other views when a pass puts the book x in place of b
+others_given : (b x : BookData) (holder : Maybe ℕ) (made : ℕ) (seat : ℕ → Maybe ℕ) (pass j number : ℕ) (u : View) → IsFree b → holder ≡ some pass → j ≢ pass → seat number ≡ some pass →
+    Follows number b x → (b.stopped ≡ true → x.stopped ≡ true) → Fits b holder made seat j u → Fits x none made seat j u
+others_given b x holder made seat pass j number Fresh free held apart mine follows stays f = f
+others_given b x holder made seat pass j number (Opening o n) free held apart mine follows stays f = absurd (apart (same_pass j pass holder f.0 held))
+others_given b x holder made seat pass j number (Away t) free held apart mine follows stays f =
+    let other : t.number ≢ number = λ e. apart (same_pass j pass (seat number) (subst (λ n. seat n ≡ some j) e f.2.0) mine) in
+    ((λ e. some-ne-none j (sym e)), told_kept b x number t free f.1 follows stays other, f.2)
+others_given b x holder made seat pass j number (Holding t taken) free held apart mine follows stays f = absurd (apart (same_pass j pass holder f.0 held))
+others_given b x holder made seat pass j number (Meeting t taken u) free held apart mine follows stays f = absurd (apart (same_pass j pass holder f.0 held))
+others_given b x holder made seat pass j number Spent free held apart mine follows stays f = λ e. some-ne-none j (sym e)
+
+-- what the giver was told is true of the book that it puts back
+told_given : (t : Told) (taken x : BookData) (table : List ℤ) (version : ℕ) (stop : Bool) → IsFree taken → IsNumber (length taken.claims) t.number → MayFollow t.number table version stop taken x →
+    IsTold x (told_at t.number table version stop taken x)
+told_given t taken x table version stop free number may = record {
+  taken_free = free;
+  put_free = may.free;
+  taken_on = may.follows.goes_on;
+  put_on = goes_on_itself x;
+  base = refl;
+  number = subst (λ n. IsNumber n t.number) (sym may.follows.goes_on.workers) number;
+  below = may.below;
+  earlier = may.earlier;
+  accepted = refl;
+  claim = refl;
+  stopped = may.stopped;
+}
+
+-- give
+gives : (pass : ℕ) (t : Told) (taken x : BookData) (table : List ℤ) (version : ℕ) (stop : Bool) → MayFollow t.number table version stop taken x →
+    Pushes Rule 1 pass (Holding t taken) x (λ w. w ≡ Away (told_at t.number table version stop taken x))
+gives pass t taken x table version stop may items views room rule at =
+    let g : IsRunning items views = running items views pass (Holding t taken) rule at (fresh_holding t taken) in
+    let mine = g.each pass (Holding t taken) at in
+    let empty : items ≡ [] = g.place ∙ ap (λ h. content h g.book) mine.0 in
+    let w : View = Away (told_at t.number table version stop taken x) in
+    let F : ℕ → View → Type 0 = Fits x none g.made g.seat in
+    let free : IsFree taken = subst IsFree (sym mine.1) g.free in
+    let number : IsNumber (length taken.claims) t.number = subst (λ (b : BookData). IsNumber (length b.claims) t.number) (sym mine.1) mine.2.number in (
+      w,
+      inr record {
+        book = x;
+        holder = none;
+        made = g.made;
+        seat = g.seat;
+        free = may.free;
+        place = ap (λ l. l ++ x ∷ []) empty;
+        held = λ q e. absurd (some-ne-none q (sym e));
+        each = each_set F views pass w ((λ e. some-ne-none pass (sym e)), told_given t taken x table version stop free number may, mine.3)
+            (λ j u apart e. others_given g.book x g.holder g.made g.seat pass j t.number u g.free mine.0 apart mine.3.0
+            (subst (λ b. Follows t.number b x) mine.1 may.follows)
+            (subst (λ (b : BookData). b.stopped ≡ true → x.stopped ≡ true) mine.1 may.stays_stopped)
+            (g.each j u e));
+      },
+      refl,
+    )
+
+-- miss: while a pass holds the book, the place is empty
+sees_vacant : (pass : ℕ) (t : Told) (taken : BookData) → Learns Rule pass (Holding t taken) (λ items. items ≡ [])
+sees_vacant pass t taken items views rule at =
+    let g : IsRunning items views = running items views pass (Holding t taken) rule at (fresh_holding t taken) in
+    let mine = g.each pass (Holding t taken) at in
+    g.place ∙ ap (λ h. content h g.book) mine.0
+
+-- the seats with one more
+with_seat : (ℕ → Maybe ℕ) → ℕ → ℕ → ℕ → Maybe ℕ
+with_seat seat number pass m = cond (eqb m number) (some pass) (seat m)
+
+with_seat-same : (seat : ℕ → Maybe ℕ) (number pass : ℕ) → with_seat seat number pass number ≡ some pass
+unfolding with_seat
+with_seat-same seat number pass = ap (λ b. cond b (some pass) (seat number)) (eq-eqb number number refl)
+
+with_seat-other : (seat : ℕ → Maybe ℕ) (number pass m : ℕ) → m ≢ number → with_seat seat number pass m ≡ seat m
+unfolding with_seat
+with_seat-other seat number pass m ne = ap (λ b. cond b (some pass) (seat m)) (ne_eqb m number ne)
+
+-- the other views when a desk is made
+others_split : (b : BookData) (holder : Maybe ℕ) (made : ℕ) (seat : ℕ → Maybe ℕ) (pass j new : ℕ) (u : View) → holder ≡ some pass → j ≢ pass → Fits b holder made seat j u →
+    Fits b holder (made + 1) (with_seat seat (made + 1) new) j u
+others_split b holder made seat pass j new Fresh held apart f = f
+others_split b holder made seat pass j new (Opening o n) held apart f = absurd (apart (same_pass j pass holder f.0 held))
+others_split b holder made seat pass j new (Away t) held apart f =
+    let last = f.2.1 in
+    (f.0, f.1, (with_seat-other seat (made + 1) new t.number (λ e. let e' : t.number ≡ made + 1 = e in omega arith) ∙ f.2.0, omega arith))
+others_split b holder made seat pass j new (Holding t taken) held apart f = absurd (apart (same_pass j pass holder f.0 held))
+others_split b holder made seat pass j new (Meeting t taken u) held apart f = absurd (apart (same_pass j pass holder f.0 held))
+others_split b holder made seat pass j new Spent held apart f = f
+
+-- split
+splits : (items : List BookData) (views : List View) (pass : ℕ) (b : BookData) (made : ℕ) → IsUntouched b → IsRunning items views → get_elem? views pass ≡ some (Opening b made) → made < length b.claims →
+    IsRunning items (set views pass (Opening b (made + 1)) ++ Away (told_first b (made + 1)) ∷ [])
+splits items views pass b made untouched g at few =
+    let mine = g.each pass (Opening b made) at in
+    let left : View = Opening b (made + 1) in
+    let right : View = Away (told_first b (made + 1)) in
+    let vs : List View = set views pass left in
+    let new : ℕ = length vs in
+    let long : new ≡ length views = length-set views pass left in
+    let here : pass < length views = there_is views pass (Opening b made) at in
+    let seat : ℕ → Maybe ℕ = with_seat g.seat (g.made + 1) new in
+    let free : IsFree b = subst IsFree (sym mine.1) g.free in
+    let F : ℕ → View → Type 0 = Fits g.book g.holder (g.made + 1) seat in
+    let is : made ≡ g.made = mine.2 in
+    let old : (j : ℕ) (u : View) → get_elem? vs j ≡ some u → F j u =
+    each_set F views pass left (mine.0, mine.1, ap (λ k. k + 1) mine.2) (λ j u apart e. others_split g.book g.holder g.made g.seat pass j new u mine.0 apart (g.each j u e)) in
+    let told : IsTold b (told_first b (made + 1)) = first_told b (made + 1) free untouched (record { first = omega arith; last = omega arith }) in
+    let added : F new right = (
+      (λ e. let same : new ≡ pass = same_pass new pass g.holder e mine.0 in omega arith),
+      subst (λ c. IsTold c (told_first b (made + 1))) mine.1 told,
+      (ap (λ k. seat (k + 1)) is ∙ with_seat-same g.seat (g.made + 1) new, omega arith),
+    ) in
+    record {
+      book = g.book;
+      holder = g.holder;
+      made = g.made + 1;
+      seat = seat;
+      free = g.free;
+      place = g.place;
+      held = λ q e. (left, at_longer vs (right ∷ []) q left (subst (λ q. get_elem? vs q ≡ some left) (same_pass pass q g.holder mine.0 e) (set_here views pass left here)), refl);
+      each = λ j u e. ⊎_elim (λ (x : (j ≡ new) × (right ≡ u)). subst (λ (y : ℕ × View). F y.0 y.1) (λ i. (sym x.0 i, x.1 i)) added) (λ x. old j u x) (at_end vs right u j e);
+    }
+
+forks : (pass : ℕ) (b : BookData) (made : ℕ) → IsUntouched b → made < length b.claims → Forks Rule pass (Opening b made) (Opening b (made + 1)) (Away (told_first b (made + 1)))
+forks pass b made untouched few items views rule at =
+    inr (splits items views pass b made untouched (running items views pass (Opening b made) rule at (fresh_opening b made)) at few)
+
+-- an unopened place with the book in the opener's hand
+opened_hand : (items : List BookData) (views : List View) (pass : ℕ) (b : BookData) → IsFree b → IsUnopened items views → get_elem? views pass ≡ some Fresh → IsRunning items (set views pass (Opening b 0))
+opened_hand items views pass b free fresh at =
+    let start : View = Opening b 0 in
+    let F : ℕ → View → Type 0 = Fits b (some pass) 0 (λ _. none) in
+    let here : pass < length views = there_is views pass Fresh at in
+    record {
+      book = b;
+      holder = some pass;
+      made = 0;
+      seat = λ _. none;
+      free = free;
+      place = fresh.0;
+      held = λ q e. (start, subst (λ q. get_elem? (set views pass start) q ≡ some start) (some-injective pass q e) (set_here views pass start here), refl);
+      each = each_set F views pass start (refl, refl, refl) (λ j u apart e. absurd (apart (alone views pass j u fresh.1 here e)));
+    }
+  where
+    alone : (views : List View) (pass j : ℕ) (u : View) → views ≡ Fresh ∷ [] → pass < length views → get_elem? views j ≡ some u → j ≡ pass
+    alone views pass j u is here e = let a = there_is views j u e in let l : length views ≡ 1 = ap length is in omega arith
+
+unopened : (items : List BookData) (views : List View) (pass : ℕ) → Rule items views → get_elem? views pass ≡ some Fresh → IsUnopened items views
+unopened items views pass rule at = ⊎_elim (λ (x : IsUnopened items views). x) (λ (x : IsRunning items views). absurd (x.each pass Fresh at)) rule
+
+-- the first split brings the book
+forks_first : (pass : ℕ) (b : BookData) → IsFree b → IsUntouched b → 0 < length b.claims → Forks Rule pass Fresh (Opening b 1) (Away (told_first b 1))
+forks_first pass b free untouched some_worker items views rule at =
+    let start : View = Opening b 0 in
+    let g = opened_hand items views pass b free (unopened items views pass rule at) at in
+    inr (subst (λ l. IsRunning items (l ++ Away (told_first b 1) ∷ [])) (set-set views pass start (Opening b 1))
+    (splits items (set views pass start) pass b 0 untouched g (set_here views pass start (there_is views pass Fresh at)) some_worker))
+
+-- the other views when the opener puts the book in
+others_opened : (b : BookData) (holder : Maybe ℕ) (made : ℕ) (seat : ℕ → Maybe ℕ) (pass j : ℕ) (u : View) → holder ≡ some pass → j ≢ pass → Fits b holder made seat j u → Fits b none made seat j u
+others_opened b holder made seat pass j Fresh held apart f = f
+others_opened b holder made seat pass j (Opening o n) held apart f = absurd (apart (same_pass j pass holder f.0 held))
+others_opened b holder made seat pass j (Away t) held apart f = ((λ e. some-ne-none j (sym e)), f.1, f.2)
+others_opened b holder made seat pass j (Holding t taken) held apart f = absurd (apart (same_pass j pass holder f.0 held))
+others_opened b holder made seat pass j (Meeting t taken u) held apart f = absurd (apart (same_pass j pass holder f.0 held))
+others_opened b holder made seat pass j Spent held apart f = λ e. some-ne-none j (sym e)
+
+-- the opener's give
+put_in : (items : List BookData) (views : List View) (pass : ℕ) (b : BookData) (made : ℕ) → IsRunning items views → get_elem? views pass ≡ some (Opening b made) → IsRunning (items ++ b ∷ []) (set views pass Spent)
+put_in items views pass b made g at =
+    let mine = g.each pass (Opening b made) at in
+    let empty : items ≡ [] = g.place ∙ ap (λ h. content h g.book) mine.0 in
+    let F : ℕ → View → Type 0 = Fits b none g.made g.seat in
+    record {
+      book = b;
+      holder = none;
+      made = g.made;
+      seat = g.seat;
+      free = subst IsFree (sym mine.1) g.free;
+      place = ap (λ l. l ++ b ∷ []) empty;
+      held = λ q e. absurd (some-ne-none q (sym e));
+      each = each_set F views pass Spent (λ e. some-ne-none pass (sym e)) (λ j u apart e.
+          subst (λ c. Fits c none g.made g.seat j u) (sym mine.1) (others_opened g.book g.holder g.made g.seat pass j u mine.0 apart (g.each j u e)));
+    }
+
+opens : (pass : ℕ) (b : BookData) (made : ℕ) → IsFree b → Pushes Rule 1 pass (opener_at b made) b (λ w. w ≡ Spent)
+opens pass b zero free items views room rule at =
+    let start : View = Opening b 0 in
+    let g = opened_hand items views pass b free (unopened items views pass rule at) at in
+    let in_place = put_in items (set views pass start) pass b 0 g (set_here views pass start (there_is views pass Fresh at)) in
+    (Spent, inr (subst (λ l. IsRunning (items ++ b ∷ []) l) (set-set views pass start Spent) in_place), refl)
+opens pass b (suc made) free items views room rule at =
+    (Spent, inr (put_in items views pass b (suc made) (running items views pass (Opening b (suc made)) rule at (fresh_opening b (suc made))) at), refl)
+
+-- join
+merged : (items : List BookData) (views : List View) (pass other : ℕ) (v : View) (t : Told) (taken : BookData) (u : Told) (g : IsRunning items views) → get_elem? views pass ≡ some v →
+    (g.holder ≡ some pass) × (taken ≡ g.book) × IsTold g.book t × IsSeated g.made g.seat pass t → ¬ (other ≡ pass) → get_elem? (set views pass (Meeting t taken u)) other ≡ some (Away u) →
+    IsRunning items (set (set views pass (Meeting t taken u)) other Spent)
+merged items views pass other v t taken u g at mine apart theirs_at =
+    let both : View = Meeting t taken u in
+    let vs : List View = set views pass both in
+    let F : ℕ → View → Type 0 = Fits g.book g.holder g.made g.seat in
+    let was : get_elem? views other ≡ some (Away u) = ⊎_elim (λ x. absurd (apart x.0)) (λ x. x.1) (at_set views pass other both (Away u) theirs_at) in
+    let theirs = g.each other (Away u) was in
+    let now : (j : ℕ) (y : View) → get_elem? vs j ≡ some y → F j y = each_set F views pass both (mine.0, mine.1, mine.2, mine.3, theirs.1) (λ j y _ e. g.each j y e) in
+    record {
+      book = g.book;
+      holder = g.holder;
+      made = g.made;
+      seat = g.seat;
+      free = g.free;
+      place = g.place;
+      held = λ q e. (
+        both,
+        subst (λ q. get_elem? (set vs other Spent) q ≡ some both) (same_pass pass q g.holder mine.0 e)
+            (set_else vs other pass Spent (λ x. apart (sym x)) ∙ set_here views pass both (there_is views pass v at)),
+        refl,
+      );
+      each = each_set F vs other Spent theirs.0 (λ j y _ e. now j y e);
+    }
+
+merges : (pass : ℕ) (t : Told) (taken : BookData) (other : ℕ) (u : Told) → Merges Rule pass (Holding t taken) other (Away u) (Meeting t taken u) Spent
+merges pass t taken other u items views rule at apart theirs_at =
+    let g : IsRunning items views = running items views pass (Holding t taken) rule at (fresh_holding t taken) in
+    inr (merged items views pass other (Holding t taken) t taken u g at (g.each pass (Holding t taken) at) apart theirs_at)
+
+merges_more : (pass : ℕ) (t : Told) (taken : BookData) (s : Told) (other : ℕ) (u : Told) → Merges Rule pass (Meeting t taken s) other (Away u) (Meeting t taken u) Spent
+merges_more pass t taken s other u items views rule at apart theirs_at =
+    let g : IsRunning items views = running items views pass (Meeting t taken s) rule at (fresh_meeting t taken s) in
+    let mine = g.each pass (Meeting t taken s) at in
+    inr (merged items views pass other (Meeting t taken s) t taken u g at (mine.0, mine.1, mine.2, mine.3) apart theirs_at)
+
+-- what a closer learns of the desk that it met last
+hears : (pass : ℕ) (t : Told) (taken : BookData) (u : Told) → Learns Rule pass (Meeting t taken u) (λ items. IsTold taken u)
+hears pass t taken u items views rule at =
+    let g : IsRunning items views = running items views pass (Meeting t taken u) rule at (fresh_meeting t taken u) in
+    let mine = g.each pass (Meeting t taken u) at in
+    subst (λ b. IsTold b u) (sym mine.1) mine.4
+
+-- before the first step
+pub begins : Rule [] (Fresh ∷ [])
+begins = inl (refl, refl)
+
+-- the same steps from a view that is known by an equation
+same_told : (t u : Told) → Away t ≡ Away u → t ≡ u
+same_told t u e = cc
+
+same_held : (t u : Told) (b c : BookData) → Holding t b ≡ Holding u c → (t ≡ u) × (b ≡ c)
+same_held t u b c e = (cc, cc)
+
+pub takes_from : (pass : ℕ) (v : View) (t : Told) → v ≡ Away t → Pops Rule pass v (Took v)
+takes_from pass v t is = subst (λ u. Pops Rule pass u (Took u)) (sym is) (λ x items views rule at.
+    let r = takes pass t x items views rule at in (r.0, r.1, λ u e. subst (λ s. Takes s x r.0) (same_told t u e) r.2))
+
+pub gives_from : (pass : ℕ) (v : View) (t : Told) (taken x : BookData) (table : List ℤ) (version : ℕ) (stop : Bool) → v ≡ Holding t taken → MayFollow t.number table version stop taken x →
+    Pushes Rule 1 pass v x (Gave table version stop v x)
+gives_from pass v t taken x table version stop is may = subst (λ u. Pushes Rule 1 pass u x (Gave table version stop u x)) (sym is) (λ items views room rule at.
+    let r = gives pass t taken x table version stop may items views room rule at in
+    (r.0, r.1, λ u c e. r.2 ∙ (λ i. Away (told_at ((same_held t u taken c e).0 i).number table version stop ((same_held t u taken c e).1 i) x))))
+
+pub sees_vacant_from : (pass : ℕ) (v : View) (t : Told) (taken : BookData) → v ≡ Holding t taken → Learns Rule pass v (IsVacant v)
+sees_vacant_from pass v t taken is = subst (λ u. Learns Rule pass u (IsVacant u)) (sym is) (λ items views rule at _. sees_vacant pass t taken items views rule at)
+
+pub opens_from : (pass : ℕ) (v : View) (b : BookData) (made : ℕ) → IsFree b → v ≡ opener_at b made → Pushes Rule 1 pass v b (λ w. w ≡ Spent)
+opens_from pass v b made free is = subst (λ u. Pushes Rule 1 pass u b (λ w. w ≡ Spent)) (sym is) (opens pass b made free)
+
+opener_sees : (pass : ℕ) (b : BookData) (made : ℕ) → Learns Rule pass (opener_at b made) (IsVacant (opener_at b made))
+opener_sees pass b zero items views rule at _ = (unopened items views pass rule at).0
+opener_sees pass b (suc made) items views rule at _ =
+    let g : IsRunning items views = running items views pass (Opening b (suc made)) rule at (fresh_opening b (suc made)) in
+    g.place ∙ ap (λ h. content h g.book) (g.each pass (Opening b (suc made)) at).0
+
+pub opener_sees_from : (pass : ℕ) (v : View) (b : BookData) (made : ℕ) → v ≡ opener_at b made → Learns Rule pass v (IsVacant v)
+opener_sees_from pass v b made is = subst (λ u. Learns Rule pass u (IsVacant u)) (sym is) (opener_sees pass b made)
+
+pub opener_keeps_empty : (b : BookData) (made : ℕ) → keeps_empty (opener_at b made) ≡ true
+opener_keeps_empty b zero = refl
+opener_keeps_empty b (suc made) = refl
+
+forks_at : (pass : ℕ) (b : BookData) (made : ℕ) → IsFree b → IsUntouched b → made < length b.claims → Forks Rule pass (opener_at b made) (opener_next b (opener_at b made)) (desk_made b (opener_at b made))
+forks_at pass b zero free untouched few = forks_first pass b free untouched few
+forks_at pass b (suc made) free untouched few = forks pass b (suc made) untouched few
+
+pub forks_from : (pass : ℕ) (v : View) (b : BookData) (made : ℕ) → v ≡ opener_at b made → IsFree b → IsUntouched b → made < length b.claims → Forks Rule pass v (opener_next b v) (desk_made b v)
+forks_from pass v b made is free untouched few = subst (λ u. Forks Rule pass u (opener_next b u) (desk_made b u)) (sym is) (forks_at pass b made free untouched few)
+
+pub opener_next-at : (b : BookData) (made : ℕ) → opener_next b (opener_at b made) ≡ opener_at b (made + 1)
+opener_next-at b zero = refl
+opener_next-at b (suc made) = rw add-one refl
+
+pub desk_made-at : (b : BookData) (made : ℕ) → desk_made b (opener_at b made) ≡ Away (told_first b (made + 1))
+desk_made-at b zero = refl
+desk_made-at b (suc made) = refl
+
+pub met-closing : (v : View) (t : Told) (taken : BookData) (u : Told) → IsClosing v t taken → met v (Away u) ≡ Meeting t taken u
+met-closing v t taken u c = ⊎_elim (λ (e : v ≡ Holding t taken). ap (λ x. met x (Away u)) e) (λ (e : (s : Told) × (v ≡ Meeting t taken s)). ap (λ x. met x (Away u)) e.1) c
+
+pub met-closes : (v : View) (t : Told) (taken : BookData) (u : Told) → IsClosing v t taken → IsClosing (met v (Away u)) t taken
+met-closes v t taken u c = inr (u, met-closing v t taken u c)
+
+pub merges_from : (pass : ℕ) (v : View) (t : Told) (taken : BookData) (other : ℕ) (w : View) (u : Told) → IsClosing v t taken → w ≡ Away u → Merges Rule pass v other w (met v w) Spent
+merges_from pass v t taken other w u c is = subst (λ y. Merges Rule pass v other y (met v y) Spent) (sym is) (⊎_elim
+    (λ (e : v ≡ Holding t taken). subst (λ x. Merges Rule pass x other (Away u) (met x (Away u)) Spent) (sym e) (merges pass t taken other u))
+    (λ (e : (s : Told) × (v ≡ Meeting t taken s)). subst (λ x. Merges Rule pass x other (Away u) (met x (Away u)) Spent) (sym e.1) (merges_more pass t taken e.0 other u))
+    c)
+
+same_meeting : (t u s x : Told) (b c : BookData) → Meeting t b s ≡ Meeting u c x → (b ≡ c) × (s ≡ x)
+same_meeting t u s x b c e = (cc, cc)
+
+hears_from : (pass : ℕ) (v : View) (t : Told) (taken : BookData) (u : Told) → v ≡ Meeting t taken u → Learns Rule pass v (λ items. MetIsTold v)
+hears_from pass v t taken u is = subst (λ x. Learns Rule pass x (λ items. MetIsTold x)) (sym is) (λ items views rule at s b x e.
+    let same = same_meeting t s u x taken b e in
+    subst (λ (y : BookData × Told). IsTold y.0 y.1) (λ i. (same.0 i, same.1 i)) (hears pass t taken u items views rule at))
+
+pub hears_meeting : (pass : ℕ) (v w : View) (t : Told) (taken : BookData) (u : Told) → IsClosing v t taken → w ≡ Away u → Learns Rule pass (met v w) (λ items. MetIsTold (met v w))
+hears_meeting pass v w t taken u c is = hears_from pass (met v w) t taken u (ap (met v) is ∙ met-closing v t taken u c)
+
+-- a place of one isn't full and empty at once
+pub not_both : (items : List BookData) (n : ℕ) → length items ≡ n → n ≡ 1 → items ≡ [] → ⊥
+not_both items n full one empty = let z = ap length empty in omega (arith, full, one, z)

@@ -1,0 +1,58 @@
+use Rattle.std.proofs.Common.{◌≡◌, ◌∙◌, None, length, refl, sym, ap, subst}
+use Rattle.assign_core.specs.Numbered.{IsNumber, numbered}
+use Rattle.assign_core.proofs.Matchings.{below_itself}
+use Rattle.scaled_values.specs.Scaled.{ScaledProblem}
+use Rattle.auction_book.specs.Book.{BookData, prices_of}
+use Rattle.auction_book.specs.Claims.{IsAsked}
+use Rattle.auction_book.specs.Follows.{GoesOn}
+use Rattle.auction_book.specs.Session.{Submits}
+use Rattle.auction_book.proofs.Runs.{after_claim-base}
+use Rattle.async_workers.proofs.Single.{alone_claimed, alone_left, alone_prepared, on_ok}
+use Rattle.async_workers.proofs.alone.offer_alone.Goals as goal
+
+pub prepare-offer-requires-clause-table : goal.prepare-offer-requires-clause-table
+prepare-offer-requires-clause-table c =
+    let base = c.deref.ensures ∙ c.scaled.ensures.scaled in
+    ap length c.prices.ensures.prices ∙ c.prices.ensures.free.sizes.priced ∙ sym (ap (λ (s : ScaledProblem). length s.problem) base)
+
+pub prepare-offer-requires-clause-asked : goal.prepare-offer-requires-clause-asked
+prepare-offer-requires-clause-asked c =
+    let base = c.deref.ensures ∙ c.scaled.ensures.scaled ∙ ap (λ (b : BookData). b.base) c.claim-claim.ensures.book ∙ after_claim-base c.args.book.now 1 c.claim-claim.result in
+    subst (λ (s : ScaledProblem). IsAsked s c.claim-claim.result) (sym base) c.claim-claim.ensures.asked
+
+pub submit_offer-requires-clause-worker : goal.submit_offer-requires-clause-worker
+submit_offer-requires-clause-worker c =
+    let follows = alone_claimed c.args.book.now c.claim-claim.new.self c.claim-claim.result c.workers-workers.ensures.free c.requires.worker c.requires.none c.claim-claim.ensures.answer c.claim-claim.ensures.book in
+    subst (λ n. IsNumber n 1) (sym follows.goes_on.workers) c.requires.worker
+
+pub submit_offer-requires-clause-prepared : goal.submit_offer-requires-clause-prepared
+submit_offer-requires-clause-prepared c =
+    let b = c.claim-claim.new.self in (
+      prices_of b,
+      c.version.result,
+      below_itself (prices_of b),
+      alone_prepared c.args.book.now b c.deref.result.now c.prices.result.now c.version.result c.claim-claim.result c.prepare-offer.result c.workers-workers.ensures.free c.requires.worker c.requires.none
+          c.claim-claim.ensures.answer c.claim-claim.ensures.book (c.deref.ensures ∙ c.scaled.ensures.scaled) c.prices.ensures.prices c.prepare-offer.ensures,
+    )
+
+pub returns-clause-goes_on : goal.returns-clause-goes_on
+returns-clause-goes_on c =
+    let b = c.claim-claim.new.self in
+    let new = c.submit_offer.new.book in
+    let free = c.workers-workers.ensures.free in
+    let follows = alone_claimed c.args.book.now b c.claim-claim.result free c.requires.worker c.requires.none c.claim-claim.ensures.answer c.claim-claim.ensures.book in
+    let made = alone_prepared c.args.book.now b c.deref.result.now c.prices.result.now c.version.result c.claim-claim.result c.prepare-offer.result free c.requires.worker c.requires.none
+    c.claim-claim.ensures.answer c.claim-claim.ensures.book (c.deref.ensures ∙ c.scaled.ensures.scaled) c.prices.ensures.prices c.prepare-offer.ensures in
+    on_ok c.submit_offer.result (Submits b 1 c.prepare-offer.result new) (GoesOn c.args.book.now new) c.submit_offer.ensures.ok
+    (λ submits. (alone_left c.args.book.now b new (prices_of b) c.version.result c.prepare-offer.result follows c.claim-claim.ensures.free refl made submits).0)
+
+pub returns-clause-none : goal.returns-clause-none
+returns-clause-none c =
+    let b = c.claim-claim.new.self in
+    let new = c.submit_offer.new.book in
+    let free = c.workers-workers.ensures.free in
+    let follows = alone_claimed c.args.book.now b c.claim-claim.result free c.requires.worker c.requires.none c.claim-claim.ensures.answer c.claim-claim.ensures.book in
+    let made = alone_prepared c.args.book.now b c.deref.result.now c.prices.result.now c.version.result c.claim-claim.result c.prepare-offer.result free c.requires.worker c.requires.none
+    c.claim-claim.ensures.answer c.claim-claim.ensures.book (c.deref.ensures ∙ c.scaled.ensures.scaled) c.prices.ensures.prices c.prepare-offer.ensures in
+    on_ok c.submit_offer.result (Submits b 1 c.prepare-offer.result new) (numbered new.claims 1 None ≡ None) c.submit_offer.ensures.ok
+    (λ submits. (alone_left c.args.book.now b new (prices_of b) c.version.result c.prepare-offer.result follows c.claim-claim.ensures.free refl made submits).1)

@@ -1,0 +1,88 @@
+-- What a desk, and a book in hand, are to a contract.
+use Rattle.std.specs.Prelude.{◌≡◌, ℕ, ℤ, zero, suc, ◌+◌, List, [], ◌∷◌, ◌++◌, Option, None, Bool, false}
+use Rattle.atomic_table.specs.Seated.{TableId}
+use Rattle.scaled_values.specs.Scaled.{ScaledProblem}
+use Rattle.bidder.specs.declared.offers.Offer.{Offer}
+use Rattle.auction_book.specs.Book.{BookData, prices_of}
+use Rattle.async_workers.specs.declared.place.Claimed.{Claimed}
+use Rattle.async_workers.specs.declared.rule.Told.{Told}
+use Rattle.async_workers.specs.declared.rule.View.{View}
+use Rattle.async_workers.specs.declared.rule.View.TheVariants.{Away, Holding}
+use Rattle.async_workers.specs.PlaceRule.{IsTold, MayFollow}
+use Rattle.async_workers.specs.Views.{told_first}
+
+-- the problem, the place, what the desk's pass knows, and what the desk keeps
+pub record DeskData : Type 0 where
+  pub base : ScaledProblem
+  pub place : TableId
+  pub view : View
+  pub number : ℕ
+  pub table : List ℤ
+  pub version : ℕ
+  pub accepted : ℕ
+  pub claim : Option Claimed
+  pub stop : Bool
+  pub offer : Option Offer
+  pub sessions : ℕ
+  pub since : ℕ
+
+-- a book in hand, and the offer that its desk had prepared
+pub record HeldData : Type 0 where
+  pub book : BookData
+  pub offer : Option Offer
+
+-- what the desk knows, where these are the books that it last took and put back
+abbrev pub told_by : DeskData → BookData → BookData → Told
+told_by d taken put = record {
+  base = d.base;
+  number = d.number;
+  table = d.table;
+  version = d.version;
+  accepted = d.accepted;
+  claim = d.claim;
+  stop = d.stop;
+  taken = taken;
+  put = put;
+}
+
+-- the desk is without the book, having last taken the first book and put back the second
+abbrev pub IsAway : DeskData → BookData → BookData → Type 0
+IsAway d taken put = d.view ≡ Away (told_by d taken put)
+
+-- a desk of this place, without the book
+abbrev pub IsReady : TableId → DeskData → Type 0
+IsReady place d = (d.place ≡ place) × ((taken put : BookData) × IsAway d taken put)
+
+-- the desk has the book that it took in this state
+abbrev pub IsHolding : DeskData → BookData → Type 0
+IsHolding d taken = (t : Told) × (d.view ≡ Holding t taken) × (t.number ≡ d.number)
+
+-- the desk may put this book back
+abbrev pub MayGive : DeskData → BookData → Type 0
+MayGive d b = (taken : BookData) × IsHolding d taken × MayFollow d.number d.table d.version d.stop taken b
+
+-- what the desk was told is true of the book
+abbrev pub IsTrueOf : BookData → DeskData → Type 0
+IsTrueOf b d = (taken put : BookData) → IsAway d taken put → IsTold b (told_by d taken put)
+
+-- a desk as a place is opened with it
+abbrev pub new_desk : TableId → BookData → ℕ → DeskData
+new_desk place b number = record {
+  base = b.base;
+  place = place;
+  view = Away (told_first b number);
+  number = number;
+  table = prices_of b;
+  version = 0;
+  accepted = 0;
+  claim = None;
+  stop = false;
+  offer = None;
+  sessions = 0;
+  since = 0;
+}
+
+-- desks 1, 2, .., n
+abbrev pub new_desks : TableId → BookData → ℕ → List DeskData
+new_desks place b zero = []
+new_desks place b (suc n) = new_desks place b n ++ new_desk place b (n + 1) ∷ []

@@ -1,0 +1,108 @@
+-- The rule of the place: what holds between any two steps on it.
+use Rattle.std.specs.Prelude.{◌≡◌, ◌≢◌, ◌⊎◌, ℕ, ℤ, ◌≤◌, List, [], ◌∷◌, None, Bool, true, length}
+use mathlib.Core.Option.{Option as Maybe, some, none}
+use lib.ListN.{get_elem?}
+use Rattle.assign_core.specs.Numbered.{IsNumber, numbered}
+use Rattle.assign_core.specs.Prices.{IsBelow}
+use Rattle.price_log.specs.History.{IsEarlier}
+use Rattle.auction_book.specs.Book.{BookData, prices_of, version_of}
+use Rattle.auction_book.specs.Follows.{Follows, GoesOn}
+use Rattle.auction_book.specs.Free.{IsFree}
+use Rattle.async_workers.specs.declared.rule.Told.{Told}
+use Rattle.async_workers.specs.declared.rule.View.{View}
+use Rattle.async_workers.specs.declared.rule.View.TheVariants.{Fresh, Opening, Away, Holding, Meeting, Spent}
+use Rattle.async_workers.specs.Views.{claim_in, keeps_empty, told_at}
+
+-- what a desk was told is true of the book. Valid books: those that the desk names are free, and of the book's problem
+-- and workers. Prices and logs extend: the book goes on from the one that the desk put back, its prices are above the
+-- desk's table, and the table is the log's as far back as the log reaches. Told facts hold: acceptances, the claim and
+-- what is asked of its bid are the book's. Told of a stop: where the desk asked for one the book is stopped
+pub record IsTold (b : BookData) (t : Told) : Type 0 where
+  pub taken_free : IsFree t.taken
+  pub put_free : IsFree t.put
+  pub taken_on : GoesOn t.taken t.put
+  pub put_on : GoesOn t.put b
+  pub base : t.base ≡ b.base
+  pub number : IsNumber (length b.claims) t.number
+  pub below : IsBelow t.table (prices_of b)
+  pub earlier : IsEarlier b.log t.table t.version
+  pub accepted : t.accepted ≡ numbered b.counts t.number 0
+  pub claim : t.claim ≡ claim_in b t.number
+  pub stopped : t.stop ≡ true → b.stopped ≡ true
+
+-- distinct numbers: only this pass has the number of its desk, which is one of those that the opener has given out
+abbrev pub IsSeated : ℕ → (ℕ → Maybe ℕ) → ℕ → Told → Type 0
+IsSeated made seat pass t = (seat t.number ≡ some pass) × (t.number ≤ made)
+
+-- one view and the book, who holds it, and the numbers given out
+abbrev pub Fits : BookData → Maybe ℕ → ℕ → (ℕ → Maybe ℕ) → ℕ → View → Type 0
+Fits b holder made seat pass Fresh = ⊥
+Fits b holder made seat pass (Opening o n) = (holder ≡ some pass) × (o ≡ b) × (n ≡ made)
+Fits b holder made seat pass (Away t) = (holder ≢ some pass) × IsTold b t × IsSeated made seat pass t
+Fits b holder made seat pass (Holding t taken) = (holder ≡ some pass) × (taken ≡ b) × IsTold b t × IsSeated made seat pass t
+Fits b holder made seat pass (Meeting t taken u) = (holder ≡ some pass) × (taken ≡ b) × IsTold b t × IsSeated made seat pass t × IsTold b u
+Fits b holder made seat pass Spent = holder ≢ some pass
+
+-- the book lies in the place exactly where no pass holds it
+abbrev pub content : Maybe ℕ → BookData → List BookData
+content none b = b ∷ []
+content (some pass) b = []
+
+-- one holder: whoever holds the book is a pass of the place, and knows that it does
+abbrev pub IsHolder : Maybe ℕ → List View → Type 0
+IsHolder holder views = (pass : ℕ) → holder ≡ some pass → (v : View) × (get_elem? views pass ≡ some v) × (keeps_empty v ≡ true)
+
+-- one free book, in the place or held by one pass, which each view fits
+pub record IsRunning (items : List BookData) (views : List View) : Type 0 where
+  pub book : BookData
+  pub holder : Maybe ℕ
+  pub made : ℕ
+  pub seat : ℕ → Maybe ℕ
+  pub free : IsFree book
+  pub place : items ≡ content holder book
+  pub held : IsHolder holder views
+  pub each : (pass : ℕ) (v : View) → get_elem? views pass ≡ some v → Fits book holder made seat pass v
+
+-- the opener alone, and no book
+abbrev pub IsUnopened : List BookData → List View → Type 0
+IsUnopened items views = (items ≡ []) × (views ≡ Fresh ∷ [])
+
+abbrev pub Rule : List BookData → List View → Type 0
+Rule items views = IsUnopened items views ⊎ IsRunning items views
+
+-- nobody has a claim, and no bid was accepted
+pub record IsUntouched (b : BookData) : Type 0 where
+  pub no_claims : (worker : ℕ) → numbered b.claims worker None ≡ None
+  pub no_acceptances : version_of b ≡ 0
+
+-- what a desk that was told this learns when it takes the book
+pub record Takes (t : Told) (b : BookData) (after : View) : Type 0 where
+  pub view : after ≡ Holding t b
+  pub free : IsFree b
+  pub told : IsTold b t
+
+-- the book that may be put back after a change by one worker: free, gone on from the book taken by that worker alone,
+-- stopped if that was, and as the desk's table, its version and its having asked for a stop want it
+pub record MayFollow (number : ℕ) (table : List ℤ) (version : ℕ) (stop : Bool) (taken b : BookData) : Type 0 where
+  pub free : IsFree b
+  pub follows : Follows number taken b
+  pub stays_stopped : taken.stopped ≡ true → b.stopped ≡ true
+  pub below : IsBelow table (prices_of b)
+  pub earlier : IsEarlier b.log table version
+  pub stopped : stop ≡ true → b.stopped ≡ true
+
+abbrev pub Took : View → BookData → View → Type 0
+Took before b after = (t : Told) → before ≡ Away t → Takes t b after
+
+abbrev pub Gave : List ℤ → ℕ → Bool → View → BookData → View → Type 0
+Gave table version stop before b after = (t : Told) (taken : BookData) → before ≡ Holding t taken → after ≡ Away (told_at t.number table version stop taken b)
+
+abbrev pub IsVacant : View → List BookData → Type 0
+IsVacant v items = keeps_empty v ≡ true → items ≡ []
+
+abbrev pub MetIsTold : View → Type 0
+MetIsTold v = (t : Told) (taken : BookData) (u : Told) → v ≡ Meeting t taken u → IsTold taken u
+
+-- a closer with this book in hand
+abbrev pub IsClosing : View → Told → BookData → Type 0
+IsClosing v t taken = (v ≡ Holding t taken) ⊎ ((u : Told) × (v ≡ Meeting t taken u))

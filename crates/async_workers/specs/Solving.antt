@@ -1,0 +1,67 @@
+-- What a run of workers answers.
+use Rattle.std.specs.Prelude.{◌≡◌, ℕ, ℤ, zero, suc, ◌+◌, ◌≤◌, List, [], ◌∷◌, ◌++◌, Option, Some, true, MatchOption}
+use Rattle.crossbeam_utils.specs.declared.cache_padded.CachePadded.{CachePadded}
+use Rattle.crossbeam_utils.specs.Padded.{padded_value}
+use Rattle.assign_core.specs.Hall.{IsHallSet}
+use Rattle.assign_core.specs.Numbered.{numbered}
+use Rattle.assign_core.specs.declared.outcome.Outcome.{Outcome}
+use Rattle.assign_core.specs.declared.outcome.Outcome.TheVariants.{Best, Hall}
+use Rattle.scaled_values.specs.Scaled.{ScaledProblem}
+use Rattle.auction_book.specs.Answers.{IsAnswer}
+use Rattle.auction_book.specs.Book.{BookData, persons_of}
+use Rattle.auction_book.specs.Follows.{GoesOn}
+use Rattle.auction_book.specs.Free.{IsFree}
+use Rattle.auction_book.specs.Phases.{is_done, opened}
+use Rattle.async_workers.specs.declared.gate.TurnFault.{TurnFault}
+use Rattle.async_workers.specs.declared.gate.TurnFault.TheVariants as turn_fault
+use Rattle.async_workers.specs.declared.solving.Tally.{Tally}
+use Rattle.async_workers.specs.declared.working.Worker.{Worker}
+use Rattle.async_workers.specs.Desk.{DeskData}
+use Rattle.async_workers.specs.Turns.{WorksOn}
+
+abbrev pub desk_in : CachePadded Worker → DeskData
+desk_in w = (padded_value w).desk
+
+abbrev pub fault_in : CachePadded Worker → Option TurnFault
+fault_in w = (padded_value w).fault
+
+-- no other fault than want of memory
+abbrev pub IsMemory : Option TurnFault → Type 0
+IsMemory fault = MatchOption fault (Unit {0}) (λ f. f ≡ turn_fault.Memory)
+
+-- a worker after its run
+pub record HasWorked (old new : CachePadded Worker) : Type 0 where
+  pub works : WorksOn (desk_in old) (desk_in new)
+  pub fault : IsMemory (fault_in new)
+
+-- the book answers this: everybody is assigned in the last phase, by its owners at its prices, or it has this Hall set
+abbrev pub IsAnsweredBy : BookData → Outcome → Type 0
+IsAnsweredBy b (Best c) = (is_done b ≡ true) × IsAnswer b c
+IsAnsweredBy b (Hall h) = (b.refuted ≡ Some h) × IsHallSet b.base.problem h.persons h.objects
+
+abbrev pub tally_of : BookData → ℕ → Tally
+tally_of b worker = record { worker = worker; accepted = numbered b.counts worker 0 }
+
+-- of workers 1, 2, .., n
+abbrev pub tallies : BookData → ℕ → List Tally
+tallies b zero = []
+tallies b (suc n) = tallies b n ++ tally_of b (n + 1) ∷ []
+
+-- how many bids were accepted by all workers
+abbrev pub accepted_in_all : List Tally → ℕ
+accepted_in_all [] = 0
+accepted_in_all (t ∷ told) = t.accepted + accepted_in_all told
+
+-- each person was assigned by a bid that was accepted
+abbrev pub IsEnough : ℕ → Outcome → List Tally → Type 0
+IsEnough persons (Best c) told = persons ≤ accepted_in_all told
+IsEnough persons (Hall h) told = Unit {0}
+
+-- outcome and tallies are those of one free book, which the workers' bids made of the one opened with these prices: it
+-- has their problem and number of workers, and none of its prices is lower
+pub record IsSolved (s : ScaledProblem) (prices : List ℤ) (workers : ℕ) (outcome : Outcome) (told : List Tally) : Type 0 where
+  pub book : BookData
+  pub free : IsFree book
+  pub goes_on : GoesOn (opened s prices workers) book
+  pub answers : IsAnsweredBy book outcome
+  pub tallied : told ≡ tallies book workers

@@ -1,0 +1,19 @@
+//! The book of an auction shared by workers: it lies in a place of one, and each worker takes it at
+//! its desk, changes it and puts it back.
+#![tactic(auto)]
+
+mod alone;
+mod boxed;
+mod gate;
+mod place;
+mod rule;
+mod solving;
+#[cfg(test)]
+mod solving_tests;
+#[cfg(test)]
+mod tests;
+mod working;
+
+pub use gate::{Gate, Note, OpenGate, Turn, TurnFault};
+pub use place::{BookPlace, Claimed, Desk, Held, ask_stop, close_place, leave, open_place, turn};
+pub use solving::{Tally, solve_workers, solve_workers_from};

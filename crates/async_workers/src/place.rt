@@ -1,0 +1,137 @@
+// The place, the desks and the book in hand.
+ghost use Rattle.std.specs.Prelude.{◌≡◌};
+ghost use Rattle.std.specs.Borrow.{sem};
+ghost use Rattle.async_workers.specs.Lending.{LendsBook};
+
+mod closing;
+mod leaving;
+mod opening;
+mod reading;
+mod session;
+mod taking;
+mod turning;
+
+use crate::boxed::BoxedBook;
+use crate::rule::{DeskPass, Queue};
+use assign_core::{Person, Prices};
+use auction_book::Book;
+use bidder::{Ask, Offer};
+pub use closing::close_place;
+pub use leaving::{ask_stop, leave};
+pub use opening::open_place;
+use scaled_values::Scaled;
+use std::marker::Model;
+use std::sync::Arc;
+pub use turning::turn;
+
+/// Where the book lies while no desk has it.
+#[derive(Drop)]
+pub struct BookPlace {
+    queue: Queue,
+}
+
+impl Model for BookPlace {
+    ghost use Rattle.std.specs.Prelude.{◌≡◌};
+    ghost use Rattle.atomic_table.specs.Seated.{TableId, table_id_coded};
+    ghost use Rattle.crossbeam_queue.specs.Passes.{ruled_capacity};
+
+    ghost Value = { TableId };
+
+    ghost coded = { table_id_coded };
+
+    ghost view = { λ p. p.queue.table.shared.table_id };
+
+    ghost invariant = { λ p. ruled_capacity p.queue ≡ 1 };
+}
+
+/// A worker's claim, as its desk was told.
+#[derive(Clone, Copy, Debug, PartialEq, Eq)]
+pub struct Claimed {
+    pub person: Person,
+    /// What the phase of the claim asks of the person's bid.
+    pub ask: Ask,
+}
+
+/// One worker's side of a place: its number, its own table of prices, what it was told when it last
+/// gave the book back, and the offer that it has prepared.
+#[derive(Drop)]
+pub struct Desk {
+    scaled: Arc<Scaled>,
+    pass: DeskPass,
+    number: u16,
+    table: Prices,
+    version: u128,
+    accepted: u128,
+    claim: Option<Claimed>,
+    // Whether the desk asked for a stop.
+    stop: bool,
+    offer: Option<Offer>,
+    // How many sessions are over, in all and since the table last became today's.
+    sessions: u64,
+    since: u64,
+}
+
+impl Model for Desk {
+    ghost use Rattle.std.specs.Prelude.{◌≡◌, []};
+    ghost use Rattle.crossbeam_queue.specs.Passes.{view as pass_view};
+    ghost use Rattle.std.specs.Arc.{arc_value};
+    ghost use Rattle.async_workers.specs.Desk.{DeskData};
+
+    ghost Value = { DeskData };
+
+    ghost view = { λ d. record {
+      base = arc_value d.scaled;
+      place = d.pass.table_id;
+      view = pass_view d.pass;
+      number = d.number;
+      table = d.table;
+      version = d.version;
+      accepted = d.accepted;
+      claim = d.claim;
+      stop = d.stop;
+      offer = d.offer;
+      sessions = d.sessions;
+      since = d.since;
+    } };
+
+    ghost invariant = { λ d. d.pass.me.1 ≡ [] };
+}
+
+/// The book in hand, with the offer that its desk had prepared. The desk that took it has to give it
+/// back to the place.
+pub struct Held {
+    book: BoxedBook,
+    offer: Option<Offer>,
+}
+
+impl Model for Held {
+    ghost use Rattle.async_workers.specs.Desk.{HeldData};
+
+    ghost Value = { HeldData };
+
+    ghost view = { λ h. record { book = h.book; offer = h.offer } };
+}
+
+impl Held {
+    /// The book.
+    pub fn book(&self) -> &Book
+        ensures { result.now ≡ self.now.book }
+    {
+        self.book.book()
+    }
+
+    /// Lends the book for a change.
+    pub fn book_mut(&mut self) -> &mut Book
+        ensures* lends { sem 𝓛 (LendsBook self.entry result) }
+        ensures value { result.now ≡ self.old.book }
+    {
+        self.book.book_mut()
+    }
+
+    /// The offer that the desk had prepared, if it is still here.
+    pub fn offer(&self) -> Option<Offer>
+        ensures { result ≡ self.now.offer }
+    {
+        self.offer
+    }
+}

@@ -1,0 +1,76 @@
+// How a worker leaves, and asks for a stop.
+ghost use Rattle.std.specs.Prelude.{◌≡◌, ◌||◌, None, false, is_some, true};
+ghost use Rattle.assign_core.specs.Numbered.{numbered};
+ghost use Rattle.auction_book.specs.Book.{BookData};
+ghost use Rattle.auction_book.specs.Changes.{given_up};
+ghost use Rattle.async_workers.specs.Hand.{IsInHand};
+ghost use Rattle.async_workers.specs.Session.{counted};
+ghost use Rattle.async_workers.specs.Turns.{CanTurn, StepsOut, WorksOn, stopped_if};
+
+use super::{BookPlace, Desk, Held};
+use std::sync::Wait;
+
+// The desk's claim is given up.
+fn let_go(held: &mut Held, desk: &mut Desk)
+    requires hand { (taken : BookData) × IsInHand desk.old taken held.old.book }
+    ensures hand { (taken : BookData) → IsInHand desk.old taken held.old.book → IsInHand desk.new taken held.new.book }
+    ensures book { held.new.book ≡ given_up held.old.book desk.old.number (numbered held.old.book.claims desk.old.number None) }
+    ensures desk { desk.new ≡ counted false desk.old }
+{
+    held.book_mut().give_up(desk.number);
+    let _ = desk.count_session(0, false);
+}
+
+// The book is stopped, and the desk notes that it asked, where this is wanted.
+fn stop_if(held: &mut Held, desk: &mut Desk, stopping: bool)
+    requires hand { (taken : BookData) × IsInHand desk.old taken held.old.book }
+    ensures hand { (taken : BookData) → IsInHand desk.old taken held.old.book → IsInHand desk.new taken held.new.book }
+    ensures book { held.new.book ≡ stopped_if stopping held.old.book }
+    ensures desk { desk.new ≡ record desk.old { stop = (stopping || desk.old.stop) } }
+{
+    if stopping {
+        held.book_mut().stop();
+        desk.stop = true;
+    }
+}
+
+// One session that gives the claim up, drops the offer and may stop the book.
+fn step_out<R: Wait>(rt: &R, place: &BookPlace, desk: &mut Desk, stopping: bool)
+    requires { CanTurn place.now desk.old }
+    ensures can_turn { CanTurn place.now desk.new }
+    ensures out { StepsOut stopping desk.old desk.new }
+    ensures works { WorksOn desk.old desk.new }
+{
+    let mut held = desk.take(rt, place);
+    let_go(&mut held, desk);
+    stop_if(&mut held, desk, stopping);
+    held.give(rt, place, desk);
+}
+
+/// A worker leaves: one session that gives up the desk's claim, so that its person waits again, and
+/// drops its offer. True where the desk had a claim. The desk may take turns again later. It may
+/// wait for other workers, and takes no memory.
+pub fn leave<R: Wait>(rt: &R, place: &BookPlace, desk: &mut Desk) -> bool
+    requires { CanTurn place.now desk.old }
+    ensures can_turn { CanTurn place.now desk.new }
+    ensures out { StepsOut false desk.old desk.new }
+    ensures works { WorksOn desk.old desk.new }
+    ensures answer { result ≡ is_some desk.old.claim }
+{
+    let had = desk.claim.is_some();
+    step_out(rt, place, desk, false);
+    had
+}
+
+/// A worker asks for a stop: one session that gives up the desk's claim, drops its offer and stops
+/// the book. From then on the desk's turns answer `Refuted`, `Done` or `Stopped`, unless one meets a
+/// fault; other desks still submit the offers that they have prepared. It may wait for other
+/// workers, and takes no memory.
+pub fn ask_stop<R: Wait>(rt: &R, place: &BookPlace, desk: &mut Desk)
+    requires { CanTurn place.now desk.old }
+    ensures can_turn { CanTurn place.now desk.new }
+    ensures out { StepsOut true desk.old desk.new }
+    ensures works { WorksOn desk.old desk.new }
+{
+    step_out(rt, place, desk, true);
+}

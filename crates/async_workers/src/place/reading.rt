@@ -1,0 +1,67 @@
+// What a desk keeps.
+ghost use Rattle.std.specs.Prelude.{◌≡◌};
+ghost use Rattle.std.specs.Arc.{arc_value};
+
+use super::{Claimed, Desk};
+use assign_core::Prices;
+use bidder::Offer;
+use scaled_values::Scaled;
+use std::sync::Arc;
+
+impl Desk {
+    /// The problem with its benefits.
+    pub fn scaled(&self) -> &Arc<Scaled>
+        ensures { arc_value result.now ≡ self.now.base }
+    {
+        &self.scaled
+    }
+
+    /// The worker's number, from 1.
+    pub fn number(&self) -> u16
+        ensures { result ≡ self.now.number }
+    {
+        self.number
+    }
+
+    /// The worker's own table of prices.
+    pub fn table(&self) -> &Prices
+        ensures { result.now ≡ self.now.table }
+    {
+        &self.table
+    }
+
+    /// The version of the table.
+    pub fn version(&self) -> u128
+        ensures { result ≡ self.now.version }
+    {
+        self.version
+    }
+
+    /// How many of the worker's bids were accepted, as it was last told.
+    pub fn accepted(&self) -> u128
+        ensures { result ≡ self.now.accepted }
+    {
+        self.accepted
+    }
+
+    /// The worker's claim, as it was last told.
+    pub fn claim(&self) -> Option<Claimed>
+        ensures { result ≡ self.now.claim }
+    {
+        self.claim
+    }
+
+    /// The offer that is prepared for the worker's claim.
+    pub fn offer(&self) -> Option<Offer>
+        ensures { result ≡ self.now.offer }
+    {
+        self.offer
+    }
+
+    /// How many sessions are over. It stays at `u64::MAX`.
+    pub fn sessions(&self) -> u64
+        ensures { result ≡ self.now.sessions }
+    {
+        self.sessions
+    }
+}

@@ -1,0 +1,214 @@
+// A session with the book in hand.
+ghost use Rattle.std.specs.Prelude.{◌≡◌, ℕ, ℤ, List, None, true, length, IfOk, OnErr, OnOk};
+ghost use Rattle.assign_core.specs.Numbered.{IsNumber, numbered};
+ghost use Rattle.assign_core.specs.Prices.{IsBelow};
+ghost use Rattle.auction_book.specs.declared.answers.Claim.{Claim};
+ghost use Rattle.auction_book.specs.Book.{BookData, Holds, prices_of};
+ghost use Rattle.auction_book.specs.Claims.{IsAsked, after_claim, claim_of};
+ghost use Rattle.auction_book.specs.Free.{IsFree};
+ghost use Rattle.auction_book.specs.Phases.{is_over};
+ghost use Rattle.auction_book.specs.Session.{IsPrepared, book_taken, next_if_over};
+ghost use Rattle.auction_book.specs.Submissions.{IsFitting};
+ghost use Rattle.bidder.specs.Offers.{IsUnder, benefits_at};
+ghost use Rattle.bidder.specs.declared.offers.Offer.TheVariants as made;
+ghost use Rattle.async_workers.specs.Hand.{IsInHand};
+ghost use Rattle.async_workers.specs.Session.{Ends, IsHandedIn, catches_up, counted, is_too_low, with_table};
+
+use super::{Desk, Held};
+use crate::gate::Note;
+use auction_book::{Book, Claim, Refused, record_below};
+use bidder::{BelowFloor, Bid, Offer};
+use std::alloc::{AllocError, Global};
+
+// What came of an offer, and whether a growth was refused.
+#[derive(Drop)]
+pub(super) struct Submission {
+    pub note: Note,
+    pub outcome: Result<(), AllocError>,
+}
+
+// What came of a session: what is told of its offer, and what the worker's claim was answered.
+#[derive(Drop)]
+pub(super) struct Ended {
+    pub note: Note,
+    pub outcome: Result<Claim, AllocError>,
+}
+
+// A bid is submitted.
+fn submit_bid(book: &mut Book, worker: u16, bid: Bid) -> Submission
+    requires worker { IsNumber (length book.old.claims) worker }
+    requires fitting { IsFitting book.old bid }
+    ensures handed_in { IsHandedIn book.old worker (Some (made.Bid bid)) book.new result.note result.outcome }
+    ensures free { IsFree book.new }
+{
+    match book.submit(worker, bid) {
+        Ok(_) => Submission {
+            note: Note::Accepted,
+            outcome: Ok(()),
+        },
+        Err(Refused::Memory) => Submission {
+            note: Note::Refused(Refused::Memory),
+            outcome: Err(AllocError),
+        },
+        Err(refused) => Submission {
+            note: Note::Refused(refused),
+            outcome: Ok(()),
+        },
+    }
+}
+
+// What stops a person below the floor is recorded. Where memory is refused the claim is given up.
+fn search(alloc: Global, book: &mut Book, worker: u16, below: BelowFloor) -> Submission
+    requires worker { IsNumber (length book.old.claims) worker }
+    requires held { Holds book.old worker below.person }
+    requires phase { below.phase ≡ book.old.phase }
+    requires under { (q : List ℤ) × IsBelow q (prices_of book.old)
+        × IsUnder (benefits_at book.old.base below.person) q book.old.floor }
+    ensures handed_in { IsHandedIn book.old worker (Some (made.Below below)) book.new result.note result.outcome }
+    ensures free { IsFree book.new }
+{
+    let outcome = record_below(alloc, book, worker, below);
+    if outcome.is_err() {
+        book.give_up(worker);
+    }
+    Submission {
+        note: Note::Nothing,
+        outcome,
+    }
+}
+
+// The worker's offer, if it has one, is submitted or searched.
+fn hand_in(alloc: Global, book: &mut Book, worker: u16, offer: Option<Offer>) -> Submission
+    requires worker { IsNumber (length book.old.claims) worker }
+    requires prepared { (table : List ℤ) × (version : ℕ) × IsBelow table (prices_of book.old)
+        × IsPrepared book.old worker table version offer }
+    ensures handed_in { IsHandedIn book.old worker offer book.new result.note result.outcome }
+    ensures free { IsFree book.new }
+{
+    let _claim = book.claimed_by(worker);
+    match offer {
+        None => Submission {
+            note: Note::Nothing,
+            outcome: Ok(()),
+        },
+        Some(Offer::Bid(bid)) => submit_bid(book, worker, bid),
+        Some(Offer::Below(below)) => search(alloc, book, worker, below),
+    }
+}
+
+impl Held {
+    // The offer, which is here no more.
+    fn take_offer(&mut self) -> Option<Offer>
+        ensures offer { result ≡ self.old.offer }
+        ensures held { self.new ≡ record self.old { offer = None } }
+    {
+        self.offer.take()
+    }
+}
+
+// The desk's offer goes in.
+fn offer_in(alloc: Global, held: &mut Held, desk: &Desk) -> Submission
+    requires hand { (taken : BookData) × IsInHand desk.now taken held.old.book }
+    requires prepared { IsPrepared held.old.book desk.now.number desk.now.table desk.now.version held.old.offer }
+    ensures hand { (taken : BookData) → IsInHand desk.now taken held.old.book → IsInHand desk.now taken held.new.book }
+    ensures handed_in { IsHandedIn held.old.book desk.now.number held.old.offer held.new.book result.note result.outcome }
+    ensures none { numbered held.new.book.claims desk.now.number None ≡ None }
+{
+    let offer = held.take_offer();
+    hand_in(alloc, held.book_mut(), desk.number, offer)
+}
+
+fn was_too_low(note: Note) -> bool
+    ensures { result ≡ is_too_low note }
+{
+    matches!(note, Note::Refused(Refused::TooLow(_)))
+}
+
+impl Desk {
+    // One session more is over. Says whether the table is to become today's.
+    pub(super) fn count_session(&mut self, refresh: u64, too_low: bool) -> bool
+        ensures due { result ≡ catches_up refresh too_low self.old.since }
+        ensures desk { self.new ≡ counted result self.old }
+    {
+        self.sessions = self.sessions.saturating_add(1);
+        let since = self.since.saturating_add(1);
+        let due = too_low || (0 < refresh && refresh <= since);
+        self.since = if due { 0 } else { since };
+        due
+    }
+}
+
+// Counts the session, and makes the desk's table today's where it is time.
+fn keep_up(held: &mut Held, desk: &mut Desk, refresh: u64, too_low: bool)
+    requires hand { (taken : BookData) × IsInHand desk.old taken held.old.book }
+    ensures hand { (taken : BookData) → IsInHand desk.old taken held.old.book → IsInHand desk.new taken held.new.book }
+    ensures book { held.new.book ≡ book_taken (catches_up refresh too_low desk.old.since) held.old.book desk.old.number }
+    ensures desk { desk.new ≡ counted (catches_up refresh too_low desk.old.since)
+        (with_table (catches_up refresh too_low desk.old.since) held.old.book desk.old) }
+{
+    if desk.count_session(refresh, too_low) {
+        held.catch_up(desk);
+    }
+}
+
+// The next phase begins if this one is over.
+fn begin_phase(alloc: Global, book: &mut Book) -> Result<(), AllocError>
+    ensures ok { OnOk result (book.new ≡ next_if_over book.old) }
+    ensures err { OnErr result ((book.new ≡ book.old) × (is_over book.old ≡ true)) }
+    ensures free { IsFree book.new }
+{
+    if book.phase_over() {
+        book.next_phase(alloc)?;
+    }
+    Ok(())
+}
+
+// The worker claims.
+fn claim_next(held: &mut Held, worker: u16) -> Claim
+    requires worker { IsNumber (length held.old.book.claims) worker }
+    requires none { numbered held.old.book.claims worker None ≡ None }
+    ensures answer { result ≡ claim_of held.old.book }
+    ensures asked { IsAsked held.old.book.base result }
+    ensures book { held.new.book ≡ after_claim held.old.book worker result }
+    ensures free { IsFree held.new.book }
+{
+    held.book_mut().claim(worker)
+}
+
+// The next phase begins if this one is over, and the worker claims.
+fn move_on(alloc: Global, held: &mut Held, desk: &Desk) -> Result<Claim, AllocError>
+    requires hand { (taken : BookData) × IsInHand desk.now taken held.old.book }
+    requires none { numbered held.old.book.claims desk.now.number None ≡ None }
+    ensures hand { (taken : BookData) → IsInHand desk.now taken held.old.book → IsInHand desk.now taken held.new.book }
+    ensures ok { IfOk result (λ answer. let b : BookData = next_if_over held.old.book in
+        (answer ≡ claim_of b) × (held.new.book ≡ after_claim b desk.now.number answer)) }
+    ensures asked { IfOk result (IsAsked desk.now.base) }
+    ensures err { OnErr result ((held.new.book ≡ held.old.book) × (is_over held.old.book ≡ true)) }
+{
+    begin_phase(alloc, held.book_mut())?;
+    Ok(claim_next(held, desk.number))
+}
+
+// The offer goes in, the table becomes today's where it is time, the next phase begins if this one is
+// over, and the worker claims. Where a growth is refused the session ends there.
+pub(super) fn session(alloc: Global, held: &mut Held, desk: &mut Desk, refresh: u64) -> Ended
+    requires hand { (taken : BookData) × IsInHand desk.old taken held.old.book }
+    requires prepared { IsPrepared held.old.book desk.old.number desk.old.table desk.old.version held.old.offer }
+    ensures hand { (taken : BookData) → IsInHand desk.old taken held.old.book → IsInHand desk.new taken held.new.book }
+    ensures ends { Ends refresh desk.old held.old.offer held.old.book desk.new held.new.book result.note result.outcome }
+    ensures asked { IfOk result.outcome (IsAsked desk.new.base) }
+{
+    let Submission { note, outcome } = offer_in(alloc, held, desk);
+    if let Err(refused) = outcome {
+        let _ = desk.count_session(0, false);
+        return Ended {
+            note,
+            outcome: Err(refused),
+        };
+    }
+    keep_up(held, desk, refresh, was_too_low(note));
+    Ended {
+        note,
+        outcome: move_on(alloc, held, desk),
+    }
+}

@@ -1,0 +1,101 @@
+// A worker's turn.
+ghost use Rattle.std.specs.Prelude.{◌≡◌, true, length, IfErr, IfOk};
+ghost use Rattle.auction_book.specs.Book.{BookData};
+ghost use Rattle.auction_book.specs.Claims.{IsAsked};
+ghost use Rattle.auction_book.specs.Session.{prepared};
+ghost use Rattle.async_workers.specs.Desk.{IsAway};
+ghost use Rattle.async_workers.specs.Turns.{CanTurn, EndsRun, Faulted, Given, Turned, WorksOn, turn_of};
+ghost use Rattle.async_workers.specs.declared.gate.TurnFault.TheVariants as turn_fault;
+
+use super::session::{Ended, session};
+use super::{BookPlace, Desk};
+use crate::gate::{Gate, Turn, TurnFault};
+use auction_book::Claim;
+use bidder::make_bid;
+use std::alloc::{AllocError, Global};
+use std::sync::Wait;
+
+// Takes the book, does a session with it, and puts it back.
+fn one_session<R: Wait>(
+    rt: &R,
+    alloc: Global,
+    place: &BookPlace,
+    desk: &mut Desk,
+    refresh: u64,
+) -> Ended
+    requires { CanTurn place.now desk.old }
+    ensures place { desk.new.place ≡ place.now }
+    ensures away { (taken put : BookData) × IsAway desk.new taken put }
+    ensures given { Given refresh desk.old desk.new result.note result.outcome }
+    ensures works { WorksOn desk.old desk.new }
+    ensures table { length desk.new.table ≡ length desk.new.base.problem }
+    ensures asked { IfOk result.outcome (IsAsked desk.new.base) }
+{
+    let mut held = desk.take(rt, place);
+    let ended = session(alloc, &mut held, desk, refresh);
+    held.give(rt, place, desk);
+    ended
+}
+
+// Prepares the offer of the person that was claimed, if one was.
+fn prepare_offer<G: Gate>(desk: &mut Desk, claim: Claim, gate: &G) -> Turn
+    requires table { length desk.old.table ≡ length desk.old.base.problem }
+    requires asked { IsAsked desk.old.base claim }
+    ensures turn { result ≡ turn_of claim }
+    ensures desk { desk.new ≡ record desk.old { offer = prepared desk.old.base desk.old.table desk.old.version claim } }
+{
+    desk.offer = None;
+    match claim {
+        Claim::Refuted => Turn::Refuted,
+        Claim::Done => Turn::Done,
+        Claim::Stopped => Turn::Stopped,
+        Claim::Wait => Turn::Idle,
+        Claim::Person(person, ask) => {
+            gate.before_offer(desk.number);
+            let offer = make_bid(&desk.scaled, &desk.table, desk.version, ask, person);
+            desk.offer = Some(offer);
+            Turn::Claimed
+        }
+    }
+}
+
+/// One turn of a worker: it takes the book and submits its offer, or has what stops its person below
+/// the floor recorded; its table becomes today's where its bid was too low or, this session
+/// counted, `refresh` sessions have passed since it last did (0: only where the bid was too low); the
+/// next phase begins if this one is over; and it claims a person. When the book is back in its
+/// place it prepares that person's offer from its own table, however old (Bertsekas and Castanon,
+/// Parallel synchronous and asynchronous implementations of the auction algorithm, 1991).
+///
+/// The gate is told, while the book isn't in hand, before an offer goes in, after the session, and
+/// before an offer is computed. It may wait for other workers.
+///
+/// # Errors
+/// `Memory`, where a growth was refused. The book is back in its place all the same: with the
+/// accepted bid, or with the person of a bid that wasn't accepted, or of a search, at the back of
+/// the queue. The desk has neither claim nor offer then. `Stuck` is never answered.
+pub fn turn<G: Gate, R: Wait>(
+    rt: &R,
+    alloc: Global,
+    place: &BookPlace,
+    desk: &mut Desk,
+    refresh: u64,
+    gate: &G,
+) -> Result<Turn, TurnFault>
+    requires { CanTurn place.now desk.old }
+    ensures can_turn { CanTurn place.now desk.new }
+    ensures turned { IfOk result (λ answer. Turned refresh desk.old desk.new answer) }
+    ensures fault { IfErr result (λ fault. (fault ≡ turn_fault.Memory) × Faulted refresh desk.old desk.new) }
+    ensures works { WorksOn desk.old desk.new }
+    ensures stops { desk.old.stop ≡ true → IfOk result EndsRun }
+{
+    let number = desk.number;
+    if desk.offer.is_some() {
+        gate.before_submit(number, desk.sessions);
+    }
+    let Ended { note, outcome } = one_session(rt, alloc, place, desk, refresh);
+    gate.after_session(number, note);
+    match outcome {
+        Ok(claim) => Ok(prepare_offer(desk, claim, gate)),
+        Err(AllocError) => Err(TurnFault::Memory),
+    }
+}

@@ -1,0 +1,159 @@
+// The rule of the place, and the steps that workers make on it.
+use crate::boxed::BoxedBook;
+use crate::place::Claimed;
+use assign_core::Prices;
+use auction_book::Book;
+use crossbeam_queue::protocol::{Join, Lesson, Outcome, Protocol, Split};
+use crossbeam_queue::{Pass, RuledArrayQueue};
+use scaled_values::Scaled;
+use std::marker::{Brand, PhantomData};
+
+/// What a desk knows while it is without the book: what it keeps for itself, what it was told when
+/// it put the book back, and the books that it last took and put back. No value of it is made.
+pub struct Told {
+    pub base: Scaled,
+    pub number: u16,
+    pub table: Prices,
+    pub version: u128,
+    pub accepted: u128,
+    pub claim: Option<Claimed>,
+    pub stop: bool,
+    pub taken: Book,
+    pub put: Book,
+}
+
+/// What a pass knows. No value of it is made.
+pub enum View {
+    /// The same for every place: nothing yet.
+    Fresh,
+    /// The opener has this book in hand, and has made so many desks.
+    Opening(Book, u16),
+    Away(Told),
+    Holding(Told, Book),
+    /// A closer, with the book in hand, has taken in the desk that was told this.
+    Meeting(Told, Book, Told),
+    Spent,
+}
+
+pub struct PassRule;
+
+impl Protocol<BoxedBook, View> for PassRule {
+    ghost use Rattle.async_workers.specs.PlaceRule.{Rule};
+    ghost use Rattle.async_workers.specs.declared.rule.View.TheVariants.{Fresh};
+
+    ghost holds = { Rule };
+
+    ghost first = { Fresh };
+}
+
+/// A desk takes the book.
+pub struct Take;
+
+impl Outcome<BoxedBook, View> for Take {
+    ghost use Rattle.async_workers.specs.PlaceRule.{Took};
+
+    ghost then = { Took };
+}
+
+/// The table that a desk has when it gives the book back, with its version, and whether the desk
+/// asked for a stop.
+pub trait Jotting {
+    ghost use Rattle.std.specs.Prelude.{ℕ, ℤ, List, Bool};
+
+    ghost table: { List ℤ };
+
+    ghost version: { ℕ };
+
+    ghost stop: { Bool };
+}
+
+impl Jotting for Brand {
+    ghost use Rattle.std.specs.Prelude.{[], false};
+
+    ghost table = { [] };
+
+    ghost version = { 0 };
+
+    ghost stop = { false };
+}
+
+/// A desk gives the book back.
+pub struct Give<J: Jotting> {
+    jotting: PhantomData<J>,
+}
+
+impl<J: Jotting> Outcome<BoxedBook, View> for Give<J> {
+    ghost use Rattle.async_workers.specs.PlaceRule.{Gave};
+
+    ghost then = { Gave J.table J.version J.stop };
+}
+
+impl<J: Jotting> Lesson<BoxedBook, View> for Give<J> {
+    ghost use Rattle.async_workers.specs.PlaceRule.{IsVacant};
+
+    ghost fact = { IsVacant };
+}
+
+/// The book that a place is opened with.
+pub trait Opening {
+    ghost use Rattle.auction_book.specs.Book.{BookData};
+
+    ghost book: { BookData };
+}
+
+impl Opening for Brand {
+    ghost use Rattle.async_workers.specs.Views.{no_book};
+
+    ghost book = { no_book };
+}
+
+/// The opener makes a desk.
+pub struct Seats<O: Opening> {
+    opening: PhantomData<O>,
+}
+
+impl<O: Opening> Split<View> for Seats<O> {
+    ghost use Rattle.async_workers.specs.Views.{opener_next, desk_made};
+
+    ghost left = { opener_next O.book };
+
+    ghost right = { desk_made O.book };
+}
+
+/// The opener puts the book into the place.
+pub struct PutIn;
+
+impl Outcome<BoxedBook, View> for PutIn {
+    ghost use Rattle.std.specs.Prelude.{◌≡◌};
+    ghost use Rattle.async_workers.specs.declared.rule.View.TheVariants.{Spent};
+
+    ghost then = { λ v x w. w ≡ Spent };
+}
+
+impl Lesson<BoxedBook, View> for PutIn {
+    ghost use Rattle.async_workers.specs.PlaceRule.{IsVacant};
+
+    ghost fact = { IsVacant };
+}
+
+/// A closer takes in another desk.
+pub struct Meet;
+
+impl Join<View> for Meet {
+    ghost use Rattle.async_workers.specs.Views.{met};
+    ghost use Rattle.async_workers.specs.declared.rule.View.TheVariants.{Spent};
+
+    ghost both = { met };
+
+    ghost spent = { Spent };
+}
+
+impl Lesson<BoxedBook, View> for Meet {
+    ghost use Rattle.async_workers.specs.PlaceRule.{MetIsTold};
+
+    ghost fact = { λ v items. MetIsTold v };
+}
+
+pub type Queue = RuledArrayQueue<BoxedBook, View, PassRule>;
+
+pub type DeskPass = Pass<BoxedBook, View>;

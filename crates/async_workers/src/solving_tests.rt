@@ -1,0 +1,443 @@
+// Worked problems under gates that hold workers back, and drawn ones beside a search of all
+// assignments.
+ghost use Rattle.std.specs.Prelude.{◌≡◌, ◌<◌, All, IfOk, length};
+ghost use Rattle.assign_core.specs.Numbered.{IsNumber};
+ghost use Rattle.assign_core.specs.Rows.{IsCost, IsSize};
+ghost use Rattle.assign_core.specs.Sparse.{IsTriple};
+
+use super::*;
+use assign_core::{
+    Cost, GREATEST_COST, MOST_PERSONS, Object, Outcome, Person, Price, Problem, Sense, SolveFault,
+    plain_best,
+};
+use auction_book::Refused;
+use scaled_values::scale;
+use std::alloc::{AllocError, Global};
+use std::sync::atomic::{AtomicU64, Ordering};
+use std::sync::{Arc, Wait};
+use std::test::Fail;
+use std::thread;
+use std::thread::Threads;
+
+// A pair with its cost.
+type Pair = (u16, u16, Cost);
+
+// A number of persons brought into range.
+fn size(n: u16) -> u16
+    ensures { IsSize result }
+{
+    n.max(1).min(MOST_PERSONS)
+}
+
+// A person and an object of n with a cost, all brought into range.
+fn triple(n: u16, pair: Pair) -> (Person, Object, Cost)
+    requires { IsSize n }
+    ensures { IsTriple n result }
+{
+    (
+        Person(pair.0.max(1).min(n)),
+        Object(pair.1.max(1).min(n)),
+        pair.2.max(-GREATEST_COST).min(GREATEST_COST),
+    )
+}
+
+// The problem that lists these pairs.
+fn problem_of(alloc: Global, n: u16, pairs: &[Pair]) -> Result<Problem, AllocError>
+    requires { IsSize n }
+    ensures { IfOk result (λ problem. length problem ≡ n) }
+{
+    let mut triples = Vec::with_capacity(alloc, pairs.len())?;
+    for pair in pairs {
+        triples.push(triple(n, *pair))?;
+    }
+    Problem::sparse(alloc, n, triples.as_slice())
+}
+
+// The pairs of a dense problem, from its costs row by row.
+fn dense(alloc: Global, n: u16, costs: &[Cost]) -> Result<Vec<Pair>, AllocError> {
+    let mut pairs = Vec::new(alloc);
+    for i in 0..n {
+        for j in 0..n {
+            let at = i as usize * n as usize + j as usize;
+            pairs.push((i + 1, j + 1, costs.get(at).copied().unwrap_or(0)))?;
+        }
+    }
+    Ok(pairs)
+}
+
+// What became of a run: the objects and prices, or the persons and objects of a Hall set; and how
+// many bids of each worker were accepted.
+#[derive(Debug, PartialEq, Eq, Drop)]
+enum Seen {
+    Best(Vec<u16>, Vec<Price>, Vec<u128>),
+    Hall(Vec<u16>, Vec<u16>),
+    Refused,
+}
+
+fn told(alloc: Global, outcome: &Outcome, tallies: &[Tally]) -> Result<Seen, AllocError> {
+    let mut accepted = Vec::new(alloc);
+    for tally in tallies {
+        accepted.push(tally.accepted)?;
+    }
+    match outcome {
+        Outcome::Best(certificate) => {
+            let mut objects = Vec::new(alloc);
+            for object in certificate.assignment.objects() {
+                objects.push(object.0)?;
+            }
+            let prices = certificate.prices.as_slice().to_vec(alloc)?;
+            Ok(Seen::Best(objects, prices, accepted))
+        }
+        Outcome::Hall(hall) => {
+            let mut persons = Vec::new(alloc);
+            for person in hall.persons() {
+                persons.push(person.0)?;
+            }
+            let mut objects = Vec::new(alloc);
+            for object in hall.objects() {
+                objects.push(object.0)?;
+            }
+            Ok(Seen::Hall(persons, objects))
+        }
+    }
+}
+
+// What these workers come to.
+fn solved<G: Gate + Sync, R: Threads + Wait + Sync>(
+    rt: &R,
+    alloc: Global,
+    n: u16,
+    pairs: &[Pair],
+    sense: Sense,
+    workers: u16,
+    refresh: u64,
+    gate: &G,
+) -> Result<Seen, AllocError> {
+    let problem = problem_of(alloc, size(n), pairs)?;
+    let scaled = Arc::new(alloc, scale(alloc, problem, sense)?)?;
+    match solve_workers(rt, alloc, scaled, workers.max(1), refresh, gate) {
+        Ok((outcome, tallies)) => told(alloc, &outcome, tallies.as_slice()),
+        Err(_) => Ok(Seen::Refused),
+    }
+}
+
+// ---- gates
+// So many turns a gate holds a worker at most.
+const TURNS: u32 = 1_000_000;
+
+// Holds the first offers, and the first submissions too if `pairs_up`, until as many workers have
+// reached theirs; and then the first submission of worker 1 until worker 2 was told so many acceptances.
+#[derive(Drop)]
+struct Holding {
+    workers: u64,
+    offers: AtomicU64,
+    submissions: AtomicU64,
+    waiting: u64,
+    accepted: AtomicU64,
+    refused: AtomicU64,
+    late: AtomicU64,
+}
+
+fn new_gate(workers: u64, waiting: u64) -> Holding {
+    Holding {
+        workers,
+        offers: AtomicU64::new(0),
+        submissions: AtomicU64::new(0),
+        waiting,
+        accepted: AtomicU64::new(0),
+        refused: AtomicU64::new(0),
+        late: AtomicU64::new(0),
+    }
+}
+
+// Whether this is the worker's first time here.
+fn is_first(reached: &AtomicU64, worker: u16) -> bool {
+    let bit = 1u64.wrapping_shl(u32::from(worker));
+    reached.fetch_or(bit, Ordering::SeqCst) & bit == 0
+}
+
+// Waits, but not for ever, until `reached` has so many bits, or is so great.
+fn hold(reached: &AtomicU64, least: u64, bits: bool, late: &AtomicU64) {
+    for _ in 0..TURNS {
+        let now = reached.load(Ordering::SeqCst);
+        let now = if bits {
+            u64::from(now.count_ones())
+        } else {
+            now
+        };
+        if now >= least {
+            return;
+        }
+        thread::yield_now();
+    }
+    late.store(1, Ordering::SeqCst);
+}
+
+impl Gate for Holding {
+    fn before_offer(&self, worker: u16) {
+        if is_first(&self.offers, worker) {
+            hold(&self.offers, self.workers, true, &self.late);
+        }
+    }
+
+    fn before_submit(&self, worker: u16, _turns: u64) {
+        if self.waiting > 0 && is_first(&self.submissions, worker) {
+            hold(&self.submissions, self.workers, true, &self.late);
+            if worker == 1 {
+                hold(&self.accepted, self.waiting, false, &self.late);
+            }
+        }
+    }
+
+    fn after_session(&self, worker: u16, note: Note) {
+        match note {
+            Note::Accepted => {
+                if worker == 2 {
+                    self.accepted.fetch_add(1, Ordering::SeqCst);
+                }
+            }
+            Note::Refused(Refused::TooLow(1)) => {
+                self.refused.fetch_add(1, Ordering::SeqCst);
+            }
+            _ => {}
+        }
+    }
+}
+
+// ---- worked problems
+// Costs with one least assignment: person i pays u_i + v_j, and more where it isn't given j.
+const EIGHT: [Cost; 64] = [
+    14, 20, 22, 28, 34, 40, 46, 48, 8, 14, 21, 24, 31, 34, 41, 44, 18, 22, 26, 29, 38, 42, 46, 50,
+    10, 15, 20, 25, 30, 35, 40, 44, 15, 18, 27, 29, 35, 41, 47, 49, 10, 13, 20, 23, 30, 33, 37, 43,
+    15, 19, 23, 27, 31, 39, 43, 47, 11, 16, 21, 26, 31, 35, 41, 46,
+];
+
+// The objects that some workers give to eight persons.
+fn eight<G: Gate + Sync, R: Threads + Wait + Sync>(
+    rt: &R,
+    alloc: Global,
+    workers: u16,
+    refresh: u64,
+    gate: &G,
+) -> Result<Option<Vec<u16>>, AllocError> {
+    let pairs = dense(alloc, 8, &EIGHT)?;
+    let seen = solved(
+        rt,
+        alloc,
+        8,
+        pairs.as_slice(),
+        Sense::Min,
+        workers,
+        refresh,
+        gate,
+    )?;
+    match seen {
+        Seen::Best(objects, _, _) => Ok(Some(objects)),
+        _ => Ok(None),
+    }
+}
+
+#[test]
+fn eight_persons(rt: HostRuntime) -> Result<(), Fail> {
+    for (workers, refresh) in [(1, 1), (4, 1), (64, 1), (4, 0), (4, 1000), (64, 1000)] {
+        let Some(objects) = eight(&rt, rt.alloc(), workers, refresh, &OpenGate)? else {
+            panic!(rt; "no assignment");
+        };
+        assert_eq!(rt; objects.as_slice(), [3, 1, 4, 8, 2, 7, 5, 6].as_slice());
+    }
+    Ok(())
+}
+
+#[test]
+fn all_workers_start(rt: HostRuntime) -> Result<(), Fail> {
+    let gate = new_gate(8, 0);
+    let Some(objects) = eight(&rt, rt.alloc(), 8, 1, &gate)? else {
+        panic!(rt; "no assignment");
+    };
+    assert_eq!(rt; objects.as_slice(), [3, 1, 4, 8, 2, 7, 5, 6].as_slice());
+    assert_eq!(rt; gate.late.load(Ordering::SeqCst), 0);
+    assert_eq!(rt; gate.offers.load(Ordering::SeqCst).count_ones(), 8);
+    Ok(())
+}
+
+#[test]
+fn stale_bid_refused(rt: HostRuntime) -> Result<(), Fail> {
+    let gate = new_gate(2, 1);
+    let pairs = dense(rt.alloc(), 2, &[2, 2, 2, 2])?;
+    let seen = solved(
+        &rt,
+        rt.alloc(),
+        2,
+        pairs.as_slice(),
+        Sense::Min,
+        2,
+        0,
+        &gate,
+    )?;
+    let Seen::Best(objects, prices, accepted) = seen else {
+        panic!(rt; "no assignment");
+    };
+    assert!(rt; objects.as_slice() == [1, 2].as_slice() || objects.as_slice() == [2, 1].as_slice());
+    assert_eq!(rt; prices.as_slice(), [1, 2].as_slice());
+    assert_eq!(rt; accepted.as_slice(), [1, 1].as_slice());
+    assert_eq!(rt; gate.refused.load(Ordering::SeqCst), 1);
+    assert_eq!(rt; gate.late.load(Ordering::SeqCst), 0);
+    Ok(())
+}
+
+#[test]
+fn stale_bid_accepted(rt: HostRuntime) -> Result<(), Fail> {
+    let gate = new_gate(2, 2);
+    let pairs = dense(rt.alloc(), 3, &[0, 1, 1, 1, 0, 1, 1, 1, 0])?;
+    let seen = solved(
+        &rt,
+        rt.alloc(),
+        3,
+        pairs.as_slice(),
+        Sense::Min,
+        2,
+        0,
+        &gate,
+    )?;
+    let Seen::Best(objects, prices, accepted) = seen else {
+        panic!(rt; "no assignment");
+    };
+    assert_eq!(rt; objects.as_slice(), [1, 2, 3].as_slice());
+    assert_eq!(rt; prices.as_slice(), [5, 5, 5].as_slice());
+    assert_eq!(rt; accepted.as_slice(), [1, 2].as_slice());
+    assert_eq!(rt; gate.refused.load(Ordering::SeqCst), 0);
+    assert_eq!(rt; gate.late.load(Ordering::SeqCst), 0);
+    Ok(())
+}
+
+#[test]
+fn three_persons_and_no_assignment(rt: HostRuntime) -> Result<(), Fail> {
+    let alloc = rt.alloc();
+    let pairs = [(1, 1, 4), (2, 1, 6), (3, 2, 1), (3, 3, 2)];
+    for workers in [1, 2, 3] {
+        let seen = solved(&rt, alloc, 3, &pairs, Sense::Min, workers, 1, &OpenGate)?;
+        let Seen::Hall(persons, objects) = seen else {
+            panic!(rt; "no Hall set");
+        };
+        assert_eq!(rt; persons.as_slice(), [1, 2].as_slice());
+        assert_eq!(rt; objects.as_slice(), [1].as_slice());
+    }
+    Ok(())
+}
+
+// ---- drawn problems
+// The next of a sequence of numbers that look drawn by lot, below `end`.
+fn next(seed: &mut u64, end: u16) -> u16
+    requires { 0 < end }
+    ensures { result < end }
+{
+    *seed = seed
+        .wrapping_mul(6_364_136_223_846_793_005)
+        .wrapping_add(1_442_695_040_888_963_407);
+    ((*seed >> 33) % u64::from(end)) as u16
+}
+
+// A problem of at most six persons, of which each may list some objects or all.
+fn drawn(alloc: Global, seed: &mut u64) -> Result<(u16, Vec<Pair>), AllocError> {
+    let n = next(seed, 6) + 1;
+    let share = next(seed, 4) + 1;
+    let spread = next(seed, 30) + 1;
+    let mut pairs = Vec::new(alloc);
+    for i in 0..n {
+        for j in 0..n {
+            if next(seed, 4) < share {
+                let cost = Cost::from(next(seed, spread));
+                pairs.push((i + 1, j + 1, cost - 10))?;
+            }
+        }
+    }
+    Ok((n, pairs))
+}
+
+// The sum of the costs of the objects given to persons 1, 2, ..
+fn cost_of(pairs: &[Pair], objects: &[u16]) -> Cost {
+    let mut sum: Cost = 0;
+    for (person, object, cost) in pairs {
+        let given = objects.get((*person as usize).wrapping_sub(1)).copied();
+        if given == Some(*object) {
+            sum = sum.wrapping_add(*cost);
+        }
+    }
+    sum
+}
+
+// The cost of the least assignment, or of the greatest, if there is one.
+fn best_cost(
+    alloc: Global,
+    n: u16,
+    pairs: &[Pair],
+    sense: Sense,
+) -> Result<Option<Cost>, AllocError> {
+    let problem = problem_of(alloc, size(n), pairs)?;
+    match plain_best(alloc, &problem, sense)? {
+        Some(best) => Ok(Some(problem.total(&best))),
+        None => Ok(None),
+    }
+}
+
+// Whether workers agree with a search of all assignments on a problem that is drawn.
+fn agrees<R: Threads + Wait + Sync>(
+    rt: &R,
+    alloc: Global,
+    seed: &mut u64,
+) -> Result<bool, AllocError> {
+    let (n, pairs) = drawn(alloc, seed)?;
+    let sense = if next(seed, 2) == 0 {
+        Sense::Min
+    } else {
+        Sense::Max
+    };
+    let workers = next(seed, 8) + 1;
+    let refresh = u64::from(next(seed, 4));
+    let cost = best_cost(alloc, n, pairs.as_slice(), sense)?;
+    match solved(
+        rt,
+        alloc,
+        n,
+        pairs.as_slice(),
+        sense,
+        workers,
+        refresh,
+        &OpenGate,
+    )? {
+        Seen::Best(objects, _, _) => Ok(
+            cost == Some(cost_of(pairs.as_slice(), objects.as_slice())),
+        ),
+        Seen::Hall(_, _) => Ok(cost.is_none()),
+        Seen::Refused => Ok(false),
+    }
+}
+
+// How many of so many problems drawn from a seed agree.
+fn agreeing<R: Threads + Wait + Sync>(
+    rt: &R,
+    alloc: Global,
+    turns: u32,
+    seed: u64,
+) -> Result<u32, AllocError> {
+    let mut seed = seed;
+    let mut count: u32 = 0;
+    for _ in 0..turns {
+        if agrees(rt, alloc, &mut seed)? {
+            count = count.wrapping_add(1);
+        }
+    }
+    Ok(count)
+}
+
+#[test]
+fn drawn_problems(rt: HostRuntime) -> Result<(), Fail> {
+    assert_eq!(rt; agreeing(&rt, rt.alloc(), 500, 2026)?, 500);
+    Ok(())
+}
+
+#[test]
+fn more_drawn_problems(rt: HostRuntime) -> Result<(), Fail> {
+    assert_eq!(rt; agreeing(&rt, rt.alloc(), 500, 11)?, 500);
+    Ok(())
+}

@@ -1,0 +1,187 @@
+// Each worker's run, in a thread of its own where one can be started.
+ghost use Rattle.std.specs.Prelude.{◌≡◌, ◌<◌, ◌≤◌, [], All, IfOk, length, map, reverse, slice_index_or, vec_capacity, vec_len, ℕ};
+ghost use Rattle.async_workers.specs.Solving.{HasWorked, IsMemory, desk_in, fault_in};
+ghost use Rattle.async_workers.specs.Turns.{CanTurn, WorksOn};
+
+use crate::gate::{Gate, Turn, TurnFault};
+use crate::place::{BookPlace, Desk, ask_stop, turn};
+use crossbeam_utils::CachePadded;
+use std::alloc::{AllocError, Global};
+use std::sync::Wait;
+use std::thread;
+use std::thread::{Parker, Threads};
+use std::time::Duration;
+
+/// A desk, and the fault that its worker met.
+#[derive(Drop)]
+pub struct Worker {
+    pub desk: Desk,
+    pub fault: Option<TurnFault>,
+}
+
+/// So many times in a row a worker that finds nobody to claim lets other threads run. From then on
+/// it sleeps between its turns, so that it neither burns a core nor keeps the book from the others.
+const YIELDS: u32 = 4;
+
+const SLEEP_MICROS: u64 = 50;
+
+// A worker that found nobody to claim for so many turns waits a little. One turn more.
+fn pause<R: Wait>(rt: &R, parker: &Parker, idle: u32) -> u32 {
+    if idle < YIELDS {
+        thread::yield_now();
+    } else {
+        parker.park_timeout(rt, Duration::from_micros(SLEEP_MICROS));
+    }
+    idle.saturating_add(1)
+}
+
+// A worker's turns, until one ends its run. The fault, if there was one.
+fn take_turns<G: Gate, R: Wait>(
+    rt: &R,
+    alloc: Global,
+    place: &BookPlace,
+    desk: &mut Desk,
+    refresh: u64,
+    gate: &G,
+) -> Option<TurnFault>
+    requires { CanTurn place.now desk.old }
+    ensures can_turn { CanTurn place.now desk.new }
+    ensures works { WorksOn desk.old desk.new }
+    ensures fault { IsMemory result }
+{
+    let parker = Parker::new();
+    let mut idle = 0;
+    for _ in rt.forever() {
+        match turn(rt, alloc, place, desk, refresh, gate) {
+            Ok(Turn::Claimed) => idle = 0,
+            Ok(Turn::Idle) => idle = pause(rt, &parker, idle),
+            Ok(_) => return None,
+            Err(fault) => return Some(fault),
+        }
+    }
+    unreachable!()
+}
+
+// A worker's whole run. After a fault it uses one session more to stop the book.
+fn work<G: Gate, R: Wait>(
+    rt: &R,
+    alloc: Global,
+    place: &BookPlace,
+    worker: &mut Worker,
+    refresh: u64,
+    gate: &G,
+)
+    requires { CanTurn place.now worker.old.desk }
+    ensures works { WorksOn worker.old.desk worker.new.desk }
+    ensures fault { IsMemory worker.new.fault }
+{
+    let fault = take_turns(rt, alloc, place, &mut worker.desk, refresh, gate);
+    if fault.is_some() {
+        ask_stop(rt, place, &mut worker.desk);
+    }
+    worker.fault = fault;
+}
+
+// Each worker's run goes to a thread of its own. Where none can be started the runs follow each other.
+fn run_each<G: Gate + Sync, R: Threads + Wait + Sync>(
+    rt: &R,
+    alloc: Global,
+    place: &BookPlace,
+    workers: &mut [CachePadded<Worker>],
+    threads: usize,
+    refresh: u64,
+    gate: &G,
+)
+    requires threads { 0 < threads }
+    requires ready { All (λ w. CanTurn place.now (desk_in w)) workers.old }
+    ensures { (k : ℕ) (d : _) → k < length workers.old
+        → HasWorked (slice_index_or workers.old k d) (slice_index_or workers.new k d) }
+{
+    thread::for_each_mut(
+        rt,
+        workers,
+        threads,
+        &|_: usize, worker: &mut CachePadded<Worker>|
+            requires { CanTurn place.now (desk_in worker.old) }
+            ensures { HasWorked worker.old worker.new }
+        { work(rt, alloc, place, &mut *worker, refresh, gate) },
+    );
+}
+
+/// The workers after their runs, each of which had a thread of its own where one could be started.
+pub fn run_all<G: Gate + Sync, R: Threads + Wait + Sync>(
+    rt: &R,
+    alloc: Global,
+    place: &BookPlace,
+    mut workers: Vec<CachePadded<Worker>>,
+    refresh: u64,
+    gate: &G,
+) -> Vec<CachePadded<Worker>>
+    requires some { 0 < vec_len workers }
+    requires ready { All (λ w. CanTurn place.now (desk_in w)) workers.items }
+    ensures long { vec_len result ≡ vec_len workers }
+    ensures worked { (k : ℕ) (d : _) → k < vec_len workers
+        → HasWorked (slice_index_or workers.items k d) (slice_index_or result.items k d) }
+{
+    let threads = workers.len();
+    run_each(
+        rt,
+        alloc,
+        place,
+        workers.as_mut_slice(),
+        threads,
+        refresh,
+        gate,
+    );
+    workers
+}
+
+/// A worker for each desk, the last one first.
+///
+/// # Errors
+/// Only where memory is refused.
+pub fn seat_workers(
+    alloc: Global,
+    mut desks: Vec<Desk>,
+) -> Result<Vec<CachePadded<Worker>>, AllocError>
+    ensures { IfOk result (λ workers. map desk_in workers.items ≡ reverse desks.items) }
+{
+    let mut workers = Vec::with_capacity(alloc, desks.len())?;
+    while let Some(desk) = desks.pop() {
+        workers.push(CachePadded::new(Worker { desk, fault: None }))?;
+    }
+    Ok(workers)
+}
+
+// The fault of the lower of two workers, if it met one, or else the other's.
+fn earlier_fault(lower: Option<TurnFault>, higher: Option<TurnFault>) -> Option<TurnFault>
+    requires lower { IsMemory lower }
+    requires higher { IsMemory higher }
+    ensures { IsMemory result }
+{
+    match lower {
+        Some(fault) => Some(fault),
+        None => higher,
+    }
+}
+
+/// The desks that come back, the first one first, into a list with room for them, and the fault of
+/// the lowest worker that met one. The workers stand with the last one first. Takes no memory.
+pub fn unseat_workers(
+    mut desks: Vec<Desk>,
+    mut workers: Vec<CachePadded<Worker>>,
+) -> (Vec<Desk>, Option<TurnFault>)
+    requires empty { desks.items ≡ [] }
+    requires room { vec_len workers ≤ vec_capacity desks }
+    requires faults { All (λ w. IsMemory (fault_in w)) workers.items }
+    ensures desks { result.0.items ≡ reverse (map desk_in workers.items) }
+    ensures fault { IsMemory result.1 }
+{
+    let mut first = None;
+    while let Some(worker) = workers.pop() {
+        let Worker { desk, fault } = worker.into_inner();
+        first = earlier_fault(first, fault);
+        desks.push_reserved(desk);
+    }
+    (desks, first)
+}
