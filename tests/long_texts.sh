@@ -35,7 +35,7 @@ expect 'zeros past the limit' 3 "$too_long" < <(many 0 $((limit + 1)))
 expect 'zeros up to the limit' 3 'input: size out of range' < <(many 0 "$limit")
 expect 'a word past the limit' 3 "$too_long" < <(many x $((limit + 1)))
 expect 'a word up to the limit' 3 'input: bad number at byte 0' < <(many 'x' "$limit")
-expect 'a problem and blanks up to the limit' 0 'cost 7' < <(printf '1 7'; many ' ' $((limit - 3)))
+expect 'a problem and blanks up to the limit' 0 'sense min' < <(printf '1 7'; many ' ' $((limit - 3)))
 expect 'a problem and blanks past the limit' 3 "$too_long" < <(printf '1 7'; many ' ' $((limit - 2)))
 expect 'something behind the last cost, at the limit' 3 "input: extra data at byte $((limit - 1))" < <(printf '1 7'; many ' ' $((limit - 4)); printf x)
 echo "$passed passed, $failed failed"

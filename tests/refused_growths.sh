@@ -101,4 +101,9 @@ try_all "$top/examples/two_persons.txt" --help
 try_all "$top/examples/hundred_persons.txt" solve
 try_all "$top/examples/roster.txt" solve --sparse
 try_all "$top/examples/short_roster.txt" solve --sparse
+try_all "$top/examples/sales.txt" solve --max --prices
+"$program" solve --prices < "$top/examples/two_persons.txt" > "$work/report"
+try_all "$top/examples/two_persons.txt" verify "$work/report"
+"$program" solve --sparse < "$top/examples/short_roster.txt" > "$work/refusal" || true
+try_all "$top/examples/short_roster.txt" verify --sparse "$work/refusal"
 [ "$failed" = 0 ]

@@ -32,10 +32,11 @@ firsts() {
     compare "$*" "$wanted|$out|$err" "$status|$(head -1 "$work/out")|$(head -1 "$work/err")"
 }
 
-expect '1 7' 0 'cost 7\nassign 1 1 7\n' '' solve
-expect '2 1 2 3 5' 0 'cost 5\nassign 1 2 2\nassign 2 1 3\n' '' solve
-expect '3 1 1 4 2 1 6 3 2 1 3 3 2' 1 'infeasible\npersons 2 1 2\nobjects 1 1\n' '' solve --sparse
-expect '3' 1 'infeasible\npersons 1 1\nobjects 0\n' '' solve --sparse
+expect '1 7' 0 'sense min\ncost 7\nassign 1 1 7\n' '' solve
+expect '2 1 2 3 5' 0 'sense min\ncost 5\nassign 1 2 2\nassign 2 1 3\n' '' solve
+expect '2 1 2 3 5' 0 'sense max\ncost 6\nassign 1 1 1\nassign 2 2 5\nprice 1 12\nprice 2 14\n' '' solve --max --prices
+expect '3 1 1 4 2 1 6 3 2 1 3 3 2' 1 'sense min\ninfeasible\npersons 2 1 2\nobjects 1 1\n' '' solve --sparse
+expect '3' 1 'sense min\ninfeasible\npersons 1 1\nobjects 0\n' '' solve --sparse
 expect '' 3 '' 'input: empty' solve
 expect ' \n' 3 '' 'input: empty' solve
 expect 'x' 3 '' 'input: bad number at byte 0' solve
@@ -46,12 +47,44 @@ expect '1 1000000000001' 3 '' 'input: cost out of range at byte 2' solve
 expect '2 3 1 5' 3 '' 'input: index out of range at byte 2' solve --sparse
 expect '2 1 2' 3 '' 'input: truncated after 3 numbers' solve
 expect '1 7 x' 3 '' 'input: extra data at byte 4' solve
-firsts 0 'Read a problem and write a best assignment, or why there is none' '' solve --help
-firsts 0 'Usage: auction_cli <COMMAND>' '' --help
+printf '2 1 2 3 5' | "$program" solve --prices > "$work/report"
+expect '2 1 2 3 5' 0 'verified cost 5\n' '' verify "$work/report"
+expect '2 1 2 4 5' 5 'not verified: cost of person 2\n' '' verify "$work/report"
+expect '2 1 2 3' 3 '' 'input: truncated after 4 numbers' verify "$work/report"
+printf '2 1 2 3 5' | "$program" solve --max --prices > "$work/greatest"
+expect '2 1 2 3 5' 0 'verified max cost 6\n' '' verify "$work/greatest"
+printf 'cost 5\nassign 1 02 2\n' > "$work/bad"
+expect '2 1 2 3 5' 3 '' 'report: bad line 2' verify "$work/bad"
+expect '2 1 2 3 5' 4 '' 'device: read failed' verify "$work"
+expect 'x' 3 '' 'input: bad number at byte 0' verify "$work"
+expect 'x' 4 '' 'device: cannot open the report' verify "$work/none"
+expect '2 1 2 3 5' 0 'sense min\ncost 5\nassign 1 2 2\nassign 2 1 3\nprice 1 26\nprice 2 24\n' '' solve --prices --start "$work/report"
+expect '1 7' 3 '' 'start: 2 prices' solve --start "$work/report"
+expect '2 1 2 3 5' 3 '' 'report: bad line 2' solve --start "$work/bad"
+expect '2 1 2 3 5' 4 '' 'device: read failed' solve --start "$work"
+expect 'x' 3 '' 'input: bad number at byte 0' solve --start "$work"
+expect 'x' 4 '' 'device: cannot open the report' solve --start "$work/none"
+printf '3 1 1 4 2 1 6 3 2 1 3 3 2' | "$program" solve --sparse > "$work/refusal"
+expect '2 1 2 3 5' 3 '' 'start: no prices' solve --start "$work/refusal"
+expect '3 1 1 4 2 1 6 3 2 1 3 3 2' 0 'verified infeasible\n' '' verify --sparse "$work/refusal"
+firsts 0 'Read a problem from standard input, and write a best assignment or why there is none' '' solve --help
+firsts 0 'Read a problem from standard input, and check a report on it' '' verify --help
+firsts 0 'Solve assignment problems and check reports; the problem comes on standard input' '' --help
 firsts 2 '' "error: unexpected argument '--greatest' found" solve --greatest
-firsts 2 '' "error: unrecognized subcommand 'verify'" verify
+firsts 2 '' 'error: the following required arguments were not provided:' verify
 firsts 2 '' "error: 'auction_cli' requires a subcommand but one was not provided"
 firsts 2 '' 'error: the words are no text' solve $'\xff'
+
+# Help names each option.
+for word in solve verify; do
+    "$program" --help | grep -q "^  $word  *[A-Z]" || { echo "help is silent on $word"; failed=$((failed + 1)); }
+done
+for option in sparse max prices 'start <REPORT>'; do
+    "$program" solve --help | grep -q -- "--$option  *[A-Z]" || { echo "help of solve is silent on --$option"; failed=$((failed + 1)); }
+done
+for option in --sparse '<REPORT>'; do
+    "$program" verify --help | grep -q -- "$option  *[A-Z]" || { echo "help of verify is silent on $option"; failed=$((failed + 1)); }
+done
 
 status=0
 printf '2 1 2 3 5' | "$program" solve > /dev/full 2> "$work/err" || status=$?

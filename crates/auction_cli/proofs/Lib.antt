@@ -1,4 +1,7 @@
 pub mod CommandLines
+pub mod Costs
 pub mod Ends
-pub mod Lines
-pub mod Written
+pub mod Findings
+pub mod Subcommands
+pub mod Verdicts
+pub mod Starts

@@ -1,4 +1,5 @@
-pub mod Report
 pub mod Solve
+pub mod Findings
+pub mod Verify
 pub mod Words
 pub mod Program

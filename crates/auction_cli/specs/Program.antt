@@ -1,21 +1,28 @@
 -- What the program has written on each stream, and its status, by its words and how it ended.
-use Rattle.std.specs.Prelude.{◌≡◌, ◌≢◌, ◌⊎◌, ℕ, Bool, List, [], ◌++◌, Option, Result, Ok, Err, codes, ⊤}
+use Rattle.std.specs.Prelude.{◌≡◌, ◌≢◌, ◌⊎◌, ℕ, List, ◌++◌, Option, Result, Ok, Err, codes, IsSome, ⊤}
 use Rattle.std.specs.Io.KnownBytes.{Appends, Keeps}
-use Rattle.clap.specs.Words.{fault_of, IsAmong, subcommand_of, Text}
+use Rattle.clap.specs.Words.{fault_of, IsAmong, Text}
 use Rattle.clap.specs.declared.error.kind.ErrorKind.{ErrorKind}
 use Rattle.clap.specs.declared.error.kind.ErrorKind.TheVariants.{DisplayHelp, DisplayVersion, OutOfMemory}
-use Rattle.auction_cli.specs.Report.{AppendsPart}
+use Rattle.std.specs.Option.{option_map}
+use Rattle.std.specs.String.{string_bytes}
+use Rattle.report.specs.Writing.{IsCutOff}
 use Rattle.auction_cli.specs.Solve.{SolveOutcome, end_status, fault_line, status}
-use Rattle.auction_cli.specs.Words.{flag_of, IsFlag, program}
+use Rattle.auction_cli.specs.Verify.{VerifyOutcome}
+use Rattle.auction_cli.specs.Words.{AskFor, program}
+use Rattle.auction_cli.specs.declared.words.Words.{Words}
+use Rattle.auction_cli.specs.declared.words.Words.TheVariants.{Solve, Verify}
+use Rattle.auction_cli.specs.declared.verify.Verified.{Verified}
+use Rattle.auction_cli.specs.declared.verify.Verified.TheVariants.{Yes, No}
 use Rattle.auction_cli.specs.declared.run.Ended.{Ended}
 use Rattle.auction_cli.specs.declared.run.CliFault.{CliFault}
-use Rattle.auction_cli.specs.declared.run.CliFault.TheVariants.{Input, Write, Memory, Stuck}
+use Rattle.auction_cli.specs.declared.run.CliFault.TheVariants.{Write, Memory}
 use Rattle.auction_cli.specs.declared.program.NoWords.{NoWords}
 use Rattle.auction_cli.specs.declared.program.NoWords.TheVariants as absent
 use Rattle.auction_cli.specs.declared.program.Told.{Told}
 use Rattle.auction_cli.specs.declared.program.Told.TheVariants.{Whole, Part}
 use Rattle.auction_cli.specs.declared.program.ProgramEnd.{ProgramEnd}
-use Rattle.auction_cli.specs.declared.program.ProgramEnd.TheVariants.{Reported, Helped, Refused, Failed}
+use Rattle.auction_cli.specs.declared.program.ProgramEnd.TheVariants.{Reported, Checked, Helped, Refused, Unopened, Failed}
 
 -- the words as texts, or why there are none
 abbrev pub Given : Type 0
@@ -25,11 +32,10 @@ abbrev pub given_by : {V : Type 0} → (V → List Text) → Result V NoWords �
 given_by texts (Ok words) = Ok (texts words)
 given_by texts (Err none) = Err none
 
--- clap finds no fault in the words, and they choose sparse or dense texts
-abbrev pub AsksToSolve : Given → Bool → Type 0
-AsksToSolve (Ok words) sparse =
-    (fault_of program words ≡ []) × IsFlag (flag_of (subcommand_of program words)) sparse
-AsksToSolve (Err none) sparse = ⊥
+-- clap finds no fault in the words, and this is what they choose
+abbrev pub Asks : Given → Words → Type 0
+Asks (Ok words) asked = AskFor words asked
+Asks (Err none) asked = ⊥
 
 -- neither a request for help nor for the version
 abbrev pub IsMistake : ErrorKind → Type 0
@@ -47,39 +53,79 @@ AreRefused (Ok words) =
     (kind : ErrorKind) × IsAmong kind (fault_of program words) × (kind ≢ OutOfMemory) × IsMistake kind
 AreRefused (Err none) = none ≡ absent.NoText
 
--- a run of `solve` that the words ask for
-abbrev pub RunOutcome : Given → Option (List ℕ) → Option (List ℕ) → Option (List ℕ) →
+-- what is known of the bytes of the reports, by their names
+abbrev pub Known : Type 0
+Known = Text → Option (List ℕ)
+
+-- a problem was to be solved, and so it was
+abbrev pub Solves : Words → Option (List ℕ) → Known → Option (List ℕ) → Option (List ℕ) →
     Result Ended CliFault → Type 0
-RunOutcome given input old new result =
-    (sparse : Bool) × AsksToSolve given sparse × SolveOutcome sparse input old new result
+Solves (Solve options start) input reports old new result =
+    SolveOutcome options input (option_map (λ name. reports (string_bytes name)) start) old new result
+Solves (Verify sparse name) input reports old new result = ⊥
+
+-- a run of `solve` that the words ask for
+abbrev pub SolveRun : Given → Option (List ℕ) → Known → Option (List ℕ) → Option (List ℕ) →
+    Result Ended CliFault → Type 0
+SolveRun given input reports old new result =
+    (asked : Words) × Asks given asked × Solves asked input reports old new result
+
+-- a report was to be checked, and so it was
+abbrev pub Checks : Words → Option (List ℕ) → Known → Option (List ℕ) → Option (List ℕ) →
+    Result Verified CliFault → Type 0
+Checks (Solve options start) input reports old new result = ⊥
+Checks (Verify sparse name) input reports old new result =
+    VerifyOutcome sparse input (reports (string_bytes name)) old new result
+
+-- a run of `verify` that the words ask for
+abbrev pub VerifyRun : Given → Option (List ℕ) → Known → Option (List ℕ) → Option (List ℕ) →
+    Result Verified CliFault → Type 0
+VerifyRun given input reports old new result =
+    (asked : Words) × Asks given asked × Checks asked input reports old new result
+
+abbrev pub NamesReport : Words → Type 0
+NamesReport (Solve options start) = IsSome start
+NamesReport (Verify sparse name) = ⊤
+
+-- the words name a report, to check it or to begin at its prices
+abbrev pub AsksForReport : Given → Type 0
+AsksForReport given = (asked : Words) × Asks given asked × NamesReport asked
 
 -- help that the words ask for, and of which a beginning went out
 abbrev pub HelpFails : Given → Option (List ℕ) → Option (List ℕ) → Type 0
-HelpFails given old new = AsksForHelp given × (text : List ℕ) × AppendsPart old new text
+HelpFails given old new = AsksForHelp given × (text : List ℕ) × IsCutOff old new text
 
--- nothing went out, but for a beginning of the report or of help where the output fails
-abbrev pub FaultOutcome : Given → Option (List ℕ) → Option (List ℕ) → Option (List ℕ) → CliFault →
-    Type 0
-FaultOutcome given input old new (Input fault) = RunOutcome given input old new (Err (Input fault))
-FaultOutcome given input old new (Stuck person) =
-    RunOutcome given input old new (Err (Stuck person))
-FaultOutcome given input old new Write =
-    RunOutcome given input old new (Err Write) ⊎ HelpFails given old new
-FaultOutcome given input old new Memory = Keeps old new
+-- a run that the words ask for, and that failed so
+abbrev pub FailedRun : Given → Option (List ℕ) → Known → Option (List ℕ) → Option (List ℕ) →
+    CliFault → Type 0
+FailedRun given input reports old new fault =
+    SolveRun given input reports old new (Err fault) ⊎ VerifyRun given input reports old new (Err fault)
 
--- what standard input held, and what went to standard output
-abbrev pub ProgramOutcome : Given → Option (List ℕ) → Option (List ℕ) → Option (List ℕ) →
+-- nothing went out, but for a beginning of what was to be written where the output fails
+abbrev pub FaultOutcome : Given → Option (List ℕ) → Known → Option (List ℕ) → Option (List ℕ) →
+    CliFault → Type 0
+FaultOutcome given input reports old new Memory = Keeps old new
+FaultOutcome given input reports old new Write =
+    FailedRun given input reports old new Write ⊎ HelpFails given old new
+FaultOutcome given input reports old new fault = FailedRun given input reports old new fault
+
+-- what standard input and the report held, and what went to standard output
+abbrev pub ProgramOutcome : Given → Option (List ℕ) → Known → Option (List ℕ) → Option (List ℕ) →
     ProgramEnd → Type 0
-ProgramOutcome given input old new (Reported ended) = RunOutcome given input old new (Ok ended)
-ProgramOutcome given input old new Helped =
+ProgramOutcome given input reports old new (Reported ended) = SolveRun given input reports old new (Ok ended)
+ProgramOutcome given input reports old new (Checked verified) =
+    VerifyRun given input reports old new (Ok verified)
+ProgramOutcome given input reports old new Helped =
     AsksForHelp given × (text : List ℕ) × Appends old new text
-ProgramOutcome given input old new (Refused told) = AreRefused given × Keeps old new
-ProgramOutcome given input old new (Failed fault told) = FaultOutcome given input old new fault
+ProgramOutcome given input reports old new (Refused told) = AreRefused given × Keeps old new
+ProgramOutcome given input reports old new (Unopened told) = AsksForReport given × Keeps old new
+ProgramOutcome given input reports old new (Failed fault told) =
+    FaultOutcome given input reports old new fault
 
 -- a text went to a stream, or a beginning of it
 abbrev pub Tells : Option (List ℕ) → Option (List ℕ) → List ℕ → Told → Type 0
 Tells old new text Whole = Appends old new text
-Tells old new text Part = AppendsPart old new text
+Tells old new text Part = IsCutOff old new text
 
 -- why the words are refused: in clap's words, which are open, or that one of them is no text
 abbrev pub IsRefusal : Given → List ℕ → Type 0
@@ -98,15 +144,22 @@ EndsFailed fault old new end =
 -- what went to standard error
 abbrev pub ErrorOutcome : Given → Option (List ℕ) → Option (List ℕ) → ProgramEnd → Type 0
 ErrorOutcome given old new (Reported ended) = Keeps old new
+ErrorOutcome given old new (Checked verified) = Keeps old new
 ErrorOutcome given old new Helped = Keeps old new
 ErrorOutcome given old new (Refused told) =
     (text : List ℕ) × IsRefusal given text × Tells old new text told
+ErrorOutcome given old new (Unopened told) =
+    Tells old new (codes "device: cannot open the report\n") told
 ErrorOutcome given old new (Failed fault told) = Tells old new (line_of fault) told
 
--- 0 for an assignment and for help, 1 where there is no assignment, 2 for words that are refused,
--- and else a fault's own
+-- 0 for an assignment, for a report that is right and for help, 1 where there is no assignment, 2 for
+-- words that are refused, 4 for a report that can't be opened, 5 for one that is wrong, and else a
+-- fault's own
 abbrev pub exit_status : ProgramEnd → ℕ
 exit_status (Reported ended) = end_status ended
+exit_status (Checked Yes) = 0
+exit_status (Checked No) = 5
 exit_status Helped = 0
 exit_status (Refused told) = 2
+exit_status (Unopened told) = 4
 exit_status (Failed fault told) = status fault

@@ -1,51 +1,106 @@
 -- Which command lines are taken, and what they choose.
-use Rattle.std.specs.Prelude.{◌≡◌, ◌≢◌, List, [], Bool, true, false, Option, Some, None, Result, Ok, Err, codes, option_map, ⊤}
-use Rattle.clap.specs.Words.{App, Row, Rule, Text, fault_of, IsAmong, kind_of, new_app, new_rule, one_of, subcommand_of, with_rule, with_subcommand}
+use Rattle.std.specs.Prelude.{◌≡◌, ◌≢◌, ◌⊎◌, List, [], Bool, true, false, Option, Some, None, Result, Ok, Err, codes, unwrap_or, ⊤}
+use Rattle.std.specs.Option.{option_map}
+use Rattle.std.specs.String.{string_bytes}
+use Rattle.clap.specs.Words.{App, Row, Rule, Text, fault_of, first_of, IsAmong, kind_of, new_app, new_rule, one_of, subcommand_of, with_rule, with_subcommand}
 use Rattle.clap.specs.declared.builder.action.ArgAction.TheVariants.{SetTrue}
 use Rattle.clap.specs.declared.error.Error.{Error}
 use Rattle.clap.specs.declared.error.kind.ErrorKind.TheVariants.{OutOfMemory}
+use Rattle.assign_core.specs.declared.sense.Sense.{Sense}
+use Rattle.assign_core.specs.declared.sense.Sense.TheVariants.{Min, Max}
+use Rattle.auction_cli.specs.declared.words.SolveOpts.{SolveOpts}
 use Rattle.auction_cli.specs.declared.words.Words.{Words}
-use Rattle.auction_cli.specs.declared.words.Words.TheVariants.{Solve}
+use Rattle.auction_cli.specs.declared.words.Words.TheVariants.{Solve, Verify}
 use Rattle.auction_cli.specs.declared.words.WordsFault.{WordsFault}
 use Rattle.auction_cli.specs.declared.words.WordsFault.TheVariants.{Clap, Memory}
 
--- `--sparse`, a flag
-abbrev pub sparse_rule : Rule
-sparse_rule = record (new_rule (codes "sparse")) { long = Some (codes "sparse"); action = Some SetTrue }
+-- an option that takes no value
+abbrev pub flag_rule : Text → Rule
+flag_rule name = record (new_rule name) { long = Some name; action = Some SetTrue }
+
+-- the name of a file, which may be given behind `--start`
+abbrev pub start_rule : Rule
+start_rule = record (new_rule (codes "start")) { long = Some (codes "start"); value_names = 1 }
 
 abbrev pub solve_app : App
-solve_app = with_rule (new_app (codes "solve")) sparse_rule
+solve_app = with_rule (with_rule (with_rule (with_rule (new_app (codes "solve")) (flag_rule (codes "sparse"))) (flag_rule (codes "max"))) (flag_rule (codes "prices"))) start_rule
+
+-- the name of a file, which must be given
+abbrev pub report_rule : Rule
+report_rule = record (new_rule (codes "REPORT")) { required = true }
+
+abbrev pub verify_app : App
+verify_app = with_rule (with_rule (new_app (codes "verify")) (flag_rule (codes "sparse"))) report_rule
 
 -- a subcommand is required
 abbrev pub bare_program : App
 bare_program = let plain = new_app (codes "auction_cli") in record plain { top = record plain.top { subcommand_required = true } }
 
--- the program as clap sees it: `solve` with its flag is the one subcommand
+-- the program as clap sees it: `solve` and `verify` with their options are the subcommands
 abbrev pub program : App
-program = with_subcommand bare_program solve_app.top
+program = with_subcommand (with_subcommand bare_program solve_app.top) verify_app.top
 
--- a subcommand, and the text that the flag `--sparse` has there
-abbrev pub flag_of : Option (Text × List Row) → Option (Text × Option Text)
-flag_of = option_map (λ found. (found.0, one_of (codes "sparse") found.1))
+-- a flag, by the text that clap has for its option
+pub record IsFlag (text : Option Text) (flag : Bool) : Type 0 where
+  pub set : text ≡ Some (codes "true") → flag ≡ true
+  pub unset : text ≡ Some (codes "false") → flag ≡ false
+  pub absent : text ≡ None → flag ≡ false
 
--- the flag is set for `solve`, or it isn't
-pub record IsFlag (text : Option (Text × Option Text)) (flag : Bool) : Type 0 where
-  pub set : text ≡ Some (codes "solve", Some (codes "true")) → flag ≡ true
-  pub unset : text ≡ Some (codes "solve", Some (codes "false")) → flag ≡ false
-  pub absent : text ≡ Some (codes "solve", None) → flag ≡ false
+abbrev pub is_max : Sense → Bool
+is_max Min = false
+is_max Max = true
+
+-- the options of `solve`, by what clap finds behind it
+pub record ChoosesSolving (rows : List Row) (options : SolveOpts) : Type 0 where
+  pub sparse : IsFlag (one_of (codes "sparse") rows) options.sparse
+  pub prices : IsFlag (one_of (codes "prices") rows) options.prices
+  pub sense : IsFlag (one_of (codes "max") rows) (is_max options.sense)
+
+-- the option and the file of `verify`, by what clap finds behind it
+pub record ChoosesFile (rows : List Row) (lists_pairs : Bool) (name : Text) : Type 0 where
+  pub sparse : IsFlag (one_of (codes "sparse") rows) lists_pairs
+  pub report : name ≡ unwrap_or (first_of (codes "REPORT") rows) []
+
+-- what is to be done, by a subcommand and what clap finds behind it
+abbrev pub Chooses : Option (Text × List Row) → Words → Type 0
+Chooses found (Solve options start) =
+    (rows : List Row) × (found ≡ Some (codes "solve", rows)) × ChoosesSolving rows options
+    × (option_map string_bytes start ≡ first_of (codes "start") rows)
+Chooses found (Verify sparse report) = (rows : List Row) × (found ≡ Some (codes "verify", rows)) × ChoosesFile rows sparse (string_bytes report)
+
+abbrev pub ChoosesVerifying : List Row → Words → Type 0
+ChoosesVerifying rows words = Chooses (Some (codes "verify", rows)) words
+
+-- one of the two subcommands
+abbrev pub NamesCommand : Option (Text × List Row) → Type 0
+NamesCommand found = (rows : List Row) × ((found ≡ Some (codes "solve", rows)) ⊎ (found ≡ Some (codes "verify", rows)))
 
 -- want of memory apart, an error of clap's is told as it is
 abbrev pub IsFaultOf : Error → WordsFault → Type 0
 IsFaultOf error Memory = kind_of error ≡ OutOfMemory
 IsFaultOf error (Clap told) = (told ≡ error) × (kind_of error ≢ OutOfMemory)
 
--- words are taken where clap finds no fault in them, with the flag as clap finds it, and else one of their faults is told; requests for help count as faults
+-- clap finds no fault in the words, and this is what they choose
+abbrev pub AskFor : List Text → Words → Type 0
+AskFor words asked = (fault_of program words ≡ []) × Chooses (subcommand_of program words) asked
+
+-- words are taken where clap finds no fault in them, with what clap finds behind the subcommand, and else one of their faults is told; requests for help count as faults
 abbrev pub WordsOutcome : List Text → Result Words WordsFault → Type 0
-WordsOutcome words (Ok (Solve options)) = (fault_of program words ≡ []) × IsFlag (flag_of (subcommand_of program words)) options.sparse
+WordsOutcome words (Ok asked) = AskFor words asked
 WordsOutcome words (Err (Clap error)) = IsAmong (kind_of error) (fault_of program words) × (kind_of error ≢ OutOfMemory)
 WordsOutcome words (Err Memory) = ⊤
 
--- want of memory apart, the words are taken with this flag
-abbrev pub AsksFor : Bool → Result Words WordsFault → Type 0
-AsksFor sparse (Ok (Solve options)) = options.sparse ≡ sparse
-AsksFor sparse (Err fault) = fault ≡ Memory
+-- a problem is to be solved: whether its text lists pairs, whether the greatest cost is wanted, whether the report has prices, and the name of the file with the first prices, if there is one
+abbrev pub Solves : Bool → Bool → Bool → Option Text → Words → Type 0
+Solves sparse max prices name (Solve options start) = (options.sparse ≡ sparse) × (is_max options.sense ≡ max) × (options.prices ≡ prices) × (option_map string_bytes start ≡ name)
+Solves sparse max prices name (Verify lists_pairs report) = ⊥
+
+-- a report is to be checked: whether the problem's text lists pairs, and the name of the report's file
+abbrev pub Verifies : Bool → Text → Words → Type 0
+Verifies sparse name (Solve options start) = ⊥
+Verifies sparse name (Verify lists_pairs report) = (lists_pairs ≡ sparse) × (string_bytes report ≡ name)
+
+-- want of memory apart, the words are taken so
+abbrev pub IsTaken : (Words → Type 0) → Result Words WordsFault → Type 0
+IsTaken P (Ok asked) = P asked
+IsTaken P (Err fault) = fault ≡ Memory

@@ -1,16 +1,48 @@
 //! Solves assignment problems from the command line.
 #![tactic(auto)]
 
+mod finding;
 mod program;
-mod report;
 mod run;
 #[cfg(test)]
+mod start_tests;
+#[cfg(test)]
+mod streams;
+#[cfg(test)]
 mod tests;
+mod verify;
+#[cfg(test)]
+mod verify_drawn_tests;
+#[cfg(test)]
+mod verify_tests;
 mod words;
 
-use program::{NoWords, run_program};
+use program::{NoReport, NoWords, Reports, run_program};
+use std::fs::File;
 use std::process::ExitCode;
-use std::{env, io};
+use std::{env, fs, io};
+
+// The files of the machine.
+#[derive(Drop)]
+struct Disk<'a> {
+    rt: &'a HostRuntime,
+}
+
+impl Reports for Disk<'_> {
+    type Report = File;
+
+    ghost use Rattle.std.specs.Prelude.{None};
+
+    ghost bytes_of = { λ _ _. None };
+
+    fn open(&self, name: &str) -> Result<File, NoReport> {
+        match fs::open(self.rt, name) {
+            Ok(file) => Ok(file),
+            Err(error) if error.kind() == io::ErrorKind::OutOfMemory => Err(NoReport::Memory),
+            Err(_) => Err(NoReport::Unopened),
+        }
+    }
+}
 
 // The words of the command line, the program's own name first.
 fn given_words(rt: &HostRuntime) -> Result<Vec<String>, NoWords> {
@@ -30,6 +62,7 @@ fn main(rt: HostRuntime) -> ExitCode {
         &rt,
         rt.alloc(),
         words,
+        &Disk { rt: &rt },
         &mut reader,
         &mut writer,
         &mut errors,

@@ -1,15 +1,17 @@
 // The whole program: from words and streams to an end with its status.
-ghost use Rattle.std.specs.Prelude.{◌≡◌, ℕ, List, Ok, Err, Option, map};
+ghost use Rattle.std.specs.Prelude.{◌≡◌, ℕ, List, None, Some, Ok, Err, IfOk, Option, map};
 ghost use Rattle.clap.specs.Words.{Text};
-ghost use Rattle.auction_cli.specs.Program.{AsksToSolve, EndsFailed, ErrorOutcome, ProgramOutcome, Tells, exit_status, given_by};
+ghost use Rattle.auction_cli.specs.Program.{Asks, AsksForReport, EndsFailed, ErrorOutcome, Given, Known, ProgramOutcome, Tells, exit_status, given_by};
 ghost use Rattle.auction_cli.specs.Words.{WordsOutcome};
+ghost use Rattle.auction_cli.specs.declared.words.Words.TheVariants.{Solve, Verify};
 ghost use Rattle.auction_cli.specs.declared.words.WordsFault.TheVariants.{Clap};
 
-use crate::report::{WriteFailed, write_text};
-use crate::run::{CliFault, Ended, end_status_of, run_solve, status_of};
+use crate::run::{CliFault, Ended, end_status_of, run_solve, run_solve_from, status_of};
+use crate::verify::{Verified, run_verify};
 use crate::words::{SolveOpts, Words, WordsFault, read_words};
 use arrayvec::ArrayString;
 use clap::Error;
+use report::{WriteFault, write_text};
 use std::alloc::Global;
 use std::convert::AsStr;
 use std::fmt::Write as FmtWrite;
@@ -23,6 +25,28 @@ pub enum NoWords {
     NoText,
     /// Memory was refused.
     Memory,
+}
+
+/// Why a report can't be read.
+#[derive(Clone, Copy, Debug, PartialEq, Eq)]
+pub enum NoReport {
+    /// It can't be opened.
+    Unopened,
+    /// Memory was refused.
+    Memory,
+}
+
+/// Where reports lie, each under a name.
+pub trait Reports {
+    /// An opened report.
+    type Report: Read + Drop;
+
+    ghost bytes_of: { Self → List ℕ → Option (List ℕ) };
+
+    /// Opens the report of this name.
+    fn open(&self, name: &str) -> Result<Self::Report, NoReport>
+        ensures { IfOk result (λ report.
+            Self.Report.remaining report ≡ bytes_of self.now name.now) };
 }
 
 /// How much of a line or a text standard error took.
@@ -39,25 +63,32 @@ pub enum Told {
 pub enum ProgramEnd {
     /// The report stands on standard output.
     Reported(Ended),
+    /// What a report was found to be stands on standard output.
+    Checked(Verified),
     /// The help that was asked for stands on standard output.
     Helped,
     /// The words are refused, and standard error was told why.
     Refused(Told),
+    /// The report can't be opened, and standard error was told so.
+    Unopened(Told),
     /// The run failed, and standard error was told how.
     Failed(CliFault, Told),
 }
 
 impl ProgramEnd {
-    /// The exit status: 0 for an assignment and for help, 1 where there is no assignment, 2 for
-    /// words that are refused, and for a fault as `status_of` has it. It is the same where standard
-    /// error fails.
+    /// The exit status: 0 for an assignment, for a report that is right and for help, 1 where there
+    /// is no assignment, 2 for words that are refused, 4 for a report that can't be opened, 5 for
+    /// one that is wrong, and for a fault as `status_of` has it. It is the same where standard error
+    /// fails.
     pub fn status(&self) -> u8
         ensures { result ≡ exit_status self.now }
     {
         match self {
             ProgramEnd::Reported(ended) => end_status_of(*ended),
-            ProgramEnd::Helped => 0,
+            ProgramEnd::Checked(Verified::Yes) | ProgramEnd::Helped => 0,
             ProgramEnd::Refused(_) => 2,
+            ProgramEnd::Unopened(_) => 4,
+            ProgramEnd::Checked(Verified::No) => 5,
             ProgramEnd::Failed(fault, _) => status_of(fault),
         }
     }
@@ -69,7 +100,7 @@ fn tell<E: Write>(e: &mut E, text: &[u8]) -> Told
 {
     match write_text(e, text) {
         Ok(()) => Told::Whole,
-        Err(WriteFailed {}) => Told::Part,
+        Err(WriteFault::Write) => Told::Part,
     }
 }
 
@@ -89,9 +120,9 @@ fn fail<E: Write>(e: &mut E, fault: CliFault) -> ProgramEnd
 
 // Prints what clap has to say: help that was asked for, or why the words are refused.
 fn refuse<W: Write, E: Write>(alloc: Global, error: Error, w: &mut W, e: &mut E) -> ProgramEnd
-    ensures output { (words : List Text) → (input : Option (List ℕ))
+    ensures output { (words : List Text) → (input : Option (List ℕ)) → (reports : Known)
         → WordsOutcome words (Err (Clap error))
-        → ProgramOutcome (Ok words) input (W.contents w.old) (W.contents w.new) result }
+        → ProgramOutcome (Ok words) input reports (W.contents w.old) (W.contents w.new) result }
     ensures errors { (words : List Text)
         → ErrorOutcome (Ok words) (E.contents e.old) (E.contents e.new) result }
 {
@@ -108,8 +139,8 @@ fn refuse<W: Write, E: Write>(alloc: Global, error: Error, w: &mut W, e: &mut E)
     }
 }
 
-// Solves from one stream to the other.
-fn solve<R: Read, W: Write, E: Write>(
+// Solves from one stream to the other, from prices of 0.
+fn solve_from_zeros<R: Read, W: Write, E: Write>(
     rt: &(impl Threads + Sync),
     alloc: Global,
     options: SolveOpts,
@@ -117,11 +148,11 @@ fn solve<R: Read, W: Write, E: Write>(
     w: &mut W,
     e: &mut E,
 ) -> ProgramEnd
-    ensures output { (words : List Text) → AsksToSolve (Ok words) options.sparse
-        → ProgramOutcome (Ok words) (R.remaining r.old)
+    ensures output { (given : Given) → (reports : Known) → Asks given (Solve options None)
+        → ProgramOutcome given (R.remaining r.old) reports
         (W.contents w.old) (W.contents w.new) result }
-    ensures errors { (words : List Text)
-        → ErrorOutcome (Ok words) (E.contents e.old) (E.contents e.new) result }
+    ensures errors { (given : Given)
+        → ErrorOutcome given (E.contents e.old) (E.contents e.new) result }
 {
     match run_solve(rt, alloc, r, w, options) {
         Ok(ended) => ProgramEnd::Reported(ended),
@@ -129,47 +160,141 @@ fn solve<R: Read, W: Write, E: Write>(
     }
 }
 
+// Tells why a report can't be read.
+fn tell_absent<E: Write>(absent: NoReport, e: &mut E) -> ProgramEnd
+    ensures output { (given : Given) → (input : Option (List ℕ)) → (reports : Known)
+        → (old : Option (List ℕ)) → AsksForReport given
+        → ProgramOutcome given input reports old old result }
+    ensures errors { (given : Given)
+        → ErrorOutcome given (E.contents e.old) (E.contents e.new) result }
+{
+    match absent {
+        NoReport::Unopened => ProgramEnd::Unopened(tell(e, b"device: cannot open the report\n")),
+        NoReport::Memory => fail(e, CliFault::Memory),
+    }
+}
+
+// Opens a report, and solves from its prices.
+fn solve_from<F: Reports, R: Read, W: Write, E: Write>(
+    rt: &(impl Threads + Sync),
+    alloc: Global,
+    options: SolveOpts,
+    start: String,
+    reports: &F,
+    r: &mut R,
+    w: &mut W,
+    e: &mut E,
+) -> ProgramEnd
+    ensures output { (given : Given) → Asks given (Solve options (Some start))
+        → ProgramOutcome given (R.remaining r.old) (F.bytes_of reports.now)
+        (W.contents w.old) (W.contents w.new) result }
+    ensures errors { (given : Given)
+        → ErrorOutcome given (E.contents e.old) (E.contents e.new) result }
+{
+    match reports.open(start.as_str()) {
+        Ok(mut report) => match run_solve_from(rt, alloc, r, &mut report, w, options) {
+            Ok(ended) => ProgramEnd::Reported(ended),
+            Err(fault) => fail(e, fault),
+        },
+        Err(absent) => tell_absent(absent, e),
+    }
+}
+
+// Solves, from the prices of a report where one is named.
+fn solve<F: Reports, R: Read, W: Write, E: Write>(
+    rt: &(impl Threads + Sync),
+    alloc: Global,
+    options: SolveOpts,
+    start: Option<String>,
+    reports: &F,
+    r: &mut R,
+    w: &mut W,
+    e: &mut E,
+) -> ProgramEnd
+    ensures output { (given : Given) → Asks given (Solve options start)
+        → ProgramOutcome given (R.remaining r.old) (F.bytes_of reports.now)
+        (W.contents w.old) (W.contents w.new) result }
+    ensures errors { (given : Given)
+        → ErrorOutcome given (E.contents e.old) (E.contents e.new) result }
+{
+    match start {
+        None => solve_from_zeros(rt, alloc, options, r, w, e),
+        Some(name) => solve_from(rt, alloc, options, name, reports, r, w, e),
+    }
+}
+
+// Opens a report, and checks it.
+fn verify<F: Reports, R: Read, W: Write, E: Write>(
+    alloc: Global,
+    sparse: bool,
+    name: String,
+    reports: &F,
+    r: &mut R,
+    w: &mut W,
+    e: &mut E,
+) -> ProgramEnd
+    ensures output { (given : Given) → Asks given (Verify sparse name)
+        → ProgramOutcome given (R.remaining r.old) (F.bytes_of reports.now)
+        (W.contents w.old) (W.contents w.new) result }
+    ensures errors { (given : Given)
+        → ErrorOutcome given (E.contents e.old) (E.contents e.new) result }
+{
+    match reports.open(name.as_str()) {
+        Ok(mut report) => match run_verify(alloc, r, &mut report, sparse, w) {
+            Ok(verified) => ProgramEnd::Checked(verified),
+            Err(fault) => fail(e, fault),
+        },
+        Err(absent) => tell_absent(absent, e),
+    }
+}
+
 // Does what the words ask for.
-fn run_words<S: AsStr, R: Read, W: Write, E: Write>(
+fn run_words<S: AsStr, F: Reports, R: Read, W: Write, E: Write>(
     rt: &(impl Threads + Sync),
     alloc: Global,
     words: &[S],
+    reports: &F,
     r: &mut R,
     w: &mut W,
     e: &mut E,
 ) -> ProgramEnd
     ensures output { ProgramOutcome (Ok (map S.text words.entry.now)) (R.remaining r.old)
-        (W.contents w.old) (W.contents w.new) result }
+        (F.bytes_of reports.now) (W.contents w.old) (W.contents w.new) result }
     ensures errors { ErrorOutcome (Ok (map S.text words.entry.now))
         (E.contents e.old) (E.contents e.new) result }
 {
     match read_words(alloc, words) {
-        Ok(Words::Solve(options)) => solve(rt, alloc, options, r, w, e),
+        Ok(Words::Solve { options, start }) => {
+            solve(rt, alloc, options, start, reports, r, w, e)
+        }
+        Ok(Words::Verify { sparse, report }) => verify(alloc, sparse, report, reports, r, w, e),
         Err(WordsFault::Clap(error)) => refuse(alloc, error, w, e),
         Err(WordsFault::Memory) => fail(e, CliFault::Memory),
     }
 }
 
-/// Does what the words ask for, the program's own name first: reads the problem from `r`, writes
-/// the report or help to `w`, and tells `e` what is wrong.
+/// Does what the words ask for, the program's own name first: reads the problem from `r`, and the
+/// report that they name from `reports`, where it is opened before the problem is read;
+/// writes the report, what a report was found to be, or help to `w`; and tells `e` what is wrong.
 ///
-/// Nothing is written to `e` where the report or help stands on `w`, and nothing to `w` where the
-/// program fails, but for a beginning of the report or of help where `w` itself fails.
-pub fn run_program<S: AsStr + Drop, R: Read, W: Write, E: Write>(
+/// Nothing is written to `e` where the program ends with what was asked for on `w`, and nothing to
+/// `w` where it fails, but for a beginning of what was to be written where `w` itself fails.
+pub fn run_program<S: AsStr + Drop, F: Reports, R: Read, W: Write, E: Write>(
     rt: &(impl Threads + Sync),
     alloc: Global,
     words: Result<Vec<S>, NoWords>,
+    reports: &F,
     r: &mut R,
     w: &mut W,
     e: &mut E,
 ) -> ProgramEnd
     ensures output { ProgramOutcome (given_by (λ v. map S.text v.items) words) (R.remaining r.old)
-        (W.contents w.old) (W.contents w.new) result }
+        (F.bytes_of reports.now) (W.contents w.old) (W.contents w.new) result }
     ensures errors { ErrorOutcome (given_by (λ v. map S.text v.items) words)
         (E.contents e.old) (E.contents e.new) result }
 {
     match words {
-        Ok(words) => run_words(rt, alloc, words.as_slice(), r, w, e),
+        Ok(words) => run_words(rt, alloc, words.as_slice(), reports, r, w, e),
         Err(NoWords::NoText) => { ProgramEnd::Refused(tell(e, b"error: the words are no text\n")) }
         Err(NoWords::Memory) => fail(e, CliFault::Memory),
     }

@@ -1,19 +1,23 @@
 // From the bytes that come in to the bytes that go out.
-ghost use Rattle.std.specs.Prelude.{◌≡◌, ℕ, List, IfOk, IfErr, IfSome};
+ghost use Rattle.std.specs.Prelude.{◌≡◌, ℕ, ◌≤◌, All, List, None, Some, IfOk, IfErr, IfSome, length};
 ghost use Rattle.std.specs.Arc.{arc_value};
 ghost use Rattle.assign_core.specs.Assignment.{IsAssignment, IsBest};
 ghost use Rattle.assign_core.specs.Hall.{IsHallSet};
 ghost use Rattle.assign_core.specs.Slackness.{IsCertificate};
 ghost use Rattle.rounds.specs.Outcomes.{IsProof};
-ghost use Rattle.auction_cli.specs.Report.{refutation_of, report_of};
-ghost use Rattle.auction_cli.specs.Solve.{IsReportOn, IsSettled, Reads, SolveOutcome, end_of, end_status, least_cost, status, text_of};
+ghost use Rattle.report.specs.Reports.{IsReport};
+ghost use Rattle.report.specs.SeenReports.{seen_report};
+ghost use Rattle.report.specs.Starts.{IsFirstPrice, IsStart};
+ghost use Rattle.auction_cli.specs.Solve.{HasNoStart, IsSettled, IsSolution, Reads, Reports, SolveOutcome, end_of, end_status, problem_under, status};
 
-use crate::report::{WriteFailed, refutation_text, report_text, write_text};
 use crate::words::SolveOpts;
-use assign_core::{Certificate, HallSet, Outcome, Person, Problem, Sense};
+use assign_core::{Certificate, HallSet, MOST_PERSONS, Outcome, Person, Prices, Problem, Sense};
 use dual_checker::{HallVerdict, Verdict, check, check_hall};
 use orlib_reader::{InputFault, read_dense, read_sparse};
-use rounds::solve_rounds;
+use report::{
+    Report, ReportFault, StartFault, WriteFault, read_report, start_prices, write_report,
+};
+use rounds::solve_rounds_from;
 use scaled_values::{Scaled, scale};
 use std::alloc::{AllocError, Global};
 use std::fmt;
@@ -35,6 +39,10 @@ pub enum Ended {
 pub enum CliFault {
     /// The input is refused, its device failed, or memory was refused in reading.
     Input(InputFault),
+    /// The report that is read is refused, its device failed, or memory was refused in reading it.
+    Report(ReportFault),
+    /// No run begins at the prices of the report.
+    Start(StartFault),
     /// The output's device failed.
     Write,
     /// Memory was refused.
@@ -52,6 +60,8 @@ impl fmt::Display for CliFault {
     fn fmt<W: fmt::Write>(&self, f: &mut fmt::Formatter<W>) -> fmt::Result {
         match self {
             CliFault::Input(fault) => write!(f, "{fault}"),
+            CliFault::Report(fault) => write!(f, "{fault}"),
+            CliFault::Start(fault) => write!(f, "{fault}"),
             CliFault::Write => write!(f, "device: write failed"),
             CliFault::Memory => write!(f, "memory refused"),
             CliFault::Stuck(person) => write!(f, "stuck at person {}", person.0),
@@ -81,13 +91,35 @@ impl From<InputFault> for CliFault {
     }
 }
 
-impl From<WriteFailed> for CliFault {
+impl From<ReportFault> for CliFault {
+    ghost use Rattle.std.specs.Prelude.{◌≡◌};
+    ghost use Rattle.auction_cli.specs.declared.run.CliFault.TheVariants.{Report};
+
+    ghost from_gives = { λ report fault. fault ≡ Report report };
+
+    fn from(report: ReportFault) -> CliFault {
+        CliFault::Report(report)
+    }
+}
+
+impl From<StartFault> for CliFault {
+    ghost use Rattle.std.specs.Prelude.{◌≡◌};
+    ghost use Rattle.auction_cli.specs.declared.run.CliFault.TheVariants.{Start};
+
+    ghost from_gives = { λ start fault. fault ≡ Start start };
+
+    fn from(start: StartFault) -> CliFault {
+        CliFault::Start(start)
+    }
+}
+
+impl From<WriteFault> for CliFault {
     ghost use Rattle.std.specs.Prelude.{◌≡◌};
     ghost use Rattle.auction_cli.specs.declared.run.CliFault.TheVariants.{Write};
 
     ghost from_gives = { λ _ fault. fault ≡ Write };
 
-    fn from(_failed: WriteFailed) -> CliFault {
+    fn from(_failed: WriteFault) -> CliFault {
         CliFault::Write
     }
 }
@@ -99,7 +131,8 @@ pub fn status_of(fault: &CliFault) -> u8
 {
     match fault {
         CliFault::Input(InputFault::Read | InputFault::Memory) => 4,
-        CliFault::Input(_) => 3,
+        CliFault::Report(ReportFault::Read | ReportFault::Memory) => 4,
+        CliFault::Input(_) | CliFault::Report(_) | CliFault::Start(_) => 3,
         CliFault::Write | CliFault::Memory => 4,
         CliFault::Stuck(_) => 5,
     }
@@ -115,15 +148,11 @@ pub fn end_status_of(ended: Ended) -> u8
     }
 }
 
-// A report, and on what.
-#[derive(Drop)]
-struct Report {
-    ended: Ended,
-    text: Vec<u8>,
-}
-
-// The problem of a sparse text or of a dense one.
-fn read_problem<R: Read>(alloc: Global, r: &mut R, sparse: bool) -> Result<Problem, InputFault>
+/// The problem of a sparse text or of a dense one.
+///
+/// # Errors
+/// The first fault of the text; `Read` where the reader fails; `Memory`.
+pub fn read_problem<R: Read>(alloc: Global, r: &mut R, sparse: bool) -> Result<Problem, InputFault>
     ensures { IfSome (R.remaining r.old) (λ bytes. Reads sparse bytes result) }
 {
     if sparse {
@@ -133,100 +162,148 @@ fn read_problem<R: Read>(alloc: Global, r: &mut R, sparse: bool) -> Result<Probl
     }
 }
 
-// The report on an assignment with the prices that prove it best, once the checker has said so.
-fn assignment_report(
+// Looks with the checker whether the prices prove the assignment best, as they do.
+fn check_best(
     alloc: Global,
     problem: &Problem,
+    sense: Sense,
     certificate: &Certificate,
-) -> Result<Report, AllocError>
-    requires { let c = certificate.now in IsCertificate Sense.Min problem.now c.assignment c.prices }
-    ensures ended { IfOk result (λ report. report.ended ≡ Ended.Optimal) }
-    ensures text { IfOk result (λ report.
-        report.text.items ≡ report_of problem.now certificate.now.assignment) }
-    ensures best { IfOk result (λ _. IsBest Sense.Min problem.now certificate.now.assignment) }
+) -> Result<(), AllocError>
+    requires { let c = certificate.now in IsCertificate sense problem.now c.assignment c.prices }
+    ensures { IfOk result (λ _. IsBest sense problem.now certificate.now.assignment) }
 {
     let objects = certificate.assignment.objects();
     let prices = certificate.prices.as_slice();
-    let verdict = check(alloc, problem, Sense::Min, objects, prices)?;
+    let verdict = check(alloc, problem, sense, objects, prices)?;
     if verdict != Verdict::Yes {
         unreachable!();
     }
-    let text = report_text(alloc, problem, &certificate.assignment)?;
-    Ok(Report {
-        ended: Ended::Optimal,
-        text,
-    })
+    Ok(())
 }
 
-// The report on a Hall set, once the checker has said that it is one.
-fn refutation_report(alloc: Global, problem: &Problem, hall: &HallSet) -> Result<Report, AllocError>
+// Looks with the checker whether it is a Hall set, as it is.
+fn check_none(alloc: Global, problem: &Problem, hall: &HallSet) -> Result<(), AllocError>
     requires { IsHallSet problem.now hall.now.persons hall.now.objects }
-    ensures ended { IfOk result (λ report. report.ended ≡ Ended.Infeasible) }
-    ensures text { IfOk result (λ report.
-        report.text.items ≡ refutation_of hall.now.persons hall.now.objects) }
-    ensures none { IfOk result (λ _. (xs : List ℕ) → IsAssignment problem.now xs → ⊥) }
+    ensures { IfOk result (λ _. (xs : List ℕ) → IsAssignment problem.now xs → ⊥) }
 {
     let verdict = check_hall(alloc, problem, hall.persons(), hall.objects())?;
     if verdict != HallVerdict::Yes {
         unreachable!();
     }
-    let text = refutation_text(alloc, hall.persons(), hall.objects())?;
-    Ok(Report {
-        ended: Ended::Infeasible,
-        text,
-    })
+    Ok(())
 }
 
-// The report on the outcome of the rounds.
-fn outcome_report(alloc: Global, problem: &Problem, outcome: &Outcome) -> Result<Report, AllocError>
-    requires { IsProof (least_cost problem.now) outcome.now }
-    ensures ended { IfOk result (λ report. report.ended ≡ end_of outcome.now) }
-    ensures text { IfOk result (λ report. report.text.items ≡ text_of problem.now outcome.now) }
-    ensures settled { IfOk result (λ _. IsSettled problem.now outcome.now) }
+// Looks with the checkers at an outcome of the rounds.
+fn check_outcome(
+    alloc: Global,
+    problem: &Problem,
+    sense: Sense,
+    outcome: &Outcome,
+) -> Result<(), AllocError>
+    requires { IsProof (problem_under sense problem.now) outcome.now }
+    ensures { IfOk result (λ _. IsSettled sense problem.now outcome.now) }
 {
     match outcome {
-        Outcome::Best(certificate) => assignment_report(alloc, problem, certificate),
-        Outcome::Hall(hall) => refutation_report(alloc, problem, hall),
+        Outcome::Best(certificate) => check_best(alloc, problem, sense, certificate),
+        Outcome::Hall(hall) => check_none(alloc, problem, hall),
     }
 }
 
-// The problem with its benefits where little cost is wanted.
-fn shared(alloc: Global, problem: Problem) -> Result<Arc<Scaled>, AllocError>
-    ensures { IfOk result (λ scaled. arc_value scaled ≡ least_cost problem) }
+// The problem with its benefits under a sense.
+fn shared(alloc: Global, problem: Problem, sense: Sense) -> Result<Arc<Scaled>, AllocError>
+    ensures { IfOk result (λ scaled. arc_value scaled ≡ problem_under sense problem) }
 {
-    let scaled = scale(alloc, problem, Sense::Min)?;
+    let scaled = scale(alloc, problem, sense)?;
     Ok(Arc::new(alloc, scaled)?)
 }
 
-// The report on a problem.
-fn report_on(
+// A problem, and what the rounds came to.
+#[derive(Drop)]
+struct Solved {
+    scaled: Arc<Scaled>,
+    outcome: Outcome,
+}
+
+// Solves a problem by rounds that begin at these prices, and checks the outcome.
+fn solve_checked(
     rt: &(impl Threads + Sync),
     alloc: Global,
     problem: Problem,
-) -> Result<Report, CliFault>
-    ensures report { IfOk result (λ report. IsReportOn problem report.ended report.text.items) }
+    prices: Prices,
+    sense: Sense,
+) -> Result<Solved, CliFault>
+    requires long { length prices ≡ length problem }
+    requires low { All IsFirstPrice prices }
+    ensures problem { IfOk result (λ solved.
+        arc_value solved.scaled ≡ problem_under sense problem) }
+    ensures solution { IfOk result (λ solved.
+        IsSolution sense problem prices solved.outcome) }
     ensures memory { IfErr result (λ fault. fault ≡ CliFault.Memory) }
 {
-    let scaled = shared(alloc, problem)?;
+    let scaled = shared(alloc, problem, sense)?;
     let kept = scaled.clone()?;
-    let outcome = match solve_rounds(rt, alloc, scaled) {
+    let outcome = match solve_rounds_from(rt, alloc, scaled, prices) {
         Ok(outcome) => outcome,
         Err(_) => return Err(CliFault::Memory),
     };
-    let report = outcome_report(alloc, kept.problem(), &outcome)?;
-    Ok(report)
+    check_outcome(alloc, kept.problem(), sense, &outcome)?;
+    Ok(Solved {
+        scaled: kept,
+        outcome,
+    })
 }
 
-/// Reads a problem, and writes the report on an assignment of least cost, or on persons who list
-/// fewer objects than they are, and nothing else.
+// Which of the two an outcome is.
+fn ended_by(outcome: &Outcome) -> Ended
+    ensures { result ≡ end_of outcome.now }
+{
+    match outcome {
+        Outcome::Best(_) => Ended::Optimal,
+        Outcome::Hall(_) => Ended::Infeasible,
+    }
+}
+
+// Solves a problem by rounds that begin at these prices, and writes the report.
+fn report_from<W: Write>(
+    rt: &(impl Threads + Sync),
+    alloc: Global,
+    problem: Problem,
+    prices: Prices,
+    w: &mut W,
+    options: SolveOpts,
+) -> Result<Ended, CliFault>
+    requires long { length prices ≡ length problem }
+    requires low { All IsFirstPrice prices }
+    ensures { Reports options problem prices (W.contents w.old) (W.contents w.new) result }
+{
+    let solved = solve_checked(rt, alloc, problem, prices, options.sense)?;
+    let problem = solved.scaled.problem();
+    write_report(w, problem, options.sense, &solved.outcome, options.prices)?;
+    Ok(ended_by(&solved.outcome))
+}
+
+// The prices of a report as the first of a run with `n` objects.
+fn first_prices(alloc: Global, report: &Report, n: u16) -> Result<Prices, CliFault>
+    requires few { n ≤ MOST_PERSONS }
+    requires report { IsReport (seen_report report.now) }
+    ensures start { IfOk result (IsStart (seen_report report.now) n) }
+    ensures fault { IfErr result (HasNoStart (seen_report report.now) n) }
+{
+    let prices = start_prices(report, n)?;
+    let prices = Vec::from_slice(alloc, prices)?;
+    Ok(Prices::new(alloc, prices)?)
+}
+
+/// Reads a problem, and writes the report on a best assignment, or on persons who list fewer
+/// objects than they are, and nothing else.
 ///
 /// What is reported is the outcome of plain rounds, so the bytes written depend on the bytes read
-/// alone, and on no number of threads. The report goes out once a checker has taken it, and no
-/// other fault than `Write` leaves anything written.
+/// and on the options alone, and on no number of threads. The report goes out once a checker has
+/// taken the outcome, and no other fault than `Write` leaves anything written.
 ///
 /// # Errors
 /// `Input` for a text that is refused, `Write` with a beginning of the report written, and
-/// `Memory`; `Stuck` never.
+/// `Memory`; no other.
 pub fn run_solve<R: Read, W: Write>(
     rt: &(impl Threads + Sync),
     alloc: Global,
@@ -234,11 +311,38 @@ pub fn run_solve<R: Read, W: Write>(
     w: &mut W,
     options: SolveOpts,
 ) -> Result<Ended, CliFault>
-    ensures { SolveOutcome options.sparse
-        (R.remaining r.old) (W.contents w.old) (W.contents w.new) result }
+    ensures { SolveOutcome options (R.remaining r.old) None
+        (W.contents w.old) (W.contents w.new) result }
 {
     let problem = read_problem(alloc, r, options.sparse)?;
-    let report = report_on(rt, alloc, problem)?;
-    write_text(w, report.text.as_slice())?;
-    Ok(report.ended)
+    let prices = Prices::zeros(alloc, problem.n())?;
+    report_from(rt, alloc, problem, prices, w, options)
+}
+
+/// Reads a problem and then a report, of either version, and solves the problem as `run_solve` does,
+/// but with the report's prices as the first prices. Nothing else of the report is looked at: it may
+/// be on another problem, and under another sense.
+///
+/// Prices of a problem that is much the same may save many rounds, and prices that are far apart may
+/// cost very many: three equal objects with the first prices 0, 0 and P take P rounds and more.
+///
+/// # Errors
+/// As `run_solve`, and `Report` for a report that is refused, `Start` for one without prices, with
+/// more or fewer than the problem has objects, or with one above `GREATEST_FIRST_PRICE`. A fault of
+/// the problem comes before those of the report.
+pub fn run_solve_from<R: Read, Q: Read, W: Write>(
+    rt: &(impl Threads + Sync),
+    alloc: Global,
+    r: &mut R,
+    start: &mut Q,
+    w: &mut W,
+    options: SolveOpts,
+) -> Result<Ended, CliFault>
+    ensures { SolveOutcome options (R.remaining r.old) (Some (Q.remaining start.old))
+        (W.contents w.old) (W.contents w.new) result }
+{
+    let problem = read_problem(alloc, r, options.sparse)?;
+    let report = read_report(alloc, start)?;
+    let prices = first_prices(alloc, &report, problem.n())?;
+    report_from(rt, alloc, problem, prices, w, options)
 }

@@ -1,78 +1,49 @@
 // Texts with the reports, lines and statuses that they are told to give.
-use crate::program::{NoWords, ProgramEnd, Told, run_program};
-use crate::run::{CliFault, status_of};
-use assign_core::{Person, Sense, plain_best};
-use orlib_reader::{InputFault, read_dense, read_sparse};
+use crate::program::{NoReport, NoWords, ProgramEnd, Reports, Told, run_program};
+use crate::run::{CliFault, read_problem, status_of};
+use crate::streams::{Pieces, Sheet, ample_sheet, blank_sheet, next_number, whole_text};
+use assign_core::{Object, Person, Sense, plain_best};
+use orlib_reader::InputFault;
+use report::{ReportFault, StartFault};
 use std::alloc::{AllocError, Global};
-use std::io;
-use std::io::{Read, Write};
+use std::process::Abort;
 use std::test::Fail;
 use std::thread::Threads;
 
-// Gives a text in pieces of at most so many bytes, and fails behind it where told so.
+// One report under the name `report`, and one that memory is refused for under `refused`.
 #[derive(Drop)]
-struct Pieces<'a> {
+struct Shelf<'a> {
     text: &'a [u8],
     most: usize,
     fails: bool,
 }
 
-impl Read for Pieces<'_> {
-    fn read(&mut self, buf: &mut [u8]) -> io::Result<usize> {
-        if self.text.is_empty() && self.fails {
-            return Err(io::ErrorKind::Other.into());
+impl<'a> Reports for Shelf<'a> {
+    type Report = Pieces<'a>;
+
+    ghost use Rattle.std.specs.Prelude.{None};
+
+    ghost bytes_of = { λ _ _. None };
+
+    fn open(&self, name: &str) -> Result<Pieces<'a>, NoReport> {
+        match name {
+            "report" => Ok(Pieces {
+                text: self.text,
+                most: self.most,
+                fails: self.fails,
+            }),
+            "refused" => Err(NoReport::Memory),
+            _ => Err(NoReport::Unopened),
         }
-        let count = self.most.min(self.text.len()).min(buf.len());
-        let (piece, rest) = self.text.split_at(count);
-        let (front, _) = buf.split_at_mut(count);
-        front.copy_from_slice(piece);
-        self.text = rest;
-        Ok(count)
-    }
-}
-
-// What a writer does that has no room left.
-#[derive(Clone, Copy)]
-enum Full {
-    Fails,
-    TakesNone,
-}
-
-// Takes so many bytes, in pieces of at most so many.
-#[derive(Drop)]
-struct Sheet {
-    taken: Vec<u8>,
-    room: usize,
-    most: usize,
-    full: Full,
-}
-
-impl Write for Sheet {
-    fn write(&mut self, buf: &[u8]) -> io::Result<usize> {
-        let count = self.room.min(self.most).min(buf.len());
-        if count == 0 {
-            return match self.full {
-                Full::Fails => Err(io::ErrorKind::Other.into()),
-                Full::TakesNone => Ok(0),
-            };
-        }
-        let (piece, _) = buf.split_at(count);
-        self.taken.extend_from_slice(piece)?;
-        self.room -= count;
-        Ok(count)
-    }
-
-    fn flush(&mut self) -> io::Result<()> {
-        Ok(())
     }
 }
 
 // The status of a run, what it wrote on each stream, and whether that was all it had to say.
 #[derive(Drop)]
-struct Seen {
-    status: u8,
-    out: Vec<u8>,
-    errors: Vec<u8>,
+pub struct Seen {
+    pub status: u8,
+    pub out: Vec<u8>,
+    pub errors: Vec<u8>,
     whole: bool,
 }
 
@@ -80,19 +51,31 @@ struct Seen {
 fn is_whole(end: &ProgramEnd) -> bool {
     !matches!(
         end,
-        ProgramEnd::Refused(Told::Part) | ProgramEnd::Failed(_, Told::Part)
+        ProgramEnd::Refused(Told::Part)
+            | ProgramEnd::Unopened(Told::Part)
+            | ProgramEnd::Failed(_, Told::Part)
     )
 }
 
+// A run with these words on this input, with this report at hand, and with these outputs.
 fn watched_run(
     rt: &(impl Threads + Sync),
     alloc: Global,
     words: Result<Vec<&str>, NoWords>,
     mut reader: Pieces<'_>,
+    shelf: &Shelf<'_>,
     mut sheet: Sheet,
     mut errors: Sheet,
 ) -> Seen {
-    let end = run_program(rt, alloc, words, &mut reader, &mut sheet, &mut errors);
+    let end = run_program(
+        rt,
+        alloc,
+        words,
+        shelf,
+        &mut reader,
+        &mut sheet,
+        &mut errors,
+    );
     Seen {
         status: end.status(),
         out: sheet.taken,
@@ -101,18 +84,51 @@ fn watched_run(
     }
 }
 
-fn blank_sheet(alloc: Global, room: usize, most: usize, full: Full) -> Sheet {
-    Sheet {
-        taken: Vec::new(alloc),
-        room,
-        most,
-        full,
+// No report at hand.
+fn bare_shelf() -> Shelf<'static> {
+    Shelf {
+        text: b"",
+        most: 1,
+        fails: false,
     }
 }
 
-// A sheet with more room than any report here.
-fn ample_sheet(alloc: Global) -> Sheet {
-    blank_sheet(alloc, 1 << 20, 1 << 20, Full::Fails)
+// A run with these words on a text and a report in pieces of at most so many bytes, written in such
+// pieces too.
+pub fn run_with(
+    rt: &(impl Threads + Sync),
+    alloc: Global,
+    words: &[&str],
+    text: &[u8],
+    report: &[u8],
+    most: usize,
+) -> Result<Seen, AllocError> {
+    let reader = whole_text(text, most);
+    let shelf = Shelf {
+        text: report,
+        most,
+        fails: false,
+    };
+    Ok(watched_run(
+        rt,
+        alloc,
+        Ok(Vec::from_slice(alloc, words)?),
+        reader,
+        &shelf,
+        blank_sheet(alloc, 1 << 20, most, true),
+        blank_sheet(alloc, 1 << 20, most, true),
+    ))
+}
+
+// The same with no report.
+fn run_on(
+    rt: &(impl Threads + Sync),
+    alloc: Global,
+    words: &[&str],
+    text: &[u8],
+    most: usize,
+) -> Result<Seen, AllocError> {
+    run_with(rt, alloc, words, text, b"", most)
 }
 
 // The words for solving.
@@ -122,29 +138,6 @@ fn solve_words(sparse: bool) -> &'static [&'static str] {
     } else {
         &["auction_cli", "solve"]
     }
-}
-
-// A run with these words on a text in pieces of at most so many bytes, written in such pieces too.
-fn run_on(
-    rt: &(impl Threads + Sync),
-    alloc: Global,
-    words: &[&str],
-    text: &[u8],
-    most: usize,
-) -> Result<Seen, AllocError> {
-    let reader = Pieces {
-        text,
-        most,
-        fails: false,
-    };
-    Ok(watched_run(
-        rt,
-        alloc,
-        Ok(Vec::from_slice(alloc, words)?),
-        reader,
-        blank_sheet(alloc, 1 << 20, most, Full::Fails),
-        blank_sheet(alloc, 1 << 20, most, Full::Fails),
-    ))
 }
 
 fn solved(
@@ -158,7 +151,7 @@ fn solved(
 }
 
 // The bytes up to the first line feed.
-fn first_line(text: &[u8]) -> &[u8] {
+pub fn first_line(text: &[u8]) -> &[u8] {
     let end = text
         .iter()
         .position(|byte| *byte == b'\n')
@@ -167,45 +160,90 @@ fn first_line(text: &[u8]) -> &[u8] {
     line
 }
 
-#[test]
-fn reports(rt: HostRuntime) -> Result<(), Fail> {
-    let two = "cost 5\nassign 1 2 2\nassign 2 1 3\n";
-    let table: [(&[u8], &str); 10] = [
-        (b"1 7", "cost 7\nassign 1 1 7\n"),
-        (b"1 -7", "cost -7\nassign 1 1 -7\n"),
-        (b"1 0", "cost 0\nassign 1 1 0\n"),
-        (b"2 1 2 3 5", two),
-        (b"02\r\n\t1\n\n002\n+3\n\x0c\n\x0b5\n\n", two),
-        (
-            b"3 2 2 2 2 2 2 2 2 2",
-            "cost 6\nassign 1 1 2\nassign 2 2 2\nassign 3 3 2\n",
-        ),
-        (
-            b"2 1000000 -1000000 -1000000 1000000",
-            "cost -2000000\nassign 1 2 -1000000\nassign 2 1 -1000000\n",
-        ),
-        (
-            b"2 1000000000000 -1000000000000 -1000000000000 1000000000000",
-            "cost -2000000000000\nassign 1 2 -1000000000000\nassign 2 1 -1000000000000\n",
-        ),
-        (
-            b"1 1000000000000",
-            "cost 1000000000000\nassign 1 1 1000000000000\n",
-        ),
-        (
-            b"1 -1000000000000",
-            "cost -1000000000000\nassign 1 1 -1000000000000\n",
-        ),
-    ];
+// Runs with these words on each text, in bytes and at once, end with the status and this report.
+fn assert_reports(
+    rt: &(impl Threads + Sync + Abort + AllocGlobal),
+    words: &[&str],
+    status: u8,
+    table: &[(&[u8], &str)],
+) -> Result<(), Fail> {
     for (text, report) in table {
         for most in [1, 65536] {
-            let seen = solved(&rt, rt.alloc(), text, most, false)?;
+            let seen = run_on(rt, rt.alloc(), words, text, most)?;
             assert_eq!(rt; seen.out.as_slice(), report.as_bytes());
             assert_eq!(rt; seen.errors.len(), 0);
-            assert_eq!(rt; seen.status, 0);
+            assert_eq!(rt; seen.status, status);
         }
     }
     Ok(())
+}
+
+#[test]
+fn reports(rt: HostRuntime) -> Result<(), Fail> {
+    let two = "sense min\ncost 5\nassign 1 2 2\nassign 2 1 3\n";
+    let table: [(&[u8], &str); 7] = [
+        (b"1 7", "sense min\ncost 7\nassign 1 1 7\n"),
+        (b"1 -7", "sense min\ncost -7\nassign 1 1 -7\n"),
+        (b"1 0", "sense min\ncost 0\nassign 1 1 0\n"),
+        (b"2 1 2 3 5", two),
+        (b"02\r\n\t1\n\n002\n+3\n\x0c\n\x0b5\n\n", two),
+        (
+            b"1 1000000000000",
+            "sense min\ncost 1000000000000\nassign 1 1 1000000000000\n",
+        ),
+        (
+            b"1 -1000000000000",
+            "sense min\ncost -1000000000000\nassign 1 1 -1000000000000\n",
+        ),
+    ];
+    assert_reports(&rt, &["auction_cli", "solve"], 0, &table)
+}
+
+#[test]
+fn reports_with_prices(rt: HostRuntime) -> Result<(), Fail> {
+    let table: [(&[u8], &str); 5] = [
+        (b"1 7", "sense min\ncost 7\nassign 1 1 7\nprice 1 1\n"),
+        (
+            b"2 1 2 3 5",
+            "sense min\ncost 5\nassign 1 2 2\nassign 2 1 3\nprice 1 14\nprice 2 12\n",
+        ),
+        (
+            b"3 2 2 2 2 2 2 2 2 2",
+            "sense min\ncost 6\nassign 1 1 2\nassign 2 2 2\nassign 3 3 2\nprice 1 1\nprice 2 1\nprice 3 2\n",
+        ),
+        (
+            b"2 1000000 -1000000 -1000000 1000000",
+            "sense min\ncost -2000000\nassign 1 2 -1000000\nassign 2 1 -1000000\nprice 1 61499999\nprice 2 61499999\n",
+        ),
+        (
+            b"2 1000000000000 -1000000000000 -1000000000000 1000000000000",
+            "sense min\ncost -2000000000000\nassign 1 2 -1000000000000\nassign 2 1 -1000000000000\nprice 1 109499999999997\nprice 2 109499999999997\n",
+        ),
+    ];
+    assert_reports(&rt, &["auction_cli", "solve", "--prices"], 0, &table)
+}
+
+#[test]
+fn reports_on_the_greatest_cost(rt: HostRuntime) -> Result<(), Fail> {
+    let words = ["auction_cli", "solve", "--max"];
+    let table: [(&[u8], &str); 2] = [
+        (b"1 7", "sense max\ncost 7\nassign 1 1 7\n"),
+        (
+            b"2 1 2 3 5",
+            "sense max\ncost 6\nassign 1 1 1\nassign 2 2 5\n",
+        ),
+    ];
+    assert_reports(&rt, &words, 0, &table)?;
+    let priced: [(&[u8], &str); 1] = [(
+        b"2 1 2 3 5",
+        "sense max\ncost 6\nassign 1 1 1\nassign 2 2 5\nprice 1 12\nprice 2 14\n",
+    )];
+    assert_reports(
+        &rt,
+        &["auction_cli", "solve", "--max", "--prices"],
+        0,
+        &priced,
+    )
 }
 
 #[test]
@@ -236,36 +274,50 @@ fn refused_texts(rt: HostRuntime) -> Result<(), Fail> {
 }
 
 #[test]
-fn sparse_texts(rt: HostRuntime) -> Result<(), Fail> {
-    let table: [(&[u8], u8, &str, &str); 6] = [
+fn sparse_reports(rt: HostRuntime) -> Result<(), Fail> {
+    let none: [(&[u8], &str); 3] = [
         (
             b"3 1 1 4 2 1 6 3 2 1 3 3 2",
-            1,
-            "infeasible\npersons 2 1 2\nobjects 1 1\n",
-            "",
+            "sense min\ninfeasible\npersons 2 1 2\nobjects 1 1\n",
         ),
         (
             b"2 1 1 5 1 2 6",
-            1,
-            "infeasible\npersons 1 2\nobjects 0\n",
-            "",
+            "sense min\ninfeasible\npersons 1 2\nobjects 0\n",
         ),
-        (b"3", 1, "infeasible\npersons 1 1\nobjects 0\n", ""),
-        (
-            b"2 1 1 9 1 1 3 1 2 4 2 1 5 2 2 8",
-            0,
-            "cost 9\nassign 1 2 4\nassign 2 1 5\n",
-            "",
-        ),
-        (b"2 1 1 5 2 1", 3, "", "input: truncated after 6 numbers\n"),
-        (b"2 3 1 5", 3, "", "input: index out of range at byte 2\n"),
+        (b"3", "sense min\ninfeasible\npersons 1 1\nobjects 0\n"),
     ];
-    for (text, status, out, line) in table {
+    assert_reports(&rt, solve_words(true), 1, &none)?;
+    let least: [(&[u8], &str); 1] = [(
+        b"2 1 1 9 1 1 3 1 2 4 2 1 5 2 2 8",
+        "sense min\ncost 9\nassign 1 2 4\nassign 2 1 5\n",
+    )];
+    assert_reports(&rt, solve_words(true), 0, &least)?;
+    // The pair that is given twice counts once, at 3.
+    let words = ["auction_cli", "solve", "--sparse", "--max"];
+    let greatest: [(&[u8], &str); 1] = [(
+        b"2 1 1 9 1 1 3 1 2 4 2 1 5 2 2 8",
+        "sense max\ncost 11\nassign 1 1 3\nassign 2 2 8\n",
+    )];
+    assert_reports(&rt, &words, 0, &greatest)?;
+    let no_greatest: [(&[u8], &str); 1] = [(
+        b"3 1 1 4 2 1 6 3 2 1 3 3 2",
+        "sense max\ninfeasible\npersons 2 1 2\nobjects 1 1\n",
+    )];
+    assert_reports(&rt, &words, 1, &no_greatest)
+}
+
+#[test]
+fn refused_sparse_texts(rt: HostRuntime) -> Result<(), Fail> {
+    let table: [(&[u8], &str); 2] = [
+        (b"2 1 1 5 2 1", "input: truncated after 6 numbers\n"),
+        (b"2 3 1 5", "input: index out of range at byte 2\n"),
+    ];
+    for (text, line) in table {
         for most in [1, 65536] {
             let seen = solved(&rt, rt.alloc(), text, most, true)?;
             assert_eq!(rt; seen.errors.as_slice(), line.as_bytes());
-            assert_eq!(rt; seen.status, status);
-            assert_eq!(rt; seen.out.as_slice(), out.as_bytes());
+            assert_eq!(rt; seen.status, 3);
+            assert_eq!(rt; seen.out.len(), 0);
         }
     }
     Ok(())
@@ -287,6 +339,7 @@ fn input_that_fails(rt: HostRuntime) -> Result<(), Fail> {
             alloc,
             words,
             reader,
+            &bare_shelf(),
             ample_sheet(alloc),
             ample_sheet(alloc),
         );
@@ -297,16 +350,111 @@ fn input_that_fails(rt: HostRuntime) -> Result<(), Fail> {
     Ok(())
 }
 
-// A run whose output has room for ten bytes.
+// The report is opened before the problem is read, and read behind it.
+#[test]
+fn reports_that_cannot_be_read(rt: HostRuntime) -> Result<(), Fail> {
+    let alloc = rt.alloc();
+    let table: [(&[&str], &[u8], u8, &str); 11] = [
+        (
+            &["auction_cli", "verify", "none"],
+            b"x",
+            4,
+            "device: cannot open the report\n",
+        ),
+        (
+            &["auction_cli", "verify", "refused"],
+            b"x",
+            4,
+            "memory refused\n",
+        ),
+        (
+            &["auction_cli", "verify", "report"],
+            b"x",
+            3,
+            "input: bad number at byte 0\n",
+        ),
+        (
+            &["auction_cli", "verify", "report"],
+            b"2 1 2 3 5",
+            4,
+            "device: read failed\n",
+        ),
+        (
+            &["auction_cli", "verify", ""],
+            b"x",
+            4,
+            "device: cannot open the report\n",
+        ),
+        (
+            &["auction_cli", "verify", "report", "--sparse"],
+            b"2 1",
+            3,
+            "input: truncated after 2 numbers\n",
+        ),
+        (
+            &["auction_cli", "solve", "--start", "none"],
+            b"x",
+            4,
+            "device: cannot open the report\n",
+        ),
+        (
+            &["auction_cli", "solve", "--start", "refused"],
+            b"x",
+            4,
+            "memory refused\n",
+        ),
+        (
+            &["auction_cli", "solve", "--start", "report"],
+            b"x",
+            3,
+            "input: bad number at byte 0\n",
+        ),
+        (
+            &["auction_cli", "solve", "--start", "report"],
+            b"2 1 2 3 5",
+            4,
+            "device: read failed\n",
+        ),
+        (
+            &["auction_cli", "solve", "--sparse", "--start=report"],
+            b"2 1",
+            3,
+            "input: truncated after 2 numbers\n",
+        ),
+    ];
+    for (words, text, status, line) in table {
+        let reader = Pieces {
+            text,
+            most: 2,
+            fails: false,
+        };
+        let shelf = Shelf {
+            text: b"cost 5\nass",
+            most: 2,
+            fails: true,
+        };
+        let given = Ok(Vec::from_slice(alloc, words)?);
+        let (out, errors) = (ample_sheet(alloc), ample_sheet(alloc));
+        let seen = watched_run(&rt, alloc, given, reader, &shelf, out, errors);
+        assert_eq!(rt; seen.errors.as_slice(), line.as_bytes());
+        assert_eq!(rt; seen.status, status);
+        assert_eq!(rt; seen.out.len(), 0);
+    }
+    Ok(())
+}
+
+// A run whose output has room for so many bytes.
 fn on_short_output(
     rt: &(impl Threads + Sync),
     alloc: Global,
     words: &[&str],
+    room: usize,
     most: usize,
-    full: Full,
+    fails: bool,
 ) -> Result<Seen, AllocError> {
-    let reader = Pieces {
-        text: b"2 1 2 3 5",
+    let reader = whole_text(b"2 1 2 3 5", 100);
+    let shelf = Shelf {
+        text: b"infeasible\npersons 1 1\nobjects 0\n",
         most: 100,
         fails: false,
     };
@@ -315,52 +463,67 @@ fn on_short_output(
         alloc,
         Ok(Vec::from_slice(alloc, words)?),
         reader,
-        blank_sheet(alloc, 10, most, full),
+        &shelf,
+        blank_sheet(alloc, room, most, fails),
         ample_sheet(alloc),
     ))
 }
 
-#[test]
-fn output_that_fails(rt: HostRuntime) -> Result<(), Fail> {
-    let table: [(&[&str], &[u8]); 2] = [
-        (&["auction_cli", "solve"], b"cost 5\nass"),
-        (&["auction_cli", "--help"], b"Usage: auc"),
-    ];
-    for (words, out) in table {
-        for full in [Full::Fails, Full::TakesNone] {
-            for most in [1, 3, 100] {
-                let seen = on_short_output(&rt, rt.alloc(), words, most, full)?;
+// With room for each count of bytes that is less than the text has, just its beginning goes out.
+fn assert_cut_off(
+    rt: &(impl Threads + Sync + Abort + AllocGlobal),
+    words: &[&str],
+    text: &[u8],
+) -> Result<(), Fail> {
+    for room in 0..text.len() {
+        let (front, _) = text.split_at(room);
+        for fails in [true, false] {
+            for most in [1, 100] {
+                let seen = on_short_output(rt, rt.alloc(), words, room, most, fails)?;
                 assert_eq!(rt;
                     seen.errors.as_slice(),
                     b"device: write failed\n".as_slice()
                 );
                 assert_eq!(rt; seen.status, 4);
-                assert_eq!(rt; seen.out.as_slice(), out);
+                assert_eq!(rt; seen.out.as_slice(), front);
             }
         }
     }
     Ok(())
 }
 
+#[test]
+fn output_that_fails(rt: HostRuntime) -> Result<(), Fail> {
+    assert_cut_off(
+        &rt,
+        &["auction_cli", "solve", "--prices"],
+        b"sense min\ncost 5\nassign 1 2 2\nassign 2 1 3\nprice 1 14\nprice 2 12\n",
+    )?;
+    assert_cut_off(
+        &rt,
+        &["auction_cli", "verify", "report"],
+        b"not verified: object 1 missing for person 1\n",
+    )?;
+    assert_cut_off(&rt, &["auction_cli", "--help"], b"Solve as")
+}
+
 // Where standard error fails, the status is what it would have been.
 #[test]
 fn errors_that_fail(rt: HostRuntime) -> Result<(), Fail> {
     let alloc = rt.alloc();
-    let table: [(&[&str], u8, &[u8]); 3] = [
+    let table: [(&[&str], u8, &[u8]); 4] = [
         (&["auction_cli", "solve"], 3, b"input: bad"),
-        (&["auction_cli", "verify"], 2, b"error: unr"),
+        (&["auction_cli", "verify"], 2, b"error: the"),
+        (&["auction_cli", "verify", "none"], 4, b"device: ca"),
         (&["auction_cli", "solve", "--fast"], 2, b"error: une"),
     ];
     for (words, status, start) in table {
         for room in [0, 10] {
-            let reader = Pieces {
-                text: b"x",
-                most: 100,
-                fails: false,
-            };
-            let errors = blank_sheet(alloc, room, 3, Full::TakesNone);
+            let reader = whole_text(b"x", 100);
+            let errors = blank_sheet(alloc, room, 3, false);
             let given = Ok(Vec::from_slice(alloc, words)?);
-            let seen = watched_run(&rt, alloc, given, reader, ample_sheet(alloc), errors);
+            let out = ample_sheet(alloc);
+            let seen = watched_run(&rt, alloc, given, reader, &bare_shelf(), out, errors);
             let (wanted, _) = start.split_at(room);
             assert_eq!(rt; seen.errors.as_slice(), wanted);
             assert_eq!(rt; seen.status, status);
@@ -379,16 +542,13 @@ fn no_words(rt: HostRuntime) -> Result<(), Fail> {
         (NoWords::Memory, 4, "memory refused\n"),
     ];
     for (none, status, line) in table {
-        let reader = Pieces {
-            text: b"1 7",
-            most: 100,
-            fails: false,
-        };
+        let reader = whole_text(b"1 7", 100);
         let seen = watched_run(
             &rt,
             alloc,
             Err(none),
             reader,
+            &bare_shelf(),
             ample_sheet(alloc),
             ample_sheet(alloc),
         );
@@ -401,7 +561,7 @@ fn no_words(rt: HostRuntime) -> Result<(), Fail> {
 
 #[test]
 fn lines_and_statuses(rt: HostRuntime) -> Result<(), Fail> {
-    let table: [(CliFault, u8, &str); 13] = [
+    let table: [(CliFault, u8, &str); 21] = [
         (CliFault::Input(InputFault::Empty), 3, "input: empty"),
         (
             CliFault::Input(InputFault::BadToken(12)),
@@ -440,6 +600,38 @@ fn lines_and_statuses(rt: HostRuntime) -> Result<(), Fail> {
         ),
         (CliFault::Input(InputFault::Read), 4, "device: read failed"),
         (CliFault::Input(InputFault::Memory), 4, "memory refused"),
+        (
+            CliFault::Report(ReportFault::Line(12)),
+            3,
+            "report: bad line 12",
+        ),
+        (
+            CliFault::Report(ReportFault::TooLong),
+            3,
+            "report: longer than 1048576 bytes",
+        ),
+        (
+            CliFault::Report(ReportFault::Ends(7)),
+            3,
+            "report: ends before line 7",
+        ),
+        (
+            CliFault::Report(ReportFault::Read),
+            4,
+            "device: read failed",
+        ),
+        (CliFault::Report(ReportFault::Memory), 4, "memory refused"),
+        (CliFault::Start(StartFault::NoPrices), 3, "start: no prices"),
+        (
+            CliFault::Start(StartFault::Length(12)),
+            3,
+            "start: 12 prices",
+        ),
+        (
+            CliFault::Start(StartFault::Price(Object(7))),
+            3,
+            "start: price of object 7 too great",
+        ),
         (CliFault::Write, 4, "device: write failed"),
         (CliFault::Memory, 4, "memory refused"),
         (CliFault::Stuck(Person(12)), 5, "stuck at person 12"),
@@ -455,20 +647,79 @@ fn lines_and_statuses(rt: HostRuntime) -> Result<(), Fail> {
 // layouts. None of them are answered as refused memory, which no clause rules out.
 #[test]
 fn command_lines(rt: HostRuntime) -> Result<(), Fail> {
-    let about = "Read a problem and write a best assignment, or why there is none";
-    let usage = "Usage: auction_cli <COMMAND>";
-    let table: [(&[&str], u8, &str, &str); 11] = [
-        (&["auction_cli", "solve"], 0, "cost 6", ""),
-        (&["auction_cli", "solve", "--sparse"], 0, "cost 9", ""),
-        (&["", "solve", "--sparse"], 0, "cost 9", ""),
+    let least = "sense min";
+    let greatest = "sense max";
+    let solve =
+        "Read a problem from standard input, and write a best assignment or why there is none";
+    let verify = "Read a problem from standard input, and check a report on it";
+    let table: [(&[&str], u8, &str, &str); 23] = [
+        (&["auction_cli", "solve"], 0, least, ""),
+        (&["auction_cli", "solve", "--sparse"], 0, least, ""),
+        (&["", "solve", "--sparse", "--max"], 0, greatest, ""),
+        (
+            &["auction_cli", "solve", "--prices", "--max"],
+            0,
+            greatest,
+            "",
+        ),
+        (&["auction_cli", "solve", "--start", "report"], 0, least, ""),
+        (
+            &["auction_cli", "solve", "--start=report", "--max"],
+            0,
+            greatest,
+            "",
+        ),
+        (
+            &["auction_cli", "solve", "--start"],
+            2,
+            "",
+            "error: a value is required for '--start <REPORT>' but none was supplied",
+        ),
+        (
+            &["auction_cli", "solve", "--start", "a", "--start", "b"],
+            2,
+            "",
+            "error: the argument '--start <REPORT>' cannot be used multiple times",
+        ),
+        (
+            &["auction_cli", "verify", "report"],
+            5,
+            "not verified: slack of person 1 at object 3",
+            "",
+        ),
+        (
+            &["auction_cli", "verify", "--sparse", "report"],
+            0,
+            "verified max cost 9",
+            "",
+        ),
+        (
+            &["auction_cli", "verify", "report", "--sparse"],
+            0,
+            "verified max cost 9",
+            "",
+        ),
+        (
+            &["auction_cli", "verify", "--", "report"],
+            5,
+            "not verified: slack of person 1 at object 3",
+            "",
+        ),
         (
             &["auction_cli", "solve", "--sparse=yes"],
             2,
             "",
             "error: unexpected value 'yes' for '--sparse' found; no more were expected",
         ),
-        (&["auction_cli", "--help"], 0, usage, ""),
-        (&["auction_cli", "solve", "--help"], 0, about, ""),
+        (
+            &["auction_cli", "--help"],
+            0,
+            "Solve assignment problems and check reports; the problem comes on standard input",
+            "",
+        ),
+        (&["auction_cli", "solve", "--help"], 0, solve, ""),
+        (&["auction_cli", "verify", "--help"], 0, verify, ""),
+        (&["auction_cli", "help", "verify"], 0, verify, ""),
         (
             &["auction_cli"],
             2,
@@ -479,13 +730,19 @@ fn command_lines(rt: HostRuntime) -> Result<(), Fail> {
             &["auction_cli", "verify"],
             2,
             "",
-            "error: unrecognized subcommand 'verify'",
+            "error: the following required arguments were not provided:",
         ),
         (
-            &["auction_cli", "solve", "2"],
+            &["auction_cli", "verify", "report", "report"],
             2,
             "",
-            "error: unexpected argument '2' found",
+            "error: unexpected argument 'report' found",
+        ),
+        (
+            &["auction_cli", "verify", "--max", "report"],
+            2,
+            "",
+            "error: unexpected argument '--max' found",
         ),
         (
             &["auction_cli", "solve", "--fast"],
@@ -500,22 +757,16 @@ fn command_lines(rt: HostRuntime) -> Result<(), Fail> {
             "error: unexpected argument '--fast' found",
         ),
     ];
+    let report =
+        b"sense max\ncost 9\nassign 1 1 3\nassign 2 2 3\nassign 3 3 3\nprice 1 0\nprice 2 0\nprice 3 0\n";
     for (words, status, out, errors) in table {
-        let seen = run_on(&rt, rt.alloc(), words, b"3 1 1 3 2 2 3 3 3 3", 100)?;
+        let seen = run_with(&rt, rt.alloc(), words, b"3 1 1 3 2 2 3 3 3 3", report, 100)?;
         assert_eq!(rt; first_line(seen.out.as_slice()), out.as_bytes());
         assert_eq!(rt; first_line(seen.errors.as_slice()), errors.as_bytes());
         assert_eq!(rt; seen.status, status);
         assert!(rt; seen.whole);
     }
     Ok(())
-}
-
-// The next number of a congruential generator, by its high bits.
-fn next_number(seed: &mut u64) -> u64 {
-    *seed = seed
-        .wrapping_mul(6364136223846793005)
-        .wrapping_add(1442695040888963407);
-    *seed >> 33
 }
 
 // A dense text of at most four persons with costs from -2 to 2.
@@ -544,28 +795,38 @@ fn small_sparse_text(alloc: Global, seed: &mut u64) -> Result<String, AllocError
     Ok(text)
 }
 
-// The status and the first line of the report on a text, found by trying all assignments.
+// The status and the first lines of the report on a text, found by trying all assignments.
 fn plain_start(
     alloc: Global,
     text: &str,
     sparse: bool,
+    sense: Sense,
 ) -> Result<Option<(u8, String)>, AllocError> {
     let mut bytes = text.as_bytes();
-    let read = if sparse {
-        read_sparse(alloc, &mut bytes)
-    } else {
-        read_dense(alloc, &mut bytes)
-    };
-    let problem = match read {
+    let problem = match read_problem(alloc, &mut bytes, sparse) {
         Ok(problem) => problem,
         Err(_) => return Ok(None),
     };
-    match plain_best(alloc, &problem, Sense::Min)? {
+    let word = match sense {
+        Sense::Min => "min",
+        Sense::Max => "max",
+    };
+    match plain_best(alloc, &problem, sense)? {
         Some(best) => {
-            let line = format!(in alloc; "cost {}\n", problem.total(&best))?;
-            Ok(Some((0, line)))
+            let cost = problem.total(&best);
+            Ok(Some((0, format!(in alloc; "sense {word}\ncost {cost}\n")?)))
         }
-        None => Ok(Some((1, format!(in alloc; "infeasible\n")?))),
+        None => Ok(Some((1, format!(in alloc; "sense {word}\ninfeasible\n")?))),
+    }
+}
+
+// The words for solving a text of this layout under this sense.
+fn sense_words(sparse: bool, sense: Sense) -> &'static [&'static str] {
+    match (sparse, sense) {
+        (false, Sense::Min) => &["auction_cli", "solve"],
+        (false, Sense::Max) => &["auction_cli", "solve", "--max"],
+        (true, Sense::Min) => &["auction_cli", "solve", "--sparse"],
+        (true, Sense::Max) => &["auction_cli", "solve", "--max", "--sparse"],
     }
 }
 
@@ -575,13 +836,20 @@ fn small_problems(rt: HostRuntime) -> Result<(), Fail> {
     let mut seed: u64 = 2026;
     for turn in 0..800 {
         let sparse = turn % 2 == 1;
+        let sense = if turn % 4 < 2 { Sense::Min } else { Sense::Max };
         let text = if sparse {
             small_sparse_text(alloc, &mut seed)?
         } else {
             small_text(alloc, &mut seed)?
         };
-        let seen = solved(&rt, alloc, text.as_bytes(), 65536, sparse)?;
-        match plain_start(alloc, text.as_str(), sparse)? {
+        let seen = run_on(
+            &rt,
+            alloc,
+            sense_words(sparse, sense),
+            text.as_bytes(),
+            65536,
+        )?;
+        match plain_start(alloc, text.as_str(), sparse, sense)? {
             Some((status, line)) => {
                 assert_eq!(rt; seen.status, status, "on {text}");
                 assert!(rt;

@@ -1,5 +1,14 @@
+use Rattle.std.proofs.Common.{codes, subst}
+use Rattle.auction_cli.specs.Words.{IsFlag}
+use Rattle.clap.specs.Words.{found_of, one_of, rows_of}
+use Rattle.std.proofs.Common.{sym}
 use Rattle.auction_cli.proofs.CommandLines.{flag_told}
 use Rattle.auction_cli.proofs.words.solve_options.Goals as goal
 
-pub returns-in-Some : goal.returns-in-Some
-returns-in-Some c = flag_told _ c.in-Some.solve.now c.get_flag.result c.in-Some.ensures.rows c.get_flag.ensures.value c.get_flag.ensures.other c.get_flag.ensures.none
+pub returns : goal.returns
+returns c = record {
+  sparse = flag_told c.args.solve.now (codes "sparse") c.get_flag.result c.get_flag.ensures.none c.get_flag.ensures.value c.get_flag.ensures.other;
+  prices = flag_told c.args.solve.now (codes "prices") c.get_flag-2.result c.get_flag-2.ensures.none c.get_flag-2.ensures.value c.get_flag-2.ensures.other;
+  sense = subst (λ flag. IsFlag (one_of (codes "max") (rows_of (found_of c.args.solve.now))) flag) (sym c.sense_by.ensures)
+      (flag_told c.args.solve.now (codes "max") c.get_flag-3.result c.get_flag-3.ensures.none c.get_flag-3.ensures.value c.get_flag-3.ensures.other);
+}

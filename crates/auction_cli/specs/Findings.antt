@@ -1,0 +1,141 @@
+-- What is found in a report that is held against a problem.
+use Rattle.std.specs.Prelude.{◌≡◌, ◌≢◌, ◌⊎◌, ℕ, ℤ, pos, List, ◌++◌, Option, None, Some, codes, decimal, length, map, unwrap_or}
+use Rattle.std.specs.Fmt.{signed_decimal}
+use Rattle.std.specs.List.{AllZip}
+use Rattle.assign_core.specs.declared.sense.Sense.{Sense}
+use Rattle.assign_core.specs.declared.sense.Sense.TheVariants.{Min, Max}
+use Rattle.assign_core.specs.Numbered.{numbered}
+use Rattle.assign_core.specs.Rows.{Listing, IsProblem, listed_in, row_of}
+use Rattle.assign_core.specs.Assignment.{IsAssignment, IsBest, total}
+use Rattle.assign_core.specs.Hall.{IsHallSet}
+use Rattle.dual_checker.specs.Faults.{IsFirst}
+use Rattle.dual_checker.specs.Verdicts.{IsVerdict}
+use Rattle.dual_checker.specs.HallVerdicts.{IsHallVerdict}
+use Rattle.dual_checker.specs.declared.verdict.Verdict.{Verdict}
+use Rattle.dual_checker.specs.declared.verdict.Verdict.TheVariants as verdicts
+use Rattle.dual_checker.specs.declared.hall_verdict.HallVerdict.{HallVerdict}
+use Rattle.dual_checker.specs.declared.hall_verdict.HallVerdict.TheVariants as halls
+use Rattle.report.specs.Reports.{Report, best, hall}
+use Rattle.auction_cli.specs.declared.finding.Finding.{Finding}
+use Rattle.auction_cli.specs.declared.finding.Finding.TheVariants.{NoPrices, Length, Unlisted, Twice, PriceRange, Slack, OtherCost, OtherTotal, Best, Range, Order, Missing, Extra, Count, Infeasible}
+use Rattle.auction_cli.specs.declared.verify.Verified.{Verified}
+use Rattle.auction_cli.specs.declared.verify.Verified.TheVariants.{Yes, No}
+
+-- a report without a sense is on the least cost
+abbrev pub sense_of : Option Sense → Sense
+sense_of sense = unwrap_or sense Min
+
+-- the object of each person, of pairs of an object and a cost
+abbrev pub objects_of : List (ℕ × ℤ) → List ℕ
+objects_of pairs = map (λ e. e.0) pairs
+
+-- the pair of a person is listed at the cost that is given
+abbrev pub HasCost : Listing → ℕ × ℤ → Type 0
+HasCost row e = listed_in row e.0 ≡ Some e.1
+
+-- each person's pair is
+abbrev pub HaveCosts : List Listing → List (ℕ × ℤ) → Type 0
+HaveCosts rows pairs = AllZip HasCost rows pairs
+
+-- the pair of person i isn't
+abbrev pub HasOtherCost : List Listing → List (ℕ × ℤ) → ℕ → Type 0
+HasOtherCost rows pairs i = ¬ HasCost (row_of rows i) (numbered pairs i (0, pos 0))
+
+-- person i is the lowest whose pair has another cost
+abbrev pub IsFirstOther : List Listing → List (ℕ × ℤ) → Finding → Type 0
+IsFirstOther rows pairs finding =
+    (i : ℕ) × IsFirst (HasOtherCost rows pairs) (length rows) i × (finding ≡ OtherCost i)
+
+-- the pairs have their costs, but another sum
+abbrev pub HasOtherTotal : List Listing → ℤ → List (ℕ × ℤ) → Finding → Type 0
+HasOtherTotal rows cost pairs finding =
+    HaveCosts rows pairs × (cost ≢ total rows (objects_of pairs)) × (finding ≡ OtherTotal)
+
+-- the pairs have their costs, and this sum
+abbrev pub HasTotal : Sense → List Listing → ℤ → List (ℕ × ℤ) → Finding → Type 0
+HasTotal sense rows cost pairs finding =
+    HaveCosts rows pairs × (cost ≡ total rows (objects_of pairs)) × (finding ≡ Best sense cost)
+
+-- what is found in the costs of an assignment that its prices prove best
+abbrev pub IsFoundInCosts : Sense → List Listing → ℤ → List (ℕ × ℤ) → Finding → Type 0
+IsFoundInCosts sense rows cost pairs finding =
+    IsFirstOther rows pairs finding ⊎ HasOtherTotal rows cost pairs finding
+    ⊎ HasTotal sense rows cost pairs finding
+
+-- the checker's fault, or what is found beyond where it has none
+abbrev pub Follows : (Finding → Type 0) → Verdict → Finding → Type 0
+Follows IsBeyond verdicts.Length finding = finding ≡ Length
+Follows IsBeyond (verdicts.Unlisted i) finding = finding ≡ Unlisted i
+Follows IsBeyond (verdicts.Twice j) finding = finding ≡ Twice j
+Follows IsBeyond (verdicts.PriceRange j) finding = finding ≡ PriceRange j
+Follows IsBeyond (verdicts.Slack i k) finding = finding ≡ Slack i k
+Follows IsBeyond verdicts.Yes finding = IsBeyond finding
+
+-- what is found in a report on an assignment with prices
+abbrev pub IsFoundInBest : Sense → List Listing → ℤ → List (ℕ × ℤ) → List ℤ → Finding → Type 0
+IsFoundInBest sense rows cost pairs prices finding =
+    (v : Verdict) × IsVerdict sense rows (objects_of pairs) prices v
+    × Follows (IsFoundInCosts sense rows cost pairs) v finding
+
+-- the checker's fault of a Hall set, or that it is one
+abbrev pub hall_finding : HallVerdict → Finding
+hall_finding halls.Range = Range
+hall_finding halls.Order = Order
+hall_finding (halls.Missing i j) = Missing i j
+hall_finding (halls.Extra j) = Extra j
+hall_finding halls.Count = Count
+hall_finding halls.Yes = Infeasible
+
+-- what is found in a report on a Hall set
+abbrev pub IsFoundInHall : List Listing → List ℕ → List ℕ → Finding → Type 0
+IsFoundInHall rows persons objects finding =
+    (v : HallVerdict) × IsHallVerdict rows persons objects v × (finding ≡ hall_finding v)
+
+-- what is found in a report that is held against a problem
+abbrev pub IsFound : List Listing → Report → Finding → Type 0
+IsFound rows (best sense cost pairs None) finding = finding ≡ NoPrices
+IsFound rows (best sense cost pairs (Some prices)) finding =
+    IsFoundInBest (sense_of sense) rows cost pairs prices finding
+IsFound rows (hall sense persons objects) finding = IsFoundInHall rows persons objects finding
+
+-- a problem and a report have one finding
+abbrev pub HaveOneFinding : Type 0
+HaveOneFinding = (rows : List Listing) (report : Report) (first second : Finding) → IsProblem rows
+    → IsFound rows report first → IsFound rows report second → first ≡ second
+
+-- whether nothing is wrong
+abbrev pub verdict_of : Finding → Verified
+verdict_of (Best sense cost) = Yes
+verdict_of Infeasible = Yes
+verdict_of finding = No
+
+-- what the report says is so: a best assignment with its costs and their sum, or a Hall set, which
+-- leaves no assignment
+abbrev pub IsSo : List Listing → Report → Type 0
+IsSo rows (best sense cost pairs prices) =
+    IsBest (sense_of sense) rows (objects_of pairs) × HaveCosts rows pairs
+    × (cost ≡ total rows (objects_of pairs))
+IsSo rows (hall sense persons objects) =
+    IsHallSet rows persons objects × ((xs : List ℕ) → IsAssignment rows xs → ⊥)
+
+-- what is told of a finding, without the line feed
+abbrev pub finding_line : Finding → List ℕ
+finding_line NoPrices = codes "not verified: no prices"
+finding_line Length = codes "not verified: length"
+finding_line (Unlisted i) = codes "not verified: person " ++ decimal i ++ codes " unlisted"
+finding_line (Twice j) = codes "not verified: object " ++ decimal j ++ codes " twice"
+finding_line (PriceRange j) =
+    codes "not verified: price of object " ++ decimal j ++ codes " out of range"
+finding_line (Slack i k) =
+    codes "not verified: slack of person " ++ decimal i ++ codes " at object " ++ decimal k
+finding_line (OtherCost i) = codes "not verified: cost of person " ++ decimal i
+finding_line OtherTotal = codes "not verified: total"
+finding_line (Best Min cost) = codes "verified cost " ++ signed_decimal cost
+finding_line (Best Max cost) = codes "verified max cost " ++ signed_decimal cost
+finding_line Range = codes "not verified: number out of range"
+finding_line Order = codes "not verified: order"
+finding_line (Missing i j) =
+    codes "not verified: object " ++ decimal j ++ codes " missing for person " ++ decimal i
+finding_line (Extra j) = codes "not verified: object " ++ decimal j ++ codes " extra"
+finding_line Count = codes "not verified: not fewer"
+finding_line Infeasible = codes "verified infeasible"

@@ -1,0 +1,235 @@
+// Runs that begin at the prices of a report.
+use crate::tests::{first_line, run_with};
+use std::alloc::{AllocError, Global};
+use std::process::Abort;
+use std::test::Fail;
+use std::thread::Threads;
+
+// The report with prices on two persons.
+const TWO: &[u8] = b"sense min\ncost 5\nassign 1 2 2\nassign 2 1 3\nprice 1 14\nprice 2 12\n";
+
+// Worked by hand: with floor -43 the bids are 17, 20 and 19, and then with floor -48 they are 23,
+// 26 and 24.
+const TWO_FROM_TWO: &str =
+    "sense min\ncost 5\nassign 1 2 2\nassign 2 1 3\nprice 1 26\nprice 2 24\n";
+
+#[test]
+fn runs_from_reports(rt: HostRuntime) -> Result<(), Fail> {
+    let table: [(&[&str], &[u8], &[u8], &str); 8] = [
+        (
+            &["auction_cli", "solve", "--start", "report", "--prices"],
+            b"2 1 2 3 5",
+            TWO,
+            TWO_FROM_TWO,
+        ),
+        // In version 1, which has no sense.
+        (
+            &["auction_cli", "solve", "--start", "report", "--prices"],
+            b"2 1 2 3 5",
+            b"cost 5\nassign 1 2 2\nassign 2 1 3\nprice 1 14\nprice 2 12\n",
+            TWO_FROM_TWO,
+        ),
+        // The prices alone are looked at.
+        (
+            &["auction_cli", "solve", "--start", "report", "--prices"],
+            b"2 1 2 3 5",
+            b"sense max\ncost -9\nassign 1 7 7\nassign 2 7 -7\nprice 1 14\nprice 2 12\n",
+            TWO_FROM_TWO,
+        ),
+        (
+            &[
+                "auction_cli",
+                "solve",
+                "--start",
+                "report",
+                "--sparse",
+                "--prices",
+            ],
+            b"2 1 1 1 1 2 2 2 1 3 2 2 5",
+            TWO,
+            TWO_FROM_TWO,
+        ),
+        (
+            &["auction_cli", "solve", "--start", "report"],
+            b"2 1 2 3 5",
+            TWO,
+            "sense min\ncost 5\nassign 1 2 2\nassign 2 1 3\n",
+        ),
+        (
+            &["auction_cli", "solve", "--start", "report", "--max"],
+            b"2 1 2 3 5",
+            TWO,
+            "sense max\ncost 6\nassign 1 1 1\nassign 2 2 5\n",
+        ),
+        (
+            &["auction_cli", "solve", "--start", "report", "--prices"],
+            b"1 7",
+            b"cost 7\nassign 1 1 7\nprice 1 0\n",
+            "sense min\ncost 7\nassign 1 1 7\nprice 1 1\n",
+        ),
+        (
+            &["auction_cli", "solve", "--start", "report", "--prices"],
+            b"1 7",
+            b"sense min\ncost 7\nassign 1 1 7\nprice 1 1000000000000000000000\n",
+            "sense min\ncost 7\nassign 1 1 7\nprice 1 1000000000000000000001\n",
+        ),
+    ];
+    for (words, text, report, out) in table {
+        for most in [1, 65536] {
+            let seen = run_with(&rt, rt.alloc(), words, text, report, most)?;
+            assert_eq!(rt; seen.out.as_slice(), out.as_bytes());
+            assert_eq!(rt; seen.errors.len(), 0);
+            assert_eq!(rt; seen.status, 0);
+        }
+    }
+    Ok(())
+}
+
+#[test]
+fn no_assignment_from_prices(rt: HostRuntime) -> Result<(), Fail> {
+    let seen = run_with(
+        &rt,
+        rt.alloc(),
+        &["auction_cli", "solve", "--sparse", "--start", "report"],
+        b"3 1 1 4 2 1 6 3 2 1 3 3 2",
+        b"cost 6\nassign 1 1 2\nassign 2 2 2\nassign 3 3 2\nprice 1 1\nprice 2 1\nprice 3 2\n",
+        65536,
+    )?;
+    let out = "sense min\ninfeasible\npersons 2 1 2\nobjects 1 1\n";
+    assert_eq!(rt; seen.out.as_slice(), out.as_bytes());
+    assert_eq!(rt; seen.errors.len(), 0);
+    assert_eq!(rt; seen.status, 1);
+    Ok(())
+}
+
+#[test]
+fn refused_starts(rt: HostRuntime) -> Result<(), Fail> {
+    let words = ["auction_cli", "solve", "--start", "report"];
+    let table: [(&[u8], &[u8], &str); 8] = [
+        (
+            b"1 7",
+            b"sense min\ncost 7\nassign 1 1 7\nprice 1 1000000000000000000001\n",
+            "start: price of object 1 too great\n",
+        ),
+        (
+            b"2 1 2 3 5",
+            b"sense min\ncost 6\nassign 1 1 2\nassign 2 2 2\nassign 3 3 2\nprice 1 1\nprice 2 1\nprice 3 2\n",
+            "start: 3 prices\n",
+        ),
+        (
+            b"2 1 2 3 5",
+            b"sense min\ninfeasible\npersons 2 1 2\nobjects 1 1\n",
+            "start: no prices\n",
+        ),
+        (
+            b"2 1 2 3 5",
+            b"sense min\ncost 5\nassign 1 2 2\nassign 2 1 3\n",
+            "start: no prices\n",
+        ),
+        (b"2 1 2 3 5", b"cost 5\nass", "report: bad line 2\n"),
+        (b"2 1 2 3 5", b"", "report: ends before line 1\n"),
+        (
+            b"2 1 2 3",
+            b"cost 5\nass",
+            "input: truncated after 4 numbers\n",
+        ),
+        (b"2 1 2 3", TWO, "input: truncated after 4 numbers\n"),
+    ];
+    for (text, report, line) in table {
+        for most in [1, 65536] {
+            let seen = run_with(&rt, rt.alloc(), &words, text, report, most)?;
+            assert_eq!(rt; seen.errors.as_slice(), line.as_bytes());
+            assert_eq!(rt; seen.status, 3);
+            assert_eq!(rt; seen.out.len(), 0);
+        }
+    }
+    Ok(())
+}
+
+// The next number of a congruential generator, by its high bits.
+fn next_number(seed: &mut u64) -> u64 {
+    *seed = seed
+        .wrapping_mul(6364136223846793005)
+        .wrapping_add(1442695040888963407);
+    *seed >> 33
+}
+
+// The costs of `n` persons, from -9 to 9.
+fn draw_costs(alloc: Global, n: u8, seed: &mut u64) -> Result<Vec<i64>, AllocError> {
+    let mut costs = Vec::new(alloc);
+    for _ in 0..u32::from(n) * u32::from(n) {
+        costs.push((next_number(seed) % 19) as i64 - 9)?;
+    }
+    Ok(costs)
+}
+
+fn dense_text(alloc: Global, n: u8, costs: &[i64]) -> Result<String, AllocError> {
+    let mut text = format!(in alloc; "{n}")?;
+    for cost in costs {
+        write!(text, " {cost}")?;
+    }
+    Ok(text)
+}
+
+// The second line, which has the cost.
+fn cost_line(text: &[u8]) -> &[u8] {
+    let end = text
+        .iter()
+        .position(|byte| *byte == b'\n')
+        .unwrap_or(text.len());
+    let (_, rest) = text.split_at(end);
+    match rest {
+        [_, behind @ ..] => first_line(behind),
+        _ => rest,
+    }
+}
+
+// Solves a problem, changes one of its costs, and solves it again, from zeros and from the prices.
+fn assert_same_cost(
+    rt: &(impl Threads + Sync + Abort + AllocGlobal),
+    cold_words: &[&str],
+    warm_words: &[&str],
+    seed: &mut u64,
+) -> Result<(), Fail> {
+    let alloc = rt.alloc();
+    let n = (next_number(seed) % 8) as u8 + 1;
+    let mut costs = draw_costs(alloc, n, seed)?;
+    let before = dense_text(alloc, n, costs.as_slice())?;
+    let place = next_number(seed) as usize % costs.len().max(1);
+    if place < costs.len() {
+        costs[place] = (next_number(seed) % 19) as i64 - 9;
+    }
+    let after = dense_text(alloc, n, costs.as_slice())?;
+    let old = run_with(rt, alloc, cold_words, before.as_bytes(), b"", 4096)?;
+    let cold = run_with(rt, alloc, cold_words, after.as_bytes(), b"", 4096)?;
+    let report = old.out.as_slice();
+    let warm = run_with(rt, alloc, warm_words, after.as_bytes(), report, 4096)?;
+    assert_eq!(rt; cold.status, 0);
+    assert_eq!(rt; warm.status, 0);
+    assert_eq!(rt;
+        cost_line(warm.out.as_slice()),
+        cost_line(cold.out.as_slice()),
+        "on {after}"
+    );
+    Ok(())
+}
+
+#[test]
+fn neighbours(rt: HostRuntime) -> Result<(), Fail> {
+    let mut seed: u64 = 15;
+    for _ in 0..150 {
+        assert_same_cost(
+            &rt,
+            &["auction_cli", "solve", "--prices"],
+            &["auction_cli", "solve", "--start", "report"],
+            &mut seed,
+        )?;
+        assert_same_cost(
+            &rt,
+            &["auction_cli", "solve", "--prices", "--max"],
+            &["auction_cli", "solve", "--max", "--start", "report"],
+            &mut seed,
+        )?;
+    }
+    Ok(())
+}

@@ -1,0 +1,198 @@
+// Holds a report against its problem. Whoever wrote it is not trusted.
+ghost use Rattle.std.specs.Prelude.{◌≡◌, ◌↔◌, ◌≤◌, Ok, Some, IfOk, IfSome, IsTrue, MatchOption, length};
+ghost use Rattle.assign_core.specs.Rows.{listed_in, row_of};
+ghost use Rattle.assign_core.specs.Assignment.{total};
+ghost use Rattle.dual_checker.specs.Faults.{IsFirst};
+ghost use Rattle.report.specs.SeenReports.{seen_report};
+ghost use Rattle.auction_cli.specs.Findings.{HasOtherCost, HaveCosts, IsFound, IsFoundInBest, IsFoundInCosts, IsFoundInHall, objects_of};
+ghost use Rattle.auction_cli.specs.Verify.{VerifyOutcome};
+
+use crate::finding::Finding;
+use crate::run::{CliFault, read_problem};
+use assign_core::{Cost, Object, Person, Price, Problem, Sense};
+use dual_checker::{HallVerdict, Verdict, check, check_hall};
+use report::{Report, read_report, write_text};
+use std::alloc::{AllocError, Global};
+use std::io::{Read, Write};
+
+/// Whether a report is right.
+#[derive(Clone, Copy, Debug, PartialEq, Eq)]
+pub enum Verified {
+    Yes,
+    No,
+}
+
+// The object of each person.
+fn objects_in(alloc: Global, pairs: &[(Object, Cost)]) -> Result<Vec<Object>, AllocError>
+    ensures { IfOk result (λ objects. objects.items ≡ objects_of pairs.now) }
+{
+    let mut objects = Vec::with_capacity(alloc, pairs.len())?;
+    for (object, _) in pairs {
+        objects.push(*object)?;
+    }
+    Ok(objects)
+}
+
+// Whether a pair is listed at this cost.
+fn has_cost(problem: &Problem, person: Person, object: Object, cost: Cost) -> bool
+    ensures { IsTrue result ↔ (listed_in (row_of problem.now person) object ≡ Some cost) }
+{
+    match problem.cost_of(person, object) {
+        Some(listed) => listed == cost,
+        None => false,
+    }
+}
+
+// The lowest person whose cost isn't that of its pair.
+fn first_other_cost(problem: &Problem, pairs: &[(Object, Cost)]) -> Option<Person>
+    requires { length pairs.now ≡ length problem.now }
+    ensures { MatchOption result (HaveCosts problem.now pairs.now)
+        (λ i. IsFirst (HasOtherCost problem.now pairs.now) (length problem.now) i) }
+{
+    // That as many persons can be numbered follows from this call.
+    let _persons = problem.n();
+    for (i, (object, cost)) in pairs.iter().enumerate() {
+        let person = Person(i as u16 + 1);
+        if !has_cost(problem, person, *object, *cost) {
+            return Some(person);
+        }
+    }
+    None
+}
+
+// The sum of the costs that are given, which are those of the problem.
+fn sum_of(problem: &Problem, pairs: &[(Object, Cost)]) -> Cost
+    requires { HaveCosts problem.now pairs.now }
+    ensures { result ≡ total problem.now (objects_of pairs.now) }
+{
+    // That costs are in range, and their number, follows from this call.
+    let _persons = problem.n();
+    let mut sum: Cost = 0;
+    for (_, cost) in pairs {
+        sum += *cost;
+    }
+    sum
+}
+
+// What is found in the costs of an assignment that its prices prove best.
+fn found_in_costs(problem: &Problem, sense: Sense, cost: Cost, pairs: &[(Object, Cost)]) -> Finding
+    requires { length pairs.now ≡ length problem.now }
+    ensures { IsFoundInCosts sense problem.now cost pairs.now result }
+{
+    if let Some(person) = first_other_cost(problem, pairs) {
+        return Finding::OtherCost(person);
+    }
+    if cost != sum_of(problem, pairs) {
+        return Finding::OtherTotal;
+    }
+    Finding::Best(sense, cost)
+}
+
+// What is found in an assignment with prices.
+fn found_in_priced(
+    alloc: Global,
+    problem: &Problem,
+    sense: Sense,
+    cost: Cost,
+    pairs: &[(Object, Cost)],
+    prices: &[Price],
+) -> Result<Finding, AllocError>
+    ensures { IfOk result (λ finding.
+        IsFoundInBest sense problem.now cost pairs.now prices.now finding) }
+{
+    let objects = objects_in(alloc, pairs)?;
+    let finding = match check(alloc, problem, sense, objects.as_slice(), prices)? {
+        Verdict::Length => Finding::Length,
+        Verdict::Unlisted(person) => Finding::Unlisted(person),
+        Verdict::Twice(object) => Finding::Twice(object),
+        Verdict::PriceRange(object) => Finding::PriceRange(object),
+        Verdict::Slack(person, object) => Finding::Slack(person, object),
+        Verdict::Yes => found_in_costs(problem, sense, cost, pairs),
+    };
+    Ok(finding)
+}
+
+// What is found in a report on a Hall set.
+fn found_in_hall(
+    alloc: Global,
+    problem: &Problem,
+    persons: &[Person],
+    objects: &[Object],
+) -> Result<Finding, AllocError>
+    ensures { IfOk result (λ finding.
+        IsFoundInHall problem.now persons.now objects.now finding) }
+{
+    let finding = match check_hall(alloc, problem, persons, objects)? {
+        HallVerdict::Range => Finding::Range,
+        HallVerdict::Order => Finding::Order,
+        HallVerdict::Missing(person, object) => Finding::Missing(person, object),
+        HallVerdict::Extra(object) => Finding::Extra(object),
+        HallVerdict::Count => Finding::Count,
+        HallVerdict::Yes => Finding::Infeasible,
+    };
+    Ok(finding)
+}
+
+// What is found in a report.
+fn found_in(alloc: Global, problem: &Problem, report: &Report) -> Result<Finding, AllocError>
+    ensures { IfOk result (λ finding. IsFound problem.now (seen_report report.now) finding) }
+{
+    match report {
+        Report::Best {
+            sense,
+            cost,
+            rows,
+            prices,
+        } => match prices {
+            None => Ok(Finding::NoPrices),
+            Some(prices) => {
+                let sense = sense.unwrap_or(Sense::Min);
+                found_in_priced(
+                    alloc,
+                    problem,
+                    sense,
+                    *cost,
+                    rows.as_slice(),
+                    prices.as_slice(),
+                )
+            }
+        },
+        Report::Hall {
+            persons,
+            objects,
+            ..
+        } => found_in_hall(alloc, problem, persons.as_slice(), objects.as_slice()),
+    }
+}
+
+/// Reads a problem and then a report, of either version, holds the report against the problem, and
+/// writes one line: what is found, and nothing else.
+///
+/// `Yes` proves that what the report says is so: its assignment is best under its sense (that of
+/// the least cost where it names none), its costs are those of the pairs, and its cost is their
+/// sum; or it names a Hall set, so that there is no assignment. A report on an assignment is found
+/// wrong where it has no prices, since then nothing proves it best.
+///
+/// Beside reading, it goes over the listed pairs of the problem a few times.
+///
+/// # Errors
+/// `Input` for a problem that is refused; else `Report` for a report that is refused; `Write` with
+/// a beginning of the line written; and `Memory`. No other fault than `Write` leaves anything
+/// written. `Stuck` never.
+pub fn run_verify<P: Read, Q: Read, W: Write>(
+    alloc: Global,
+    problem: &mut P,
+    report: &mut Q,
+    sparse: bool,
+    w: &mut W,
+) -> Result<Verified, CliFault>
+    ensures { VerifyOutcome sparse (P.remaining problem.old) (Q.remaining report.old)
+        (W.contents w.old) (W.contents w.new) result }
+{
+    let problem = read_problem(alloc, problem, sparse)?;
+    let report = read_report(alloc, report)?;
+    let finding = found_in(alloc, &problem, &report)?;
+    let line = format!(in alloc; "{finding}\n")?;
+    write_text(w, line.as_bytes())?;
+    Ok(finding.verified())
+}
