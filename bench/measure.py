@@ -1,8 +1,10 @@
 #!/usr/bin/env python3
-"""Measures `auction_cli solve` beside a plain Rust program of the same method, on the same inputs, in one run.
+"""Measures `auction_cli solve` beside a plain Rust program of the same rounds, on the same inputs, in one run.
 
 Run it at the top of the repository after `rt run` built the program: bench/measure.py [PROGRAM].
 It writes its inputs below bench/out and needs rustc and cc; scipy is measured too where python3 has it.
+Programs take turns, and of each the least time counts, of the clock and of the processors. One thread means on
+one processor (taskset).
 """
 import os
 import subprocess
@@ -12,7 +14,8 @@ import time
 HERE = os.path.dirname(os.path.abspath(__file__))
 OUT = os.path.join(HERE, "out")
 PROGRAM = sys.argv[1] if len(sys.argv) > 1 else os.path.join(HERE, "..", "crates", "auction_cli", "out", "auction_cli")
-PLAIN = os.path.join(OUT, "plain_auction")
+PLAIN = os.path.join(OUT, "plain_rounds")
+REPEATS = 3
 PEAK = os.path.join(OUT, "peak")
 
 
@@ -27,24 +30,36 @@ def problem(name, *words, maker="make_problem.py", tail=""):
     return path
 
 
-def run(program, *words, stdin, wanted):
-    """Seconds, peak memory in MB and standard output, the fastest of three runs."""
-    best = None
-    peak = os.path.join(OUT, "peak.txt")
-    for _ in range(3):
+class Run:
+    """One run: seconds by the clock and of processor time, peak memory in MB, and what it wrote."""
+
+    def __init__(self, program, words, stdin, wanted, processors):
+        peak = os.path.join(OUT, "peak.txt")
+        front = ["taskset", "-c", processors] if processors else []
         with open(stdin) as file:
             start = time.monotonic()
-            ran = subprocess.run([PEAK, peak, program, *words], stdin=file, stdout=subprocess.PIPE, stderr=subprocess.DEVNULL)
-            took = time.monotonic() - start
+            ran = subprocess.run([*front, PEAK, peak, program, *words], stdin=file, stdout=subprocess.PIPE, stderr=subprocess.PIPE)
+            self.clock = time.monotonic() - start
         assert ran.returncode == wanted, (program, words, ran.returncode)
-        if best is None or took < best[0]:
-            with open(peak) as file:
-                best = (took, int(file.read()) / 1024, ran.stdout)
+        with open(peak) as file:
+            memory, processor = file.read().split()
+        self.memory, self.processor = int(memory) / 1024, int(processor) / 1e6
+        self.printed, self.told = ran.stdout, ran.stderr
+
+
+def fastest(programs, stdin, wanted, processors=None, repeats=REPEATS):
+    """A run of each program with its words, with the least times of all its runs; they take turns."""
+    best = {}
+    for _ in range(repeats):
+        for name, program, words in programs:
+            ran = Run(program, words, stdin, wanted, processors)
+            before = best.setdefault(name, ran)
+            before.clock, before.processor = min(before.clock, ran.clock), min(before.processor, ran.processor)
     return best
 
 
-def line(what, took, memory, note=""):
-    print(f"{what:44} {took:8.3f} s {memory:8.1f} MB  {note}")
+def line(what, ran, note=""):
+    print(f"{what:32} {ran.clock:8.3f} s, {ran.processor:8.3f} s of processors, {ran.memory:7.1f} MB  {note}", flush=True)
 
 
 def reading():
@@ -54,19 +69,41 @@ def reading():
     size = os.path.getsize(path) / 1e6
     pairs = n * n * 16 / 1024 / 1024
     print(f"reading: n = {n}, {size:.1f} MB of text; the pairs take {pairs:.1f} MB")
-    for name, program, word in [("auction_cli solve", PROGRAM, "solve"), ("plain Rust", PLAIN, "read")]:
-        took, memory, _ = run(program, word, stdin=path, wanted=3)
-        line(name, took, memory, f"{size / took:.0f} MB/s")
+    programs = [("auction_cli solve", PROGRAM, ["solve"]), ("plain Rust", PLAIN, ["read"])]
+    for name, ran in fastest(programs, path, 3).items():
+        line(name, ran, f"{size / ran.clock:.0f} MB/s")
+
+
+def answer(printed):
+    """What was printed, without the line on the sense."""
+    lines = printed.split(b"\n")
+    return lines[1:] if lines[0].startswith(b"sense") else lines
+
+
+def solved_beside(path, wanted, words=(), processors=None, repeats=REPEATS):
+    """Times of the program and of plain Rust with prices in 128 and in 64 bits; the answers agree."""
+    sparse = [word.strip("-") for word in words]
+    programs = [
+        ("auction_cli solve", PROGRAM, ["solve", *words]),
+        ("plain Rust", PLAIN, ["solve", "counts", *sparse]),
+        ("plain Rust, 64 bits", PLAIN, ["solve", "narrow", *sparse]),
+    ]
+    best = fastest(programs, path, wanted, processors, repeats)
+    answers = [answer(ran.printed) for ran in best.values()]
+    assert answers[0] == answers[1] == answers[2], "the answers differ"
+    rounds, bids, accepted = (int(word) for word in best["plain Rust"].told.split())
+    print(f"  {processors or 'all processors'}: {rounds} rounds, {bids} bids, {accepted} accepted")
+    proved = best["auction_cli solve"]
+    for name, ran in best.items():
+        line("  " + name, ran, f"{proved.clock / ran.clock:.2f} {proved.processor / ran.processor:.2f}")
+    return answers[0]
 
 
 def solving(n, greatest):
     path = problem(f"solving_{n}_{greatest}.txt", str(n), "1", str(greatest), "7")
-    print(f"solving: n = {n}, costs 1..{greatest}")
-    took, memory, proved = run(PROGRAM, "solve", stdin=path, wanted=0)
-    line("auction_cli solve", took, memory)
-    took, memory, plain = run(PLAIN, "solve", stdin=path, wanted=0)
-    line("plain Rust", took, memory)
-    assert proved == plain, "the answers differ"
+    print(f"solving: n = {n}, costs 1..{greatest}, dense")
+    solved_beside(path, 0, processors="0")
+    proved = solved_beside(path, 0)
     try:
         import numpy
         from scipy.optimize import linear_sum_assignment
@@ -76,8 +113,8 @@ def solving(n, greatest):
         costs = numpy.array(file.read().split()[1:], dtype=numpy.int64).reshape(n, n)
     start = time.monotonic()
     rows, columns = linear_sum_assignment(costs)
-    line("scipy linear_sum_assignment (no reading)", time.monotonic() - start, 0)
-    assert proved.split(b"\n")[0] == b"cost %d" % costs[rows, columns].sum()
+    print(f"  scipy linear_sum_assignment, without reading {time.monotonic() - start:8.3f} s", flush=True)
+    assert proved[0] == b"cost %d" % costs[rows, columns].sum()
 
 
 def reading_sparse():
@@ -87,35 +124,62 @@ def reading_sparse():
     size = os.path.getsize(path) / 1e6
     triples = (n - 1) * pairs
     print(f"reading sparse: n = {n}, {size:.1f} MB of text, {triples / 1e6:.1f} million triples; rows built, and one bid for each person")
-    for name, program, words, status in [
-        ("auction_cli solve --sparse", PROGRAM, ("solve", "--sparse"), 1),
-        ("plain Rust", PLAIN, ("solve", "sparse"), 5),
-    ]:
-        took, memory, _ = run(program, *words, stdin=path, wanted=status)
-        line(name, took, memory, f"{size / took:.0f} MB/s, {memory * 1024 * 1024 / triples:.0f} bytes a triple")
+    programs = [
+        ("auction_cli solve --sparse", PROGRAM, ["solve", "--sparse"]),
+        ("plain Rust", PLAIN, ["solve", "sparse"]),
+    ]
+    for name, ran in fastest(programs, path, 1).items():
+        line(name, ran, f"{size / ran.clock:.0f} MB/s, {ran.memory * 1024 * 1024 / triples:.0f} bytes a triple")
 
 
 def solving_sparse():
     n, pairs = 8192, 10
     path = problem("solving_sparse.txt", str(n), str(pairs), "1", "1000", "5", maker="make_sparse_problem.py")
     print(f"solving sparse: n = {n}, {pairs} pairs a person, costs 1..1000, an assignment planted")
-    took, memory, proved = run(PROGRAM, "solve", "--sparse", stdin=path, wanted=0)
-    line("auction_cli solve --sparse", took, memory)
-    took, memory, plain = run(PLAIN, "solve", "sparse", stdin=path, wanted=0)
-    line("plain Rust", took, memory)
-    assert proved == plain, "the answers differ"
+    solved_beside(path, 0, ["--sparse"])
+
+
+def written(name, lines):
+    path = os.path.join(OUT, name)
+    with open(path, "w") as file:
+        file.writelines(lines)
+    return path
+
+
+def ties():
+    """Persons who are all alike: all of them bid for the same object."""
+    for n, repeats in ((100, 3), (300, 3), (1000, 1)):
+        row = " ".join(str(1 + j * 7919 % 1000) for j in range(n)) + "\n"
+        path = written(f"ties_{n}.txt", [f"{n}\n"] + [row] * n)
+        print(f"ties: {n} equal rows, costs 1..1000")
+        solved_beside(path, 0, repeats=repeats)
+
+
+def contested():
+    """More persons than objects for them: prices rise to the floor, one bid a round."""
+    for n, persons, repeats in ((1000, 10, 3), (1000, 50, 3), (1000, 200, 3), (1000, 1000, 1)):
+        lines = [f"{n}\n"]
+        for i in range(1, n + 1):
+            objects = range(1, persons) if i <= persons else [i]
+            lines += [f"{i} {j} {1 + (i * 7919 + j * 104729) % 1000}\n" for j in objects]
+        path = written(f"contested_{persons}.txt", lines)
+        print(f"contested: {persons} persons for {persons - 1} objects, among {n}")
+        solved_beside(path, 1, ["--sparse"], repeats=repeats)
 
 
 def main():
     os.makedirs(OUT, exist_ok=True)
-    source = os.path.join(HERE, "plain", "auction.rs")
+    source = os.path.join(HERE, "plain", "rounds.rs")
     subprocess.run(["rustc", "--edition", "2024", "-O", "-C", "target-cpu=x86-64-v2", "-o", PLAIN, source], check=True)
     subprocess.run(["cc", "-O1", "-o", PEAK, os.path.join(HERE, "peak.c")], check=True)
     reading()
     reading_sparse()
     solving_sparse()
-    solving(500, 1000)
-    solving(1000, 1000)
+    for n in (1000, 2000, 4000):
+        for greatest in (1000, 1000000):
+            solving(n, greatest)
+    ties()
+    contested()
 
 
 if __name__ == "__main__":
