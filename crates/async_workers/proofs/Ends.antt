@@ -81,9 +81,6 @@ solved_enough s prices workers (Best c) told is =
 pub opened_untouched : (s : ScaledProblem) (prices : List ℤ) (workers : ℕ) (b : BookData) → b ≡ opened s prices workers → IsUntouched b
 opened_untouched s prices workers b is = subst IsUntouched (sym is) record { no_claims = no_owner workers; no_acceptances = refl }
 
-pub opened_workers : (s : ScaledProblem) (prices : List ℤ) (workers : ℕ) (b : BookData) → b ≡ opened s prices workers → length b.claims ≡ workers
-opened_workers s prices workers b is = ap (λ (b : BookData). length b.claims) is ∙ length-replicate workers None
-
 pub solved : (s : ScaledProblem) (prices : List ℤ) (workers : ℕ) (opening worked book : BookData) (outcome : Outcome) (told : List Tally) → opening ≡ opened s prices workers → GoesOn opening worked → GoesOn worked book →
     IsFree book → IsAnsweredBy book outcome → told ≡ tallies book workers → IsSolved s prices workers outcome told
 solved s prices workers opening worked book outcome told is first then free answers tallied = record {

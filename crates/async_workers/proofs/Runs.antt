@@ -60,9 +60,6 @@ works_through d e f first then = record {
       (h.0, h.1, h.2, goes_on_through put g.1 h.1 g.3 h.3);
 }
 
-pub works_itself : (d : DeskData) → WorksOn d d
-works_itself d = record { place = refl; base = refl; number = refl; goes_on = λ taken put away. (taken, put, away, goes_on_itself put) }
-
 -- a desk of the place, whose last book goes on from the opening one
 record IsFrom (place : TableId) (b : BookData) (d : DeskData) : Type 0 where
   pub at : d.place ≡ place

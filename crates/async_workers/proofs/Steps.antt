@@ -425,9 +425,6 @@ desk_made-at b (suc made) = refl
 pub met-closing : (v : View) (t : Told) (taken : BookData) (u : Told) → IsClosing v t taken → met v (Away u) ≡ Meeting t taken u
 met-closing v t taken u c = ⊎_elim (λ (e : v ≡ Holding t taken). ap (λ x. met x (Away u)) e) (λ (e : (s : Told) × (v ≡ Meeting t taken s)). ap (λ x. met x (Away u)) e.1) c
 
-pub met-closes : (v : View) (t : Told) (taken : BookData) (u : Told) → IsClosing v t taken → IsClosing (met v (Away u)) t taken
-met-closes v t taken u c = inr (u, met-closing v t taken u c)
-
 pub merges_from : (pass : ℕ) (v : View) (t : Told) (taken : BookData) (other : ℕ) (w : View) (u : Told) → IsClosing v t taken → w ≡ Away u → Merges Rule pass v other w (met v w) Spent
 merges_from pass v t taken other w u c is = subst (λ y. Merges Rule pass v other y (met v y) Spent) (sym is) (⊎_elim
     (λ (e : v ≡ Holding t taken). subst (λ x. Merges Rule pass x other (Away u) (met x (Away u)) Spent) (sym e) (merges pass t taken other u))

@@ -205,14 +205,6 @@ can_turn_again place refresh d k e told answer can same_place g is =
     (λ i. (sym base i, sym g.answered i, sym claim_is i)) made in
     subst (CanTurn place) (sym is) record { ready = (same_place, (g.taken, book_left c g.submitted w, g.away)); offer = has }
 
-pub can_turn_refused : (place : TableId) (refresh : ℕ) (d k : DeskData) → k.place ≡ place → Faulted refresh d k → CanTurn place k
-can_turn_refused place refresh d k same_place s =
-    let no_offer : k.offer ≡ None = ap (λ (d : DeskData). d.offer) s.desk in
-    record {
-      ready = (same_place, (s.taken, book_taken s.caught s.left d.number, s.away));
-      offer = subst (λ o. MatchOption o (k.claim ≡ None) (λ offer. (c : Claimed) × (k.claim ≡ Some c) × IsOffer k.base k.table k.version c.ask c.person offer)) (sym no_offer) s.no_claim;
-    }
-
 -- a turn as an event of the core
 pub turned : (refresh : ℕ) (place : TableId) (d k e : DeskData) (told : Note) (answer : Claim) (t : Turn) → CanTurn place d → Gives refresh d k told answer → e ≡ record k { offer = prepared k.base k.table k.version answer } → t ≡ turn_of answer → Turned refresh d e t
 turned refresh place d k e told answer t can g is turn_is =
@@ -287,29 +279,6 @@ pub let_go_hand : (d e : DeskData) (taken b c new : BookData) (due : Bool) → I
 let_go_hand d e taken b c new due hand same is free is_e =
     let back = given_up_hand d taken b new hand (is ∙ ap (λ (b : BookData). given_up b d.number (numbered b.claims d.number None)) same) free in
     subst (λ (e : DeskData). IsInHand e taken new) (sym is_e) (record { told = back.told; holding = back.holding; same_number = back.same_number; same_base = back.same_base; in_range = back.in_range; may = back.may })
-
--- the desk of a stopped book in hand notes that it asked for the stop
-pub stopped_hand : (d : DeskData) (taken b c new : BookData) → IsInHand d taken b → c ≡ b → new ≡ record c { stopped = true } → IsFree new → IsInHand (record d { stop = true }) taken new
-stopped_hand d taken b c new hand same is free =
-    let book : new ≡ record b { stopped = true } = is ∙ ap (λ (b : BookData). record b { stopped = true }) same in
-    let y : BookData = record b { stopped = true } in
-    let follows = stop_follows b d.number true in
-    let own = own_kept b y d.table d.version hand.may.free follows.goes_on (hand_own d taken b hand) in
-    subst (λ (z : BookData). IsInHand (record d { stop = true }) taken z) (sym book) record {
-      told = hand.told;
-      holding = hand.holding;
-      same_number = hand.same_number;
-      same_base = hand.same_base;
-      in_range = hand.in_range;
-      may = record {
-        free = subst IsFree book free;
-        follows = follows_through taken b y d.number hand.may.follows follows;
-        stays_stopped = λ e. refl;
-        below = own.long;
-        earlier = own.earlier;
-        stopped = λ e. refl;
-      };
-    }
 
 pub steps_out : (stopping : Bool) (d e f g k : DeskData) (b z y taken put : BookData) → IsAway d taken put → Took d.view b e.view → e ≡ record d { view = e.view; offer = None } → f ≡ counted false e → z ≡ given_up b e.number (numbered b.claims e.number None) →
     g ≡ record f { stop = (stopping || f.stop) } → y ≡ stopped_if stopping z → IsInHand g b y → Gave g.table g.version g.stop g.view y k.view → k ≡ with_told k.view y g → StepsOut stopping d k
