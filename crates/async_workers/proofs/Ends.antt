@@ -4,8 +4,6 @@ use Rattle.std.proofs.lemmas.List.{length-replicate}
 use Rattle.std.proofs.lemmas.List.Sums.{sum_by-cons}
 use Rattle.assign_core.specs.Hall.{HallLists, IsHallSet}
 use Rattle.assign_core.specs.Numbered.{numbered}
-use Rattle.assign_core.specs.Slackness.{IsCertificate}
-use Rattle.assign_core.specs.declared.certificate.Certificate.{Certificate}
 use Rattle.assign_core.specs.declared.outcome.Outcome.{Outcome}
 use Rattle.assign_core.specs.declared.outcome.Outcome.TheVariants.{Best, Hall}
 use Rattle.scaled_values.specs.Scaled.{ScaledProblem}
@@ -19,13 +17,6 @@ use Rattle.auction_book.proofs.Opening.{no_owner}
 use Rattle.async_workers.specs.declared.solving.Tally.{Tally}
 use Rattle.async_workers.specs.PlaceRule.{IsUntouched}
 use Rattle.async_workers.specs.Solving.{IsAnsweredBy, IsEnough, IsSolved, accepted_in_all, tallies, tally_of}
-
--- the outcome of a run proves itself
-pub solved_best : (s : ScaledProblem) (prices : List ℤ) (workers : ℕ) (c : Certificate) (told : List Tally) → IsSolved s prices workers (Best c) told → IsCertificate s.sense s.problem c.assignment c.prices
-solved_best s prices workers c told is = subst (λ (s : ScaledProblem). IsCertificate s.sense s.problem c.assignment c.prices) is.goes_on.base is.answers.1.proves
-
-pub solved_hall : (s : ScaledProblem) (prices : List ℤ) (workers : ℕ) (h : HallLists) (told : List Tally) → IsSolved s prices workers (Hall h) told → IsHallSet s.problem h.persons h.objects
-solved_hall s prices workers h told is = subst (λ (s : ScaledProblem). IsHallSet s.problem h.persons h.objects) is.goes_on.base is.answers.1
 
 pub recorded_hall : (b : BookData) (hall copy : HallLists) → IsFree b → b.refuted ≡ Some hall → copy ≡ hall → IsAnsweredBy b (Hall copy)
 recorded_hall b hall copy free is same =

@@ -1,5 +1,5 @@
 // The steps of a worker's session with the book.
-ghost use Rattle.std.specs.Prelude.{◌≡◌, ◌≢◌, ℕ, ℤ, List, Result, OnErr, OnOk, length};
+ghost use Rattle.std.specs.Prelude.{◌≡◌, ◌≢◌, ℕ, ℤ, List, Result, OnErr, OnOk, length, true};
 ghost use Rattle.assign_core.specs.Numbered.{IsNumber, numbered};
 ghost use Rattle.assign_core.specs.Prices.{IsBelow};
 ghost use Rattle.scaled_values.specs.Scaled.{ScaledProblem};
@@ -8,6 +8,7 @@ ghost use Rattle.price_log.specs.History.{IsEarlier};
 ghost use Rattle.auction_book.specs.Book.{Holds, prices_of};
 ghost use Rattle.auction_book.specs.Claims.{IsAsked};
 ghost use Rattle.auction_book.specs.Free.{IsFree};
+ghost use Rattle.auction_book.specs.Phases.{is_over};
 ghost use Rattle.auction_book.specs.Submissions.{IsFitting, IsSubmitted};
 ghost use Rattle.auction_book.specs.declared.answers.Accepted.{Accepted};
 ghost use Rattle.auction_book.specs.declared.answers.Refused.{Refused};
@@ -117,10 +118,10 @@ pub fn take_prices(
 /// Begins the next phase if this one is over.
 ///
 /// # Errors
-/// Only where memory is refused, and then nothing has changed.
+/// Only where the phase is over and memory is refused, and then nothing has changed.
 pub fn begin_next_if_over(alloc: Global, book: &mut Book) -> Result<(), AllocError>
     ensures ok { OnOk result (book.new ≡ next_if_over book.old) }
-    ensures err { OnErr result (book.new ≡ book.old) }
+    ensures err { OnErr result ((book.new ≡ book.old) × (is_over book.old ≡ true)) }
     ensures free { IsFree book.new }
 {
     if book.phase_over() {

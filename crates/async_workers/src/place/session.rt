@@ -1,5 +1,5 @@
 // A session with the book in hand.
-ghost use Rattle.std.specs.Prelude.{◌≡◌, ℕ, ℤ, List, None, true, length, IfOk, OnErr, OnOk};
+ghost use Rattle.std.specs.Prelude.{◌≡◌, ℕ, ℤ, List, None, true, length, IfOk, OnErr};
 ghost use Rattle.assign_core.specs.Numbered.{IsNumber, numbered};
 ghost use Rattle.assign_core.specs.Prices.{IsBelow};
 ghost use Rattle.auction_book.specs.declared.answers.Claim.{Claim};
@@ -16,7 +16,7 @@ ghost use Rattle.async_workers.specs.Session.{Ends, IsHandedIn, catches_up, coun
 
 use super::{Desk, Held};
 use crate::gate::Note;
-use auction_book::{Book, Claim, Refused, record_below};
+use auction_book::{Book, Claim, Refused, begin_next_if_over, record_below};
 use bidder::{BelowFloor, Bid, Offer};
 use std::alloc::{AllocError, Global};
 
@@ -151,18 +151,6 @@ fn keep_up(held: &mut Held, desk: &mut Desk, refresh: u64, too_low: bool)
     }
 }
 
-// The next phase begins if this one is over.
-fn begin_phase(alloc: Global, book: &mut Book) -> Result<(), AllocError>
-    ensures ok { OnOk result (book.new ≡ next_if_over book.old) }
-    ensures err { OnErr result ((book.new ≡ book.old) × (is_over book.old ≡ true)) }
-    ensures free { IsFree book.new }
-{
-    if book.phase_over() {
-        book.next_phase(alloc)?;
-    }
-    Ok(())
-}
-
 // The worker claims.
 fn claim_next(held: &mut Held, worker: u16) -> Claim
     requires worker { IsNumber (length held.old.book.claims) worker }
@@ -185,7 +173,7 @@ fn move_on(alloc: Global, held: &mut Held, desk: &Desk) -> Result<Claim, AllocEr
     ensures asked { IfOk result (IsAsked desk.now.base) }
     ensures err { OnErr result ((held.new.book ≡ held.old.book) × (is_over held.old.book ≡ true)) }
 {
-    begin_phase(alloc, held.book_mut())?;
+    begin_next_if_over(alloc, held.book_mut())?;
     Ok(claim_next(held, desk.number))
 }
 
