@@ -37,6 +37,14 @@ expect '2 1 2 3 5' 0 'sense min\ncost 5\nassign 1 2 2\nassign 2 1 3\n' '' solve
 expect '2 1 2 3 5' 0 'sense max\ncost 6\nassign 1 1 1\nassign 2 2 5\nprice 1 12\nprice 2 14\n' '' solve --max --prices
 expect '3 1 1 4 2 1 6 3 2 1 3 3 2' 1 'sense min\ninfeasible\npersons 2 1 2\nobjects 1 1\n' '' solve --sparse
 expect '3' 1 'sense min\ninfeasible\npersons 1 1\nobjects 0\n' '' solve --sparse
+for mode in '--mode rounds' '--mode workers' '--mode workers --workers 1 --refresh 0' '--mode=workers --workers=64 --refresh=1000000'; do
+    expect '2 1 2 3 5' 0 'sense min\ncost 5\nassign 1 2 2\nassign 2 1 3\n' '' solve $mode
+    expect '3 1 1 4 2 1 6 3 2 1 3 3 2' 1 'sense min\ninfeasible\npersons 2 1 2\nobjects 1 1\n' '' solve --sparse $mode
+    expect '1 7 8' 3 '' 'input: extra data at byte 4' solve $mode
+done
+for mode in round WORKERS ''; do
+    expect '1 7' 2 '' 'usage: mode is rounds or workers' solve --mode "$mode"
+done
 expect '' 3 '' 'input: empty' solve
 expect ' \n' 3 '' 'input: empty' solve
 expect 'x' 3 '' 'input: bad number at byte 0' solve
@@ -71,6 +79,10 @@ firsts 0 'Read a problem from standard input, and write a best assignment or why
 firsts 0 'Read a problem from standard input, and check a report on it' '' verify --help
 firsts 0 'Solve assignment problems and check reports; the problem comes on standard input' '' --help
 firsts 2 '' "error: unexpected argument '--greatest' found" solve --greatest
+for number in 0 65 four -1; do
+    firsts 2 '' "error: invalid value '$number' for '--workers <K>': $(case $number in four | -1) echo 'invalid digit found in string' ;; *) echo "$number is not in 1..=64" ;; esac)" solve --workers="$number"
+done
+firsts 2 '' "error: invalid value '1000001' for '--refresh <R>': 1000001 is not in 0..=1000000" solve --refresh 1000001
 firsts 2 '' 'error: the following required arguments were not provided:' verify
 firsts 2 '' "error: 'auction_cli' requires a subcommand but one was not provided"
 firsts 2 '' 'error: the words are no text' solve $'\xff'
@@ -79,7 +91,7 @@ firsts 2 '' 'error: the words are no text' solve $'\xff'
 for word in solve verify; do
     "$program" --help | grep -q "^  $word  *[A-Z]" || { echo "help is silent on $word"; failed=$((failed + 1)); }
 done
-for option in sparse max prices 'start <REPORT>'; do
+for option in sparse max prices 'start <REPORT>' 'mode <MODE>' 'workers <K>' 'refresh <R>'; do
     "$program" solve --help | grep -q -- "--$option  *[A-Z]" || { echo "help of solve is silent on --$option"; failed=$((failed + 1)); }
 done
 for option in --sparse '<REPORT>'; do

@@ -1,13 +1,20 @@
 -- What clap finds in words, and command lines that are written out.
-use Rattle.std.proofs.Common.{◌≡◌, ◌∙◌, refl, sym, ap, subst, codes, Bool, true, false, List, [], ◌∷◌, Option, Some, None, option_map, unwrap_or}
+use Rattle.std.proofs.Common.{◌≡◌, ◌∙◌, arith, refl, sym, ap, subst, codes, Bool, true, false, List, [], ◌∷◌, Option, Some, None, option_map, unwrap_or}
 use Rattle.std.specs.Borrow.{Bor}
-use Rattle.clap.specs.Words.{App, HasMatchesOf, Row, Text, fault_of, first_of, found_of, is_simple, is_simple_and_free, kind_of, one_of, one_text, rows_of, subcommand_of, subcommand_rows_of, takes}
+use Rattle.clap.specs.Words.{App, HasMatchesOf, IsUnsignedIn, Row, Text, fault_of, first_of, found_of, is_simple, is_simple_and_free, kind_of, one_of, one_text, rows_of, subcommand_of, subcommand_rows_of, takes}
 use Rattle.clap.specs.declared.parser.matches.ArgMatches.{ArgMatches}
 use Rattle.clap.proofs.WalkLemmas.{one_text-rows}
 use Rattle.clap.specs.declared.error.Error.{Error}
 use Rattle.clap.specs.declared.error.kind.ErrorKind.TheVariants.{OutOfMemory}
 use Rattle.clap.proofs.OnLiterals.{clap_on_literals}
-use Rattle.auction_cli.specs.Words.{Chooses, IsFaultOf, IsFlag, Solves, Verifies, program}
+use Rattle.std.specs.Str.Parse.{digits_value, without_leading_plus}
+use Rattle.assign_core.specs.declared.sense.Sense.{Sense}
+use Rattle.assign_core.specs.declared.sense.Sense.TheVariants.{Min, Max}
+use Rattle.auction_cli.specs.Words.{Chooses, ChoosesSolving, IsFaultOf, IsFlag, NamesNoMode, Solves, Verifies, full_line, full_options, is_max, mode_name, program, usual_options}
+use Rattle.auction_cli.specs.declared.words.Mode.{Mode}
+use Rattle.auction_cli.specs.declared.words.Mode.TheVariants.{Rounds, Workers}
+use Rattle.auction_cli.specs.declared.words.SolveOpts.{SolveOpts}
+use Rattle.auction_cli.specs.declared.words.WordsFault.TheVariants as wrong
 use Rattle.auction_cli.specs.declared.words.Words.{Words}
 use Rattle.auction_cli.specs.declared.words.Words.TheVariants.{Solve, Verify}
 use Rattle.auction_cli.specs.declared.words.WordsFault.{WordsFault}
@@ -16,9 +23,6 @@ use Rattle.auction_cli.specs.declared.words.WordsFault.TheVariants.{Clap, Memory
 -- the words of each written line behind the program's name
 abbrev pub plain_line : List Text
 plain_line = codes "solve" ∷ []
-
-abbrev pub full_line : List Text
-full_line = codes "solve" ∷ codes "--sparse" ∷ codes "--max" ∷ codes "--prices" ∷ codes "--start" ∷ codes "report" ∷ []
 
 abbrev pub file_line : List Text
 file_line = codes "verify" ∷ codes "--sparse" ∷ codes "report" ∷ []
@@ -50,6 +54,9 @@ pub record Flags : Type 0 where
   pub max : Option Text
   pub prices : Option Text
   pub start : Option Text
+  pub mode : Option Text
+  pub workers : Option Text
+  pub refresh : Option Text
 
 -- a subcommand, and what its options of `solve` are told by
 abbrev pub flags_of : Option (Text × List Row) → Option Flags
@@ -59,6 +66,9 @@ flags_of = option_map (λ f. record {
   max = one_of (codes "max") f.1;
   prices = one_of (codes "prices") f.1;
   start = first_of (codes "start") f.1;
+  mode = first_of (codes "mode") f.1;
+  workers = one_of (codes "workers") f.1;
+  refresh = one_of (codes "refresh") f.1;
 })
 
 -- a subcommand, and what the option and the file of `verify` are told by
@@ -69,20 +79,24 @@ abbrev pub flag_word : Bool → Text
 flag_word true = codes "true"
 flag_word false = codes "false"
 
-abbrev pub solve_flags : Bool → Bool → Bool → Option Text → Flags
-solve_flags s m p start = record {
+-- what the options are told by, with the digits of both numbers
+abbrev pub solve_flags : SolveOpts → Text → Text → Option Text → Flags
+solve_flags o workers refresh start = record {
   name = codes "solve";
-  sparse = Some (flag_word s);
-  max = Some (flag_word m);
-  prices = Some (flag_word p);
+  sparse = Some (flag_word o.sparse);
+  max = Some (flag_word (is_max o.sense));
+  prices = Some (flag_word o.prices);
   start = start;
+  mode = Some (mode_name o.mode);
+  workers = Some workers;
+  refresh = Some refresh;
 }
 
-pub plain_flags : (name : Text) → flags_of (subcommand_of program (name ∷ plain_line)) ≡ Some (solve_flags false false false None)
+pub plain_flags : (name : Text) → flags_of (subcommand_of program (name ∷ plain_line)) ≡ Some (solve_flags usual_options (codes "4") (codes "1") None)
 unfolding clap_on_literals
 plain_flags name = refl
 
-pub full_flags : (name : Text) → flags_of (subcommand_of program (name ∷ full_line)) ≡ Some (solve_flags true true true (Some (codes "report")))
+pub full_flags : (name : Text) → flags_of (subcommand_of program (name ∷ full_line)) ≡ Some (solve_flags full_options (codes "64") (codes "0") (Some (codes "report")))
 unfolding clap_on_literals
 full_flags name = refl
 
@@ -100,17 +114,53 @@ some_is x y e = cc
 other_command : codes "verify" ≡ codes "solve" → ⊥
 other_command e = cc
 
-pub solves : (found : Option (Text × List Row)) (asked : Words) (s m p : Bool) (start : Option Text) → flags_of found ≡ Some (solve_flags s m p start) →
-    Chooses found asked → Solves s m p start asked
-solves found (Solve options file) s m p start e h =
-    let all = some_is _ _ (ap flags_of (sym h.1) ∙ e) in (
-      flag_is _ _ s h.2.sparse (ap (λ (q : Flags). q.sparse) all),
-      flag_is _ _ m h.2.sense (ap (λ (q : Flags). q.max) all),
-      flag_is _ _ p h.2.prices (ap (λ (q : Flags). q.prices) all),
-      h.3 ∙ ap (λ (q : Flags). q.start) all,
+same_sense : (a b : Sense) → is_max a ≡ is_max b → a ≡ b
+same_sense Min Min e = refl
+same_sense Max Max e = refl
+same_sense Min Max e = cc
+same_sense Max Min e = cc
+
+same_mode : (a b : Mode) → mode_name a ≡ mode_name b → a ≡ b
+same_mode Rounds Rounds e = refl
+same_mode Workers Workers e = refl
+same_mode Rounds Workers e = cc
+same_mode Workers Rounds e = cc
+
+-- the options that a line is told by
+pub options_are : (rows : List Row) (o wanted : SolveOpts) (workers refresh : Text) (start : Option Text) → flags_of (Some (codes "solve", rows)) ≡ Some (solve_flags wanted workers refresh start) → ChoosesSolving rows o →
+    IsUnsignedIn 1 64 workers → IsUnsignedIn 0 1000000 refresh → wanted.workers ≡ digits_value 10 (without_leading_plus workers) → wanted.refresh ≡ digits_value 10 (without_leading_plus refresh) → o ≡ wanted
+options_are rows o wanted workers refresh start e h in_workers in_refresh w r =
+    let all = some_is _ _ e in
+    let sparse : o.sparse ≡ wanted.sparse = flag_is _ _ wanted.sparse h.sparse (ap (λ (q : Flags). q.sparse) all) in
+    let mode : o.mode ≡ wanted.mode = same_mode _ _ (some_is _ _ (sym h.mode ∙ ap (λ (q : Flags). q.mode) all)) in
+    let many : o.workers ≡ wanted.workers = h.workers.value workers (ap (λ (q : Flags). q.workers) all) in_workers ∙ sym w in
+    let often : o.refresh ≡ wanted.refresh = h.refresh.value refresh (ap (λ (q : Flags). q.refresh) all) in_refresh ∙ sym r in
+    let prices : o.prices ≡ wanted.prices = flag_is _ _ wanted.prices h.prices (ap (λ (q : Flags). q.prices) all) in
+    let sense : o.sense ≡ wanted.sense = same_sense _ _ (flag_is _ _ (is_max wanted.sense) h.sense (ap (λ (q : Flags). q.max) all)) in
+    λ i. record { sparse = sparse i; mode = mode i; workers = many i; refresh = often i; prices = prices i; sense = sense i }
+
+pub solves : (found : Option (Text × List Row)) (asked : Words) (wanted : SolveOpts) (workers refresh : Text) (start : Option Text) → flags_of found ≡ Some (solve_flags wanted workers refresh start) →
+    IsUnsignedIn 1 64 workers → IsUnsignedIn 0 1000000 refresh → wanted.workers ≡ digits_value 10 (without_leading_plus workers) → wanted.refresh ≡ digits_value 10 (without_leading_plus refresh) →
+    Chooses found asked → Solves wanted start asked
+solves found (Solve options file) wanted workers refresh start e in_workers in_refresh w r h =
+    let told : flags_of (Some (codes "solve", h.0)) ≡ Some (solve_flags wanted workers refresh start) = ap flags_of (sym h.1) ∙ e in (
+      options_are h.0 options wanted workers refresh start told h.2 in_workers in_refresh w r,
+      h.3 ∙ ap (λ (q : Flags). q.start) (some_is _ _ told),
     )
-solves found (Verify sparse report) s m p start e h =
+solves found (Verify sparse report) wanted workers refresh start e in_workers in_refresh w r h =
     absurd (other_command (ap (λ (q : Flags). q.name) (some_is _ _ (ap flags_of (sym h.1) ∙ e))))
+
+-- a line that names its mode is refused for no mode
+pub mode_is_named : (found : Option (Text × List Row)) (wanted : SolveOpts) (workers refresh : Text) (start : Option Text) → flags_of found ≡ Some (solve_flags wanted workers refresh start) → NamesNoMode found → ⊥
+mode_is_named found wanted workers refresh start e h =
+    let told : flags_of (Some (codes "solve", h.0)) ≡ Some (solve_flags wanted workers refresh start) = ap flags_of (sym h.1) ∙ e in
+    h.2 wanted.mode (ap (λ (q : Flags). q.mode) (some_is _ _ told))
+
+pub plain_numbers : IsUnsignedIn 1 64 (codes "4") × IsUnsignedIn 0 1000000 (codes "1")
+plain_numbers = (((omega arith, (omega arith, tt)), omega arith, omega arith, omega arith), ((omega arith, (omega arith, tt)), omega arith, omega arith, omega arith))
+
+pub full_numbers : IsUnsignedIn 1 64 (codes "64") × IsUnsignedIn 0 1000000 (codes "0")
+full_numbers = (((omega arith, (omega arith, (omega arith, tt))), omega arith, omega arith, omega arith), ((omega arith, (omega arith, tt)), omega arith, omega arith, omega arith))
 
 pub verifies : (found : Option (Text × List Row)) (asked : Words) (s : Bool) (name : Text) → file_of found ≡ Some (codes "verify", (Some (flag_word s), Some name)) →
     Chooses found asked → Verifies s name asked
@@ -121,6 +171,11 @@ verifies found (Verify sparse report) s name e h =
       flag_is _ _ s h.2.sparse (ap (λ (q : Text × (Option Text × Option Text)). q.1.0) all),
       h.2.report ∙ ap (λ (q : Text × (Option Text × Option Text)). unwrap_or q.1.1 []) all,
     )
+
+-- a line of `verify` is refused for no mode
+pub no_file_mode : (found : Option (Text × List Row)) (s : Bool) (name : Text) → file_of found ≡ Some (codes "verify", (Some (flag_word s), Some name)) → NamesNoMode found → ⊥
+no_file_mode found s name e h =
+    other_command (sym (ap (λ (q : Text × (Option Text × Option Text)). q.0) (some_is _ _ (ap file_of (sym h.1) ∙ e))))
 
 -- words that are taken have no fault, and the subcommand of the matches
 pub taken_words : (app : App) (words : List Text) (m : ArgMatches) → app ≡ program → (is_simple_and_free app ≡ true → fault_of app words ≡ []) → HasMatchesOf app words m →
@@ -140,6 +195,7 @@ flag_told m name flag absent set unset =
 pub is_memory : (error : Error) (fault : WordsFault) → IsFaultOf error fault → kind_of error ≡ OutOfMemory → fault ≡ Memory
 is_memory error Memory h k = refl
 is_memory error (Clap told) h k = absurd (h.1 k)
+is_memory error wrong.Mode h k = absurd h
 
 -- the text behind a reference, or none
 pub text_or_none : (o : Option (Bor Text)) (d : Bor Text) (found : Option Text) → option_map (λ s. s.now) o ≡ found → d.now ≡ [] → (unwrap_or o d).now ≡ unwrap_or found []

@@ -1,4 +1,5 @@
 pub mod CommandLines
+pub mod Choices
 pub mod Costs
 pub mod Ends
 pub mod Findings

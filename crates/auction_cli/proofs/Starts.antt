@@ -4,8 +4,8 @@ use Rattle.std.proofs.lemmas.Int.{ints}
 use Rattle.std.specs.List.{All}
 use Rattle.assign_core.specs.declared.numbers.TheConstants.{GREATEST_FIRST_PRICE}
 use Rattle.assign_core.specs.Rows.{Listing}
-use Rattle.scaled_values.specs.Scaled.{greatest_of}
 use Rattle.scaled_values.proofs.BenefitRange.{greatest_holds}
+use Rattle.scaled_values.specs.Scaled.{greatest_of}
 use Rattle.report.specs.Starts.{IsFirstPrice}
 use Rattle.auction_cli.specs.Solve.{BeginsAt, Reads, Reports, SolveOutcome}
 use Rattle.auction_cli.specs.declared.words.SolveOpts.{SolveOpts}

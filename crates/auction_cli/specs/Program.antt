@@ -9,7 +9,7 @@ use Rattle.std.specs.String.{string_bytes}
 use Rattle.report.specs.Writing.{IsCutOff}
 use Rattle.auction_cli.specs.Solve.{SolveOutcome, end_status, fault_line, status}
 use Rattle.auction_cli.specs.Verify.{VerifyOutcome}
-use Rattle.auction_cli.specs.Words.{AskFor, program}
+use Rattle.auction_cli.specs.Words.{AskFor, AskForNoMode, program}
 use Rattle.auction_cli.specs.declared.words.Words.{Words}
 use Rattle.auction_cli.specs.declared.words.Words.TheVariants.{Solve, Verify}
 use Rattle.auction_cli.specs.declared.verify.Verified.{Verified}
@@ -47,10 +47,14 @@ AsksForHelp (Ok words) =
     (kind : ErrorKind) × IsAmong kind (fault_of program words) × (IsMistake kind → ⊥)
 AsksForHelp (Err none) = ⊥
 
--- clap finds a mistake in the words, or one of them is no text
-abbrev pub AreRefused : Given → Type 0
-AreRefused (Ok words) =
+-- clap finds a mistake in the words
+abbrev pub AreMistaken : List Text → Type 0
+AreMistaken words =
     (kind : ErrorKind) × IsAmong kind (fault_of program words) × (kind ≢ OutOfMemory) × IsMistake kind
+
+-- clap finds a mistake in the words, they name no mode, or one of them is no text
+abbrev pub AreRefused : Given → Type 0
+AreRefused (Ok words) = AreMistaken words ⊎ AskForNoMode words
 AreRefused (Err none) = none ≡ absent.NoText
 
 -- what is known of the bytes of the reports, by their names
@@ -127,9 +131,9 @@ abbrev pub Tells : Option (List ℕ) → Option (List ℕ) → List ℕ → Told
 Tells old new text Whole = Appends old new text
 Tells old new text Part = IsCutOff old new text
 
--- why the words are refused: in clap's words, which are open, or that one of them is no text
+-- why the words are refused: which modes there are, that one of them is no text, or in clap's words, which are open
 abbrev pub IsRefusal : Given → List ℕ → Type 0
-IsRefusal (Ok words) text = ⊤
+IsRefusal (Ok words) text = AskForNoMode words → text ≡ codes "usage: mode is rounds or workers\n"
 IsRefusal (Err none) text = text ≡ codes "error: the words are no text\n"
 
 -- a fault's line, with its line feed

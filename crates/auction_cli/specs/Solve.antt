@@ -9,6 +9,8 @@ use Rattle.assign_core.specs.declared.outcome.Outcome.{Outcome}
 use Rattle.assign_core.specs.declared.outcome.Outcome.TheVariants.{Best, Hall}
 use Rattle.scaled_values.specs.Scaled.{ScaledProblem}
 use Rattle.rounds.specs.Outcomes.{IsOfRounds, IsProof}
+use Rattle.async_workers.specs.declared.solving.Tally.{Tally}
+use Rattle.async_workers.specs.Solving.{IsSolved}
 use Rattle.report.specs.Lines.{report_text}
 use Rattle.report.specs.Outcomes.{outcome_report}
 use Rattle.report.specs.Writing.{IsCutOff}
@@ -23,6 +25,8 @@ use Rattle.report.specs.declared.fault.StartFault.{StartFault}
 use Rattle.report.specs.Answers.{Answers as ReportAnswers}
 use Rattle.report.specs.Reports as reports
 use Rattle.report.specs.Starts.{HasStartFault, IsStart}
+use Rattle.auction_cli.specs.declared.words.Mode.{Mode}
+use Rattle.auction_cli.specs.declared.words.Mode.TheVariants.{Rounds, Workers}
 use Rattle.auction_cli.specs.declared.words.SolveOpts.{SolveOpts}
 use Rattle.auction_cli.specs.declared.run.Ended.{Ended}
 use Rattle.auction_cli.specs.declared.run.Ended.TheVariants.{Optimal, Infeasible}
@@ -43,20 +47,25 @@ abbrev pub IsSettled : Sense → List Listing → Outcome → Type 0
 IsSettled sense rows (Best c) = IsBest sense rows c.assignment
 IsSettled sense rows (Hall h) = (xs : List ℕ) → IsAssignment rows xs → ⊥
 
--- what plain rounds from these prices come to: with prices that prove it best, or a Hall set
-pub record IsSolution (sense : Sense) (rows : List Listing) (prices : List ℤ) (outcome : Outcome) : Type 0 where
-  pub rounds : IsOfRounds (problem_under sense rows) prices outcome
-  pub proof : IsProof (problem_under sense rows) outcome
-  pub settled : IsSettled sense rows outcome
+-- what a mode comes to from these prices: the outcome of plain rounds, or one of so many workers
+abbrev pub IsOutcomeIn : Mode → ℕ → ScaledProblem → List ℤ → Outcome → Type 0
+IsOutcomeIn Rounds workers s prices outcome = IsOfRounds s prices outcome
+IsOutcomeIn Workers workers s prices outcome = (told : List Tally) × IsSolved s prices workers outcome told
+
+-- what the mode that is asked for comes to from these prices: with prices that prove it best, or a Hall set
+pub record IsSolution (options : SolveOpts) (rows : List Listing) (prices : List ℤ) (outcome : Outcome) : Type 0 where
+  pub mode : IsOutcomeIn options.mode options.workers (problem_under options.sense rows) prices outcome
+  pub proof : IsProof (problem_under options.sense rows) outcome
+  pub settled : IsSettled options.sense rows outcome
 
 abbrev pub end_of : Outcome → Ended
 end_of (Best c) = Optimal
 end_of (Hall h) = Infeasible
 
--- the text reports the outcome of plain rounds from these prices, under the sense that is asked for, with its prices where they are
+-- the text reports what the mode that is asked for comes to from these prices, under the sense that is asked for, with its prices where they are
 pub record IsReportOn (options : SolveOpts) (rows : List Listing) (prices : List ℤ) (ended : Ended) (text : List ℕ) : Type 0 where
   pub outcome : Outcome
-  pub solution : IsSolution options.sense rows prices outcome
+  pub solution : IsSolution options rows prices outcome
   pub end : ended ≡ end_of outcome
   pub told : text ≡ report_text (outcome_report rows options.sense outcome options.prices)
 

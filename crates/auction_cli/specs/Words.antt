@@ -1,9 +1,11 @@
 -- Which command lines are taken, and what they choose.
-use Rattle.std.specs.Prelude.{◌≡◌, ◌≢◌, ◌⊎◌, List, [], Bool, true, false, Option, Some, None, Result, Ok, Err, codes, unwrap_or, ⊤}
+use Rattle.std.specs.Prelude.{◌≡◌, ◌≢◌, ◌⊎◌, ◌≤◌, ℕ, List, [], ◌∷◌, Bool, true, false, Option, Some, None, Result, Ok, Err, codes, unwrap_or, ⊤}
 use Rattle.std.specs.Option.{option_map}
 use Rattle.std.specs.String.{string_bytes}
-use Rattle.clap.specs.Words.{App, Row, Rule, Text, fault_of, first_of, IsAmong, kind_of, new_app, new_rule, one_of, subcommand_of, with_rule, with_subcommand}
+use Rattle.std.specs.Str.Parse.{digits_value, without_leading_plus}
+use Rattle.clap.specs.Words.{App, IsUnsignedIn, Row, Rule, Text, fault_of, first_of, IsAmong, kind_of, new_app, new_rule, one_of, subcommand_of, with_rule, with_subcommand}
 use Rattle.clap.specs.declared.builder.action.ArgAction.TheVariants.{SetTrue}
+use Rattle.clap.specs.declared.builder.value_parser.ValueParser.TheVariants.{Unsigned}
 use Rattle.clap.specs.declared.error.Error.{Error}
 use Rattle.clap.specs.declared.error.kind.ErrorKind.TheVariants.{OutOfMemory}
 use Rattle.assign_core.specs.declared.sense.Sense.{Sense}
@@ -11,7 +13,10 @@ use Rattle.assign_core.specs.declared.sense.Sense.TheVariants.{Min, Max}
 use Rattle.auction_cli.specs.declared.words.SolveOpts.{SolveOpts}
 use Rattle.auction_cli.specs.declared.words.Words.{Words}
 use Rattle.auction_cli.specs.declared.words.Words.TheVariants.{Solve, Verify}
+use Rattle.auction_cli.specs.declared.words.Mode.{Mode}
+use Rattle.auction_cli.specs.declared.words.Mode.TheVariants.{Rounds, Workers}
 use Rattle.auction_cli.specs.declared.words.WordsFault.{WordsFault}
+use Rattle.auction_cli.specs.declared.words.WordsFault.TheVariants as wrong
 use Rattle.auction_cli.specs.declared.words.WordsFault.TheVariants.{Clap, Memory}
 
 -- an option that takes no value
@@ -22,8 +27,20 @@ flag_rule name = record (new_rule name) { long = Some name; action = Some SetTru
 abbrev pub start_rule : Rule
 start_rule = record (new_rule (codes "start")) { long = Some (codes "start"); value_names = 1 }
 
+-- an option with a value, and the value that it has where it isn't given
+abbrev pub valued_rule : Text → Text → Rule
+valued_rule name usual = record (new_rule name) { long = Some name; value_names = 1; defaults = usual ∷ [] }
+
+-- and one whose value is a number from `least` to `most`
+abbrev pub numbered_rule : Text → Text → ℕ → ℕ → Rule
+numbered_rule name usual least most = record (valued_rule name usual) { parser = Some (Unsigned least most) }
+
+-- `solve`, but for the options on its mode
+abbrev pub plain_solve_app : App
+plain_solve_app = with_rule (with_rule (with_rule (with_rule (new_app (codes "solve")) (flag_rule (codes "sparse"))) (flag_rule (codes "max"))) (flag_rule (codes "prices"))) start_rule
+
 abbrev pub solve_app : App
-solve_app = with_rule (with_rule (with_rule (with_rule (new_app (codes "solve")) (flag_rule (codes "sparse"))) (flag_rule (codes "max"))) (flag_rule (codes "prices"))) start_rule
+solve_app = with_rule (with_rule (with_rule plain_solve_app (valued_rule (codes "mode") (codes "rounds"))) (numbered_rule (codes "workers") (codes "4") 1 64)) (numbered_rule (codes "refresh") (codes "1") 0 1000000)
 
 -- the name of a file, which must be given
 abbrev pub report_rule : Rule
@@ -50,9 +67,26 @@ abbrev pub is_max : Sense → Bool
 is_max Min = false
 is_max Max = true
 
+abbrev pub mode_name : Mode → Text
+mode_name Rounds = codes "rounds"
+mode_name Workers = codes "workers"
+
+-- the value of `--mode` is the name of this mode
+abbrev pub NamesMode : List Row → Mode → Type 0
+NamesMode rows mode = first_of (codes "mode") rows ≡ Some (mode_name mode)
+
+-- a number in range, by the text that clap has for its option
+pub record IsNumberFor (text : Option Text) (least most number : ℕ) : Type 0 where
+  pub from : least ≤ number
+  pub to : number ≤ most
+  pub value : (digits : Text) → text ≡ Some digits → IsUnsignedIn least most digits → number ≡ digits_value 10 (without_leading_plus digits)
+
 -- the options of `solve`, by what clap finds behind it
 pub record ChoosesSolving (rows : List Row) (options : SolveOpts) : Type 0 where
   pub sparse : IsFlag (one_of (codes "sparse") rows) options.sparse
+  pub mode : NamesMode rows options.mode
+  pub workers : IsNumberFor (one_of (codes "workers") rows) 1 64 options.workers
+  pub refresh : IsNumberFor (one_of (codes "refresh") rows) 0 1000000 options.refresh
   pub prices : IsFlag (one_of (codes "prices") rows) options.prices
   pub sense : IsFlag (one_of (codes "max") rows) (is_max options.sense)
 
@@ -71,6 +105,16 @@ Chooses found (Verify sparse report) = (rows : List Row) × (found ≡ Some (cod
 abbrev pub ChoosesVerifying : List Row → Words → Type 0
 ChoosesVerifying rows words = Chooses (Some (codes "verify", rows)) words
 
+-- `solve` is to be done, in a mode that has no such name
+abbrev pub NamesNoMode : Option (Text × List Row) → Type 0
+NamesNoMode found = (rows : List Row) × (found ≡ Some (codes "solve", rows)) × ((mode : Mode) → NamesMode rows mode → ⊥)
+
+-- why nothing is chosen by a subcommand and what clap finds behind it
+abbrev pub IsChoiceFault : Option (Text × List Row) → WordsFault → Type 0
+IsChoiceFault found wrong.Mode = NamesNoMode found
+IsChoiceFault found Memory = ⊤
+IsChoiceFault found (Clap error) = ⊥
+
 -- one of the two subcommands
 abbrev pub NamesCommand : Option (Text × List Row) → Type 0
 NamesCommand found = (rows : List Row) × ((found ≡ Some (codes "solve", rows)) ⊎ (found ≡ Some (codes "verify", rows)))
@@ -79,21 +123,48 @@ NamesCommand found = (rows : List Row) × ((found ≡ Some (codes "solve", rows)
 abbrev pub IsFaultOf : Error → WordsFault → Type 0
 IsFaultOf error Memory = kind_of error ≡ OutOfMemory
 IsFaultOf error (Clap told) = (told ≡ error) × (kind_of error ≢ OutOfMemory)
+IsFaultOf error wrong.Mode = ⊥
 
 -- clap finds no fault in the words, and this is what they choose
 abbrev pub AskFor : List Text → Words → Type 0
 AskFor words asked = (fault_of program words ≡ []) × Chooses (subcommand_of program words) asked
 
--- words are taken where clap finds no fault in them, with what clap finds behind the subcommand, and else one of their faults is told; requests for help count as faults
+-- clap finds no fault in the words, but they name no mode
+abbrev pub AskForNoMode : List Text → Type 0
+AskForNoMode words = (fault_of program words ≡ []) × NamesNoMode (subcommand_of program words)
+
+-- words are taken where clap finds no fault in them and the mode is one, with what clap finds behind the subcommand, and else one of their faults is told; requests for help count as faults
 abbrev pub WordsOutcome : List Text → Result Words WordsFault → Type 0
 WordsOutcome words (Ok asked) = AskFor words asked
+WordsOutcome words (Err wrong.Mode) = AskForNoMode words
 WordsOutcome words (Err (Clap error)) = IsAmong (kind_of error) (fault_of program words) × (kind_of error ≢ OutOfMemory)
 WordsOutcome words (Err Memory) = ⊤
 
--- a problem is to be solved: whether its text lists pairs, whether the greatest cost is wanted, whether the report has prices, and the name of the file with the first prices, if there is one
-abbrev pub Solves : Bool → Bool → Bool → Option Text → Words → Type 0
-Solves sparse max prices name (Solve options start) = (options.sparse ≡ sparse) × (is_max options.sense ≡ max) × (options.prices ≡ prices) × (option_map string_bytes start ≡ name)
-Solves sparse max prices name (Verify lists_pairs report) = ⊥
+-- 1 to 64 workers, who take the newest prices after 0 to 1000000 sessions
+pub record HasRanges (options : SolveOpts) : Type 0 where
+  pub some_workers : 1 ≤ options.workers
+  pub most_workers : options.workers ≤ 64
+  pub most_refresh : options.refresh ≤ 1000000
+
+abbrev pub IsInRanges : Words → Type 0
+IsInRanges (Solve options start) = HasRanges options
+IsInRanges (Verify sparse report) = ⊤
+
+-- a problem is to be solved with these options, and with the first prices of the report in the file of this name, if there is one
+abbrev pub Solves : SolveOpts → Option Text → Words → Type 0
+Solves wanted name (Solve options start) = (options ≡ wanted) × (option_map string_bytes start ≡ name)
+Solves wanted name (Verify lists_pairs report) = ⊥
+
+-- what `solve` alone chooses
+abbrev pub usual_options : SolveOpts
+usual_options = record { sparse = false; mode = Rounds; workers = 4; refresh = 1; prices = false; sense = Min }
+
+-- a line with every option, behind the program's name, and what it chooses
+abbrev pub full_line : List Text
+full_line = codes "solve" ∷ codes "--sparse" ∷ codes "--max" ∷ codes "--prices" ∷ codes "--start" ∷ codes "report" ∷ codes "--mode" ∷ codes "workers" ∷ codes "--workers" ∷ codes "64" ∷ codes "--refresh" ∷ codes "0" ∷ []
+
+abbrev pub full_options : SolveOpts
+full_options = record { sparse = true; mode = Workers; workers = 64; refresh = 0; prices = true; sense = Max }
 
 -- a report is to be checked: whether the problem's text lists pairs, and the name of the report's file
 abbrev pub Verifies : Bool → Text → Words → Type 0

@@ -2,8 +2,12 @@
 #![tactic(auto)]
 
 mod finding;
+#[cfg(test)]
+mod mode_tests;
 mod program;
 mod run;
+#[cfg(test)]
+mod schedule_tests;
 #[cfg(test)]
 mod start_tests;
 #[cfg(test)]

@@ -1,5 +1,5 @@
 // The whole program: from words and streams to an end with its status.
-ghost use Rattle.std.specs.Prelude.{◌≡◌, ℕ, List, None, Some, Ok, Err, IfOk, Option, map};
+ghost use Rattle.std.specs.Prelude.{◌≡◌, ◌<◌, ℕ, List, None, Some, Ok, Err, IfOk, Option, map};
 ghost use Rattle.clap.specs.Words.{Text};
 ghost use Rattle.auction_cli.specs.Program.{Asks, AsksForReport, EndsFailed, ErrorOutcome, Given, Known, ProgramOutcome, Tells, exit_status, given_by};
 ghost use Rattle.auction_cli.specs.Words.{WordsOutcome};
@@ -10,12 +10,14 @@ use crate::run::{CliFault, Ended, end_status_of, run_solve, run_solve_from, stat
 use crate::verify::{Verified, run_verify};
 use crate::words::{SolveOpts, Words, WordsFault, read_words};
 use arrayvec::ArrayString;
+use async_workers::OpenGate;
 use clap::Error;
 use report::{WriteFault, write_text};
 use std::alloc::Global;
 use std::convert::AsStr;
 use std::fmt::Write as FmtWrite;
 use std::io::{Read, Write};
+use std::sync::Wait;
 use std::thread::Threads;
 
 /// Why the program has no words to read.
@@ -123,7 +125,7 @@ fn refuse<W: Write, E: Write>(alloc: Global, error: Error, w: &mut W, e: &mut E)
     ensures output { (words : List Text) → (input : Option (List ℕ)) → (reports : Known)
         → WordsOutcome words (Err (Clap error))
         → ProgramOutcome (Ok words) input reports (W.contents w.old) (W.contents w.new) result }
-    ensures errors { (words : List Text)
+    ensures errors { (words : List Text) → WordsOutcome words (Err (Clap error))
         → ErrorOutcome (Ok words) (E.contents e.old) (E.contents e.new) result }
 {
     let text = match format!(in alloc; "{error}") {
@@ -141,20 +143,21 @@ fn refuse<W: Write, E: Write>(alloc: Global, error: Error, w: &mut W, e: &mut E)
 
 // Solves from one stream to the other, from prices of 0.
 fn solve_from_zeros<R: Read, W: Write, E: Write>(
-    rt: &(impl Threads + Sync),
+    rt: &(impl Threads + Wait + Sync),
     alloc: Global,
     options: SolveOpts,
     r: &mut R,
     w: &mut W,
     e: &mut E,
 ) -> ProgramEnd
+    requires { 0 < options.workers }
     ensures output { (given : Given) → (reports : Known) → Asks given (Solve options None)
         → ProgramOutcome given (R.remaining r.old) reports
         (W.contents w.old) (W.contents w.new) result }
     ensures errors { (given : Given)
         → ErrorOutcome given (E.contents e.old) (E.contents e.new) result }
 {
-    match run_solve(rt, alloc, r, w, options) {
+    match run_solve(rt, alloc, r, w, options, &OpenGate) {
         Ok(ended) => ProgramEnd::Reported(ended),
         Err(fault) => fail(e, fault),
     }
@@ -176,7 +179,7 @@ fn tell_absent<E: Write>(absent: NoReport, e: &mut E) -> ProgramEnd
 
 // Opens a report, and solves from its prices.
 fn solve_from<F: Reports, R: Read, W: Write, E: Write>(
-    rt: &(impl Threads + Sync),
+    rt: &(impl Threads + Wait + Sync),
     alloc: Global,
     options: SolveOpts,
     start: String,
@@ -185,6 +188,7 @@ fn solve_from<F: Reports, R: Read, W: Write, E: Write>(
     w: &mut W,
     e: &mut E,
 ) -> ProgramEnd
+    requires { 0 < options.workers }
     ensures output { (given : Given) → Asks given (Solve options (Some start))
         → ProgramOutcome given (R.remaining r.old) (F.bytes_of reports.now)
         (W.contents w.old) (W.contents w.new) result }
@@ -192,7 +196,7 @@ fn solve_from<F: Reports, R: Read, W: Write, E: Write>(
         → ErrorOutcome given (E.contents e.old) (E.contents e.new) result }
 {
     match reports.open(start.as_str()) {
-        Ok(mut report) => match run_solve_from(rt, alloc, r, &mut report, w, options) {
+        Ok(mut report) => match run_solve_from(rt, alloc, r, &mut report, w, options, &OpenGate) {
             Ok(ended) => ProgramEnd::Reported(ended),
             Err(fault) => fail(e, fault),
         },
@@ -202,7 +206,7 @@ fn solve_from<F: Reports, R: Read, W: Write, E: Write>(
 
 // Solves, from the prices of a report where one is named.
 fn solve<F: Reports, R: Read, W: Write, E: Write>(
-    rt: &(impl Threads + Sync),
+    rt: &(impl Threads + Wait + Sync),
     alloc: Global,
     options: SolveOpts,
     start: Option<String>,
@@ -211,6 +215,7 @@ fn solve<F: Reports, R: Read, W: Write, E: Write>(
     w: &mut W,
     e: &mut E,
 ) -> ProgramEnd
+    requires { 0 < options.workers }
     ensures output { (given : Given) → Asks given (Solve options start)
         → ProgramOutcome given (R.remaining r.old) (F.bytes_of reports.now)
         (W.contents w.old) (W.contents w.new) result }
@@ -250,7 +255,7 @@ fn verify<F: Reports, R: Read, W: Write, E: Write>(
 
 // Does what the words ask for.
 fn run_words<S: AsStr, F: Reports, R: Read, W: Write, E: Write>(
-    rt: &(impl Threads + Sync),
+    rt: &(impl Threads + Wait + Sync),
     alloc: Global,
     words: &[S],
     reports: &F,
@@ -268,6 +273,9 @@ fn run_words<S: AsStr, F: Reports, R: Read, W: Write, E: Write>(
             solve(rt, alloc, options, start, reports, r, w, e)
         }
         Ok(Words::Verify { sparse, report }) => verify(alloc, sparse, report, reports, r, w, e),
+        Err(WordsFault::Mode) => {
+            ProgramEnd::Refused(tell(e, b"usage: mode is rounds or workers\n"))
+        }
         Err(WordsFault::Clap(error)) => refuse(alloc, error, w, e),
         Err(WordsFault::Memory) => fail(e, CliFault::Memory),
     }
@@ -280,7 +288,7 @@ fn run_words<S: AsStr, F: Reports, R: Read, W: Write, E: Write>(
 /// Nothing is written to `e` where the program ends with what was asked for on `w`, and nothing to
 /// `w` where it fails, but for a beginning of what was to be written where `w` itself fails.
 pub fn run_program<S: AsStr + Drop, F: Reports, R: Read, W: Write, E: Write>(
-    rt: &(impl Threads + Sync),
+    rt: &(impl Threads + Wait + Sync),
     alloc: Global,
     words: Result<Vec<S>, NoWords>,
     reports: &F,

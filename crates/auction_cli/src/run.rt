@@ -1,5 +1,5 @@
 // From the bytes that come in to the bytes that go out.
-ghost use Rattle.std.specs.Prelude.{◌≡◌, ℕ, ◌≤◌, All, List, None, Some, IfOk, IfErr, IfSome, length};
+ghost use Rattle.std.specs.Prelude.{◌≡◌, ℕ, ◌<◌, ◌≤◌, All, List, None, Some, IfOk, IfErr, IfSome, length};
 ghost use Rattle.std.specs.Arc.{arc_value};
 ghost use Rattle.assign_core.specs.Assignment.{IsAssignment, IsBest};
 ghost use Rattle.assign_core.specs.Hall.{IsHallSet};
@@ -8,10 +8,13 @@ ghost use Rattle.rounds.specs.Outcomes.{IsProof};
 ghost use Rattle.report.specs.Reports.{IsReport};
 ghost use Rattle.report.specs.SeenReports.{seen_report};
 ghost use Rattle.report.specs.Starts.{IsFirstPrice, IsStart};
-ghost use Rattle.auction_cli.specs.Solve.{HasNoStart, IsSettled, IsSolution, Reads, Reports, SolveOutcome, end_of, end_status, problem_under, status};
+ghost use Rattle.auction_cli.specs.Solve.{HasNoStart, IsOutcomeIn, IsSettled, IsSolution, Reads, Reports, SolveOutcome, end_of, end_status, problem_under, status};
 
-use crate::words::SolveOpts;
-use assign_core::{Certificate, HallSet, MOST_PERSONS, Outcome, Person, Prices, Problem, Sense};
+use crate::words::{Mode, SolveOpts};
+use assign_core::{
+    Certificate, HallSet, MOST_PERSONS, Outcome, Person, Prices, Problem, Sense, SolveFault,
+};
+use async_workers::{Gate, solve_workers_from};
 use dual_checker::{HallVerdict, Verdict, check, check_hall};
 use orlib_reader::{InputFault, read_dense, read_sparse};
 use report::{
@@ -22,7 +25,7 @@ use scaled_values::{Scaled, scale};
 use std::alloc::{AllocError, Global};
 use std::fmt;
 use std::io::{Read, Write};
-use std::sync::Arc;
+use std::sync::{Arc, Wait};
 use std::thread::Threads;
 
 /// How a run ended, where nothing failed.
@@ -193,7 +196,7 @@ fn check_none(alloc: Global, problem: &Problem, hall: &HallSet) -> Result<(), Al
     Ok(())
 }
 
-// Looks with the checkers at an outcome of the rounds.
+// Looks with the checkers at an outcome.
 fn check_outcome(
     alloc: Global,
     problem: &Problem,
@@ -217,36 +220,65 @@ fn shared(alloc: Global, problem: Problem, sense: Sense) -> Result<Arc<Scaled>, 
     Ok(Arc::new(alloc, scaled)?)
 }
 
-// A problem, and what the rounds came to.
+// What the mode comes to from these first prices.
+fn solve_in_mode<G: Gate + Sync, T: Threads + Wait + Sync>(
+    rt: &T,
+    alloc: Global,
+    scaled: Arc<Scaled>,
+    prices: Prices,
+    options: SolveOpts,
+    gate: &G,
+) -> Result<Outcome, SolveFault>
+    requires workers { 0 < options.workers }
+    requires long { length prices ≡ length (arc_value scaled).problem }
+    requires low { All IsFirstPrice prices }
+    ensures mode { IfOk result (IsOutcomeIn options.mode options.workers (arc_value scaled) prices) }
+    ensures proof { IfOk result (IsProof (arc_value scaled)) }
+{
+    match options.mode {
+        Mode::Rounds => solve_rounds_from(rt, alloc, scaled, prices),
+        Mode::Workers => {
+            let (workers, refresh) = (options.workers, options.refresh);
+            let (outcome, _) = solve_workers_from(
+                rt, alloc, scaled, prices, workers, refresh, gate,
+            )?;
+            Ok(outcome)
+        }
+    }
+}
+
+// A problem, and what its run came to.
 #[derive(Drop)]
 struct Solved {
     scaled: Arc<Scaled>,
     outcome: Outcome,
 }
 
-// Solves a problem by rounds that begin at these prices, and checks the outcome.
-fn solve_checked(
-    rt: &(impl Threads + Sync),
+// Solves a problem by a run that begins at these prices, and checks the outcome.
+fn solve_checked<G: Gate + Sync, T: Threads + Wait + Sync>(
+    rt: &T,
     alloc: Global,
     problem: Problem,
     prices: Prices,
-    sense: Sense,
+    options: SolveOpts,
+    gate: &G,
 ) -> Result<Solved, CliFault>
+    requires workers { 0 < options.workers }
     requires long { length prices ≡ length problem }
     requires low { All IsFirstPrice prices }
     ensures problem { IfOk result (λ solved.
-        arc_value solved.scaled ≡ problem_under sense problem) }
+        arc_value solved.scaled ≡ problem_under options.sense problem) }
     ensures solution { IfOk result (λ solved.
-        IsSolution sense problem prices solved.outcome) }
+        IsSolution options problem prices solved.outcome) }
     ensures memory { IfErr result (λ fault. fault ≡ CliFault.Memory) }
 {
-    let scaled = shared(alloc, problem, sense)?;
+    let scaled = shared(alloc, problem, options.sense)?;
     let kept = scaled.clone()?;
-    let outcome = match solve_rounds_from(rt, alloc, scaled, prices) {
+    let outcome = match solve_in_mode(rt, alloc, scaled, prices, options, gate) {
         Ok(outcome) => outcome,
         Err(_) => return Err(CliFault::Memory),
     };
-    check_outcome(alloc, kept.problem(), sense, &outcome)?;
+    check_outcome(alloc, kept.problem(), options.sense, &outcome)?;
     Ok(Solved {
         scaled: kept,
         outcome,
@@ -263,20 +295,22 @@ fn ended_by(outcome: &Outcome) -> Ended
     }
 }
 
-// Solves a problem by rounds that begin at these prices, and writes the report.
-fn report_from<W: Write>(
-    rt: &(impl Threads + Sync),
+// Solves a problem by a run that begins at these prices, and writes the report.
+fn report_from<G: Gate + Sync, T: Threads + Wait + Sync, W: Write>(
+    rt: &T,
     alloc: Global,
     problem: Problem,
     prices: Prices,
     w: &mut W,
     options: SolveOpts,
+    gate: &G,
 ) -> Result<Ended, CliFault>
+    requires workers { 0 < options.workers }
     requires long { length prices ≡ length problem }
     requires low { All IsFirstPrice prices }
     ensures { Reports options problem prices (W.contents w.old) (W.contents w.new) result }
 {
-    let solved = solve_checked(rt, alloc, problem, prices, options.sense)?;
+    let solved = solve_checked(rt, alloc, problem, prices, options, gate)?;
     let problem = solved.scaled.problem();
     write_report(w, problem, options.sense, &solved.outcome, options.prices)?;
     Ok(ended_by(&solved.outcome))
@@ -295,28 +329,32 @@ fn first_prices(alloc: Global, report: &Report, n: u16) -> Result<Prices, CliFau
 }
 
 /// Reads a problem, and writes the report on a best assignment, or on persons who list fewer
-/// objects than they are, and nothing else.
+/// objects than they are, and nothing else. There is at least one worker.
 ///
-/// What is reported is the outcome of plain rounds, so the bytes written depend on the bytes read
-/// and on the options alone, and on no number of threads. The report goes out once a checker has
-/// taken the outcome, and no other fault than `Write` leaves anything written.
+/// In rounds mode the report is on the outcome of plain rounds, so the bytes written depend on the
+/// bytes read and on the options alone, and on no number of threads. In workers mode it is on an
+/// outcome of the workers; the call may wait for their threads, and the gate is told of their steps.
+/// The report goes out once a checker has taken the outcome, and no other fault than `Write` leaves
+/// anything written.
 ///
 /// # Errors
 /// `Input` for a text that is refused, `Write` with a beginning of the report written, and
 /// `Memory`; no other.
-pub fn run_solve<R: Read, W: Write>(
-    rt: &(impl Threads + Sync),
+pub fn run_solve<G: Gate + Sync, T: Threads + Wait + Sync, R: Read, W: Write>(
+    rt: &T,
     alloc: Global,
     r: &mut R,
     w: &mut W,
     options: SolveOpts,
+    gate: &G,
 ) -> Result<Ended, CliFault>
+    requires { 0 < options.workers }
     ensures { SolveOutcome options (R.remaining r.old) None
         (W.contents w.old) (W.contents w.new) result }
 {
     let problem = read_problem(alloc, r, options.sparse)?;
     let prices = Prices::zeros(alloc, problem.n())?;
-    report_from(rt, alloc, problem, prices, w, options)
+    report_from(rt, alloc, problem, prices, w, options, gate)
 }
 
 /// Reads a problem and then a report, of either version, and solves the problem as `run_solve` does,
@@ -330,19 +368,21 @@ pub fn run_solve<R: Read, W: Write>(
 /// As `run_solve`, and `Report` for a report that is refused, `Start` for one without prices, with
 /// more or fewer than the problem has objects, or with one above `GREATEST_FIRST_PRICE`. A fault of
 /// the problem comes before those of the report.
-pub fn run_solve_from<R: Read, Q: Read, W: Write>(
-    rt: &(impl Threads + Sync),
+pub fn run_solve_from<G: Gate + Sync, T: Threads + Wait + Sync, R: Read, Q: Read, W: Write>(
+    rt: &T,
     alloc: Global,
     r: &mut R,
     start: &mut Q,
     w: &mut W,
     options: SolveOpts,
+    gate: &G,
 ) -> Result<Ended, CliFault>
+    requires { 0 < options.workers }
     ensures { SolveOutcome options (R.remaining r.old) (Some (Q.remaining start.old))
         (W.contents w.old) (W.contents w.new) result }
 {
     let problem = read_problem(alloc, r, options.sparse)?;
     let report = read_report(alloc, start)?;
     let prices = first_prices(alloc, &report, problem.n())?;
-    report_from(rt, alloc, problem, prices, w, options)
+    report_from(rt, alloc, problem, prices, w, options, gate)
 }

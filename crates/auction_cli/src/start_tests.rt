@@ -2,6 +2,7 @@
 use crate::tests::{first_line, run_with};
 use std::alloc::{AllocError, Global};
 use std::process::Abort;
+use std::sync::Wait;
 use std::test::Fail;
 use std::thread::Threads;
 
@@ -186,7 +187,7 @@ fn cost_line(text: &[u8]) -> &[u8] {
 
 // Solves a problem, changes one of its costs, and solves it again, from zeros and from the prices.
 fn assert_same_cost(
-    rt: &(impl Threads + Sync + Abort + AllocGlobal),
+    rt: &(impl Threads + Wait + Sync + Abort + AllocGlobal),
     cold_words: &[&str],
     warm_words: &[&str],
     seed: &mut u64,
@@ -214,22 +215,40 @@ fn assert_same_cost(
     Ok(())
 }
 
+// The words of a run from zeros, and of one from its prices.
+const PAIRS: [(&[&str], &[&str]); 4] = [
+    (
+        &["auction_cli", "solve", "--prices"],
+        &["auction_cli", "solve", "--start", "report"],
+    ),
+    (
+        &["auction_cli", "solve", "--prices", "--max"],
+        &["auction_cli", "solve", "--max", "--start", "report"],
+    ),
+    (
+        &["auction_cli", "solve", "--prices", "--mode=workers"],
+        &["auction_cli", "solve", "--start=report", "--mode=workers"],
+    ),
+    (
+        &["", "solve", "--prices", "--max", "--mode=workers"],
+        &[
+            "",
+            "solve",
+            "--max",
+            "--start=report",
+            "--mode=workers",
+            "--refresh=0",
+        ],
+    ),
+];
+
 #[test]
 fn neighbours(rt: HostRuntime) -> Result<(), Fail> {
     let mut seed: u64 = 15;
     for _ in 0..150 {
-        assert_same_cost(
-            &rt,
-            &["auction_cli", "solve", "--prices"],
-            &["auction_cli", "solve", "--start", "report"],
-            &mut seed,
-        )?;
-        assert_same_cost(
-            &rt,
-            &["auction_cli", "solve", "--prices", "--max"],
-            &["auction_cli", "solve", "--max", "--start", "report"],
-            &mut seed,
-        )?;
+        for (cold, warm) in PAIRS {
+            assert_same_cost(&rt, cold, warm, &mut seed)?;
+        }
     }
     Ok(())
 }

@@ -7,6 +7,7 @@ use orlib_reader::InputFault;
 use report::{ReportFault, StartFault};
 use std::alloc::{AllocError, Global};
 use std::process::Abort;
+use std::sync::Wait;
 use std::test::Fail;
 use std::thread::Threads;
 
@@ -59,7 +60,7 @@ fn is_whole(end: &ProgramEnd) -> bool {
 
 // A run with these words on this input, with this report at hand, and with these outputs.
 fn watched_run(
-    rt: &(impl Threads + Sync),
+    rt: &(impl Threads + Wait + Sync),
     alloc: Global,
     words: Result<Vec<&str>, NoWords>,
     mut reader: Pieces<'_>,
@@ -96,7 +97,7 @@ fn bare_shelf() -> Shelf<'static> {
 // A run with these words on a text and a report in pieces of at most so many bytes, written in such
 // pieces too.
 pub fn run_with(
-    rt: &(impl Threads + Sync),
+    rt: &(impl Threads + Wait + Sync),
     alloc: Global,
     words: &[&str],
     text: &[u8],
@@ -122,7 +123,7 @@ pub fn run_with(
 
 // The same with no report.
 fn run_on(
-    rt: &(impl Threads + Sync),
+    rt: &(impl Threads + Wait + Sync),
     alloc: Global,
     words: &[&str],
     text: &[u8],
@@ -141,7 +142,7 @@ fn solve_words(sparse: bool) -> &'static [&'static str] {
 }
 
 fn solved(
-    rt: &(impl Threads + Sync),
+    rt: &(impl Threads + Wait + Sync),
     alloc: Global,
     text: &[u8],
     most: usize,
@@ -162,7 +163,7 @@ pub fn first_line(text: &[u8]) -> &[u8] {
 
 // Runs with these words on each text, in bytes and at once, end with the status and this report.
 fn assert_reports(
-    rt: &(impl Threads + Sync + Abort + AllocGlobal),
+    rt: &(impl Threads + Wait + Sync + Abort + AllocGlobal),
     words: &[&str],
     status: u8,
     table: &[(&[u8], &str)],
@@ -445,7 +446,7 @@ fn reports_that_cannot_be_read(rt: HostRuntime) -> Result<(), Fail> {
 
 // A run whose output has room for so many bytes.
 fn on_short_output(
-    rt: &(impl Threads + Sync),
+    rt: &(impl Threads + Wait + Sync),
     alloc: Global,
     words: &[&str],
     room: usize,
@@ -471,7 +472,7 @@ fn on_short_output(
 
 // With room for each count of bytes that is less than the text has, just its beginning goes out.
 fn assert_cut_off(
-    rt: &(impl Threads + Sync + Abort + AllocGlobal),
+    rt: &(impl Threads + Wait + Sync + Abort + AllocGlobal),
     words: &[&str],
     text: &[u8],
 ) -> Result<(), Fail> {

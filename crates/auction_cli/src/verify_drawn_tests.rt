@@ -3,22 +3,27 @@
 use crate::run::{read_problem, run_solve};
 use crate::streams::{ample_sheet, next_number, whole_text};
 use crate::verify::{Verified, run_verify};
-use crate::words::SolveOpts;
+use crate::words::{Mode, SolveOpts};
 use assign_core::{Cost, Object, Person, Price, Problem, Sense, plain_best};
+use async_workers::OpenGate;
 use orlib_reader::InputFault;
 use report::{Report, read_report};
 use std::alloc::{AllocError, Global};
+use std::sync::Wait;
 use std::test::Fail;
 use std::thread::Threads;
 
-// A problem's text, and how it is solved.
+// A problem's text, whether it lists pairs, and which costs are wanted.
 #[derive(Drop)]
 struct Drawn {
     text: String,
-    options: SolveOpts,
+    sparse: bool,
+    sense: Sense,
+    mode: Mode,
+    workers: u16,
 }
 
-// A problem of at most four persons, in either layout and under either sense.
+// A problem of at most four persons, in either layout, under either sense and for either mode.
 fn draw(alloc: Global, seed: &mut u64) -> Result<Drawn, AllocError> {
     let n = next_number(seed) % 4 + 1;
     let sparse = next_number(seed) % 2 == 0;
@@ -38,21 +43,33 @@ fn draw(alloc: Global, seed: &mut u64) -> Result<Drawn, AllocError> {
             }
         }
     }
+    let mode = if next_number(seed) % 2 == 0 {
+        Mode::Rounds
+    } else {
+        Mode::Workers
+    };
     Ok(Drawn {
         text,
-        options: SolveOpts {
-            sparse,
-            prices: true,
-            sense,
-        },
+        sparse,
+        sense,
+        mode,
+        workers: (next_number(seed) % 8) as u16 + 1,
     })
 }
 
 // The report that is printed, or a part of it where the run fails.
-fn printed(rt: &(impl Threads + Sync), alloc: Global, drawn: &Drawn) -> Vec<u8> {
+fn printed(rt: &(impl Threads + Wait + Sync), alloc: Global, drawn: &Drawn) -> Vec<u8> {
     let mut sheet = ample_sheet(alloc);
     let mut problem = whole_text(drawn.text.as_bytes(), 64);
-    let _end = run_solve(rt, alloc, &mut problem, &mut sheet, drawn.options);
+    let options = SolveOpts {
+        sparse: drawn.sparse,
+        mode: drawn.mode,
+        workers: drawn.workers.max(1),
+        refresh: u64::from(drawn.workers % 4),
+        prices: true,
+        sense: drawn.sense,
+    };
+    let _end = run_solve(rt, alloc, &mut problem, &mut sheet, options, &OpenGate);
     sheet.taken
 }
 
@@ -60,7 +77,7 @@ fn is_verified(alloc: Global, drawn: &Drawn, report: &[u8]) -> bool {
     let mut sheet = ample_sheet(alloc);
     let mut problem = whole_text(drawn.text.as_bytes(), 64);
     let mut report = whole_text(report, 64);
-    let sparse = drawn.options.sparse;
+    let sparse = drawn.sparse;
     let end = run_verify(alloc, &mut problem, &mut report, sparse, &mut sheet);
     matches!(end, Ok(Verified::Yes))
 }
@@ -258,7 +275,7 @@ fn is_right(alloc: Global, problem: &Problem, report: &Report) -> Result<bool, A
 
 fn problem_of(alloc: Global, drawn: &Drawn) -> Result<Problem, InputFault> {
     let mut text = whole_text(drawn.text.as_bytes(), 64);
-    read_problem(alloc, &mut text, drawn.options.sparse)
+    read_problem(alloc, &mut text, drawn.sparse)
 }
 
 // Whether a report is verified just where it is right; no text but a report's is.
@@ -277,7 +294,7 @@ fn is_told_rightly(
 
 // Whether what is printed is verified, and with each number changed is told rightly.
 fn agrees(
-    rt: &(impl Threads + Sync),
+    rt: &(impl Threads + Wait + Sync),
     alloc: Global,
     drawn: &Drawn,
     change: i128,
@@ -302,7 +319,7 @@ fn agrees(
 
 // How many of so many problems drawn from a seed agree.
 fn agreeing(
-    rt: &(impl Threads + Sync),
+    rt: &(impl Threads + Wait + Sync),
     alloc: Global,
     turns: usize,
     seed: u64,
@@ -394,11 +411,10 @@ fn reports_with_a_byte_changed(rt: HostRuntime) -> Result<(), Fail> {
     for (problem, sparse, report) in table {
         let drawn = Drawn {
             text: format!(in alloc; "{problem}")?,
-            options: SolveOpts {
-                sparse,
-                prices: true,
-                sense: Sense::Min,
-            },
+            sparse,
+            sense: Sense::Min,
+            mode: Mode::Rounds,
+            workers: 1,
         };
         assert!(rt; is_verified(alloc, &drawn, report));
         assert_eq!(rt; told_wrongly(alloc, &drawn, report)?, 0);

@@ -1,22 +1,44 @@
 // The command line.
-ghost use Rattle.std.specs.Prelude.{◌≡◌, [], ◌∷◌, codes, map, true, false, None, Some, IfOk, IsErr};
+ghost use Rattle.std.specs.Prelude.{◌≡◌, ◌≤◌, ℕ, [], ◌∷◌, codes, map, true, false, None, Some, IfErr, IfOk, IfSome, IsErr};
 ghost use Rattle.std.specs.Option.{option_map};
 ghost use Rattle.std.specs.String.{string_bytes};
 ghost use Rattle.assign_core.specs.declared.sense.Sense.TheVariants.{Max, Min};
-ghost use Rattle.clap.specs.Words.{app_of, first_of, found_of, rows_of, rule_of, subcommand_rows_of, Row, Text};
-ghost use Rattle.auction_cli.specs.Words.{Chooses, ChoosesSolving, ChoosesVerifying, IsFaultOf, IsTaken, NamesCommand, Solves, Verifies, WordsOutcome, flag_rule, is_max, program, solve_app, verify_app};
+ghost use Rattle.clap.specs.Words.{app_of, first_of, found_of, one_of, rows_of, rule_of, subcommand_rows_of, Row, Text};
+ghost use Rattle.auction_cli.specs.Words.{Chooses, ChoosesSolving, ChoosesVerifying, IsChoiceFault, IsFaultOf, IsInRanges, IsNumberFor, IsTaken, NamesCommand, NamesMode, Solves, Verifies, WordsOutcome, flag_rule, full_line, full_options, is_max, mode_name, numbered_rule, plain_solve_app, program, solve_app, usual_options, valued_rule, verify_app};
 
 use assign_core::Sense;
+use clap::builder::ValueParser;
 use clap::error::ErrorKind;
 use clap::{Arg, ArgAction, ArgMatches, Command, Error};
 use std::alloc::{AllocError, Global};
 use std::convert::AsStr;
+
+// The most workers, and the most sessions between two looks at today's prices.
+const MOST_WORKERS: u64 = 64;
+
+const MOST_REFRESH: u64 = 1_000_000;
+
+/// Who bids when.
+#[derive(Clone, Copy, Debug, PartialEq, Eq)]
+pub enum Mode {
+    /// All who wait bid from one table of prices, round by round.
+    Rounds,
+    /// Workers bid from tables of their own, at any time.
+    Workers,
+}
 
 /// How to solve.
 #[derive(Clone, Copy, Debug, PartialEq, Eq)]
 pub struct SolveOpts {
     /// The text lists pairs.
     pub sparse: bool,
+    /// Rounds or workers.
+    pub mode: Mode,
+    /// How many workers there are; rounds make no use of it.
+    pub workers: u16,
+    /// After so many sessions with the book a worker takes today's prices; where 0, only after a
+    /// bid that was too low. Rounds make no use of it.
+    pub refresh: u64,
     /// The report has the prices.
     pub prices: bool,
     /// Which costs are wanted.
@@ -42,6 +64,8 @@ pub enum Words {
 /// Why the words ask for nothing: they are refused or ask for help, or memory is refused.
 #[derive(Debug, Drop)]
 pub enum WordsFault {
+    /// The word behind `--mode` names no mode.
+    Mode,
     Clap(Error),
     Memory,
 }
@@ -80,9 +104,42 @@ fn sparse_flag<'a>(alloc: Global) -> Arg<'a>
     )
 }
 
-// The subcommand `solve`.
-fn solve_command<'a>(alloc: Global) -> Result<Command<'a>, AllocError>
-    ensures { IfOk result (λ c. app_of c ≡ solve_app) }
+// An option with a value, and the value that it has where it isn't given.
+fn valued<'a>(
+    alloc: Global,
+    name: &'a str,
+    value: &'a str,
+    usual: &'a str,
+    help: &'a str,
+) -> Arg<'a>
+    ensures rule { rule_of result ≡ valued_rule name.now usual.now }
+    ensures local { result.global ≡ false }
+{
+    Arg::new(alloc, name)
+        .long(name)
+        .value_name(value)
+        .default_value(usual)
+        .help(help)
+}
+
+// An option whose value is a number in a range.
+fn numbered<'a>(
+    alloc: Global,
+    name: &'a str,
+    value: &'a str,
+    usual: &'a str,
+    range: (u64, u64),
+    help: &'a str,
+) -> Arg<'a>
+    ensures rule { rule_of result ≡ numbered_rule name.now usual.now range.0 range.1 }
+    ensures local { result.global ≡ false }
+{
+    valued(alloc, name, value, usual, help).value_parser(ValueParser::unsigned(range.0, range.1))
+}
+
+// The subcommand `solve`, but for the options on its mode.
+fn plain_solve_command<'a>(alloc: Global) -> Result<Command<'a>, AllocError>
+    ensures { IfOk result (λ c. app_of c ≡ plain_solve_app) }
 {
     let max = flag(
         alloc,
@@ -106,6 +163,39 @@ fn solve_command<'a>(alloc: Global) -> Result<Command<'a>, AllocError>
         .arg(max)?
         .arg(prices)?
         .arg(start)
+}
+
+// The subcommand `solve`.
+fn solve_command<'a>(alloc: Global) -> Result<Command<'a>, AllocError>
+    ensures { IfOk result (λ c. app_of c ≡ solve_app) }
+{
+    let mode = valued(
+        alloc,
+        "mode",
+        "MODE",
+        "rounds",
+        "Solve in rounds, or by workers that bid at any time: rounds or workers",
+    );
+    let workers = numbered(
+        alloc,
+        "workers",
+        "K",
+        "4",
+        (1, MOST_WORKERS),
+        "How many workers there are, 1 to 64",
+    );
+    let refresh = numbered(
+        alloc,
+        "refresh",
+        "R",
+        "1",
+        (0, MOST_REFRESH),
+        "After how many turns a worker takes the newest prices, 0 to 1000000; 0: only after a bid that was too low",
+    );
+    plain_solve_command(alloc)?
+        .arg(mode)?
+        .arg(workers)?
+        .arg(refresh)
 }
 
 // The subcommand `verify`.
@@ -141,12 +231,64 @@ fn sense_by(max: bool) -> Sense
     if max { Sense::Max } else { Sense::Min }
 }
 
-// What the words behind `solve` choose.
-fn solve_options(solve: &ArgMatches<'_>) -> SolveOpts
+// The mode of this name.
+fn named_mode(name: &str) -> Option<Mode>
+    ensures some { IfSome result (λ mode. name.now ≡ mode_name mode) }
+    ensures none { result ≡ None → (mode : Mode) → name.now ≡ mode_name mode → ⊥ }
+{
+    if name == "rounds" {
+        Some(Mode::Rounds)
+    } else if name == "workers" {
+        Some(Mode::Workers)
+    } else {
+        None
+    }
+}
+
+// The mode that is named.
+fn chosen_mode(solve: &ArgMatches<'_>) -> Result<Mode, WordsFault>
+    ensures ok { IfOk result (NamesMode (rows_of (found_of solve.now))) }
+    ensures err { IfErr result (λ fault. (fault ≡ WordsFault.Mode)
+        × ((mode : Mode) → NamesMode (rows_of (found_of solve.now)) mode → ⊥)) }
+{
+    match solve.get_str("mode") {
+        Some(name) => named_mode(name).ok_or(WordsFault::Mode),
+        None => Err(WordsFault::Mode),
+    }
+}
+
+// A number in this range, or the usual one.
+fn number_or(number: Option<u64>, range: (u64, u64), usual: u64) -> u64
+    requires { (range.0 ≤ usual) × (usual ≤ range.1) }
+    ensures from { range.0 ≤ result }
+    ensures to { result ≤ range.1 }
+    ensures value { (n : ℕ) → number ≡ Some n → range.0 ≤ n → n ≤ range.1 → result ≡ n }
+{
+    match number {
+        Some(number) if range.0 <= number && number <= range.1 => number,
+        _ => usual,
+    }
+}
+
+// The number of an option that has one in this range. The usual one, which is never taken here,
+// stands for none: clap refuses words without one.
+fn chosen_number(solve: &ArgMatches<'_>, name: &str, range: (u64, u64), usual: u64) -> u64
+    requires { (range.0 ≤ usual) × (usual ≤ range.1) }
+    ensures { IsNumberFor (one_of name.now (rows_of (found_of solve.now))) range.0 range.1 result }
+{
+    number_or(solve.get_one::<u64>(name), range, usual)
+}
+
+// What the words behind `solve` choose, with this mode.
+fn solve_options(solve: &ArgMatches<'_>, mode: Mode) -> SolveOpts
+    requires { NamesMode (rows_of (found_of solve.now)) mode }
     ensures { ChoosesSolving (rows_of (found_of solve.now)) result }
 {
     SolveOpts {
         sparse: solve.get_flag("sparse"),
+        mode,
+        workers: chosen_number(solve, "workers", (1, MOST_WORKERS), 4) as u16,
+        refresh: chosen_number(solve, "refresh", (0, MOST_REFRESH), 1),
         prices: solve.get_flag("prices"),
         sense: sense_by(solve.get_flag("max")),
     }
@@ -164,11 +306,13 @@ fn start_name(alloc: Global, solve: &ArgMatches<'_>) -> Result<Option<String>, A
 }
 
 // What the words behind `solve` choose, with the file.
-fn solve_words(alloc: Global, solve: &ArgMatches<'_>) -> Result<Words, AllocError>
-    ensures { IfOk result (Chooses (Some (codes "solve", rows_of (found_of solve.now)))) }
+fn solve_words(alloc: Global, solve: &ArgMatches<'_>) -> Result<Words, WordsFault>
+    ensures ok { IfOk result (Chooses (Some (codes "solve", rows_of (found_of solve.now)))) }
+    ensures err { IfErr result (IsChoiceFault (Some (codes "solve", rows_of (found_of solve.now)))) }
 {
+    let mode = chosen_mode(solve)?;
     Ok(Words::Solve {
-        options: solve_options(solve),
+        options: solve_options(solve, mode),
         start: start_name(alloc, solve)?,
     })
 }
@@ -186,14 +330,15 @@ fn verify_options(alloc: Global, verify: &ArgMatches<'_>) -> Result<Words, Alloc
 }
 
 // What words choose that clap takes.
-fn chosen(alloc: Global, matches: &ArgMatches<'_>) -> Result<Words, AllocError>
+fn chosen(alloc: Global, matches: &ArgMatches<'_>) -> Result<Words, WordsFault>
     requires { NamesCommand (subcommand_rows_of matches.now) }
-    ensures { IfOk result (Chooses (subcommand_rows_of matches.now)) }
+    ensures ok { IfOk result (Chooses (subcommand_rows_of matches.now)) }
+    ensures err { IfErr result (IsChoiceFault (subcommand_rows_of matches.now)) }
 {
     match matches.subcommand_matches("solve") {
         Some(solve) => solve_words(alloc, solve),
         None => match matches.subcommand_matches("verify") {
-            Some(verify) => verify_options(alloc, verify),
+            Some(verify) => Ok(verify_options(alloc, verify)?),
             None => unreachable!(),
         },
     }
@@ -213,16 +358,15 @@ fn words_fault(error: Error) -> WordsFault
 /// Reads the words of a command line, the program's own name first.
 ///
 /// # Errors
-/// `Clap` for words that are refused and for a request for help, whose text the error prints, and
-/// `Memory`.
+/// `Clap` for words that are refused and for a request for help, whose text the error prints, `Mode`
+/// for a word behind `--mode` that is neither `rounds` nor `workers`, and `Memory`.
 pub fn read_words<'a, S: AsStr>(alloc: Global, words: &'a [S]) -> Result<Words, WordsFault>
     ensures outcome { WordsOutcome (map S.text words.entry.now) result }
+    ensures ranges { IfOk result IsInRanges }
     ensures solve { (name : Text) → map S.text words.entry.now ≡ name ∷ codes "solve" ∷ []
-        → IsTaken (Solves false false false None) result }
-    ensures options { (name : Text) → map S.text words.entry.now
-        ≡ name ∷ codes "solve" ∷ codes "--sparse" ∷ codes "--max" ∷ codes "--prices"
-        ∷ codes "--start" ∷ codes "report" ∷ []
-        → IsTaken (Solves true true true (Some (codes "report"))) result }
+        → IsTaken (Solves usual_options None) result }
+    ensures options { (name : Text) → map S.text words.entry.now ≡ name ∷ full_line
+        → IsTaken (Solves full_options (Some (codes "report"))) result }
     ensures verify { (name : Text) → map S.text words.entry.now
         ≡ name ∷ codes "verify" ∷ codes "--sparse" ∷ codes "report" ∷ []
         → IsTaken (Verifies true (codes "report")) result }
@@ -230,7 +374,7 @@ pub fn read_words<'a, S: AsStr>(alloc: Global, words: &'a [S]) -> Result<Words, 
 {
     let command = command(alloc)?;
     match command.try_get_matches_from(words) {
-        Ok(matches) => Ok(chosen(alloc, &matches)?),
+        Ok(matches) => chosen(alloc, &matches),
         Err(error) => Err(words_fault(error)),
     }
 }

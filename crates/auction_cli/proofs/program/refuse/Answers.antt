@@ -1,4 +1,4 @@
-use Rattle.std.proofs.Common.{Ok, inr}
+use Rattle.std.proofs.Common.{Ok, inl, inr}
 use Rattle.std.proofs.KnownBytes.{Keeps-refl}
 use Rattle.clap.specs.Words.{kind_of}
 use Rattle.auction_cli.specs.declared.run.CliFault.TheVariants.{Write}
@@ -6,7 +6,7 @@ use Rattle.auction_cli.proofs.Ends.{failed_output}
 use Rattle.auction_cli.proofs.program.refuse.Goals as goal
 
 pub returns-then-use_stderr-clause-output : goal.returns-then-use_stderr-clause-output
-returns-then-use_stderr-clause-output g c = λ words input reports o. ((kind_of c.args.error, o.0, o.1, c.use_stderr.ensures.0 c.if-use_stderr.true), Keeps-refl _)
+returns-then-use_stderr-clause-output g c = λ words input reports o. (inl (kind_of c.args.error, o.0, o.1, c.use_stderr.ensures.0 c.if-use_stderr.true), Keeps-refl _)
 
 pub returns-in-Ok-write_text-clause-output : goal.returns-in-Ok-write_text-clause-output
 returns-in-Ok-write_text-clause-output g c = λ words input reports o. (

@@ -23,4 +23,6 @@ returns-in-Err-Clap-clause-output g c =
     c.refuse.ensures.output (map g.S.AsStr.text c.args.words.now) (g.R.Read.remaining c.args.r.now) (g.F.Reports.bytes_of c.args.reports.now) told
 
 pub returns-in-Err-Clap-clause-errors : goal.returns-in-Err-Clap-clause-errors
-returns-in-Err-Clap-clause-errors g c = c.refuse.ensures.errors (map g.S.AsStr.text c.args.words.now)
+returns-in-Err-Clap-clause-errors g c =
+    let told = rw c.in-Err-Clap.field-0-is at c.in-Err-Clap.ensures.outcome in
+    c.refuse.ensures.errors (map g.S.AsStr.text c.args.words.now) told

@@ -1,7 +1,8 @@
-use Rattle.std.proofs.Common.{◌∙◌, List, ap₂, map, subst, sym}
+use Rattle.std.proofs.Common.{◌∙◌, List, ap, ap₂, codes, map, refl, subst, sym}
 use Rattle.clap.specs.Words.{Text, subcommand_of, takes}
-use Rattle.auction_cli.specs.Words.{Chooses, NamesCommand, program}
-use Rattle.auction_cli.proofs.CommandLines.{file_is_taken, file_words, full_flags, full_is_taken, is_memory, plain_flags, plain_is_taken, solves, taken_words, verifies}
+use Rattle.auction_cli.specs.Words.{NamesCommand, full_options, program, usual_options}
+use Rattle.auction_cli.proofs.Choices.{chosen_outcome, solve_taken, verify_taken}
+use Rattle.auction_cli.proofs.CommandLines.{file_is_taken, file_of, file_words, flags_of, full_flags, full_is_taken, full_numbers, is_memory, plain_flags, plain_is_taken, plain_numbers, taken_words}
 use Rattle.auction_cli.proofs.Subcommands.{names_command}
 use Rattle.auction_cli.proofs.words.read_words.Goals as goal
 
@@ -10,28 +11,25 @@ chosen-requires g c =
     let t = taken_words _ (map g.S.AsStr.text c.args.words.now) _ c.in_ok-command.ensures c.in-Ok.ensures.kinds c.in-Ok.ensures.matches in
     subst NamesCommand (sym t.1) (names_command (map g.S.AsStr.text c.args.words.now) t.0)
 
-pub returns-in_ok-chosen-in-Ok-clause-outcome : goal.returns-in_ok-chosen-in-Ok-clause-outcome
-returns-in_ok-chosen-in-Ok-clause-outcome g c =
+pub returns-in-Ok-clause-outcome : goal.returns-in-Ok-clause-outcome
+returns-in-Ok-clause-outcome g c =
     let t = taken_words _ (map g.S.AsStr.text c.args.words.now) _ c.in_ok-command.ensures c.in-Ok.ensures.kinds c.in-Ok.ensures.matches in
-    (t.0, subst (λ found. Chooses found c.in_ok-chosen-in-Ok.field-0) t.1 c.in_ok-chosen-in-Ok.ensures)
+    chosen_outcome (map g.S.AsStr.text c.args.words.now) _ c.chosen.result t.0 t.1 c.chosen.ensures.ok c.chosen.ensures.err
 
-pub returns-in_ok-chosen-in-Ok-clause-solve : goal.returns-in_ok-chosen-in-Ok-clause-solve
-returns-in_ok-chosen-in-Ok-clause-solve g c = λ name e.
+pub returns-in-Ok-clause-solve : goal.returns-in-Ok-clause-solve
+returns-in-Ok-clause-solve g c = λ name e.
     let t = taken_words _ (map g.S.AsStr.text c.args.words.now) _ c.in_ok-command.ensures c.in-Ok.ensures.kinds c.in-Ok.ensures.matches in
-    solves _ _ _ _ _ _ (plain_flags name) (subst (λ (words : List Text). Chooses (subcommand_of program words) c.in_ok-chosen-in-Ok.field-0) e
-    (subst (λ found. Chooses found c.in_ok-chosen-in-Ok.field-0) t.1 c.in_ok-chosen-in-Ok.ensures))
+    solve_taken _ c.chosen.result usual_options (codes "4") (codes "1") _ (ap flags_of t.1 ∙ ap (λ (words : List Text). flags_of (subcommand_of program words)) e ∙ plain_flags name) plain_numbers refl refl c.chosen.ensures.ok c.chosen.ensures.err
 
-pub returns-in_ok-chosen-in-Ok-clause-options : goal.returns-in_ok-chosen-in-Ok-clause-options
-returns-in_ok-chosen-in-Ok-clause-options g c = λ name e.
+pub returns-in-Ok-clause-options : goal.returns-in-Ok-clause-options
+returns-in-Ok-clause-options g c = λ name e.
     let t = taken_words _ (map g.S.AsStr.text c.args.words.now) _ c.in_ok-command.ensures c.in-Ok.ensures.kinds c.in-Ok.ensures.matches in
-    solves _ _ _ _ _ _ (full_flags name) (subst (λ (words : List Text). Chooses (subcommand_of program words) c.in_ok-chosen-in-Ok.field-0) e
-    (subst (λ found. Chooses found c.in_ok-chosen-in-Ok.field-0) t.1 c.in_ok-chosen-in-Ok.ensures))
+    solve_taken _ c.chosen.result full_options (codes "64") (codes "0") _ (ap flags_of t.1 ∙ ap (λ (words : List Text). flags_of (subcommand_of program words)) e ∙ full_flags name) full_numbers refl refl c.chosen.ensures.ok c.chosen.ensures.err
 
-pub returns-in_ok-chosen-in-Ok-clause-verify : goal.returns-in_ok-chosen-in-Ok-clause-verify
-returns-in_ok-chosen-in-Ok-clause-verify g c = λ name e.
+pub returns-in-Ok-clause-verify : goal.returns-in-Ok-clause-verify
+returns-in-Ok-clause-verify g c = λ name e.
     let t = taken_words _ (map g.S.AsStr.text c.args.words.now) _ c.in_ok-command.ensures c.in-Ok.ensures.kinds c.in-Ok.ensures.matches in
-    verifies _ _ _ _ (file_words name) (subst (λ (words : List Text). Chooses (subcommand_of program words) c.in_ok-chosen-in-Ok.field-0) e
-    (subst (λ found. Chooses found c.in_ok-chosen-in-Ok.field-0) t.1 c.in_ok-chosen-in-Ok.ensures))
+    verify_taken _ c.chosen.result _ (ap file_of t.1 ∙ ap (λ (words : List Text). file_of (subcommand_of program words)) e ∙ file_words name) c.chosen.ensures.ok c.chosen.ensures.err
 
 pub returns-in-Err-clause-solve : goal.returns-in-Err-clause-solve
 returns-in-Err-clause-solve g c = λ name e. is_memory _ _ c.words_fault.ensures (c.in-Err.ensures.passes (ap₂ takes c.in_ok-command.ensures e ∙ plain_is_taken name))

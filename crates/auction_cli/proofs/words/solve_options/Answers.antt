@@ -8,6 +8,9 @@ use Rattle.auction_cli.proofs.words.solve_options.Goals as goal
 pub returns : goal.returns
 returns c = record {
   sparse = flag_told c.args.solve.now (codes "sparse") c.get_flag.result c.get_flag.ensures.none c.get_flag.ensures.value c.get_flag.ensures.other;
+  mode = c.requires;
+  workers = c.chosen_number.ensures;
+  refresh = c.chosen_number-2.ensures;
   prices = flag_told c.args.solve.now (codes "prices") c.get_flag-2.result c.get_flag-2.ensures.none c.get_flag-2.ensures.value c.get_flag-2.ensures.other;
   sense = subst (λ flag. IsFlag (one_of (codes "max") (rows_of (found_of c.args.solve.now))) flag) (sym c.sense_by.ensures)
       (flag_told c.args.solve.now (codes "max") c.get_flag-3.result c.get_flag-3.ensures.none c.get_flag-3.ensures.value c.get_flag-3.ensures.other);

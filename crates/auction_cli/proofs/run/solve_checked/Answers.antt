@@ -1,5 +1,0 @@
-use Rattle.auction_cli.proofs.Starts.{low_greatest}
-use Rattle.auction_cli.proofs.run.solve_checked.Goals as goal
-
-pub solve_rounds_from-requires-clause-low : goal.solve_rounds_from-requires-clause-low
-solve_rounds_from-requires-clause-low g c κs within = low_greatest c.args.prices c.requires.low
