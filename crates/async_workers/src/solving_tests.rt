@@ -337,9 +337,11 @@ fn next(seed: &mut u64, end: u16) -> u16
     ((*seed >> 33) % u64::from(end)) as u16
 }
 
-// A problem of at most six persons, of which each may list some objects or all.
+// A problem of at most eight persons, of which each may list some objects or all. Few are the
+// greatest, since the search that they are compared with tries all assignments.
 fn drawn(alloc: Global, seed: &mut u64) -> Result<(u16, Vec<Pair>), AllocError> {
-    let n = next(seed, 6) + 1;
+    let (one, other) = (next(seed, 8), next(seed, 8));
+    let n = if one < other { one } else { other } + 1;
     let share = next(seed, 4) + 1;
     let spread = next(seed, 30) + 1;
     let mut pairs = Vec::new(alloc);
