@@ -8,60 +8,7 @@ program=${1:-$top/crates/auction_cli/out/auction_cli}
 work=$(mktemp -d)
 trap 'rm -rf "$work"' EXIT
 
-cat > "$work/refuse.c" <<'C'
-#define _GNU_SOURCE
-#include <dlfcn.h>
-#include <errno.h>
-#include <stdio.h>
-#include <stdlib.h>
-#include <sys/syscall.h>
-#include <unistd.h>
-
-static long calls;
-
-static int refused(void) {
-    const char *at = getenv("REFUSED_GROWTH");
-    calls += 1;
-    if (at && calls == atol(at)) {
-        errno = ENOMEM;
-        return 1;
-    }
-    return 0;
-}
-
-static void tell(void) {
-    const char *path = getenv("GROWTHS_TOLD");
-    FILE *file = path ? fopen(path, "w") : NULL;
-    if (file) {
-        fprintf(file, "%ld", calls);
-        fclose(file);
-    }
-}
-
-__attribute__((destructor)) static void at_exit(void) {
-    tell();
-}
-
-/* The program may end by this, which runs no destructor. */
-void _exit(int status) {
-    tell();
-    syscall(SYS_exit_group, status);
-    __builtin_unreachable();
-}
-
-void *malloc(size_t size) {
-    static void *(*real)(size_t);
-    if (!real) real = dlsym(RTLD_NEXT, "malloc");
-    return refused() ? NULL : real(size);
-}
-
-void *realloc(void *block, size_t size) {
-    static void *(*real)(void *, size_t);
-    if (!real) real = dlsym(RTLD_NEXT, "realloc");
-    return refused() ? NULL : real(block, size);
-}
-C
-cc -O1 -shared -fPIC -o "$work/refuse.so" "$work/refuse.c" -ldl
+cc -O1 -shared -fPIC -o "$work/refuse.so" "$top/tests/refuse.c" -ldl
 
 # One run with one growth refused: prints the status.
 run() {
@@ -102,6 +49,16 @@ try_all "$top/examples/hundred_persons.txt" solve
 try_all "$top/examples/roster.txt" solve --sparse
 try_all "$top/examples/short_roster.txt" solve --sparse
 try_all "$top/examples/sales.txt" solve --max --prices
+# What is told of these doesn't depend on how the threads run.
+printf '3 1 1 4 2 1 6 3 2 1 3 3 2' > "$work/three_persons"
+for refresh in 0 1; do
+    try_all "$top/examples/two_persons.txt" solve --mode workers --workers 2 --refresh "$refresh"
+    try_all "$work/three_persons" solve --sparse --mode workers --workers 2 --refresh "$refresh"
+done
+try_all "$top/examples/two_persons.txt" solve --prices
+try_all "$work/three_persons" solve --sparse --prices
+printf '2 1 1 9 1 1 3 1 2 4 2 1 5 2 2 8' > "$work/twice"
+try_all "$work/twice" solve --sparse --prices
 "$program" solve --prices < "$top/examples/two_persons.txt" > "$work/report"
 try_all "$top/examples/two_persons.txt" verify "$work/report"
 "$program" solve --sparse < "$top/examples/short_roster.txt" > "$work/refusal" || true
