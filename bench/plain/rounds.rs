@@ -1,78 +1,17 @@
 //! What the program's `solve` is measured beside: the same reading and the same rounds in plain
 //! Rust, with nothing proved. `plain_rounds read` stops after reading, `plain_rounds solve` goes on.
 //! With the word `sparse` the problem is a sparse one, with `narrow` prices are computed in 64 bits
-//! (which costs of 10^12 would overflow), with `counts` rounds and bids are told on standard error.
+//! (which costs of 10^12 would overflow), with `counts` rounds and bids are told on standard error, with
+//! `start=REPORT` the first prices are those of a report.
+mod answer;
 mod read;
+mod scan;
 
+use answer::{print_assignment, print_refusal, reach};
 use read::{Row, read_dense, read_sparse};
-use std::io::{self, Write};
-use std::ops::{Add, Sub};
+use scan::{Benefits, Price, best_two, range};
+use std::io;
 use std::thread;
-
-/// What prices are computed in: 128 bits, or 64 where that is enough.
-trait Price: Copy + Ord + From<i64> + Add<Output = Self> + Sub<Output = Self> + Send + Sync {}
-impl Price for i64 {}
-impl Price for i128 {}
-
-/// The benefits of a person, in the order of the objects.
-enum Benefits {
-    Full(Vec<i64>),
-    Pairs(Vec<(u16, i64)>),
-}
-
-impl Benefits {
-    fn of(row: &Row, n: usize) -> Benefits {
-        let scale = n as i64 + 1;
-        if row.len() == n {
-            Benefits::Full(row.iter().map(|(_, cost)| -scale * cost).collect())
-        } else {
-            Benefits::Pairs(row.iter().map(|(object, cost)| (*object, -scale * cost)).collect())
-        }
-    }
-
-    fn len(&self) -> usize {
-        match self {
-            Benefits::Full(benefits) => benefits.len(),
-            Benefits::Pairs(pairs) => pairs.len(),
-        }
-    }
-}
-
-/// The best object, its value, and the second value.
-struct Best<P> {
-    object: usize,
-    value: P,
-    second: Option<P>,
-}
-
-fn better<P: Price>(best: Option<Best<P>>, object: usize, value: P) -> Option<Best<P>> {
-    match best {
-        None => Some(Best { object, value, second: None }),
-        Some(best) if value > best.value => Some(Best { object, value, second: Some(best.value) }),
-        Some(best) => {
-            let second = Some(best.second.map_or(value, |second| second.max(value)));
-            Some(Best { second, ..best })
-        }
-    }
-}
-
-fn best_two<P: Price>(benefits: &Benefits, prices: &[P]) -> Option<Best<P>> {
-    let mut best = None;
-    match benefits {
-        Benefits::Full(benefits) => {
-            for (j, (benefit, price)) in benefits.iter().zip(prices).enumerate() {
-                best = better(best, j, P::from(*benefit) - *price);
-            }
-        }
-        Benefits::Pairs(pairs) => {
-            for (object, benefit) in pairs {
-                let j = *object as usize - 1;
-                best = better(best, j, P::from(*benefit) - prices[j]);
-            }
-        }
-    }
-    best
-}
 
 /// Rounds on some rows: who owns each object, who waits, the prices, and what the phase asks.
 struct Auction<P> {
@@ -161,17 +100,7 @@ impl<P: Price> Auction<P> {
     /// All phases. A person that finds nothing worth the floor ends the run.
     fn run(&mut self) -> Option<usize> {
         let n = self.rows.len();
-        let (mut least, mut greatest) = (i64::MAX, i64::MIN);
-        for row in &self.rows {
-            let mut take = |benefit: i64| (least, greatest) = (least.min(benefit), greatest.max(benefit));
-            match row {
-                Benefits::Full(benefits) => benefits.iter().copied().for_each(&mut take),
-                Benefits::Pairs(pairs) => pairs.iter().map(|pair| pair.1).for_each(&mut take),
-            }
-        }
-        if least > greatest {
-            (least, greatest) = (0, 0);
-        }
+        let (least, greatest) = range(&self.rows);
         self.eps = ((greatest - least) / 5).max(1);
         loop {
             let most = *self.prices.iter().max().unwrap();
@@ -188,42 +117,21 @@ impl<P: Price> Auction<P> {
             self.eps = (self.eps / 5).max(1);
         }
     }
-
-    /// The persons and objects that a person without an object reaches, where each object is owned.
-    fn reach(&self, rows: &[Row], start: usize) -> (Vec<usize>, Vec<usize>) {
-        let (mut persons, mut seen, mut next) = (vec![start], vec![false; rows.len()], 0);
-        while let Some(person) = persons.get(next).copied() {
-            next += 1;
-            for (object, _) in &rows[person] {
-                let j = *object as usize - 1;
-                if !std::mem::replace(&mut seen[j], true) {
-                    persons.push(self.owners[j].unwrap());
-                }
-            }
-        }
-        persons.sort_unstable();
-        (persons, (0..rows.len()).filter(|j| seen[*j]).collect())
-    }
 }
 
-fn cost_of(row: &Row, object: usize) -> i64 {
-    row.iter().find(|pair| pair.0 as usize == object + 1).unwrap().1
-}
-
-fn write_list(out: &mut impl Write, word: &str, list: &[usize]) -> io::Result<()> {
-    write!(out, "{word} {}", list.len())?;
-    for number in list {
-        write!(out, " {}", number + 1)?;
-    }
-    writeln!(out)
+/// The prices of a report.
+fn prices_of(report: &str) -> Vec<i64> {
+    let text = std::fs::read_to_string(report).unwrap();
+    let prices = text.lines().filter(|line| line.starts_with("price "));
+    prices.map(|line| line.rsplit(' ').next().unwrap().parse().unwrap()).collect()
 }
 
 /// Solves and prints; whether there is an assignment.
-fn solve<P: Price>(rows: &[Row], counts: bool) -> io::Result<bool> {
+fn solve<P: Price>(rows: &[Row], start: Option<Vec<i64>>, counts: bool) -> io::Result<bool> {
     let n = rows.len();
     let mut auction = Auction::<P> {
         rows: rows.iter().map(|row| Benefits::of(row, n)).collect(),
-        prices: vec![P::from(0); n],
+        prices: start.unwrap_or(vec![0; n]).into_iter().map(P::from).collect(),
         owners: Vec::new(),
         queue: Vec::new(),
         eps: 1,
@@ -236,24 +144,13 @@ fn solve<P: Price>(rows: &[Row], counts: bool) -> io::Result<bool> {
     if counts {
         eprintln!("{} {} {}", auction.rounds, auction.bids, auction.accepted);
     }
-    let mut out = io::BufWriter::new(io::stdout().lock());
     if let Some(person) = halted {
-        let (persons, objects) = auction.reach(rows, person);
-        writeln!(out, "infeasible")?;
-        write_list(&mut out, "persons", &persons)?;
-        write_list(&mut out, "objects", &objects)?;
-        return Ok(false);
+        let (persons, objects) = reach(rows, &auction.owners, person);
+        print_refusal(&persons, &objects)?;
+    } else {
+        print_assignment(rows, &auction.owners)?;
     }
-    let mut objects = vec![0; n];
-    for (j, owner) in auction.owners.iter().enumerate() {
-        objects[owner.unwrap()] = j;
-    }
-    let costs: Vec<i64> = objects.iter().zip(rows).map(|(j, row)| cost_of(row, *j)).collect();
-    writeln!(out, "cost {}", costs.iter().sum::<i64>())?;
-    for (i, (j, cost)) in objects.iter().zip(&costs).enumerate() {
-        writeln!(out, "assign {} {} {cost}", i + 1, j + 1)?;
-    }
-    Ok(true)
+    Ok(halted.is_none())
 }
 
 fn main() -> io::Result<()> {
@@ -272,10 +169,11 @@ fn main() -> io::Result<()> {
         println!("{}", rows.len());
         return Ok(());
     }
+    let start = words.iter().find_map(|word| word.strip_prefix("start=")).map(prices_of);
     let solved = if has("narrow") {
-        solve::<i64>(&rows, has("counts"))?
+        solve::<i64>(&rows, start, has("counts"))?
     } else {
-        solve::<i128>(&rows, has("counts"))?
+        solve::<i128>(&rows, start, has("counts"))?
     };
     if !solved {
         std::process::exit(1);

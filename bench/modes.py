@@ -1,0 +1,128 @@
+#!/usr/bin/env python3
+"""Measures `auction_cli solve` in both modes, and what first prices save, beside plain Rust, in one run.
+
+Run it at the top of the repository after `rt run` built the program: bench/modes.py [PROGRAM [modes|starts]].
+It writes its inputs below bench/out and needs rustc and cc; scipy is measured too where python3 has it. Programs
+take turns, and of each the least time counts. Workers' runs differ from time to time; the cost is compared.
+"""
+import os
+import subprocess
+import sys
+import time
+
+import measure
+from measure import HERE, OUT, PEAK, PLAIN, PROGRAM, fastest, line, problem, written
+
+PLAIN_WORKERS = os.path.join(OUT, "plain_workers")
+
+
+def build():
+    for name, program in (("rounds", PLAIN), ("workers", PLAIN_WORKERS)):
+        source = os.path.join(HERE, "plain", name + ".rs")
+        subprocess.run(["rustc", "--edition", "2024", "-O", "-C", "target-cpu=x86-64-v2", "-o", program, source], check=True)
+    subprocess.run(["cc", "-O1", "-o", PEAK, os.path.join(HERE, "peak.c")], check=True)
+
+
+def scipy_beside(path):
+    """Seconds of scipy's solver on a dense problem, without reading."""
+    try:
+        import numpy
+        from scipy.optimize import linear_sum_assignment
+    except ImportError:
+        return
+    with open(path) as file:
+        costs = numpy.array(file.read().split()[1:], dtype=numpy.int64)
+    n = int(len(costs) ** 0.5)
+    start = time.monotonic()
+    linear_sum_assignment(costs.reshape(n, n))
+    print(f"  scipy linear_sum_assignment, without reading {time.monotonic() - start:8.3f} s", flush=True)
+
+
+def compared(what, path, wanted=0, words=(), repeats=3, refresh="1"):
+    print(f"{what}, refresh {refresh}")
+    plain = [word.strip("-") for word in words]
+    programs = [
+        ("  rounds", PROGRAM, ["solve", *words]),
+        ("  plain rounds, 64 bits", PLAIN, ["solve", "narrow", *plain]),
+    ]
+    for workers in ("1", "2", "4"):
+        chosen = ["--mode", "workers", "--workers", workers, "--refresh", refresh]
+        programs.append((f"  {workers} workers", PROGRAM, ["solve", *chosen, *words]))
+        programs.append((f"  {workers} workers, plain, 64 bits", PLAIN_WORKERS, [workers, refresh, "narrow", "counts", *plain]))
+    best = fastest(programs, path, wanted, repeats=repeats)
+    costs = {measure.answer(ran.printed)[0] for ran in best.values()}
+    assert len(costs) == 1, costs
+    for name, ran in best.items():
+        line(name, ran, ran.told.decode().strip())
+
+
+def modes():
+    for n in (2000, 4000):
+        for greatest in (1000, 1000000):
+            path = problem(f"solving_{n}_{greatest}.txt", str(n), "1", str(greatest), "7")
+            compared(f"n = {n}, costs 1..{greatest}, dense", path)
+            scipy_beside(path)
+    for n in (300, 1000):
+        path = problem(f"roster_{n}.txt", str(n), "1", "10", "7")
+        compared(f"n = {n}, costs 1..10", path)
+        scipy_beside(path)
+    n = 1000
+    rows = (" ".join(str(1000000 if j == 0 else 1 + (i * 7919 + j * 104729) % 1000) for j in range(n)) + "\n" for i in range(n))
+    compared(f"n = {n}, one dear column", written("dear.txt", [f"{n}\n", *rows]))
+    path = problem("solving_sparse.txt", "8192", "10", "1", "1000", "5", maker="make_sparse_problem.py")
+    compared("n = 8192, 10 pairs a person, sparse", path, words=["--sparse"])
+    lines = [f"{n}\n"]
+    for i in range(1, n + 1):
+        objects = range(1, 50) if i <= 50 else [i]
+        lines += [f"{i} {j} {1 + (i * 7919 + j * 104729) % 1000}\n" for j in objects]
+    compared("50 persons for 49 objects, among 1000, sparse", written("contested_50.txt", lines), 1, ["--sparse"])
+
+
+def changed(path, part, seed):
+    """The problem with a part of its rows drawn anew."""
+    with open(path) as file:
+        first, *rows = file.read().splitlines()
+    n = int(first)
+    state = seed
+    for i in range(0, n, part):
+        fresh = []
+        for _ in range(n):
+            state = (state * 6364136223846793005 + 1442695040888963407) % 2**64
+            fresh.append(str(1 + (state >> 33) % 1000))
+        rows[i] = " ".join(fresh)
+    return written(f"changed_{n}_{part}.txt", [first + "\n", *(row + "\n" for row in rows)])
+
+
+def starts():
+    n = 2000
+    path = problem(f"solving_{n}_1000.txt", str(n), "1", "1000", "7")
+    report = os.path.join(OUT, "start.txt")
+    with open(path) as read, open(report, "w") as file:
+        subprocess.run([PROGRAM, "solve", "--prices"], stdin=read, stdout=file, check=True)
+    for part, told in ((100, "1 %"), (10, "10 %"), (n, "one row")):
+        other = changed(path, part, 11)
+        print(f"n = {n}, costs 1..1000, {told} of the rows changed")
+        programs = []
+        for mode in ("rounds", "workers"):
+            programs.append((f"  {mode}, cold", PROGRAM, ["solve", "--mode", mode]))
+            programs.append((f"  {mode}, from the report", PROGRAM, ["solve", "--mode", mode, "--start", report]))
+        programs.append(("  plain rounds, cold", PLAIN, ["solve", "counts"]))
+        programs.append(("  plain rounds, from the report", PLAIN, ["solve", "counts", "start=" + report]))
+        best = fastest(programs, other, 0)
+        assert len({measure.answer(ran.printed)[0] for ran in best.values()}) == 1
+        for name, ran in best.items():
+            line(name, ran, ran.told.decode().strip())
+
+
+def main():
+    words = sys.argv[2:]
+    os.makedirs(OUT, exist_ok=True)
+    build()
+    if "starts" not in words:
+        modes()
+    if "modes" not in words:
+        starts()
+
+
+if __name__ == "__main__":
+    main()
