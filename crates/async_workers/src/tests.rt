@@ -8,13 +8,14 @@ ghost use Rattle.assign_core.specs.Sparse.{IsTriple};
 ghost use Rattle.scaled_values.specs.Scaled.{greatest_of};
 ghost use Rattle.async_workers.specs.Turns.{CanTurn};
 
+mod beside;
 mod drawn;
 mod worked;
 
 use super::*;
 use assign_core::{
-    Cost, GREATEST_COST, GREATEST_FIRST_PRICE, MOST_PERSONS, Object, Person, Price, Prices,
-    Problem, Sense,
+    Cost, GREATEST_COST, GREATEST_FIRST_PRICE, HallSet, MOST_PERSONS, Object, Person, Price,
+    Prices, Problem, Sense,
 };
 use auction_book::{Book, Claim};
 use scaled_values::{Scaled, scale};

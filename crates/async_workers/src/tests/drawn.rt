@@ -1,4 +1,5 @@
-// Drawn orders of turns beside the core's run of the same events.
+// Drawn orders of turns beside the core's run of the same events, and of turns, leaves and stops beside
+// plain workers.
 ghost use Rattle.std.specs.Prelude.{◌≡◌, ◌<◌, ◌≤ℤ◌, length, IfOk};
 ghost use Rattle.std.specs.Arc.{arc_value};
 ghost use Rattle.assign_core.specs.Rows.{IsSize};
@@ -46,12 +47,25 @@ fn drawn_prices(alloc: Global, seed: &mut u64, n: u16) -> Result<Prices, AllocEr
     first_prices(alloc, n, given.as_slice())
 }
 
-// A script of so many turns of some of these workers, at most nine.
-fn drawn_turns(
+// A turn; or now and then a leave, and seldom a stop.
+fn drawn_step(seed: &mut u64, leaving: bool) -> u8 {
+    if !leaving {
+        return b't';
+    }
+    match next_number(seed) % 60 {
+        0 => b's',
+        1..=8 => b'l',
+        _ => b't',
+    }
+}
+
+// A script of so many steps of some of these workers, at most nine: all of them turns, or not.
+fn drawn_script(
     alloc: Global,
     seed: &mut u64,
     workers: u16,
     count: u16,
+    leaving: bool,
 ) -> Result<Vec<u8>, AllocError>
     requires { 0 < workers }
 {
@@ -59,7 +73,7 @@ fn drawn_turns(
     for _ in 0..count {
         let worker = (next_number(seed) % u64::from(workers) % 9) as u8;
         script.push(worker.wrapping_add(b'1'))?;
-        script.push(b't')?;
+        script.push(drawn_step(seed, leaving))?;
     }
     Ok(script)
 }
@@ -103,7 +117,26 @@ fn are_seats(desks: &[Desk], seats: &[Seat]) -> bool {
             .all(|(desk, seat)| is_seat(desk, seat))
 }
 
-fn is_book(alloc: Global, book: &Book, other: &Book) -> Result<bool, AllocError> {
+fn is_hall(hall: Option<&HallSet>, other: Option<&HallSet>) -> bool {
+    match (hall, other) {
+        (None, None) => true,
+        (Some(hall), Some(other)) => {
+            hall.persons() == other.persons() && hall.objects() == other.objects()
+        }
+        _ => false,
+    }
+}
+
+// Whether two books are in the same state of the same phase.
+fn is_phase(book: &Book, other: &Book) -> bool {
+    book.first_kept() == other.first_kept()
+        && book.phase_accepted() == other.phase_accepted()
+        && book.phase_bound() == other.phase_bound()
+        && book.stopped() == other.stopped()
+        && is_hall(book.refuted(), other.refuted())
+}
+
+pub(super) fn is_book(alloc: Global, book: &Book, other: &Book) -> Result<bool, AllocError> {
     let held = held_by(alloc, book)?;
     let accepted = accepted_by(alloc, book)?;
     Ok(
@@ -111,7 +144,7 @@ fn is_book(alloc: Global, book: &Book, other: &Book) -> Result<bool, AllocError>
             && book.version() == other.version()
             && book.owners() == other.owners()
             && book.ask() == other.ask()
-            && book.refuted().is_some() == other.refuted().is_some()
+            && is_phase(book, other)
             && held.as_slice() == held_by(alloc, other)?.as_slice()
             && accepted.as_slice() == accepted_by(alloc, other)?.as_slice(),
     )
@@ -156,8 +189,45 @@ fn agrees<R: Wait>(
     }
 }
 
-// One drawn problem with a drawn order of turns.
-fn drawn_agrees<R: Wait>(rt: &R, alloc: Global, seed: &mut u64) -> Result<bool, AllocError> {
+// Whether desks and book are those of plain workers after a script, and after some of its fronts. What
+// came of the whole script is added to what came before.
+fn fronts_agree<R: Wait>(
+    rt: &R,
+    alloc: Global,
+    scaled: &Arc<Scaled>,
+    prices: &Prices,
+    script: &[u8],
+    workers: u16,
+    refresh: u64,
+    came: &mut Vec<u8>,
+) -> Result<bool, AllocError>
+    requires workers { 0 < workers }
+    requires long { length prices.now ≡ length (arc_value scaled.now).problem }
+    requires low { greatest_of prices.now ≤ℤ GREATEST_FIRST_PRICE }
+{
+    for part in 0..5 {
+        let front = script
+            .get(..script.len().saturating_sub(16 * part))
+            .unwrap_or(script);
+        let Some(letters) = beside::agrees(rt, alloc, scaled, prices, front, workers, refresh)?
+        else {
+            return Ok(false);
+        };
+        if part == 0 {
+            came.extend_from_slice(letters.as_slice())?;
+        }
+    }
+    Ok(true)
+}
+
+// One drawn problem with a drawn order of turns, or of turns, leaves and stops.
+fn drawn_agrees<R: Wait>(
+    rt: &R,
+    alloc: Global,
+    seed: &mut u64,
+    leaving: bool,
+    came: &mut Vec<u8>,
+) -> Result<bool, AllocError> {
     let n = size((next_number(seed) % 5) as u16 + 1);
     let workers = (next_number(seed) % 4) as u16 + 1;
     let refresh = next_number(seed) % 4;
@@ -169,7 +239,12 @@ fn drawn_agrees<R: Wait>(rt: &R, alloc: Global, seed: &mut u64) -> Result<bool, 
     let pairs = drawn_pairs(alloc, seed, n)?;
     let scaled = problem_of(alloc, n, pairs.as_slice(), sense)?;
     let prices = drawn_prices(alloc, seed, n)?;
-    let script = drawn_turns(alloc, seed, workers, 40)?;
+    let steps = (next_number(seed) % 8) as u16 + 33;
+    let script = drawn_script(alloc, seed, workers, steps, leaving)?;
+    if leaving {
+        let script = script.as_slice();
+        return fronts_agree(rt, alloc, &scaled, &prices, script, workers, refresh, came);
+    }
     agrees(
         rt,
         alloc,
@@ -182,19 +257,40 @@ fn drawn_agrees<R: Wait>(rt: &R, alloc: Global, seed: &mut u64) -> Result<bool, 
 }
 
 // How many of so many drawn orders agree.
-fn agreeing<R: Wait>(rt: &R, alloc: Global, count: u16) -> Result<u16, AllocError> {
+fn agreeing<R: Wait>(
+    rt: &R,
+    alloc: Global,
+    count: u16,
+    leaving: bool,
+    came: &mut Vec<u8>,
+) -> Result<u16, AllocError> {
     let mut seed = 2026;
     let mut agreed: u16 = 0;
     for _ in 0..count {
-        if drawn_agrees(rt, alloc, &mut seed)? {
+        if drawn_agrees(rt, alloc, &mut seed, leaving, came)? {
             agreed = agreed.wrapping_add(1);
         }
     }
     Ok(agreed)
 }
 
+// Whether each of these letters came so often.
+fn all_came(came: &[u8], letters: &str, times: usize) -> bool {
+    letters.as_bytes().iter().all(|letter| came.iter().filter(|other| *other == letter).count()
+        >= times)
+}
+
 #[test]
 fn drawn_orders_are_runs_of_the_core(rt: HostRuntime) -> Result<(), Fail> {
-    assert_eq!(rt; agreeing(&rt, rt.alloc(), 500)?, 500);
+    let mut came = Vec::new(rt.alloc());
+    assert_eq!(rt; agreeing(&rt, rt.alloc(), 500, false, &mut came)?, 500);
+    Ok(())
+}
+
+#[test]
+fn drawn_orders_are_those_of_plain_workers(rt: HostRuntime) -> Result<(), Fail> {
+    let mut came = Vec::new(rt.alloc());
+    assert_eq!(rt; agreeing(&rt, rt.alloc(), 500, true, &mut came)?, 500);
+    assert!(rt; all_came(came.as_slice(), "CIDRSyna", 100));
     Ok(())
 }
