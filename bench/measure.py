@@ -19,6 +19,15 @@ REPEATS = 3
 PEAK = os.path.join(OUT, "peak")
 
 
+def build(**programs):
+    """Builds plain programs by their names in plain/, and the launcher."""
+    os.makedirs(OUT, exist_ok=True)
+    for name, program in programs.items():
+        source = os.path.join(HERE, "plain", name + ".rs")
+        subprocess.run(["rustc", "--edition", "2024", "-O", "-C", "target-cpu=x86-64-v2", "-o", program, source], check=True)
+    subprocess.run(["cc", "-O1", "-o", PEAK, os.path.join(HERE, "peak.c")], check=True)
+
+
 def problem(name, *words, maker="make_problem.py", tail=""):
     path = os.path.join(OUT, name)
     if not os.path.exists(path):
@@ -99,22 +108,30 @@ def solved_beside(path, wanted, words=(), processors=None, repeats=REPEATS):
     return answers[0]
 
 
+def scipy_beside(path):
+    """The cost that scipy's solver finds of a dense problem, if scipy is there; prints its time, without reading."""
+    try:
+        import numpy
+        from scipy.optimize import linear_sum_assignment
+    except ImportError:
+        return None
+    with open(path) as file:
+        costs = numpy.array(file.read().split()[1:], dtype=numpy.int64)
+    n = int(len(costs) ** 0.5)
+    costs = costs.reshape(n, n)
+    start = time.monotonic()
+    rows, columns = linear_sum_assignment(costs)
+    print(f"  scipy linear_sum_assignment, without reading {time.monotonic() - start:8.3f} s", flush=True)
+    return costs[rows, columns].sum()
+
+
 def solving(n, greatest):
     path = problem(f"solving_{n}_{greatest}.txt", str(n), "1", str(greatest), "7")
     print(f"solving: n = {n}, costs 1..{greatest}, dense")
     solved_beside(path, 0, processors="0")
     proved = solved_beside(path, 0)
-    try:
-        import numpy
-        from scipy.optimize import linear_sum_assignment
-    except ImportError:
-        return
-    with open(path) as file:
-        costs = numpy.array(file.read().split()[1:], dtype=numpy.int64).reshape(n, n)
-    start = time.monotonic()
-    rows, columns = linear_sum_assignment(costs)
-    print(f"  scipy linear_sum_assignment, without reading {time.monotonic() - start:8.3f} s", flush=True)
-    assert proved[0] == b"cost %d" % costs[rows, columns].sum()
+    cost = scipy_beside(path)
+    assert cost is None or proved[0] == b"cost %d" % cost
 
 
 def reading_sparse():
@@ -155,23 +172,25 @@ def ties():
         solved_beside(path, 0, repeats=repeats)
 
 
+def contested_problem(n, persons):
+    """Some persons list one object less than they are; each other one lists its own."""
+    lines = [f"{n}\n"]
+    for i in range(1, n + 1):
+        objects = range(1, persons) if i <= persons else [i]
+        lines += [f"{i} {j} {1 + (i * 7919 + j * 104729) % 1000}\n" for j in objects]
+    return written(f"contested_{persons}.txt", lines)
+
+
 def contested():
     """More persons than objects for them: prices rise to the floor, one bid a round."""
     for n, persons, repeats in ((1000, 10, 3), (1000, 50, 3), (1000, 200, 3), (1000, 1000, 1)):
-        lines = [f"{n}\n"]
-        for i in range(1, n + 1):
-            objects = range(1, persons) if i <= persons else [i]
-            lines += [f"{i} {j} {1 + (i * 7919 + j * 104729) % 1000}\n" for j in objects]
-        path = written(f"contested_{persons}.txt", lines)
+        path = contested_problem(n, persons)
         print(f"contested: {persons} persons for {persons - 1} objects, among {n}")
         solved_beside(path, 1, ["--sparse"], repeats=repeats)
 
 
 def main():
-    os.makedirs(OUT, exist_ok=True)
-    source = os.path.join(HERE, "plain", "rounds.rs")
-    subprocess.run(["rustc", "--edition", "2024", "-O", "-C", "target-cpu=x86-64-v2", "-o", PLAIN, source], check=True)
-    subprocess.run(["cc", "-O1", "-o", PEAK, os.path.join(HERE, "peak.c")], check=True)
+    build(rounds=PLAIN)
     reading()
     reading_sparse()
     solving_sparse()

@@ -8,34 +8,10 @@ take turns, and of each the least time counts. Workers' runs differ from time to
 import os
 import subprocess
 import sys
-import time
 
-import measure
-from measure import HERE, OUT, PEAK, PLAIN, PROGRAM, fastest, line, problem, written
+from measure import OUT, PLAIN, PROGRAM, answer, build, contested_problem, fastest, line, problem, scipy_beside, written
 
 PLAIN_WORKERS = os.path.join(OUT, "plain_workers")
-
-
-def build():
-    for name, program in (("rounds", PLAIN), ("workers", PLAIN_WORKERS)):
-        source = os.path.join(HERE, "plain", name + ".rs")
-        subprocess.run(["rustc", "--edition", "2024", "-O", "-C", "target-cpu=x86-64-v2", "-o", program, source], check=True)
-    subprocess.run(["cc", "-O1", "-o", PEAK, os.path.join(HERE, "peak.c")], check=True)
-
-
-def scipy_beside(path):
-    """Seconds of scipy's solver on a dense problem, without reading."""
-    try:
-        import numpy
-        from scipy.optimize import linear_sum_assignment
-    except ImportError:
-        return
-    with open(path) as file:
-        costs = numpy.array(file.read().split()[1:], dtype=numpy.int64)
-    n = int(len(costs) ** 0.5)
-    start = time.monotonic()
-    linear_sum_assignment(costs.reshape(n, n))
-    print(f"  scipy linear_sum_assignment, without reading {time.monotonic() - start:8.3f} s", flush=True)
 
 
 def compared(what, path, wanted=0, words=(), repeats=3, refresh="1"):
@@ -50,7 +26,7 @@ def compared(what, path, wanted=0, words=(), repeats=3, refresh="1"):
         programs.append((f"  {workers} workers", PROGRAM, ["solve", *chosen, *words]))
         programs.append((f"  {workers} workers, plain, 64 bits", PLAIN_WORKERS, [workers, refresh, "narrow", "counts", *plain]))
     best = fastest(programs, path, wanted, repeats=repeats)
-    costs = {measure.answer(ran.printed)[0] for ran in best.values()}
+    costs = {answer(ran.printed)[0] for ran in best.values()}
     assert len(costs) == 1, costs
     for name, ran in best.items():
         line(name, ran, ran.told.decode().strip())
@@ -71,11 +47,7 @@ def modes():
     compared(f"n = {n}, one dear column", written("dear.txt", [f"{n}\n", *rows]))
     path = problem("solving_sparse.txt", "8192", "10", "1", "1000", "5", maker="make_sparse_problem.py")
     compared("n = 8192, 10 pairs a person, sparse", path, words=["--sparse"])
-    lines = [f"{n}\n"]
-    for i in range(1, n + 1):
-        objects = range(1, 50) if i <= 50 else [i]
-        lines += [f"{i} {j} {1 + (i * 7919 + j * 104729) % 1000}\n" for j in objects]
-    compared("50 persons for 49 objects, among 1000, sparse", written("contested_50.txt", lines), 1, ["--sparse"])
+    compared("50 persons for 49 objects, among 1000, sparse", contested_problem(n, 50), 1, ["--sparse"])
 
 
 def changed(path, part, seed):
@@ -109,15 +81,14 @@ def starts():
         programs.append(("  plain rounds, cold", PLAIN, ["solve", "counts"]))
         programs.append(("  plain rounds, from the report", PLAIN, ["solve", "counts", "start=" + report]))
         best = fastest(programs, other, 0)
-        assert len({measure.answer(ran.printed)[0] for ran in best.values()}) == 1
+        assert len({answer(ran.printed)[0] for ran in best.values()}) == 1
         for name, ran in best.items():
             line(name, ran, ran.told.decode().strip())
 
 
 def main():
     words = sys.argv[2:]
-    os.makedirs(OUT, exist_ok=True)
-    build()
+    build(rounds=PLAIN, workers=PLAIN_WORKERS)
     if "starts" not in words:
         modes()
     if "modes" not in words:
