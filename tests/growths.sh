@@ -9,17 +9,9 @@ top=$(cd "$(dirname "$0")/.." && pwd)
 work=${1:-$(mktemp -d)}
 [ $# -gt 0 ] || trap 'rm -rf "$work"' EXIT
 crate=$work/crates/growths
-mkdir -p "$crate/src"
-for name in assign_core price_log scaled_values bidder hall_refuter auction_book async_workers; do
-    [ -d "$work/crates/$name" ] || cp -a "$top/crates/$name" "$work/crates/$name"
-    grep "^$name:" "$top/crates.txt"
-done > "$work/crates.txt"
-echo 'growths: assign_core scaled_values bidder price_log auction_book async_workers' >> "$work/crates.txt"
-cp "$top/HANDLES" "$work/"
-cp "$top/tests/growths/main.rt.txt" "$crate/src/main.rt"
-cp -r "$top/tests/growths/proofs" "$crate/"
-find "$crate/proofs" -name '*.txt' -exec sh -c 'mv "$1" "${1%.txt}"' _ {} \;
-[ -d "$work/.git" ] || git -C "$work" init -q
+. "$top/tests/over_crates.sh"
+over_crates "$top" "$work" growths "$top/tests/growths" 'assign_core scaled_values bidder price_log auction_book async_workers' \
+    assign_core price_log scaled_values bidder hall_refuter auction_book async_workers
 (cd "$crate" && rt run -- turns > "$work/log" 2>&1) || { tail -20 "$work/log"; exit 1; }
 program=$crate/out/growths
 cc -O1 -shared -fPIC -o "$work/refuse.so" "$top/tests/refuse.c" -ldl

@@ -10,35 +10,16 @@ top=$(cd "$here/../.." && pwd)
 work=${1:-$(mktemp -d)}
 [ $# -gt 0 ] || trap 'rm -rf "$work"' EXIT
 crate=$work/crates/calls
-names='assign_core orlib_reader price_log scaled_values bidder hall_refuter report auction_book rounds'
-mkdir -p "$crate/src"
-for name in $names; do
-    [ -d "$work/crates/$name" ] || cp -a "$top/crates/$name" "$work/crates/$name"
-    grep "^$name:" "$top/crates.txt"
-done > "$work/crates.txt"
-echo 'calls: assign_core orlib_reader scaled_values bidder auction_book rounds report' >> "$work/crates.txt"
-cp "$top/HANDLES" "$work/"
-cp "$here/main.rt.txt" "$crate/src/main.rt"
-cp -r "$here/proofs" "$crate/"
-find "$crate/proofs" -name '*.txt' -exec sh -c 'mv "$1" "${1%.txt}"' _ {} \;
-[ -d "$work/.git" ] || git -C "$work" init -q
+. "$top/tests/over_crates.sh"
+over_crates "$top" "$work" calls "$here" 'assign_core orlib_reader scaled_values bidder auction_book rounds report' \
+    assign_core orlib_reader price_log scaled_values bidder hall_refuter report auction_book rounds
 for name in events report; do
     rustc --edition 2024 -O -C target-cpu=x86-64-v2 -o "$work/plain_$name" "$here/../plain/$name.rs"
 done
 cc -O1 -o "$work/peak" "$here/../peak.c"
 
-# Each of n persons lists eight objects, drawn among the first few: too few for all persons.
-crowded() {
-    awk -v n="$1" -v few="$2" 'BEGIN { seed = 7; print n
-        for (i = 1; i <= n; i++) for (k = 0; k < 8; k++) {
-            seed = (seed * 16807) % 2147483647
-            j = 1 + seed % few
-            seed = (seed * 16807) % 2147483647
-            print i, j, 1 + seed % 1000
-        } }'
-}
-crowded 1000 600 > "$work/crowded_1000"
-crowded 8192 2048 > "$work/crowded_8192"
+"$top/bench/crowded.sh" 1000 600 > "$work/crowded_1000"
+"$top/bench/crowded.sh" 8192 2048 > "$work/crowded_8192"
 python3 "$top/examples/make_sparse_problem.py" 8192 10 1 1000 5 > "$work/sparse_8192"
 dense() {
     awk -v n="$1" 'BEGIN { seed = 7; print n

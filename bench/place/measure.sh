@@ -8,25 +8,11 @@ top=$(cd "$here/../.." && pwd)
 work=${1:-$(mktemp -d)}
 [ $# -gt 0 ] || trap 'rm -rf "$work"' EXIT
 crate=$work/crates/place
-mkdir -p "$crate/src"
-for name in assign_core orlib_reader price_log scaled_values bidder hall_refuter auction_book async_workers; do
-    [ -d "$work/crates/$name" ] || cp -a "$top/crates/$name" "$work/crates/$name"
-    grep "^$name:" "$top/crates.txt"
-done > "$work/crates.txt"
-echo 'place: assign_core orlib_reader scaled_values auction_book async_workers' >> "$work/crates.txt"
-cp "$top/HANDLES" "$work/"
-cp "$here/main.rt.txt" "$crate/src/main.rt"
-[ -d "$work/.git" ] || git -C "$work" init -q
+. "$top/tests/over_crates.sh"
+over_crates "$top" "$work" place "$here" 'assign_core orlib_reader scaled_values auction_book async_workers' \
+    assign_core orlib_reader price_log scaled_values bidder hall_refuter auction_book async_workers
 python3 "$top/examples/make_sparse_problem.py" 1000 8 1 1000 7 > "$work/sparse_1000"
-
-# Each of n persons lists eight objects, drawn among the first few: too few for all persons.
-awk 'BEGIN { n = 1000; seed = 7; print n
-    for (i = 1; i <= n; i++) for (k = 0; k < 8; k++) {
-        seed = (seed * 16807) % 2147483647
-        j = 1 + seed % 600
-        seed = (seed * 16807) % 2147483647
-        print i, j, 1 + seed % 1000
-    } }' > "$work/crowded_1000"
+"$top/bench/crowded.sh" 1000 600 > "$work/crowded_1000"
 (cd "$crate" && rt run -- events 1 < "$work/sparse_1000" > "$work/log" 2>&1) || { tail -20 "$work/log"; exit 1; }
 
 place=$crate/out/place

@@ -10,19 +10,13 @@ top=$(cd "$here/../.." && pwd)
 work=$(mktemp -d)
 trap 'rm -rf "$work"' EXIT
 
+. "$top/tests/over_crates.sh"
+
 # A program over the crates of a tree.
 build() {
-    local tree=$1 place=$2 name crate=$2/crates/scan
-    mkdir -p "$crate/src" "$crate/proofs/scan"
-    grep -v '^#' "$tree/crates.txt" | grep -E '^(assign_core|orlib_reader|scaled_values|bidder):' > "$place/crates.txt"
-    echo 'scan: assign_core orlib_reader scaled_values bidder' >> "$place/crates.txt"
-    for name in assign_core orlib_reader scaled_values bidder; do
-        cp -r "$tree/crates/$name" "$place/crates/$name"
-    done
-    cp "$here/main.rt.txt" "$crate/src/main.rt"
-    cp "$here/Answers.antt.txt" "$crate/proofs/scan/Answers.antt"
-    git -C "$place" init -q
-    (cd "$crate" && rt run < /dev/null > "$place/log" 2>&1) || { tail -5 "$place/log"; exit 1; }
+    local tree=$1 place=$2 uses='assign_core orlib_reader scaled_values bidder'
+    over_crates "$tree" "$place" scan "$here" "$uses" $uses
+    (cd "$place/crates/scan" && rt run < /dev/null > "$place/log" 2>&1) || { tail -5 "$place/log"; exit 1; }
 }
 
 # A sparse problem of n persons: the first list all objects, the next all but one.
