@@ -1,5 +1,5 @@
 // Each public function on a small problem, with ample memory.
-ghost use Rattle.std.specs.Prelude.{◌≡◌, IfOk, length, map};
+ghost use Rattle.std.specs.Prelude.{◌≡◌, [], ◌∷◌, IfOk, length, map};
 ghost use Rattle.std.specs.List.{range_with_len};
 ghost use Rattle.assign_core.specs.Rows.{IsSize};
 
@@ -7,32 +7,54 @@ use super::*;
 use std::alloc::{AllocError, Global};
 use std::test::Fail;
 
+// The dense problem of two persons.
+fn two_persons(alloc: Global) -> Result<Problem, AllocError>
+    ensures { IfOk result (λ problem. length problem ≡ 2) }
+{
+    Problem::dense(alloc, 2, &[1, 2, 3, 5])
+}
+
 #[test]
-fn a_dense_problem_and_its_answers(rt: HostRuntime) -> Result<(), Fail> {
-    let problem = Problem::dense(rt.alloc(), 2, &[1, 2, 3, 5])?;
+fn a_dense_problem(rt: HostRuntime) -> Result<(), Fail> {
+    let problem = two_persons(rt.alloc())?;
     assert_eq!(rt; problem.n(), 2);
-    assert_eq!(rt;
-        problem.row(Person(1)),
-        [(Object(1), 1), (Object(2), 2)].as_slice()
-    );
-    assert_eq!(rt;
-        problem.row(Person(2)),
-        [(Object(1), 3), (Object(2), 5)].as_slice()
-    );
+    let row = problem.row(Person(1));
+    assert_eq!(rt; row, [(Object(1), 1), (Object(2), 2)].as_slice());
+    let row = problem.row(Person(2));
+    assert_eq!(rt; row, [(Object(1), 3), (Object(2), 5)].as_slice());
     assert_eq!(rt; problem.cost_of(Person(2), Object(1)), Some(3));
     assert_eq!(rt; problem.cost_of(Person(2), Object(3)), None);
-    let crossed = Assignment::new(vec![in rt.alloc(); Object(2), Object(1)]?);
-    assert_eq!(rt; problem.total(&crossed), 5);
-    let certificate = Certificate {
-        assignment: crossed,
-        prices: Prices::new(rt.alloc(), vec![in rt.alloc(); 14, 12]?)?,
-    };
-    let copy = certificate.copy(rt.alloc())?;
-    assert_eq!(rt;
-        copy.assignment.objects(),
-        [Object(2), Object(1)].as_slice()
-    );
-    assert_eq!(rt; copy.prices.as_slice(), [14, 12].as_slice());
+    Ok(())
+}
+
+// The assignment of object 2 to person 1, and of object 1 to person 2.
+fn crossed(alloc: Global) -> Result<Assignment, AllocError>
+    ensures { IfOk result (λ assignment. assignment ≡ 2 ∷ 1 ∷ []) }
+{
+    Ok(Assignment::new(vec![in alloc; Object(2), Object(1)]?))
+}
+
+// What it costs in a dense problem of two persons.
+fn cost_crossed(alloc: Global) -> Result<Cost, AllocError> {
+    let problem = Problem::dense(alloc, 2, &[1, 2, 3, 5])?;
+    Ok(problem.total(&crossed(alloc)?))
+}
+
+// It and the prices 14 and 12.
+fn certificate(alloc: Global) -> Result<Certificate, AllocError> {
+    let assignment = crossed(alloc)?;
+    let prices = Prices::new(alloc, vec![in alloc; 14, 12]?)?;
+    Ok(Certificate { assignment, prices })
+}
+
+#[test]
+fn an_assignment_and_a_copy_with_prices(rt: HostRuntime) -> Result<(), Fail> {
+    assert_eq!(rt; cost_crossed(rt.alloc())?, 5);
+    let copy = certificate(rt.alloc())?.copy(rt.alloc())?;
+    let objects = copy.assignment.objects();
+    assert_eq!(rt; objects, [Object(2), Object(1)].as_slice());
+    let prices = copy.prices.as_slice();
+    assert_eq!(rt; prices, [14, 12].as_slice());
     Ok(())
 }
 

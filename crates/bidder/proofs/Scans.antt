@@ -1,5 +1,5 @@
 -- Rows read from the left, one object more at a time.
-use Rattle.std.proofs.Common.{◌≡◌, ◌≢◌, ℕ, ℤ, pos, suc, ◌+ℤ◌, ◌≤ℤ◌, ◌<ℤ◌, ◌+◌, ◌<◌, ◌≤◌, List, [], ◌∷◌, ◌++◌, length, take, get_or, refl, ap, arith, sym, ◌∙◌, subst, inl, inr, Option, None, Some, length-take-le, get_or-take, neg_ℤ, ◌-ℤ◌}
+use Rattle.std.proofs.Common.{◌≡◌, ◌≢◌, ℕ, ℤ, pos, suc, ◌+ℤ◌, ◌≤ℤ◌, ◌<ℤ◌, ◌+◌, ◌<◌, ◌≤◌, List, [], ◌∷◌, ◌++◌, length, take, get_or, refl, ap, arith, sym, ◌∙◌, subst, inl, inr, Option, None, Some, length-take-le, get_or-take}
 use Rattle.std.specs.List.{All}
 use Rattle.std.specs.Int.{int_max}
 use Rattle.std.proofs.lemmas.Int.{ints, clamps, by_lt_z}
@@ -13,7 +13,7 @@ use Rattle.assign_core.specs.Prices.{price_of}
 use Rattle.assign_core.proofs.DenseRows.{length-row_from, row_from-index, row_from-push}
 use Rattle.assign_core.proofs.Listed.{listed_first, listed_later, entry_found}
 use Rattle.bidder.specs.declared.scan.BestTwo.{BestTwo}
-use Rattle.bidder.specs.BestTwo.{IsValue, IsSecond, IsBestTwo, IsLimit, greater_of}
+use Rattle.bidder.specs.BestTwo.{IsValue, IsSecond, IsBestTwo, greater_of}
 
 -- an object that a row lists stays listed as the row grows
 pub listed_more : (row more : Listing) (j : ℕ) (a : ℤ) → listed_in row j ≡ Some a → listed_in (row ++ more) j ≡ Some a

@@ -1,13 +1,15 @@
 // The best two and offers on worked values, and both ways to give a row against a plain search.
-ghost use Rattle.std.specs.Prelude.{◌≡◌, ◌≤◌, ◌≤ℤ◌, pos, neg_ℤ, length, All, IfOk, IfSome};
+ghost use Rattle.std.specs.Prelude.{◌≡◌, ◌≤◌, ◌≤ℤ◌, pos, neg_ℤ, length, All, IfOk};
 ghost use Rattle.assign_core.specs.Benefits.{IsBenefit};
 ghost use Rattle.assign_core.specs.Prices.{IsPrice};
+ghost use Rattle.assign_core.specs.Rows.{IsRow};
 ghost use Rattle.scaled_values.specs.Scaled.{IsBenefitRow, IsEps};
 ghost use Rattle.bidder.specs.Offers.{IsAsk};
 
 use super::*;
 use assign_core::{
-    Benefit, MOST_PERSONS, NARROW_END, Object, PRICE_END, Person, Price, Prices, Problem, Sense,
+    Benefit, Cost, MOST_PERSONS, NARROW_END, Object, PRICE_END, Person, Price, Prices, Problem,
+    Sense,
 };
 use scaled_values::{Scaled, next_eps, scale};
 use std::alloc::{AllocError, Global};
@@ -199,6 +201,27 @@ fn rows_of_many_lengths(rt: HostRuntime) -> Result<(), Fail> {
     Ok(())
 }
 
+// The best two of a row of all objects under as many prices, if both ways find the same.
+fn both_ways(
+    alloc: Global,
+    benefits: &[Benefit],
+    values: &[Price],
+) -> Result<Option<BestTwo>, AllocError>
+    requires few { length benefits.now ≤ MOST_PERSONS }
+    requires range { All IsBenefit benefits.now }
+{
+    if values.len() != benefits.len() {
+        return Ok(None);
+    }
+    let prices = table(alloc, values)?;
+    let row = pairs_of(alloc, benefits)?;
+    let full = best_two_full(benefits, &prices);
+    if best_two(row.as_slice(), &prices) == full {
+        return Ok(full);
+    }
+    Ok(None)
+}
+
 #[test]
 fn worked_rows(rt: HostRuntime) -> Result<(), Fail> {
     let third = BestTwo {
@@ -206,23 +229,26 @@ fn worked_rows(rt: HostRuntime) -> Result<(), Fail> {
         best: -8,
         second: Some(-8),
     };
-    let prices = Prices::new(rt.alloc(), vec![in rt.alloc(); 1, 0, 0]?)?;
-    assert_eq!(rt; best_two_full(&[-8, -8, -8], &prices), Some(third));
-    let row = [(Object(1), -8), (Object(2), -8), (Object(3), -8)];
-    assert_eq!(rt; best_two(&row, &prices), Some(third));
+    let found = both_ways(rt.alloc(), &[-8, -8, -8], &[1, 0, 0])?;
+    assert_eq!(rt; found, Some(third));
     let other = BestTwo {
         object: Object(2),
         best: -6,
         second: Some(-11),
     };
-    let prices = Prices::new(rt.alloc(), vec![in rt.alloc(); 8, 0]?)?;
-    assert_eq!(rt; best_two_full(&[-3, -6], &prices), Some(other));
+    let found = both_ways(rt.alloc(), &[-3, -6], &[8, 0])?;
+    assert_eq!(rt; found, Some(other));
+    Ok(())
+}
+
+#[test]
+fn rows_of_one_object_and_of_none(rt: HostRuntime) -> Result<(), Fail> {
     let alone = BestTwo {
         object: Object(1),
         best: -14,
         second: None,
     };
-    let prices = Prices::new(rt.alloc(), vec![in rt.alloc(); 0]?)?;
+    let prices = Prices::zeros(rt.alloc(), 1)?;
     assert_eq!(rt; best_two(&[(Object(1), -14)], &prices), Some(alone));
     assert_eq!(rt; best_two(&[], &prices), None);
     Ok(())
@@ -246,13 +272,6 @@ fn priced(value: Price) -> Price
     ensures { IsPrice result }
 {
     value.max(0).min(PRICE_END - 1)
-}
-
-// The slackness of the second phase.
-fn second_eps(scaled: &Scaled) -> Option<i64>
-    ensures { IfSome result (IsEps scaled.now) }
-{
-    next_eps(scaled.first_eps())
 }
 
 // A table with these prices, each brought into range.
@@ -285,6 +304,52 @@ fn offered(
     Ok(Some(make_bid(scaled, &prices, 7, ask, Person(person))))
 }
 
+// The same in a phase that has the first slackness.
+fn offered_first(
+    alloc: Global,
+    scaled: &Scaled,
+    values: &[Price],
+    phase: u16,
+    p0: Price,
+    person: u16,
+) -> Result<Option<Offer>, AllocError>
+    requires { IsPrice p0 }
+{
+    let ask = ask_of(scaled, phase, p0, scaled.first_eps());
+    offered(alloc, scaled, values, ask, person)
+}
+
+// The same in the second phase, if there is one.
+fn offered_second(
+    alloc: Global,
+    scaled: &Scaled,
+    values: &[Price],
+    p0: Price,
+    person: u16,
+) -> Result<Option<Offer>, AllocError>
+    requires { IsPrice p0 }
+{
+    let Some(eps) = next_eps(scaled.first_eps()) else {
+        return Ok(None);
+    };
+    offered(alloc, scaled, values, ask_of(scaled, 2, p0, eps), person)
+}
+
+// The slackness and the floor of the first phase.
+fn first_ask(scaled: &Scaled) -> (i64, Price) {
+    let ask = ask_of(scaled, 1, 0, scaled.first_eps());
+    (ask.eps, ask.floor)
+}
+
+// Those of the second, which starts with this greatest price.
+fn second_ask(scaled: &Scaled, p0: Price) -> Option<(i64, Price)>
+    requires { IsPrice p0 }
+{
+    let eps = next_eps(scaled.first_eps())?;
+    let ask = ask_of(scaled, 2, p0, eps);
+    Some((ask.eps, ask.floor))
+}
+
 // A bid of version 7.
 fn bid(person: u16, object: u16, level: Price, phase: u16) -> Option<Offer> {
     Some(Offer::Bid(Bid {
@@ -304,12 +369,35 @@ fn below(person: u16, phase: u16) -> Option<Offer> {
     }))
 }
 
+// The problem of two persons.
+fn two_persons(alloc: Global) -> Result<Problem, AllocError>
+    ensures { IfOk result (λ problem. length problem ≡ 2) }
+{
+    Problem::dense(alloc, 2, &[1, 2, 3, 5])
+}
+
+// Persons 1 and 2 list object 1, and person 3 the others.
+fn three_persons(alloc: Global) -> Result<Scaled, AllocError> {
+    let problem = Problem::from_rows(vec![in alloc;
+        vec![in alloc; (Object(1), 4)]?,
+        vec![in alloc; (Object(1), 6)]?,
+        vec![in alloc; (Object(2), 1), (Object(3), 2)]?,
+    ]?);
+    scale(alloc, problem, Sense::Min)
+}
+
+// A problem of one person and what it lists.
+fn one_person(alloc: Global, row: Vec<(Object, Cost)>) -> Result<Scaled, AllocError>
+    requires { IsRow 1 row.items }
+{
+    let problem = Problem::from_rows(vec![in alloc; row]?);
+    scale(alloc, problem, Sense::Min)
+}
+
 #[test]
 fn offers_of_two_persons(rt: HostRuntime) -> Result<(), Fail> {
-    let problem = Problem::dense(rt.alloc(), 2, &[1, 2, 3, 5])?;
-    let scaled = scale(rt.alloc(), problem, Sense::Min)?;
-    let ask = ask_of(&scaled, 1, 0, scaled.first_eps());
-    assert_eq!(rt; (ask.eps, ask.floor), (2, -29));
+    let scaled = scale(rt.alloc(), two_persons(rt.alloc())?, Sense::Min)?;
+    assert_eq!(rt; first_ask(&scaled), (2, -29));
     for (prices, person, offer) in [
         ([0, 0], 1, bid(1, 1, 5, 1)),
         ([0, 0], 2, bid(2, 1, 8, 1)),
@@ -320,13 +408,12 @@ fn offers_of_two_persons(rt: HostRuntime) -> Result<(), Fail> {
         ([26, 24], 1, bid(1, 1, 28, 1)),
         ([27, 24], 1, below(1, 1)),
     ] {
-        assert_eq!(rt; offered(rt.alloc(), &scaled, &prices, ask, person)?, offer);
+        assert_eq!(rt;
+            offered_first(rt.alloc(), &scaled, &prices, 1, 0, person)?,
+            offer
+        );
     }
-    let Some(eps) = second_eps(&scaled) else {
-        panic!(rt; "no second phase");
-    };
-    let ask = ask_of(&scaled, 2, 8, eps);
-    assert_eq!(rt; (ask.eps, ask.floor), (1, -36));
+    assert_eq!(rt; second_ask(&scaled, 8), Some((1, -36)));
     for (prices, person, offer) in [
         ([8, 7], 1, bid(1, 1, 11, 2)),
         ([8, 7], 2, bid(2, 1, 14, 2)),
@@ -336,64 +423,67 @@ fn offers_of_two_persons(rt: HostRuntime) -> Result<(), Fail> {
         ([11, 7], 2, bid(2, 1, 14, 2)),
         ([11, 7], 1, bid(1, 2, 9, 2)),
     ] {
-        assert_eq!(rt; offered(rt.alloc(), &scaled, &prices, ask, person)?, offer);
+        assert_eq!(rt;
+            offered_second(rt.alloc(), &scaled, &prices, 8, person)?,
+            offer
+        );
     }
     Ok(())
 }
 
 #[test]
 fn offers_where_much_is_wanted(rt: HostRuntime) -> Result<(), Fail> {
-    let problem = Problem::dense(rt.alloc(), 2, &[1, 2, 3, 5])?;
-    let scaled = scale(rt.alloc(), problem, Sense::Max)?;
-    let ask = ask_of(&scaled, 1, 0, scaled.first_eps());
-    assert_eq!(rt; (ask.eps, ask.floor), (2, -11));
+    let scaled = scale(rt.alloc(), two_persons(rt.alloc())?, Sense::Max)?;
+    assert_eq!(rt; first_ask(&scaled), (2, -11));
     for (person, offer) in [(1, bid(1, 2, 5, 1)), (2, bid(2, 2, 8, 1))] {
-        assert_eq!(rt; offered(rt.alloc(), &scaled, &[0, 0], ask, person)?, offer);
+        assert_eq!(rt;
+            offered_first(rt.alloc(), &scaled, &[0, 0], 1, 0, person)?,
+            offer
+        );
     }
     Ok(())
 }
 
 #[test]
 fn offers_of_three_persons(rt: HostRuntime) -> Result<(), Fail> {
-    let problem = Problem::from_rows(vec![in rt.alloc();
-        vec![in rt.alloc(); (Object(1), 4)]?,
-        vec![in rt.alloc(); (Object(1), 6)]?,
-        vec![in rt.alloc(); (Object(2), 1), (Object(3), 2)]?,
-    ]?);
-    let scaled = scale(rt.alloc(), problem, Sense::Min)?;
-    let ask = ask_of(&scaled, 1, 0, scaled.first_eps());
-    assert_eq!(rt; (ask.eps, ask.floor), (4, -72));
+    let scaled = three_persons(rt.alloc())?;
+    assert_eq!(rt; first_ask(&scaled), (4, -72));
     for (prices, person, offer) in [
         ([0, 0, 0], 1, bid(1, 1, 60, 1)),
         ([0, 0, 0], 2, bid(2, 1, 52, 1)),
         ([0, 0, 0], 3, bid(3, 2, 8, 1)),
         ([60, 8, 0], 2, below(2, 1)),
     ] {
-        assert_eq!(rt; offered(rt.alloc(), &scaled, &prices, ask, person)?, offer);
+        assert_eq!(rt;
+            offered_first(rt.alloc(), &scaled, &prices, 1, 0, person)?,
+            offer
+        );
     }
     Ok(())
 }
 
 #[test]
 fn the_greatest_level(rt: HostRuntime) -> Result<(), Fail> {
-    let problem = Problem::dense(rt.alloc(), 1, &[7])?;
-    let scaled = scale(rt.alloc(), problem, Sense::Min)?;
+    let scaled = one_person(rt.alloc(), vec![in rt.alloc(); (Object(1), 7)]?)?;
     let prices = [PRICE_END - 1];
-    let ask = ask_of(&scaled, 3, PRICE_END - 1, scaled.first_eps());
-    assert_eq!(rt;
-        offered(rt.alloc(), &scaled, &prices, ask, 1)?,
-        bid(1, 1, PRICE_END, 3)
-    );
-    let ask = ask_of(&scaled, 3, PRICE_END - 2, scaled.first_eps());
-    assert_eq!(rt; offered(rt.alloc(), &scaled, &prices, ask, 1)?, below(1, 3));
+    for (p0, offer) in [
+        (PRICE_END - 1, bid(1, 1, PRICE_END, 3)),
+        (PRICE_END - 2, below(1, 3)),
+    ] {
+        assert_eq!(rt;
+            offered_first(rt.alloc(), &scaled, &prices, 3, p0, 1)?,
+            offer
+        );
+    }
     Ok(())
 }
 
 #[test]
 fn a_person_that_lists_nothing(rt: HostRuntime) -> Result<(), Fail> {
-    let problem = Problem::from_rows(vec![in rt.alloc(); Vec::new(rt.alloc())]?);
-    let scaled = scale(rt.alloc(), problem, Sense::Min)?;
-    let ask = ask_of(&scaled, 1, 0, scaled.first_eps());
-    assert_eq!(rt; offered(rt.alloc(), &scaled, &[0], ask, 1)?, below(1, 1));
+    let scaled = one_person(rt.alloc(), Vec::new(rt.alloc()))?;
+    assert_eq!(rt;
+        offered_first(rt.alloc(), &scaled, &[0], 1, 0, 1)?,
+        below(1, 1)
+    );
     Ok(())
 }

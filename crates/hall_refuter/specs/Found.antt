@@ -1,7 +1,7 @@
 -- What a search has found so far: persons in the order in which they were reached, and the objects met on
 -- the way.
 use Rattle.std.specs.Prelude.{◌≡◌, ℕ, ◌+◌, ◌<◌, ◌≤◌, List, [], ◌∷◌, Option, None, Some, Bool, true, false, if◌then◌else◌, length, count_by, slice_index_or}
-use Rattle.assign_core.specs.Numbered.{numbered, IsMarked}
+use Rattle.assign_core.specs.Numbered.{IsMarked}
 use Rattle.assign_core.specs.Rows.{Listing, IsListed}
 use Rattle.assign_core.specs.Matching.{owner_of}
 use Rattle.hall_refuter.specs.declared.reach.Arrival.{Arrival}

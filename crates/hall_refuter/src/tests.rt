@@ -1,5 +1,6 @@
 // Searches on small problems, worked by hand, and one among as many persons as there may be.
 ghost use Rattle.std.specs.Prelude.{◌≡◌, ℕ, ◌<◌, ◌≤◌, Some, IfOk, length};
+ghost use Rattle.assign_core.specs.Numbered.{IsNumber};
 ghost use Rattle.assign_core.specs.Rows.{IsListed};
 ghost use Rattle.assign_core.specs.Matching.{IsMatching, owner_of};
 
@@ -9,15 +10,29 @@ use scaled_values::scale;
 use std::alloc::{AllocError, Global};
 use std::test::Fail;
 
+// What a search finds, as a line.
+fn told(
+    alloc: Global,
+    problem: Problem,
+    sense: Sense,
+    owners: &[Option<Person>],
+    person: Person,
+) -> Result<String, AllocError>
+    requires matching { IsMatching problem owners.now }
+    requires person { IsNumber (length problem) person }
+    requires alone { (j : ℕ) → owner_of owners.now j ≡ Some person → ⊥ }
+{
+    let scaled = scale(alloc, problem, sense)?;
+    let search = refute(alloc, &scaled, owners, person)?;
+    format!(in alloc; "{search:?}")
+}
+
 #[test]
 fn a_path_of_one_object(rt: HostRuntime) -> Result<(), Fail> {
     let row = vec![in rt.alloc(); (Object(1), 4)]?;
     let problem = Problem::from_rows(vec![in rt.alloc(); row]?);
-    let scaled = scale(rt.alloc(), problem, Sense::Min)?;
-    let Search::Path(path) = refute(rt.alloc(), &scaled, &[None], Person(1))? else {
-        panic!(rt; "no path");
-    };
-    assert_eq!(rt; path.as_slice(), [Object(1)].as_slice());
+    let line = told(rt.alloc(), problem, Sense::Min, &[None], Person(1))?;
+    assert_eq!(rt; line.as_str(), "Path([Object(1)])");
     Ok(())
 }
 
@@ -26,12 +41,9 @@ fn a_path_of_two_objects(rt: HostRuntime) -> Result<(), Fail> {
     let first = vec![in rt.alloc(); (Object(1), 4)]?;
     let second = vec![in rt.alloc(); (Object(1), 6), (Object(2), 1)]?;
     let problem = Problem::from_rows(vec![in rt.alloc(); first, second]?);
-    let scaled = scale(rt.alloc(), problem, Sense::Max)?;
     let owners = [Some(Person(2)), None];
-    let Search::Path(path) = refute(rt.alloc(), &scaled, &owners, Person(1))? else {
-        panic!(rt; "no path");
-    };
-    assert_eq!(rt; path.as_slice(), [Object(1), Object(2)].as_slice());
+    let line = told(rt.alloc(), problem, Sense::Max, &owners, Person(1))?;
+    assert_eq!(rt; line.as_str(), "Path([Object(1), Object(2)])");
     Ok(())
 }
 
@@ -43,7 +55,6 @@ fn a_path_of_five_objects(rt: HostRuntime) -> Result<(), Fail> {
     let d = vec![in rt.alloc(); (Object(3), 0), (Object(4), 0)]?;
     let e = vec![in rt.alloc(); (Object(4), 0), (Object(5), 0)]?;
     let problem = Problem::from_rows(vec![in rt.alloc(); a, b, c, d, e]?);
-    let scaled = scale(rt.alloc(), problem, Sense::Min)?;
     let owners = [
         Some(Person(2)),
         Some(Person(3)),
@@ -51,12 +62,10 @@ fn a_path_of_five_objects(rt: HostRuntime) -> Result<(), Fail> {
         Some(Person(5)),
         None,
     ];
-    let Search::Path(path) = refute(rt.alloc(), &scaled, &owners, Person(1))? else {
-        panic!(rt; "no path");
-    };
+    let line = told(rt.alloc(), problem, Sense::Min, &owners, Person(1))?;
     assert_eq!(rt;
-        path.as_slice(),
-        [Object(1), Object(2), Object(3), Object(4), Object(5)].as_slice()
+        line.as_str(),
+        "Path([Object(1), Object(2), Object(3), Object(4), Object(5)])"
     );
     Ok(())
 }
@@ -66,13 +75,12 @@ fn one_person_is_reached(rt: HostRuntime) -> Result<(), Fail> {
     let first = Vec::new(rt.alloc());
     let second = vec![in rt.alloc(); (Object(1), 6), (Object(2), 1)]?;
     let problem = Problem::from_rows(vec![in rt.alloc(); first, second]?);
-    let scaled = scale(rt.alloc(), problem, Sense::Min)?;
     let owners = [Some(Person(2)), None];
-    let Search::Hall(hall) = refute(rt.alloc(), &scaled, &owners, Person(1))? else {
-        panic!(rt; "no Hall set");
-    };
-    assert_eq!(rt; hall.persons(), [Person(1)].as_slice());
-    assert_eq!(rt; hall.objects().len(), 0);
+    let line = told(rt.alloc(), problem, Sense::Min, &owners, Person(1))?;
+    assert_eq!(rt;
+        line.as_str(),
+        "Hall(HallSet { persons: [Person(1)], objects: [] })"
+    );
     Ok(())
 }
 
@@ -82,16 +90,12 @@ fn two_persons_are_reached(rt: HostRuntime) -> Result<(), Fail> {
     let second = vec![in rt.alloc(); (Object(1), 6), (Object(3), 1)]?;
     let third = vec![in rt.alloc(); (Object(2), 5)]?;
     let problem = Problem::from_rows(vec![in rt.alloc(); first, second, third]?);
-    let scaled = scale(rt.alloc(), problem, Sense::Min)?;
     let owners = [None, Some(Person(1)), Some(Person(2))];
-    let Search::Hall(hall) = refute(rt.alloc(), &scaled, &owners, Person(3))? else {
-        panic!(rt; "no Hall set");
-    };
-    assert_eq!(rt; hall.persons(), [Person(1), Person(3)].as_slice());
-    assert_eq!(rt; hall.objects(), [Object(2)].as_slice());
-    let copy = hall.copy(rt.alloc())?;
-    assert_eq!(rt; copy.persons(), hall.persons());
-    assert_eq!(rt; copy.objects(), hall.objects());
+    let line = told(rt.alloc(), problem, Sense::Min, &owners, Person(3))?;
+    assert_eq!(rt;
+        line.as_str(),
+        "Hall(HallSet { persons: [Person(1), Person(3)], objects: [Object(2)] })"
+    );
     Ok(())
 }
 
@@ -101,16 +105,12 @@ fn all_persons_are_reached(rt: HostRuntime) -> Result<(), Fail> {
     let second = vec![in rt.alloc(); (Object(1), 6)]?;
     let third = vec![in rt.alloc(); (Object(1), 5), (Object(3), 5)]?;
     let problem = Problem::from_rows(vec![in rt.alloc(); first, second, third]?);
-    let scaled = scale(rt.alloc(), problem, Sense::Max)?;
     let owners = [Some(Person(2)), None, Some(Person(1))];
-    let Search::Hall(hall) = refute(rt.alloc(), &scaled, &owners, Person(3))? else {
-        panic!(rt; "no Hall set");
-    };
+    let line = told(rt.alloc(), problem, Sense::Max, &owners, Person(3))?;
     assert_eq!(rt;
-        hall.persons(),
-        [Person(1), Person(2), Person(3)].as_slice()
+        line.as_str(),
+        "Hall(HallSet { persons: [Person(1), Person(2), Person(3)], objects: [Object(1), Object(3)] })"
     );
-    assert_eq!(rt; hall.objects(), [Object(1), Object(3)].as_slice());
     Ok(())
 }
 

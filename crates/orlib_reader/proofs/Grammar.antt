@@ -7,7 +7,7 @@ use Rattle.orlib_reader.specs.declared.machine.TheConstants.{TEXT_LIMIT}
 use Rattle.orlib_reader.proofs.Streams.{after_err, fails_along}
 use Rattle.orlib_reader.proofs.Numbers.{IsRead, IsBounded, read_begun, read_on, judged_same}
 use Rattle.orlib_reader.specs.Tokens.{Token, Piece, beyond, grown, closed, left_open, cut, is_space}
-use Rattle.orlib_reader.specs.Numbers.{is_digit, judged, judged_number, number_of, is_among}
+use Rattle.orlib_reader.specs.Numbers.{is_digit, judged, judged_number, is_among}
 use Rattle.orlib_reader.specs.Texts.{wanted_in, ended, and_then, judged_open, numbers_from, numbers_in, dense_problem, dense_reading, sparse_list, sparse_reading, Answers, SparseAnswers, Meets}
 use Rattle.orlib_reader.specs.Steps.{State, begun, continued, begun_where, in_token, with_token, token_number, after, start, finished}
 use Rattle.orlib_reader.specs.declared.fault.InputFault.{InputFault}

@@ -1,12 +1,11 @@
 -- Rows that are filled as costs come.
-use Rattle.std.proofs.Common.{◌≡◌, ℕ, ℤ, pos, suc, ◌<◌, ◌≤◌, ◌+◌, ◌*◌, List, [], ◌∷◌, ◌++◌, length, take, drop, map, flat_map, refl, arith, sym, ◌∙◌, ap, append_assoc, append-nil, length-append, nat_lt, nat_le, nat_eq, cond, ◌⊎◌, inl, inr, subst, Ok, Err, ◌-◌}
+use Rattle.std.proofs.Common.{◌≡◌, ℕ, ℤ, suc, ◌<◌, ◌≤◌, ◌+◌, ◌*◌, List, [], ◌∷◌, ◌++◌, length, take, drop, map, flat_map, refl, arith, sym, ◌∙◌, ap, append_assoc, append-nil, length-append, nat_lt, nat_le, nat_eq, cond, inl, inr, subst, Ok, Err, ◌-◌}
 use Rattle.std.specs.List.{All}
 use Rattle.std.proofs.Math.Seq.{take-append_seam, drop-append_seam}
 use Rattle.std.proofs.lemmas.List.{map-append, length-map}
 use Rattle.std.proofs.lemmas.Grind.{flat_map-append}
 use Rattle.std.proofs.lemmas.List.Elements.{All-push, All-head, All-tail, All-take}
 use Rattle.std.proofs.lemmas.Bool.{cases_Bool, cond-true, cond-false, lt-ltb, le-ltb, ltb-true, ltb-false, leb-true, leb-false, eq-eqb, ne_eqb}
-use Rattle.std.proofs.lemmas.Bool.Decides.{eqb_tells}
 use Rattle.assign_core.specs.Rows.{IsProblem}
 use Rattle.assign_core.proofs.DenseRows.{IsProblem-dense, row_from-push}
 use Rattle.orlib_reader.specs.Texts.{wanted_in, ended, Meets, dense_problem}

@@ -1,5 +1,5 @@
 -- A token that is taken byte by byte is the number that its bytes are.
-use Rattle.std.proofs.Common.{◌≡◌, ℕ, zero, suc, ◌+◌, ◌-◌, ◌*◌, ◌≤◌, ◌<◌, List, [], ◌∷◌, ◌++◌, Option, Some, None, Bool, true, false, cond, refl, ◌⊎◌, inl, inr, arith, length, length-append, sym, ap, ◌∙◌, nat_abs, nat_le, nat_eq, option_map}
+use Rattle.std.proofs.Common.{◌≡◌, ℕ, zero, suc, ◌+◌, ◌-◌, ◌*◌, ◌≤◌, ◌<◌, List, [], ◌∷◌, ◌++◌, Option, Some, None, Bool, true, false, cond, refl, inl, inr, arith, length, length-append, sym, ap, ◌∙◌, nat_abs, nat_le, nat_eq, option_map}
 use Rattle.std.proofs.lemmas.Bool.{cases_Bool, cond-true, cond-false, lt-leb, le-ltb, leb-true, leb-false, ne_eqb, and_right, and_parts, or_from}
 use Rattle.assign_core.specs.declared.numbers.TheConstants.{MOST_PERSONS, GREATEST_COST}
 use Rattle.orlib_reader.specs.declared.token.TheConstants.{VALUE_LIMIT}

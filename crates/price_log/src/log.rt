@@ -50,6 +50,7 @@ impl PriceLog {
     pub fn start(alloc: Global, prices: Prices) -> Result<PriceLog, AllocError>
         ensures { IfOk result (λ log. log ≡ started prices) }
     {
+        // That the prices are a table follows from this call.
         let _table = prices.as_slice();
         Ok(PriceLog {
             first_kept: 0,

@@ -78,66 +78,122 @@ fn slacknesses_of_wide_problems(rt: HostRuntime) -> Result<(), Fail> {
     Ok(())
 }
 
+// The least and the greatest benefit, the spread, and the slacknesses of the first two phases.
+fn range_told(scaled: &Scaled) -> ([i64; 4], Option<i64>) {
+    let eps = scaled.first_eps();
+    let range = [
+        scaled.least_benefit(),
+        scaled.greatest_benefit(),
+        scaled.spread(),
+        eps,
+    ];
+    (range, next_eps(eps))
+}
+
+// What a person lists, as a line.
+fn row_told(alloc: Global, scaled: &Scaled, i: u16) -> Result<String, AllocError> {
+    if i == 0 || i > scaled.n() {
+        return format!(in alloc; "no person");
+    }
+    format!(in alloc; "{:?}", scaled.row(Person(i)))
+}
+
+// The floor and the top of a first phase that starts with this greatest price.
+fn first_bounds(scaled: &Scaled, p0: Price) -> (Price, Price)
+    requires { IsPrice p0 }
+{
+    bounds(scaled, p0, scaled.first_eps())
+}
+
+// Those of a second phase.
+fn second_bounds(scaled: &Scaled, p0: Price) -> Option<(Price, Price)>
+    requires { IsPrice p0 }
+{
+    next_bounds(scaled, p0, scaled.first_eps())
+}
+
+// The problem of two persons under `Min`.
+fn dense_pair(alloc: Global) -> Result<Scaled, AllocError> {
+    let problem = Problem::dense(alloc, 2, &[1, 2, 3, 5])?;
+    scale(alloc, problem, Sense::Min)
+}
+
 #[test]
 fn two_persons(rt: HostRuntime) -> Result<(), Fail> {
-    let problem = Problem::dense(rt.alloc(), 2, &[1, 2, 3, 5])?;
-    let scaled = scale(rt.alloc(), problem, Sense::Min)?;
-    assert_eq!(rt; scaled.n(), 2);
-    assert_eq!(rt; scaled.problem().n(), 2);
-    assert_eq!(rt; scaled.sense(), Sense::Min);
-    assert_eq!(rt; scaled.row(Person(1)), Row::Full(&[-3, -6]));
-    assert_eq!(rt; scaled.row(Person(2)), Row::Full(&[-9, -15]));
-    assert_eq!(rt; scaled.least_benefit(), -15);
-    assert_eq!(rt; scaled.greatest_benefit(), -3);
-    assert_eq!(rt; scaled.spread(), 12);
-    let eps = scaled.first_eps();
-    assert_eq!(rt; eps, 2);
-    assert_eq!(rt; bounds(&scaled, 0, eps), (-29, 28));
-    assert_eq!(rt; next_eps(eps), Some(1));
-    assert_eq!(rt; next_bounds(&scaled, 8, eps), Some((-36, 34)));
+    let scaled = dense_pair(rt.alloc())?;
+    let (n, sense) = (scaled.problem().n(), scaled.sense());
+    assert_eq!(rt; (n, scaled.n()), (2, 2));
+    assert_eq!(rt; sense, Sense::Min);
+    let first = row_told(rt.alloc(), &scaled, 1)?;
+    assert_eq!(rt; first.as_str(), "Full([-3, -6])");
+    let second = row_told(rt.alloc(), &scaled, 2)?;
+    assert_eq!(rt; second.as_str(), "Full([-9, -15])");
+    assert_eq!(rt; range_told(&scaled), ([-15, -3, 12, 2], Some(1)));
+    assert_eq!(rt; first_bounds(&scaled, 0), (-29, 28));
+    assert_eq!(rt; second_bounds(&scaled, 8), Some((-36, 34)));
     Ok(())
+}
+
+// Persons 1 and 2 list object 1, and person 3 the others.
+fn few_pairs(alloc: Global, sense: Sense) -> Result<Scaled, AllocError> {
+    let triples = [
+        (Person(1), Object(1), 4),
+        (Person(2), Object(1), 6),
+        (Person(3), Object(2), 1),
+        (Person(3), Object(3), 2),
+    ];
+    let problem = Problem::sparse(alloc, 3, &triples)?;
+    scale(alloc, problem, sense)
 }
 
 #[test]
 fn three_persons_with_few_pairs(rt: HostRuntime) -> Result<(), Fail> {
-    for (sense, benefits, floor) in [
-        (Sense::Min, [-16, -24, -4, -8], -72),
-        (Sense::Max, [16, 24, 4, 8], -44),
+    for (sense, rows, extremes, floor) in [
+        (
+            Sense::Min,
+            [
+                "Pairs([(Object(1), -16)])",
+                "Pairs([(Object(1), -24)])",
+                "Pairs([(Object(2), -4), (Object(3), -8)])",
+            ],
+            (-24, -4),
+            -72,
+        ),
+        (
+            Sense::Max,
+            [
+                "Pairs([(Object(1), 16)])",
+                "Pairs([(Object(1), 24)])",
+                "Pairs([(Object(2), 4), (Object(3), 8)])",
+            ],
+            (4, 24),
+            -44,
+        ),
     ] {
-        let triples = [
-            (Person(1), Object(1), 4),
-            (Person(2), Object(1), 6),
-            (Person(3), Object(2), 1),
-            (Person(3), Object(3), 2),
-        ];
-        let problem = Problem::sparse(rt.alloc(), 3, &triples)?;
-        let scaled = scale(rt.alloc(), problem, sense)?;
-        let [first, second, third, fourth] = benefits;
-        assert_eq!(rt; scaled.row(Person(1)), Row::Pairs(&[(Object(1), first)]));
-        assert_eq!(rt; scaled.row(Person(2)), Row::Pairs(&[(Object(1), second)]));
-        assert_eq!(rt;
-            scaled.row(Person(3)),
-            Row::Pairs(&[(Object(2), third), (Object(3), fourth)])
-        );
-        assert_eq!(rt; scaled.spread(), 20);
-        let eps = scaled.first_eps();
-        assert_eq!(rt; eps, 4);
-        assert_eq!(rt; next_eps(eps), Some(1));
-        assert_eq!(rt; bounds(&scaled, 0, eps), (floor, 72));
+        let scaled = few_pairs(rt.alloc(), sense)?;
+        for (i, known) in rows.iter().enumerate() {
+            let row = row_told(rt.alloc(), &scaled, i as u16 + 1)?;
+            assert_eq!(rt; row.as_str(), *known);
+        }
+        let (least, greatest) = extremes;
+        assert_eq!(rt; range_told(&scaled), ([least, greatest, 20, 4], Some(1)));
+        assert_eq!(rt; first_bounds(&scaled, 0), (floor, 72));
     }
     Ok(())
 }
 
+// One person that lists nothing.
+fn lone(alloc: Global) -> Result<Scaled, AllocError> {
+    let problem = Problem::sparse(alloc, 1, &[])?;
+    scale(alloc, problem, Sense::Min)
+}
+
 #[test]
 fn nothing_listed(rt: HostRuntime) -> Result<(), Fail> {
-    let problem = Problem::sparse(rt.alloc(), 1, &[])?;
-    let scaled = scale(rt.alloc(), problem, Sense::Min)?;
-    assert_eq!(rt; scaled.row(Person(1)), Row::Pairs(&[]));
-    assert_eq!(rt; scaled.least_benefit(), 0);
-    assert_eq!(rt; scaled.greatest_benefit(), 0);
-    let eps = scaled.first_eps();
-    assert_eq!(rt; eps, 1);
-    assert_eq!(rt; next_eps(eps), None);
-    assert_eq!(rt; bounds(&scaled, 5, eps), (-5, 6));
+    let scaled = lone(rt.alloc())?;
+    let row = row_told(rt.alloc(), &scaled, 1)?;
+    assert_eq!(rt; row.as_str(), "Pairs([])");
+    assert_eq!(rt; range_told(&scaled), ([0, 0, 0, 1], None));
+    assert_eq!(rt; first_bounds(&scaled, 5), (-5, 6));
     Ok(())
 }

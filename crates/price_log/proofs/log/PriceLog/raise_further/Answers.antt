@@ -1,4 +1,4 @@
-use Rattle.std.proofs.Common.{◌≡◌, ◌<◌, ◌≤◌, ◌<ℤ◌, ◌++◌, ◌∷◌, [], length, sym, subst, SFits}
+use Rattle.std.proofs.Common.{◌≡◌, ◌<◌, ◌<ℤ◌, ◌++◌, ◌∷◌, [], length, sym, subst, SFits}
 use Rattle.std.specs.Int.{w128}
 use Rattle.std.proofs.lemmas.Int.{to_z-of_z}
 use Rattle.assign_core.specs.Numbered.{IsNumber}
