@@ -125,23 +125,24 @@ sense_word_is word sense e = picked_sense (bytes_eq word (codes "min")) (bytes_e
     picked_sense false true p q e = let is : Max ≡ sense = cc in (bytes_eq-Decides word (codes "max")).0 q ∙ ap sense_word is
     picked_sense false false p q e = absurd cc
 
+-- a line of one word behind its name
+one_takes : {A : Type 0} (read : List ℕ → Option A) (made : A → Line) (name : List ℕ) (written : A → List ℕ)
+    → ((w : List ℕ) (x : A) → read w ≡ Some x → (w ≡ written x) × IsInRange (made x)) → ((x : A) → line_words (made x) ≡ name ∷ written x ∷ [])
+    → (ws : List (List ℕ)) (line : Line) → (first_by read ws >>= λ s. at_end (made s.0) s.1) ≡ Some line → IsWritten name ws line
+one_takes read made name written takes words ws line e =
+    let s = bind_some (first_by read ws) (λ s. at_end (made s.0) s.1) line e in
+    let w = first_takes read ws s.0 s.1 in
+    let z = end_takes (made s.0.0) line s.0.1 s.2 in
+    let t = takes w.0 s.0.0 w.2 in
+    subst (IsWritten name ws) z.1 (words s.0.0 ∙ one_written name ws s.0.1 w.0 (written s.0.0) w.1 z.0 t.0, t.1)
+
 sense_takes : (ws : List (List ℕ)) (line : Line) → read_sense ws ≡ Some line → IsWritten (codes "sense") ws line
 unfolding read_sense
-sense_takes ws line e =
-    let s = bind_some (first_by sense_in ws) (λ s. at_end (sense_line s.0) s.1) line e in
-    let w = first_takes sense_in ws s.0 s.1 in
-    let z = end_takes (sense_line s.0.0) line s.0.1 s.2 in
-    let word = sense_word_is w.0 s.0.0 w.2 in
-    subst (IsWritten (codes "sense") ws) z.1 (one_written (codes "sense") ws s.0.1 w.0 (sense_word s.0.0) w.1 z.0 word, tt)
+sense_takes ws line e = one_takes sense_in sense_line (codes "sense") sense_word (λ w sense s. (sense_word_is w sense s, tt)) (λ sense. refl) ws line e
 
 cost_line_takes : (ws : List (List ℕ)) (line : Line) → read_cost ws ≡ Some line → IsWritten (codes "cost") ws line
 unfolding read_cost
-cost_line_takes ws line e =
-    let s = bind_some (first_by cost_in ws) (λ s. at_end (cost_line s.0) s.1) line e in
-    let w = first_takes cost_in ws s.0 s.1 in
-    let z = end_takes (cost_line s.0.0) line s.0.1 s.2 in
-    let word = cost_takes w.0 s.0.0 w.2 in
-    subst (IsWritten (codes "cost") ws) z.1 (one_written (codes "cost") ws s.0.1 w.0 (signed_decimal s.0.0) w.1 z.0 word.0, word.1)
+cost_line_takes ws line e = one_takes cost_in cost_line (codes "cost") signed_decimal cost_takes (λ c. refl) ws line e
 
 assign_takes : (ws : List (List ℕ)) (line : Line) → read_assign ws ≡ Some line → IsWritten (codes "assign") ws line
 unfolding read_assign
@@ -203,19 +204,20 @@ list_takes ws xs e =
     let count = eqb-true (length ns.0) n.0.0 c.0 in
     subst (λ ys. (ws ≡ decimal (length ys) ∷ map decimal ys) × IsRisingFrom 0 ys) c.1 (listed ws n.0.1 w.0 (decimal n.0.0) (decimal (length ns.0)) (map decimal ns.0) w.1 t.0 (ap decimal count) r.0, r.1)
 
-persons_takes : (ws : List (List ℕ)) (line : Line) → (read_list ws >>= λ xs. Some (persons_line xs)) ≡ Some line → IsWritten (codes "persons") ws line
-persons_takes ws line e =
-    let xs = bind_some (read_list ws) (λ xs. Some (persons_line xs)) line e in
+-- a line of a list behind its name
+list_line_takes : (made : List ℕ → Line) (name : List ℕ) → ((xs : List ℕ) → line_words (made xs) ≡ name ∷ decimal (length xs) ∷ map decimal xs) → ((xs : List ℕ) → IsRisingFrom 0 xs → IsInRange (made xs))
+    → (ws : List (List ℕ)) (line : Line) → (read_list ws >>= λ xs. Some (made xs)) ≡ Some line → IsWritten name ws line
+list_line_takes made name words range ws line e =
+    let xs = bind_some (read_list ws) (λ xs. Some (made xs)) line e in
     let t = list_takes ws xs.0 xs.1 in
-    let is : persons_line xs.0 ≡ line = cc (xs.2) in
-    subst (IsWritten (codes "persons") ws) is (ap (λ (r : List (List ℕ)). codes "persons" ∷ r) (sym t.0), t.1)
+    let is : made xs.0 ≡ line = cc (xs.2) in
+    subst (IsWritten name ws) is (words xs.0 ∙ ap (λ (r : List (List ℕ)). name ∷ r) (sym t.0), range xs.0 t.1)
+
+persons_takes : (ws : List (List ℕ)) (line : Line) → (read_list ws >>= λ xs. Some (persons_line xs)) ≡ Some line → IsWritten (codes "persons") ws line
+persons_takes ws line e = list_line_takes persons_line (codes "persons") (λ xs. refl) (λ xs h. h) ws line e
 
 objects_takes : (ws : List (List ℕ)) (line : Line) → (read_list ws >>= λ xs. Some (objects_line xs)) ≡ Some line → IsWritten (codes "objects") ws line
-objects_takes ws line e =
-    let xs = bind_some (read_list ws) (λ xs. Some (objects_line xs)) line e in
-    let t = list_takes ws xs.0 xs.1 in
-    let is : objects_line xs.0 ≡ line = cc (xs.2) in
-    subst (IsWritten (codes "objects") ws) is (ap (λ (r : List (List ℕ)). codes "objects" ∷ r) (sym t.0), t.1)
+objects_takes ws line e = list_line_takes objects_line (codes "objects") (λ xs. refl) (λ xs h. h) ws line e
 
 picked : {R : Type 0} (b : Bool) (x y : Option Line) (line : Line) → cond b x y ≡ Some line → (b ≡ true → x ≡ Some line → R) → (y ≡ Some line → R) → R
 picked true x y line e f g = f refl e

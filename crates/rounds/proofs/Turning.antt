@@ -1,10 +1,10 @@
 -- Offers are submitted in turn.
-use Rattle.std.proofs.Common.{◌≡◌, ℕ, ℤ, zero, suc, ◌+◌, ◌<◌, ◌≤◌, ◌+ℤ◌, ◌≤ℤ◌, ◌<ℤ◌, ◌⊎◌, inl, inr, List, [], ◌∷◌, Option, None, Some, Bool, true, false, length, get_or, drop, refl, ap, sym, ◌∙◌, subst, arith}
+use Rattle.std.proofs.Common.{◌≡◌, ℕ, ℤ, zero, suc, ◌+◌, ◌<◌, ◌≤◌, ◌+ℤ◌, ◌≤ℤ◌, ◌<ℤ◌, ◌⊎◌, inl, inr, List, ◌∷◌, None, Some, Bool, true, false, length, get_or, drop, refl, ap, sym, ◌∙◌, subst, arith}
 use Rattle.std.proofs.lemmas.Int.{ints}
 use Rattle.std.proofs.lemmas.List.{at_drop_more, get_or-map, length-map}
 use Rattle.std.specs.Int.Signed.{lt_z}
 use Rattle.assign_core.specs.declared.numbers.TheConstants.{MOST_PERSONS}
-use Rattle.assign_core.specs.Numbered.{numbered}
+use Rattle.assign_core.specs.Numbered.{IsNumber, numbered}
 use Rattle.std.specs.List.{All}
 use Rattle.assign_core.specs.Prices.{IsBelow, IsPrice, price_of}
 use Rattle.assign_core.proofs.NumberedLemmas.{length-renumbered, numbered_in}
@@ -95,29 +95,46 @@ pub record IsTurning (old now : BookData) (persons : List ℕ) (offers : List Of
   pub first : i ≡ 0 → now ≡ old
   pub fell : 0 < i → room (prices_of now) < room (prices_of old)
 
--- what holds of the bid at place i, when it is submitted
+-- these offers are some claimed persons', and the first i have been submitted
+pub record IsAtTurn (old now : BookData) (offers : List Offer) (i : ℕ) : Type 0 where
+  pub persons : List ℕ
+  pub offered : HaveOffered old persons offers
+  pub turning : IsTurning old now persons offers i
+
+-- what holds of the bid at place i, when it is submitted by worker i + 1, whose number has 16 bits
 pub record IsNext (old now : BookData) (i : ℕ) (bid : Bid) : Type 0 where
-  pub held : Holds now (suc i) bid.person
-  pub places : suc i ≤ length now.claims
+  pub worker : IsNumber (length now.claims) (i + 1)
+  pub few : i + 1 ≤ MOST_PERSONS
+  pub held : Holds now (i + 1) bid.person
   pub phase : bid.phase ≡ now.phase
   pub made : IsBid old.base (prices_of old) (ask_of old) bid
   pub fitting : IsFitting now bid
 
-pub next_bid : (old now : BookData) (persons : List ℕ) (offers : List Offer) (i : ℕ) (bid : Bid) → HaveOffered old persons offers → IsTurning old now persons offers i → i < length offers → get_or offers i (made.Bid bid) ≡ made.Bid bid → IsNext old now i bid
-next_bid old now persons offers i bid have is within here =
-    let m = made_at old persons offers i (made.Bid bid) have within here in
-    let held = is.claimed.held i 0 (omega arith) m.many ∙ ap Some (m.at 0 ∙ sym m.is.0) in
+-- the offer that was read is the one at its place
+read_here : (offers : List Offer) (i : ℕ) (read offer : Offer) → ((d : Offer) → read ≡ get_or offers i d) → read ≡ offer → get_or offers i offer ≡ offer
+read_here offers i read offer h e = sym (h offer) ∙ e
+
+-- the bid that was read at place i
+pub next_bid : {old now : BookData} {offers : List Offer} {i : ℕ} {bid : Bid} (read : Offer) → IsAtTurn old now offers i → i < length offers → ((d : Offer) → read ≡ get_or offers i d) → read ≡ made.Bid bid → IsNext old now i bid
+next_bid {old} {now} {offers} {i} {bid} read is within at e =
+    let turning = is.turning in
+    let m = made_at old is.persons offers i (made.Bid bid) is.offered within (read_here offers i read (made.Bid bid) at e) in
+    let held = turning.claimed.held i 0 (omega arith) m.many ∙ ap Some (m.at 0 ∙ sym m.is.0) in
+    let place = (numbered_in now.claims (suc i) bid.person held).1 in
+    let workers = turning.going.workers in
+    let few = turning.going.free.problem.size.few in
     let b = m.is.3 in
     let sound = bid_sound old.base (prices_of old) (ask_of old) bid b in
+    let asked = subst (λ s. IsSound s (ask_of old) (prices_of old) bid) (sym turning.base) sound in
+    let worker : i + 1 ≡ suc i = omega arith in
     record {
-      held = held;
-      places = held_in now.claims i bid.person held;
-      phase = m.is.1 ∙ ap (λ a. a.phase) (sym is.asked);
+      worker = record { first = omega arith; last = omega arith };
+      few = omega arith;
+      held = rw worker held;
+      phase = m.is.1 ∙ ap (λ a. a.phase) (sym turning.asked);
       made = b;
-      fitting = λ e. (prices_of old, is.below, subst (λ a. IsSound now.base a (prices_of old) bid) (sym is.asked) (subst (λ s. IsSound s (ask_of old) (prices_of old) bid) (sym is.base) sound));
-    } where
-      held_in : (claims : List (Option ℕ)) (i p : ℕ) → numbered claims (suc i) None ≡ Some p → suc i ≤ length claims
-      held_in claims i p e = (numbered_in claims (suc i) p e).1
+      fitting = λ same. (prices_of old, turning.below, subst (λ a. IsSound now.base a (prices_of old) bid) (sym turning.asked) asked);
+    }
 
 not_less : (v w : ℤ) → lt_z v w ≡ false → w ≤ℤ v
 not_less v w h = grind (arith, ints)
@@ -137,7 +154,7 @@ turned_by : (low : Bool) (old now : BookData) (persons : List ℕ) (offers : Lis
     → all_turned (drop (i + 1) offers) (plain_of (book_after low now (suc i) bid)) ≡ all_turned offers (plain_of old) → IsTurning old (book_after low now (suc i) bid) persons offers (i + 1)
 turned_by true old now persons offers i bid t next free is left =
     let low = is_less bid.level (price_of (prices_of now) bid.object +ℤ now.eps) t in
-    let places = next.places in
+    let place = next.worker.last in
     record {
       going = record { free = free; unrefuted = is.going.unrefuted; unstopped = is.going.unstopped; workers = length-renumbered now.claims (suc i) None ∙ is.going.workers };
       left = left;
@@ -153,7 +170,7 @@ turned_by true old now persons offers i bid t next free is left =
     }
 turned_by false old now persons offers i bid t next free is left =
     let high = not_less bid.level (price_of (prices_of now) bid.object +ℤ now.eps) t in
-    let places = next.places in
+    let place = next.worker.last in
     let fit = next.fitting next.phase in
     let follows = accepted_follows now (suc i) bid fit.0 is.going.free fit.1 fit.2 high in
     let range = bid_range now fit.0 bid is.going.free fit.2 in
@@ -181,20 +198,29 @@ turned_by false old now persons offers i bid t next free is left =
     }
 
 -- one offer more
-pub turning_more : (old now new : BookData) (persons : List ℕ) (offers : List Offer) (i worker : ℕ) (bid : Bid) → HaveOffered old persons offers → IsTurning old now persons offers i → worker ≡ suc i → i < length offers → get_or offers i (made.Bid bid) ≡ made.Bid bid
-    → new ≡ book_turned now worker bid → IsFree new → IsTurning old new persons offers (i + 1)
-turning_more old now new persons offers i worker bid have is w within here e free =
-    let next = next_bid old now persons offers i bid have is within here in
+pub turning_more : {old now : BookData} {offers : List Offer} {i : ℕ} {bid : Bid} (new : BookData) (read : Offer) → IsAtTurn old now offers i → i < length offers → ((d : Offer) → read ≡ get_or offers i d) → read ≡ made.Bid bid
+    → new ≡ book_turned now (i + 1) bid → IsFree new → IsAtTurn old new offers (i + 1)
+turning_more {old} {now} {offers} {i} {bid} new read is within at was e free =
+    let here = read_here offers i read (made.Bid bid) at was in
+    let next = next_bid read is within at was in
     let low = lt_z bid.level (price_of (prices_of now) bid.object +ℤ now.eps) in
-    let after : new ≡ book_after low now (suc i) bid = e ∙ ap (λ k. book_turned now k bid) w in
+    let worker : i + 1 ≡ suc i = omega arith in
+    let after : new ≡ book_after low now (suc i) bid = e ∙ ap (λ k. book_turned now k bid) worker in
     let turn = at_drop_more (λ l. all_turned l (plain_of now)) offers i (made.Bid bid) within ∙ ap (λ o. all_turned (o ∷ drop (i + 1) offers) (plain_of now)) here in
-    let left = ap (all_turned (drop (i + 1) offers)) (plain-after low now (suc i) bid) ∙ sym turn ∙ is.left in
-    subst (λ x. IsTurning old x persons offers (i + 1)) (sym after) (turned_by low old now persons offers i bid refl next (subst IsFree after free) is left)
+    let left = ap (all_turned (drop (i + 1) offers)) (plain-after low now (suc i) bid) ∙ sym turn ∙ is.turning.left in
+    let turned = turned_by low old now is.persons offers i bid refl next (subst IsFree after free) is.turning left in
+    record {
+      persons = is.persons;
+      offered = is.offered;
+      turning = subst (λ x. IsTurning old x is.persons offers (i + 1)) (sym after) turned;
+    }
 
 -- a person finds nothing worth the floor
-pub turning_below : (old now : BookData) (persons : List ℕ) (offers : List Offer) (i : ℕ) (below : BelowFloor) → HaveOffered old persons offers → IsTurning old now persons offers i → i < length offers → get_or offers i (made.Below below) ≡ made.Below below → AreTurned old offers (Some below.person) now
-turning_below old now persons offers i below have is within here =
-    let m = made_at old persons offers i (made.Below below) have within here in
+pub turning_below : {old now : BookData} {offers : List Offer} {i : ℕ} {below : BelowFloor} (read : Offer) → IsAtTurn old now offers i → i < length offers → ((d : Offer) → read ≡ get_or offers i d) → read ≡ made.Below below → AreTurned old offers (Some below.person) now
+turning_below {old} {now} {offers} {i} {below} read at_turn within at e =
+    let here = read_here offers i read (made.Below below) at e in
+    let is = at_turn.turning in
+    let m = made_at old at_turn.persons offers i (made.Below below) at_turn.offered within here in
     let held = is.claimed.held i 0 (omega arith) m.many ∙ ap Some (m.at 0 ∙ sym m.is.0) in
     let turn = at_drop_more (λ l. all_turned l (plain_of now)) offers i (made.Below below) within ∙ ap (λ o. all_turned (o ∷ drop (i + 1) offers) (plain_of now)) here in
     let under = subst (λ p. IsUnder (benefits_at old.base p) (prices_of old) old.floor) (sym m.is.0) m.is.2 in
@@ -215,11 +241,3 @@ pub turned_high : (b : BookData) (worker : ℕ) (bid : Bid) → IsHigh b bid →
 turned_high b worker bid high = ap (λ t. book_after t b worker bid) (sym (low_false bid.level (price_of (prices_of b) bid.object +ℤ b.eps) high)) where
   low_false : (v w : ℤ) → w ≤ℤ v → lt_z v w ≡ false
   low_false v w h = grind (arith, ints)
-
--- a worker's number has 16 bits
-pub few_places : (old now : BookData) (persons : List ℕ) (offers : List Offer) (i : ℕ) (bid : Bid) → IsTurning old now persons offers i → IsNext old now i bid → i + 1 ≤ MOST_PERSONS
-few_places old now persons offers i bid is next =
-    let places = next.places in
-    let workers = is.going.workers in
-    let few = is.going.free.problem.size.few in
-    omega arith

@@ -1,43 +1,26 @@
 -- Who waits, who is claimed, and when nobody does.
-use Rattle.std.proofs.Common.{◌≡◌, ℕ, pos, zero, suc, ◌<◌, ◌≤◌, ◌&&◌, List, [], ◌∷◌, length, get_or, Option, None, Some, Bool, true, false, cond, nat_eq, slice_index, refl, ap, arith, sym, ◌∙◌, subst}
+use Rattle.std.proofs.Common.{◌≡◌, ℕ, pos, suc, ◌≤◌, ◌&&◌, List, [], ◌∷◌, length, Option, None, Some, Bool, true, false, cond, nat_eq, slice_index, refl, ap, arith, sym, ◌∙◌, subst}
 use Rattle.std.specs.List.{count_by}
 use Rattle.std.specs.Ordering.{int_eq}
-use Rattle.std.proofs.lemmas.List.Sums.{sum_by-cons, get_or-le-sum_by}
+use Rattle.std.proofs.lemmas.List.Sums.{sum_by-cons}
 use Rattle.std.proofs.lemmas.Bool.{eqb-true}
 use Rattle.std.proofs.lemmas.Bool.Decides.{nat_tests}
 use Rattle.assign_core.specs.Numbered.{IsNumber, numbered}
-use Rattle.assign_core.proofs.NumberedLemmas.{length-renumbered, numbered_in}
+use Rattle.assign_core.proofs.NumberedLemmas.{length-renumbered}
 use Rattle.auction_book.specs.declared.answers.Claim.{Claim}
 use Rattle.auction_book.specs.declared.answers.Claim.TheVariants as claim
-use Rattle.auction_book.specs.Book.{BookData, ask_of, is_person, is_refuted, is_some, one_if_person, persons_of}
+use Rattle.auction_book.specs.Book.{BookData, ask_of, is_refuted, is_some, persons_of}
 use Rattle.auction_book.specs.Changes.{claimed}
 use Rattle.bidder.specs.declared.offers.Ask.{Ask}
 use Rattle.auction_book.specs.Claims.{after_claim, claim_front, claim_of}
 use Rattle.auction_book.specs.Free.{IsFree}
 use Rattle.auction_book.specs.Phases.{is_assigned, is_done}
-use Rattle.auction_book.proofs.Places.{everyone}
+use Rattle.auction_book.proofs.Places.{everyone, held_person}
 use Rattle.rounds.specs.Books.{IsAtRest, IsGoing}
 
--- ---- claimed persons are persons
-one_at_least : (n k : ℕ) → 0 < one_if_person n k → IsNumber n k
-one_at_least n k h = record { first = grind (arith, nat_tests); last = grind (arith, nat_tests) }
-
-person_there : (xs : List (Option ℕ)) (j i : ℕ) → numbered xs j None ≡ Some i → 0 < j → j ≤ length xs → 0 < count_by (is_person i) xs
-person_there xs zero i e h l = absurd (omega arith)
-person_there xs (suc k) i e h l =
-    let c : cond {A = ℕ} (is_person i (get_or xs k None)) 1 0 ≤ count_by (is_person i) xs = get_or-le-sum_by (λ x. cond (is_person i x) 1 0) xs k None (omega arith) in
-    let f : cond {A = ℕ} (is_person i (get_or xs k None)) 1 0 ≡ cond {A = ℕ} (is_person i (Some i)) 1 0 = ap (λ (x : Option ℕ). cond {A = ℕ} (is_person i x) 1 0) e in
-    let g : cond {A = ℕ} (is_person i (Some i)) 1 0 ≡ 1 = same i in
-    omega arith where
-      same : (k : ℕ) → cond {A = ℕ} (nat_eq k k) 1 0 ≡ 1
-      same k = grind (arith, nat_tests)
-
+-- a claimed person is a person
 pub claimed_number : (b : BookData) (worker person : ℕ) → IsFree b → numbered b.claims worker None ≡ Some person → IsNumber (persons_of b) person
-claimed_number b worker person free held =
-    let w = numbered_in b.claims worker person held in
-    let c = person_there b.claims worker person held w.0 w.1 in
-    let p = free.placed_once person in
-    one_at_least (persons_of b) person (omega arith)
+claimed_number b worker person free held = held_person (persons_of b) b.owners b.queue b.claims worker person free.placed_once held
 
 -- ---- nobody is claimed
 count_none : (xs : List (Option ℕ)) → ((k : ℕ) → numbered xs (suc k) None ≡ None) → count_by is_some xs ≡ 0

@@ -1,5 +1,6 @@
 // Rounds of offers over a book.
-ghost use Rattle.std.specs.Prelude.{◌≡◌, ◌∷◌, ◌<◌, ◌≤ℤ◌, pos, None, [], false, length, replicate, slice_index_or, IfOk, IfErr, IfSome, IfNone, OnOk, List, ℕ};
+ghost use Rattle.std.specs.Prelude.{◌≡◌, ◌<◌, ◌≤ℤ◌, pos, false, ℕ, List, [], ◌∷◌, length, replicate, slice_index_or};
+ghost use Rattle.std.specs.Prelude.{None, IfSome, IfNone, IfOk, IfErr, OnOk};
 ghost use Rattle.std.specs.Arc.{arc_value};
 ghost use Rattle.assign_core.specs.Numbered.{IsNumber, numbered};
 ghost use Rattle.scaled_values.specs.Scaled.{greatest_of};

@@ -1,4 +1,4 @@
-use Rattle.std.proofs.Common.{pos, arith, rules, get_or, SFits, subst, take}
+use Rattle.std.proofs.Common.{pos, arith, rules, get_or, SFits, subst}
 use mir.Syntax.{w128}
 use Rattle.std.specs.List.{All}
 use Rattle.std.proofs.lemmas.Int.{ints, to_z-of_z}

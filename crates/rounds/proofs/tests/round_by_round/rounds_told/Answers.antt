@@ -1,7 +1,7 @@
 use Rattle.std.proofs.Common.{◌≡◌, length, rules}
 use Rattle.std.specs.Arc.{arc_value}
 use Rattle.rounds.proofs.Running.{running_first}
-use Rattle.rounds.proofs.tests.rounds_told.Goals as goal
+use Rattle.rounds.proofs.tests.round_by_round.rounds_told.Goals as goal
 
 pub loop-init : goal.loop-init
 loop-init g c =

@@ -1,0 +1,259 @@
+// Runs told round by round: what each phase asks, its table, and the offers with their answers.
+ghost use Rattle.std.specs.Prelude.{◌≡◌, true, IfOk};
+ghost use Rattle.rounds.specs.Books.{IsAtRest};
+
+use super::*;
+use crate::rounds::{Round, go_on, run_round};
+use auction_book::Book;
+use bidder::{Ask, Offer};
+use std::test::Fail;
+
+// Some prices in a line.
+fn prices_line(alloc: Global, prices: &[Price]) -> Result<String, AllocError> {
+    let mut line = String::new(alloc);
+    for price in prices {
+        write!(line, " {price}")?;
+    }
+    Ok(line)
+}
+
+// What a phase asks and the prices from which it is asked, in a line.
+fn phase_line(alloc: Global, ask: Ask, prices: &[Price]) -> Result<String, AllocError> {
+    let (phase, eps, floor) = (ask.phase, ask.eps, ask.floor);
+    let prices = prices_line(alloc, prices)?;
+    format!(in alloc; "phase {phase}, eps {eps}, floor {floor}, prices{prices}")
+}
+
+// How many bids of workers 1, 2, .. were accepted.
+fn counts_of(alloc: Global, book: &Book) -> Result<Vec<u128>, AllocError> {
+    let mut counts = Vec::new(alloc);
+    for i in 0..book.workers() {
+        counts.push(book.accepted_by(i + 1))?;
+    }
+    Ok(counts)
+}
+
+// An offer in a line, with its answer.
+fn offer_line(alloc: Global, offer: Offer, accepted: bool) -> Result<String, AllocError> {
+    let answer = if accepted { "accepted" } else { "refused" };
+    match offer {
+        Offer::Bid(bid) => {
+            let (person, object) = (bid.person.0, bid.object.0);
+            format!(in alloc; "{person} bids {} for {object}, {answer}", bid.level)
+        }
+        Offer::Below(below) => format!(in alloc; "{} is below the floor", below.person.0),
+    }
+}
+
+// The offers of a round in turn, each with its answer: the worker of an accepted bid counts one more.
+fn tell_offers(
+    alloc: Global,
+    offers: &[Offer],
+    before: &[u128],
+    after: &[u128],
+    lines: &mut Vec<String>,
+) -> Result<(), AllocError> {
+    for (i, offer) in offers.iter().enumerate() {
+        let accepted = match (before.get(i), after.get(i)) {
+            (Some(before), Some(after)) => before < after,
+            _ => false,
+        };
+        lines.push(offer_line(alloc, *offer, accepted)?)?;
+    }
+    Ok(())
+}
+
+// A round told: what its phase asks, its table, and its offers in turn. Whether the run goes on.
+fn round_told(
+    rt: &(impl Threads + Sync),
+    alloc: Global,
+    book: &mut Book,
+    lines: &mut Vec<String>,
+) -> Result<bool, AllocError>
+    requires { IsAtRest book.old }
+    ensures { IfOk result (λ more. more ≡ true → IsAtRest book.new) }
+{
+    go_on(alloc, book)?;
+    let phase = phase_line(alloc, book.ask(), book.prices().as_slice())?;
+    let before = counts_of(alloc, book)?;
+    let mut offers = Vec::new(alloc);
+    let came = run_round(rt, LEAST_PAIRS, book, &mut Vec::new(alloc), &mut offers)?;
+    lines.push(phase)?;
+    let after = counts_of(alloc, book)?;
+    tell_offers(
+        alloc,
+        offers.as_slice(),
+        before.as_slice(),
+        after.as_slice(),
+        lines,
+    )?;
+    match came {
+        Round::More => Ok(true),
+        _ => Ok(false),
+    }
+}
+
+// The rounds of a run, at most a hundred.
+fn rounds_told(
+    rt: &(impl Threads + Sync),
+    alloc: Global,
+    n: u16,
+    pairs: &[Pair],
+    first: &[Price],
+) -> Result<Vec<String>, AllocError> {
+    let n = size(n);
+    let scaled = scaled_of(alloc, n, pairs, Sense::Min)?;
+    let prices = first_prices(alloc, n, first)?;
+    let mut book = Book::open_from(alloc, scaled, prices, n)?;
+    let mut lines = Vec::new(alloc);
+    for _ in 0..100 {
+        if !round_told(rt, alloc, &mut book, &mut lines)? {
+            break;
+        }
+    }
+    Ok(lines)
+}
+
+// The place of the first line of a run that is told otherwise.
+fn told_otherwise(
+    rt: &(impl Threads + Sync),
+    alloc: Global,
+    n: u16,
+    pairs: &[Pair],
+    first: &[Price],
+    lines: &[&str],
+) -> Result<Option<usize>, AllocError> {
+    let told = rounds_told(rt, alloc, n, pairs, first)?;
+    for (i, line) in lines.iter().enumerate() {
+        match told.get(i) {
+            Some(told) if told.as_str() == *line => {}
+            _ => return Ok(Some(i)),
+        }
+    }
+    Ok((told.len() != lines.len()).then_some(lines.len()))
+}
+
+#[test]
+fn two_persons_from_zeros(rt: HostRuntime) -> Result<(), Fail> {
+    let lines = [
+        "phase 1, eps 2, floor -29, prices 0 0",
+        "1 bids 5 for 1, accepted",
+        "2 bids 8 for 1, accepted",
+        "phase 1, eps 2, floor -29, prices 8 0",
+        "1 bids 7 for 2, accepted",
+        "phase 2, eps 1, floor -36, prices 8 7",
+        "1 bids 11 for 1, accepted",
+        "2 bids 14 for 1, accepted",
+        "phase 2, eps 1, floor -36, prices 14 7",
+        "1 bids 12 for 2, accepted",
+        "phase 2, eps 1, floor -36, prices 14 12",
+    ];
+    assert_eq!(rt;
+        told_otherwise(&rt, rt.alloc(), 2, &TWO_PERSONS, &[], &lines)?,
+        None
+    );
+    Ok(())
+}
+
+#[test]
+fn two_persons_from_first_prices(rt: HostRuntime) -> Result<(), Fail> {
+    let lines = [
+        "phase 1, eps 2, floor -43, prices 14 12",
+        "1 bids 17 for 1, accepted",
+        "2 bids 20 for 1, accepted",
+        "phase 1, eps 2, floor -43, prices 20 12",
+        "1 bids 19 for 2, accepted",
+        "phase 2, eps 1, floor -48, prices 20 19",
+        "1 bids 23 for 1, accepted",
+        "2 bids 26 for 1, accepted",
+        "phase 2, eps 1, floor -48, prices 26 19",
+        "1 bids 24 for 2, accepted",
+        "phase 2, eps 1, floor -48, prices 26 24",
+    ];
+    assert_eq!(rt;
+        told_otherwise(&rt, rt.alloc(), 2, &TWO_PERSONS, &[14, 12], &lines)?,
+        None
+    );
+    Ok(())
+}
+
+#[test]
+fn three_persons_who_are_alike(rt: HostRuntime) -> Result<(), Fail> {
+    let alike = dense(rt.alloc(), 3, &[2, 2, 2, 2, 2, 2, 2, 2, 2])?;
+    let lines = [
+        "phase 1, eps 1, floor -10, prices 0 0 0",
+        "1 bids 1 for 1, accepted",
+        "2 bids 1 for 1, refused",
+        "3 bids 1 for 1, refused",
+        "phase 1, eps 1, floor -10, prices 1 0 0",
+        "2 bids 1 for 2, accepted",
+        "3 bids 1 for 2, refused",
+        "phase 1, eps 1, floor -10, prices 1 1 0",
+        "3 bids 2 for 3, accepted",
+        "phase 1, eps 1, floor -10, prices 1 1 2",
+    ];
+    assert_eq!(rt;
+        told_otherwise(&rt, rt.alloc(), 3, alike.as_slice(), &[], &lines)?,
+        None
+    );
+    Ok(())
+}
+
+#[test]
+fn three_persons_below_the_floor(rt: HostRuntime) -> Result<(), Fail> {
+    let lines = [
+        "phase 1, eps 4, floor -72, prices 0 0 0",
+        "1 bids 60 for 1, accepted",
+        "2 bids 52 for 1, refused",
+        "3 bids 8 for 2, accepted",
+        "phase 1, eps 4, floor -72, prices 60 8 0",
+        "2 is below the floor",
+    ];
+    assert_eq!(rt;
+        told_otherwise(&rt, rt.alloc(), 3, &CONTESTED, &[], &lines)?,
+        None
+    );
+    Ok(())
+}
+
+// A phase of one round, in which two persons get different objects at prices that are alike.
+fn tell_phase(
+    alloc: Global,
+    ask: Ask,
+    price: Price,
+    level: Price,
+    lines: &mut Vec<String>,
+) -> Result<(), AllocError> {
+    lines.push(phase_line(alloc, ask, &[price, price])?)?;
+    lines.push(format!(in alloc; "1 bids {level} for 2, accepted")?)?;
+    lines.push(format!(in alloc; "2 bids {level} for 1, accepted")?)?;
+    Ok(())
+}
+
+// Two persons who want different objects: in each phase one round, in which both prices rise by the
+// spread and eps.
+#[test]
+fn ten_phases_round_by_round(rt: HostRuntime) -> Result<(), Fail> {
+    let alloc = rt.alloc();
+    let mut lines = Vec::new(alloc);
+    for (phase, eps, floor, price, level) in [
+        (1, 1200000, -10200000, 0, 7200000),
+        (2, 240000, -16440000, 7200000, 13440000),
+        (3, 48000, -22488000, 13440000, 19488000),
+        (4, 9600, -28497600, 19488000, 25497600),
+        (5, 1920, -34499520, 25497600, 31499520),
+        (6, 384, -40499904, 31499520, 37499904),
+        (7, 76, -46499980, 37499904, 43499980),
+        (8, 15, -52499995, 43499980, 49499995),
+        (9, 3, -58499998, 49499995, 55499998),
+        (10, 1, -64499999, 55499998, 61499999),
+    ] {
+        let ask = Ask { phase, eps, floor };
+        tell_phase(alloc, ask, price, level, &mut lines)?;
+    }
+    let end = format!(in alloc; "phase 10, eps 1, floor -64499999, prices 61499999 61499999")?;
+    lines.push(end)?;
+    let pairs = dense(alloc, 2, &[1_000_000, -1_000_000, -1_000_000, 1_000_000])?;
+    assert_eq!(rt; rounds_told(&rt, alloc, 2, pairs.as_slice(), &[])?, lines);
+    Ok(())
+}

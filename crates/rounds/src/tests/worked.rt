@@ -1,0 +1,175 @@
+// Problems whose outcomes are known, solved in pieces of several lengths, and the public calls.
+use super::*;
+use crate::{solve_rounds, solve_rounds_from};
+use std::test::Fail;
+
+// What the public calls come to: from zeros, or from these first prices.
+fn publicly_solved(
+    rt: &(impl Threads + Sync),
+    alloc: Global,
+    n: u16,
+    pairs: &[Pair],
+    first: Option<&[Price]>,
+) -> Result<Seen, AllocError> {
+    let n = size(n);
+    let scaled = scaled_of(alloc, n, pairs, Sense::Min)?;
+    let outcome = match first {
+        Some(first) => solve_rounds_from(rt, alloc, scaled, first_prices(alloc, n, first)?),
+        None => solve_rounds(rt, alloc, scaled),
+    };
+    match outcome {
+        Ok(outcome) => told(alloc, &outcome),
+        Err(_) => Err(AllocError),
+    }
+}
+
+fn best(alloc: Global, objects: &[u16], prices: &[Price]) -> Result<Seen, AllocError> {
+    Ok(Seen::Best(objects.to_vec(alloc)?, prices.to_vec(alloc)?))
+}
+
+fn hall(alloc: Global, persons: &[u16], objects: &[u16]) -> Result<Seen, AllocError> {
+    Ok(Seen::Hall(persons.to_vec(alloc)?, objects.to_vec(alloc)?))
+}
+
+// What rounds in pieces of some length come to, where that isn't what is wanted.
+fn other_outcome(
+    rt: &(impl Threads + Sync),
+    alloc: Global,
+    n: u16,
+    pairs: &[Pair],
+    sense: Sense,
+    first: &[Price],
+    wanted: &Seen,
+) -> Result<Option<Seen>, AllocError> {
+    for least in [1, 2, LEAST_PAIRS] {
+        let seen = solved(rt, alloc, least, n, pairs, sense, first)?;
+        if seen != *wanted {
+            return Ok(Some(seen));
+        }
+    }
+    Ok(None)
+}
+
+#[test]
+fn worked_dense_problems(rt: HostRuntime) -> Result<(), Fail> {
+    let alloc = rt.alloc();
+    let wide = GREATEST_COST / 1_000_000;
+    for (n, costs, sense, first, objects, prices) in [
+        (
+            1,
+            [7].as_slice(),
+            Sense::Min,
+            [].as_slice(),
+            [1].as_slice(),
+            [1].as_slice(),
+        ),
+        (2, &[1, 2, 3, 5], Sense::Min, &[], &[2, 1], &[14, 12]),
+        (2, &[1, 2, 3, 5], Sense::Max, &[], &[1, 2], &[12, 14]),
+        (2, &[1, 2, 3, 5], Sense::Min, &[14, 12], &[2, 1], &[26, 24]),
+        (
+            3,
+            &[2, 2, 2, 2, 2, 2, 2, 2, 2],
+            Sense::Min,
+            &[],
+            &[1, 2, 3],
+            &[1, 1, 2],
+        ),
+        (
+            2,
+            &[wide, -wide, -wide, wide],
+            Sense::Min,
+            &[],
+            &[2, 1],
+            &[61499999, 61499999],
+        ),
+        (
+            2,
+            &[GREATEST_COST, -GREATEST_COST, -GREATEST_COST, GREATEST_COST],
+            Sense::Min,
+            &[],
+            &[2, 1],
+            &[109499999999997, 109499999999997],
+        ),
+        (
+            1,
+            &[7],
+            Sense::Min,
+            &[GREATEST_FIRST_PRICE],
+            &[1],
+            &[GREATEST_FIRST_PRICE + 1],
+        ),
+    ] {
+        let pairs = dense(alloc, n, costs)?;
+        let wanted = best(alloc, objects, prices)?;
+        assert_eq!(rt;
+            other_outcome(&rt, alloc, n, pairs.as_slice(), sense, first, &wanted)?,
+            None
+        );
+    }
+    Ok(())
+}
+
+#[test]
+fn public_calls(rt: HostRuntime) -> Result<(), Fail> {
+    let alloc = rt.alloc();
+    for (first, prices) in [
+        (None, [14, 12]),
+        (Some([].as_slice()), [14, 12]),
+        (Some(&[14, 12]), [26, 24]),
+    ] {
+        assert_eq!(rt;
+            publicly_solved(&rt, alloc, 2, &TWO_PERSONS, first)?,
+            best(alloc, &[2, 1], &prices)?
+        );
+    }
+    Ok(())
+}
+
+#[test]
+fn worked_sparse_problems(rt: HostRuntime) -> Result<(), Fail> {
+    let alloc = rt.alloc();
+    for (n, pairs, persons, objects) in [
+        (3, CONTESTED.as_slice(), [1, 2].as_slice(), [1].as_slice()),
+        (2, &[(1, 1, 5), (1, 2, 6)], &[2], &[]),
+        (3, &[], &[1], &[]),
+        (1, &[], &[1], &[]),
+    ] {
+        assert_eq!(rt;
+            solved(&rt, alloc, 1, n, pairs, Sense::Min, &[])?,
+            hall(alloc, persons, objects)?
+        );
+    }
+    let pairs = [(1, 1, 9), (1, 1, 3), (1, 2, 4), (2, 1, 5), (2, 2, 8)];
+    let Seen::Best(objects, _) = solved(&rt, alloc, 1, 2, &pairs, Sense::Min, &[])? else {
+        panic!(rt; "no assignment");
+    };
+    assert_eq!(rt; objects.as_slice(), [2, 1].as_slice());
+    Ok(())
+}
+
+// Costs with one least assignment: person i pays u_i + v_j, and more where it isn't given j.
+#[test]
+fn eight_persons(rt: HostRuntime) -> Result<(), Fail> {
+    let costs = [
+        14, 20, 22, 28, 34, 40, 46, 48, 8, 14, 21, 24, 31, 34, 41, 44, 18, 22, 26, 29, 38, 42, 46,
+        50, 10, 15, 20, 25, 30, 35, 40, 44, 15, 18, 27, 29, 35, 41, 47, 49, 10, 13, 20, 23, 30, 33,
+        37, 43, 15, 19, 23, 27, 31, 39, 43, 47, 11, 16, 21, 26, 31, 35, 41, 46,
+    ];
+    let pairs = dense(rt.alloc(), 8, &costs)?;
+    for least in [1, 16, 32, LEAST_PAIRS] {
+        let Seen::Best(objects, _) = solved(
+            &rt,
+            rt.alloc(),
+            least,
+            8,
+            pairs.as_slice(),
+            Sense::Min,
+            &[],
+        )?
+        else {
+            panic!(rt; "no assignment");
+        };
+        assert_eq!(rt; objects.as_slice(), [3, 1, 4, 8, 2, 7, 5, 6].as_slice());
+    }
+    Ok(())
+}
