@@ -1,5 +1,5 @@
 -- The desks that a place is opened with.
-use Rattle.std.proofs.Common.{◌≡◌, ℕ, ℤ, zero, suc, ◌+◌, arith, refl, subst, List, [], ◌∷◌, ◌++◌, None, false, sym, ap, ◌∙◌, add-one, Result, Ok, Err, IfOk}
+use Rattle.std.proofs.Common.{◌≡◌, ℕ, ℤ, zero, suc, ◌+◌, arith, refl, subst, List, [], ◌∷◌, ◌++◌, sym, ap, ◌∙◌, add-one, Result, Ok, Err, IfOk}
 use Rattle.std.specs.List.{All}
 use Rattle.std.proofs.lemmas.List.Elements.{All-push}
 use Rattle.atomic_table.specs.Seated.{TableId}
@@ -11,30 +11,17 @@ use Rattle.async_workers.specs.Desk.{DeskData, new_desk, new_desks}
 use Rattle.async_workers.specs.Turns.{CanTurn}
 use Rattle.async_workers.specs.Views.{told_first}
 
--- a desk made of these parts
-abbrev pub desk_of : ScaledProblem → TableId → View → ℕ → List ℤ → DeskData
-desk_of base place view number table = record {
-  base = base;
-  place = place;
-  view = view;
-  number = number;
-  table = table;
-  version = 0;
-  accepted = 0;
-  claim = None;
-  stop = false;
-  offer = None;
-  sessions = 0;
-  since = 0;
-}
+-- a new desk made of these parts
+abbrev pub desk_of : BookData → ScaledProblem → TableId → View → ℕ → List ℤ → DeskData
+desk_of b base place view number table = record (new_desk place b number) { base = base; view = view; table = table }
 
 -- one desk more
 pub desks_more : (place p : TableId) (b : BookData) (made : ℕ) (base : ScaledProblem) (view : View) (table : List ℤ) (before between after : List DeskData) →
     base ≡ b.base → p ≡ place → view ≡ Away (told_first b (made + 1)) → table ≡ prices_of b → before ≡ new_desks place b made → between ≡ before →
-    after ≡ between ++ desk_of base p view (made + 1) table ∷ [] → after ≡ new_desks place b (made + 1)
+    after ≡ between ++ desk_of b base p view (made + 1) table ∷ [] → after ≡ new_desks place b (made + 1)
 desks_more place p b made base view table before between after same_base same_place same_view same_table was kept is =
-    is ∙ ap (λ l. l ++ desk_of base p view (made + 1) table ∷ []) (kept ∙ was)
-    ∙ (λ i. new_desks place b made ++ desk_of (same_base i) (same_place i) (same_view i) (made + 1) (same_table i) ∷ [])
+    is ∙ ap (λ l. l ++ desk_of b base p view (made + 1) table ∷ []) (kept ∙ was)
+    ∙ (λ i. new_desks place b made ++ desk_of b (same_base i) (same_place i) (same_view i) (made + 1) (same_table i) ∷ [])
     ∙ ap (new_desks place b) (sym (add-one made))
 
 -- a new desk may take a turn

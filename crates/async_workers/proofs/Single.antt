@@ -1,7 +1,6 @@
 -- One thread goes on with a book as worker 1.
-use Rattle.std.proofs.Common.{◌≡◌, ◌≢◌, ℕ, ℤ, zero, suc, ◌+◌, ◌<◌, ◌≤◌, List, [], ◌∷◌, Option, None, Some, cond, length, get_or, true, refl, sym, ap, ◌∙◌, subst, arith, Result, Ok, Err, OnOk, false}
+use Rattle.std.proofs.Common.{◌≡◌, ℕ, ℤ, zero, suc, ◌+◌, ◌<◌, List, [], ◌∷◌, Option, None, Some, cond, length, get_or, refl, sym, ap, ◌∙◌, subst, arith, Result, Ok, Err, OnOk, false}
 use Rattle.assign_core.specs.Numbered.{IsNumber, numbered}
-use Rattle.assign_core.specs.Prices.{IsBelow}
 use Rattle.assign_core.proofs.Matchings.{below_itself}
 use Rattle.assign_core.proofs.NumberedLemmas.{numbered-same, numbered_in}
 use Rattle.scaled_values.specs.Scaled.{ScaledProblem}
@@ -20,7 +19,7 @@ use Rattle.auction_book.specs.Session.{IsPrepared, Submits, next_if_over, prepar
 use Rattle.auction_book.proofs.Claiming.{cond_by}
 use Rattle.auction_book.proofs.Following.{claimed_follows, follows_itself, given_up_follows, goes_on_through, over_is, phased_follows, stop_follows}
 use Rattle.auction_book.proofs.Places.{claimed_person}
-use Rattle.auction_book.proofs.Runs.{IsLeft, offer_left}
+use Rattle.auction_book.proofs.Runs.{offer_left}
 
 given_none : (b : BookData) (worker : ℕ) (o : Option ℕ) → numbered b.claims worker None ≡ o → numbered (given_up b worker o).claims worker None ≡ None
 given_none b worker None is = is
@@ -71,10 +70,13 @@ pub alone_claimed : (b new : BookData) (answer : Claim) → IsFree b → IsNumbe
 alone_claimed b new answer free number none is_answer is_new =
     subst (Follows 1 b) (sym is_new) (subst (IsClaimed b 0) (sym is_answer) (claimed_is b 0 free number none)).follows
 
--- the book once worker 1 has claimed and submitted
-pub alone_left : (b mid new : BookData) (table : List ℤ) (version : ℕ) (offer : Option Offer) → Follows 1 b mid → IsFree mid → table ≡ prices_of mid → IsPrepared mid 1 table version offer → Submits mid 1 offer new → GoesOn b new × (numbered new.claims 1 None ≡ None)
-alone_left b mid new table version offer follows free is prepared submits =
-    let left = offer_left 1 mid new table version offer free (subst (λ t. IsBelow t (prices_of mid)) (sym is) (below_itself (prices_of mid))) prepared submits in
+-- the book once worker 1 has claimed, and has submitted its offer from today's prices
+pub alone_left : (b mid new : BookData) (s : ScaledProblem) (table : List ℤ) (version : ℕ) (answer : Claim) (offer : Option Offer) → IsFree b → IsNumber (length b.claims) 1 → numbered b.claims 1 None ≡ None →
+    answer ≡ claim_of b → mid ≡ after_claim b 1 answer → s ≡ mid.base → table ≡ prices_of mid → offer ≡ prepared s table version answer → IsFree mid → Submits mid 1 offer new → GoesOn b new × (numbered new.claims 1 None ≡ None)
+alone_left b mid new s table version answer offer free number none is_answer is_mid is_base is_table is_offer mid_free submits =
+    let follows = alone_claimed b mid answer free number none is_answer is_mid in
+    let made = alone_prepared b mid s table version answer offer free number none is_answer is_mid is_base is_table is_offer in
+    let left = offer_left 1 mid new (prices_of mid) version offer mid_free (below_itself (prices_of mid)) made submits in
     (goes_on_through b mid new follows.goes_on left.step.follows.goes_on, left.none)
 
 -- the next phase, if this one is over

@@ -20,9 +20,9 @@ use Rattle.auction_book.specs.Phases.{is_done}
 use Rattle.auction_book.specs.Schedule.{IsSeat}
 use Rattle.auction_book.specs.Session.{IsPrepared, book_left, book_next, book_taken, prepared, table_taken, version_taken}
 use Rattle.auction_book.proofs.Claiming.{cond_by}
-use Rattle.auction_book.proofs.Following.{follows_through, given_up_follows, goes_on_through, stop_follows}
+use Rattle.auction_book.proofs.Following.{given_up_follows, goes_on_through}
 use Rattle.auction_book.proofs.Places.{claimed_person}
-use Rattle.auction_book.proofs.Runs.{IsAttended, attended, next_workers, own_kept, same_offers}
+use Rattle.auction_book.proofs.Runs.{IsAttended, attended, next_workers, same_offers}
 use Rattle.async_workers.specs.declared.gate.Note.{Note}
 use Rattle.async_workers.specs.declared.gate.Turn.{Turn}
 use Rattle.async_workers.specs.declared.place.Claimed.{Claimed}
@@ -30,9 +30,9 @@ use Rattle.async_workers.specs.Desk.{DeskData, IsAway, told_by}
 use Rattle.async_workers.specs.Hand.{IsInHand}
 use Rattle.async_workers.specs.PlaceRule.{Gave, IsTold, Took}
 use Rattle.async_workers.specs.Session.{Ends, caught_in, counted, with_table}
-use Rattle.async_workers.specs.Turns.{CanTurn, EndsRun, Faulted, Given, Gives, HasOffer, StepsOut, Turned, WorksOn, seat_of, stopped_if, turn_of, with_told}
+use Rattle.async_workers.specs.Turns.{CanTurn, EndsRun, Given, Gives, HasOffer, StepsOut, Turned, WorksOn, seat_of, stopped_if, turn_of, with_told}
 use Rattle.async_workers.specs.Views.{claim_in, claim_with}
-use Rattle.async_workers.proofs.Hands.{hand_follows, hand_given, hand_own}
+use Rattle.async_workers.proofs.Hands.{hand_follows, hand_given}
 use Rattle.async_workers.proofs.Sessions.{next_stopped, noted_stopped, submits_of, taken_stopped}
 
 -- what a told claim says of the book

@@ -10,7 +10,7 @@ use Rattle.auction_book.specs.declared.answers.Refused.TheVariants.{TooLow, Memo
 use Rattle.auction_book.specs.Book.{BookData, Holds}
 use Rattle.auction_book.specs.Changes.{released}
 use Rattle.auction_book.specs.Claims.{claim_of}
-use Rattle.auction_book.specs.Session.{IsFound, book_left, book_next, book_taken, table_taken, version_taken}
+use Rattle.auction_book.specs.Session.{IsReachRecorded, book_left, book_next, book_taken, table_taken, version_taken}
 use Rattle.auction_book.specs.Submissions.{IsSubmitted}
 use Rattle.async_workers.specs.declared.gate.Note.{Note}
 use Rattle.async_workers.specs.declared.gate.Note.TheVariants as note
@@ -29,7 +29,7 @@ is_too_low told = false
 abbrev pub IsNoted : BookData → ℕ → Option Offer → BookData → Note → Type 0
 IsNoted b worker None new told = (new ≡ b) × (told ≡ note.Nothing)
 IsNoted b worker (Some (made.Bid bid)) new told = (answer : Result Accepted Refused) × (answer ≢ Err Memory) × IsSubmitted b worker bid answer new × (told ≡ note_of answer)
-IsNoted b worker (Some (made.Below below)) new told = IsFound b worker below.person new × (told ≡ note.Nothing)
+IsNoted b worker (Some (made.Below below)) new told = IsReachRecorded b worker below.person new × (told ≡ note.Nothing)
 
 -- and of one that met a refused growth: the bid is refused, or the claim is given up
 abbrev pub IsUndone : BookData → ℕ → Option Offer → BookData → Note → Type 0

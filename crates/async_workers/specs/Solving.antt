@@ -8,7 +8,7 @@ use Rattle.assign_core.specs.declared.outcome.Outcome.{Outcome}
 use Rattle.assign_core.specs.declared.outcome.Outcome.TheVariants.{Best, Hall}
 use Rattle.scaled_values.specs.Scaled.{ScaledProblem}
 use Rattle.auction_book.specs.Answers.{IsAnswer}
-use Rattle.auction_book.specs.Book.{BookData, persons_of}
+use Rattle.auction_book.specs.Book.{BookData}
 use Rattle.auction_book.specs.Follows.{GoesOn}
 use Rattle.auction_book.specs.Free.{IsFree}
 use Rattle.auction_book.specs.Phases.{is_done, opened}

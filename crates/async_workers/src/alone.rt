@@ -19,6 +19,7 @@ pub fn outcome_of(alloc: Global, book: &Book) -> Result<Option<Outcome>, AllocEr
     ensures answers { IfOk result (λ found. IfSome found (IsAnsweredBy book.now)) }
     ensures free { IsFree book.now }
 {
+    // For the proof alone: the book is free.
     let _workers = book.workers();
     if let Some(hall) = book.refuted() {
         return Ok(Some(Outcome::Hall(hall.copy(alloc)?)));
@@ -48,6 +49,7 @@ fn offer_alone(alloc: Global, book: &mut Book) -> Result<(), AllocError>
     ensures none { OnOk result (numbered book.new.claims 1 None ≡ None) }
     ensures free { IsFree book.new }
 {
+    // For the proof alone: the book is free.
     let _workers = book.workers();
     let claim = book.claim(1);
     let offer = prepare(book.scaled(), book.prices(), book.version(), claim);

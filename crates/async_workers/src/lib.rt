@@ -9,8 +9,6 @@ mod place;
 mod rule;
 mod solving;
 #[cfg(test)]
-mod solving_tests;
-#[cfg(test)]
 mod tests;
 mod working;
 

@@ -1,30 +1,27 @@
-// Turns of a few desks, from one thread.
+// Tests of turns and of whole runs, and scripts of a few desks from one thread.
 ghost use Rattle.std.specs.Prelude.{◌≡◌, ◌<◌, ◌≤ℤ◌, length, All, IfOk};
 ghost use Rattle.std.specs.Arc.{arc_value};
-ghost use Rattle.assign_core.specs.Numbered.{IsNumber};
-ghost use Rattle.assign_core.specs.Prices.{IsPrice};
-ghost use Rattle.assign_core.specs.Rows.{IsCost, IsSize};
-ghost use Rattle.assign_core.specs.Sparse.{IsTriple};
 ghost use Rattle.scaled_values.specs.Scaled.{greatest_of};
+ghost use Rattle.async_workers.specs.PlaceRule.{IsUntouched};
 ghost use Rattle.async_workers.specs.Turns.{CanTurn};
 
 mod beside;
 mod drawn;
+mod problems;
+mod whole_runs;
 mod worked;
 
 use super::*;
-use assign_core::{
-    Cost, GREATEST_COST, GREATEST_FIRST_PRICE, HallSet, MOST_PERSONS, Object, Person, Price,
-    Prices, Problem, Sense,
-};
+use assign_core::{GREATEST_FIRST_PRICE, HallSet, Person, Price, Prices, Sense};
 use auction_book::{Book, Claim};
-use scaled_values::{Scaled, scale};
+use bidder::Offer;
+use scaled_values::Scaled;
 use std::alloc::{AllocError, Global};
 use std::cell::RefCell;
 use std::sync::{Arc, Wait};
 
 // What a desk does next.
-#[derive(Clone, Copy, Debug, PartialEq, Eq)]
+#[derive(Clone, Copy)]
 enum Step {
     Turn,
     Leave,
@@ -32,7 +29,7 @@ enum Step {
 }
 
 // What a gate is told.
-#[derive(Clone, Copy, Debug, PartialEq, Eq)]
+#[derive(Clone, Copy)]
 enum Heard {
     Offer(u16),
     Submit(u16, u64),
@@ -67,20 +64,95 @@ impl Gate for Listener {
     }
 }
 
-// A place with a new book at these first prices, and its desks.
-fn opened<R: Wait>(
+// What a desk shows.
+#[derive(Drop)]
+struct Shown {
+    number: u16,
+    table: Vec<Price>,
+    version: u128,
+    accepted: u128,
+    claim: Option<Claimed>,
+    offer: Option<Offer>,
+    sessions: u64,
+}
+
+fn shown_by(alloc: Global, desk: &Desk) -> Result<Shown, AllocError> {
+    Ok(Shown {
+        number: desk.number(),
+        table: desk.table().as_slice().to_vec(alloc)?,
+        version: desk.version(),
+        accepted: desk.accepted(),
+        claim: desk.claim(),
+        offer: desk.offer(),
+        sessions: desk.sessions(),
+    })
+}
+
+fn all_shown(alloc: Global, desks: &[Desk]) -> Result<Vec<Shown>, AllocError> {
+    let mut all = Vec::new(alloc);
+    for desk in desks {
+        all.push(shown_by(alloc, desk)?)?;
+    }
+    Ok(all)
+}
+
+// What came of a script: its letters, what the gate was told, what the desks showed, and the book of
+// the closed place.
+#[derive(Drop)]
+struct Story {
+    came: Vec<u8>,
+    heard: Vec<Heard>,
+    shown: Vec<Shown>,
+    book: Option<Book>,
+}
+
+// The script of the desks of a place with this book.
+fn played<R: Wait>(
     rt: &R,
     alloc: Global,
-    scaled: Arc<Scaled>,
-    prices: Prices,
+    book: Book,
+    script: &[u8],
+    refresh: u64,
+) -> Result<Story, AllocError>
+    requires { IsUntouched book }
+{
+    let gate = Listener {
+        heard: RefCell::new(Vec::new(alloc)),
+    };
+    let (place, desks) = opened(rt, alloc, book)?;
+    let (desks, came) = run_script(rt, alloc, &place, desks, script, refresh, &gate)?;
+    let shown = all_shown(alloc, desks.as_slice())?;
+    let book = closed(rt, place, desks);
+    let heard = gate.heard.into_inner();
+    Ok(Story {
+        came,
+        heard,
+        shown,
+        book,
+    })
+}
+
+// A book that begins at these prices.
+fn new_book(
+    alloc: Global,
+    scaled: &Arc<Scaled>,
+    prices: &Prices,
     workers: u16,
-) -> Result<(BookPlace, Vec<Desk>), AllocError>
+) -> Result<Book, AllocError>
     requires workers { 0 < workers }
-    requires long { length prices ≡ length (arc_value scaled).problem }
-    requires low { greatest_of prices ≤ℤ GREATEST_FIRST_PRICE }
+    requires long { length prices.now ≡ length (arc_value scaled.now).problem }
+    requires low { greatest_of prices.now ≤ℤ GREATEST_FIRST_PRICE }
+    ensures { IfOk result IsUntouched }
+{
+    let scaled = Arc::try_clone(scaled)?;
+    Book::open_from(alloc, scaled, prices.copy(alloc)?, workers)
+}
+
+// A place with this book, and its desks.
+fn opened<R: Wait>(rt: &R, alloc: Global, book: Book) -> Result<(BookPlace, Vec<Desk>), AllocError>
+    requires { IsUntouched book }
     ensures { IfOk result (λ opened. All (CanTurn opened.0) opened.1.items) }
 {
-    let book = Book::open_from(alloc, scaled, prices, workers)?;
     open_place(rt, alloc, book)
 }
 
@@ -167,28 +239,6 @@ fn closed<R: Wait>(rt: &R, place: BookPlace, desks: Vec<Desk>) -> Option<Book>
     Some(close_place(rt, place, desks))
 }
 
-// The persons whom workers 1, 2, .. of a book hold.
-fn held_by(alloc: Global, book: &Book) -> Result<Vec<u16>, AllocError> {
-    let mut held = Vec::new(alloc);
-    for worker in 0..book.workers() {
-        let person = match book.claimed_by(worker + 1) {
-            Some(person) => person.0,
-            None => 0,
-        };
-        held.push(person)?;
-    }
-    Ok(held)
-}
-
-// How many bids of workers 1, 2, .. a book has accepted.
-fn accepted_by(alloc: Global, book: &Book) -> Result<Vec<u128>, AllocError> {
-    let mut accepted = Vec::new(alloc);
-    for worker in 0..book.workers() {
-        accepted.push(book.accepted_by(worker + 1))?;
-    }
-    Ok(accepted)
-}
-
 // All claims of a book are given up.
 fn give_all_up(book: &mut Book) {
     for worker in 0..book.workers() {
@@ -207,112 +257,4 @@ fn next_person(book: &mut Book) -> Option<Person> {
         Claim::Person(person, _) => Some(person),
         _ => None,
     }
-}
-
-// The table of the first desk, and the prices of the book that it finds in the place.
-fn prices_found<R: Wait>(
-    rt: &R,
-    alloc: Global,
-    place: &BookPlace,
-    mut desks: Vec<Desk>,
-) -> Result<Option<(Vec<Price>, Vec<Price>)>, AllocError>
-    requires { All (CanTurn place.now) desks.items }
-{
-    if desks.is_empty() {
-        return Ok(None);
-    }
-    let own = desks[0].table().as_slice().to_vec(alloc)?;
-    let found = look(rt, alloc, place, &mut desks[0])?;
-    Ok(Some((own, found)))
-}
-
-// The prices of the book that a desk finds in the place.
-fn look<R: Wait>(
-    rt: &R,
-    alloc: Global,
-    place: &BookPlace,
-    desk: &mut Desk,
-) -> Result<Vec<Price>, AllocError>
-    requires { CanTurn place.now desk.old }
-{
-    let held = desk.take(rt, place);
-    let prices = held.book().prices().as_slice().to_vec(alloc);
-    held.give(rt, place, desk);
-    prices
-}
-
-// A number of persons brought into range.
-fn size(n: u16) -> u16
-    ensures { IsSize result }
-{
-    n.max(1).min(MOST_PERSONS)
-}
-
-// A number brought into the range from 1 to n.
-fn number(n: u16, i: u16) -> u16
-    requires { IsSize n }
-    ensures { IsNumber n result }
-{
-    i.max(1).min(n)
-}
-
-// A cost brought into range.
-fn cost_in_range(cost: Cost) -> Cost
-    ensures { IsCost result }
-{
-    cost.max(-GREATEST_COST).min(GREATEST_COST)
-}
-
-// A pair with its cost.
-type Pair = (u16, u16, Cost);
-
-// A person and an object of n with a cost.
-fn triple(n: u16, pair: Pair) -> (Person, Object, Cost)
-    requires { IsSize n }
-    ensures { IsTriple n result }
-{
-    (
-        Person(number(n, pair.0)),
-        Object(number(n, pair.1)),
-        cost_in_range(pair.2),
-    )
-}
-
-// The problem that lists these pairs.
-fn problem_of(
-    alloc: Global,
-    n: u16,
-    pairs: &[Pair],
-    sense: Sense,
-) -> Result<Arc<Scaled>, AllocError>
-    requires { IsSize n }
-    ensures { IfOk result (λ scaled. length (arc_value scaled).problem ≡ n) }
-{
-    let mut triples = Vec::with_capacity(alloc, pairs.len())?;
-    for pair in pairs {
-        triples.push(triple(n, *pair))?;
-    }
-    let problem = Problem::sparse(alloc, n, triples.as_slice())?;
-    Ok(Arc::new(alloc, scale(alloc, problem, sense)?)?)
-}
-
-// First prices of n objects: those given, and 0 for the rest.
-fn first_prices(alloc: Global, n: u16, given: &[Price]) -> Result<Prices, AllocError>
-    requires { IsSize n }
-    ensures long { IfOk result (λ prices. length prices ≡ n) }
-    ensures low { IfOk result (λ prices. greatest_of prices ≤ℤ GREATEST_FIRST_PRICE) }
-{
-    let mut values = Vec::with_capacity(alloc, n as usize)?;
-    for i in 0..n {
-        values.push(first_price(given.get(i as usize).copied().unwrap_or(0)))?;
-    }
-    Prices::new(alloc, values)
-}
-
-// A first price brought into range.
-fn first_price(price: Price) -> Price
-    ensures least { IsPrice result }
-    ensures low { result ≤ℤ GREATEST_FIRST_PRICE }
-{
-    price.max(0).min(GREATEST_FIRST_PRICE)
 }

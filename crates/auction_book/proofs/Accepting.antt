@@ -1,5 +1,5 @@
 -- An accepted bid keeps the invariant, and so does a refused one.
-use Rattle.std.proofs.Common.{◌≡◌, ◌≢◌, ℕ, ℤ, pos, zero, suc, ◌+ℤ◌, ◌*ℤ◌, ◌≤ℤ◌, ◌<ℤ◌, ◌^◌, ◌+◌, ◌-◌, ◌<◌, ◌≤◌, List, length, get_or, refl, ap, arith, sym, ◌∙◌, subst, Option, None, Some, inl, inr, ◌⊎◌, sum}
+use Rattle.std.proofs.Common.{◌≡◌, ℕ, ℤ, pos, zero, suc, ◌+ℤ◌, ◌*ℤ◌, ◌≤ℤ◌, ◌<ℤ◌, ◌+◌, ◌-◌, ◌<◌, ◌≤◌, List, [], ◌∷◌, ◌++◌, length, get_or, refl, ap, arith, sym, ◌∙◌, subst, Option, None, Some, inl, inr, sum}
 use Rattle.std.specs.List.{All}
 use Rattle.std.proofs.lemmas.Int.{ints}
 use Rattle.std.proofs.lemmas.List.Sums.{sum_by-set}
@@ -7,9 +7,8 @@ use Rattle.std.proofs.lemmas.Bool.Decides.{eqb_tells}
 use Rattle.std.proofs.Math.IntN.{suc_ℤ-*ℤ}
 use Rattle.assign_core.specs.declared.numbers.TheConstants.{PRICE_END}
 use Rattle.assign_core.specs.Numbered.{IsNumber, numbered, renumbered}
-use Rattle.assign_core.specs.Rows.{Listing, IsListed}
 use Rattle.assign_core.specs.Prices.{IsBelow, IsPrice, price_of}
-use Rattle.assign_core.specs.Matching.{IsMatching, owner_of}
+use Rattle.assign_core.specs.Matching.{owner_of}
 use Rattle.assign_core.specs.Slackness.{HasSlack}
 use Rattle.assign_core.proofs.NumberedLemmas.{numbered-same, numbered-other, length-renumbered, count-renumbered, numbered_in}
 use Rattle.assign_core.proofs.Listed.{IsListedPair, listed_range}
@@ -32,6 +31,7 @@ use Rattle.auction_book.proofs.Listings.{listed_problem}
 use Rattle.auction_book.proofs.Places.{accepted_places, released_places, unowned}
 use Rattle.auction_book.proofs.PhaseBounds.{top_fits}
 use Rattle.auction_book.proofs.Keeping.{slack_accepted}
+use Rattle.auction_book.proofs.Moving.{moved_free}
 
 first_low : (eps first now : ℤ) (o : Option ℕ) → pos 1 ≤ℤ eps → IsPriced eps first now o → first ≤ℤ now
 first_low eps first now None h p = omega (arith, ints, ap (λ (z : ℤ). z) p)
@@ -142,26 +142,10 @@ accepted_free b worker bid free sound high held =
     }
 
 pub released_free : (b : BookData) (worker person : ℕ) → IsFree b → Holds b worker person → IsFree (released b worker person)
-released_free b worker person free held = record {
-  problem = free.problem;
-  sizes = record {
-    priced = free.sizes.priced;
-    started = free.sizes.started;
-    counted = free.sizes.counted ∙ sym (length-renumbered b.claims worker None);
-    noted = free.sizes.noted ∙ sym (length-renumbered b.claims worker None);
-  };
-  owners_match = free.owners_match;
-  owners_slack = free.owners_slack;
-  placed_once = λ i. released_places b.owners b.queue b.claims worker person i held ∙ free.placed_once i;
-  log_ascends = free.log_ascends;
-  priced = free.priced;
-  topped = free.topped;
-  in_phase = free.in_phase;
-  counts_total = free.counts_total;
-  progress = free.progress;
-  recorded = free.recorded;
-  taken_before = free.taken_before;
-}
+released_free b worker person free held =
+    let over = renumbered b.claims worker None in
+    moved_free b (b.queue ++ person ∷ []) over b.refuted free (length-renumbered b.claims worker None)
+    (λ i. released_places b.owners b.queue b.claims worker person i held) free.recorded
 
 pub accepted_follows : (b : BookData) (worker : ℕ) (bid : Bid) (q : List ℤ) → IsFree b → IsBelow q (prices_of b) → IsSound b.base (ask_of b) q bid → IsHigh b bid → Follows worker b (accepted b worker bid)
 accepted_follows b worker bid q free below sound high =

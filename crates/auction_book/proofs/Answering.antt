@@ -1,5 +1,5 @@
 -- Where everybody is assigned in the last phase, the owners and the prices are a certificate.
-use Rattle.std.proofs.Common.{◌≡◌, ℕ, ℤ, pos, zero, suc, ◌+◌, ◌-◌, ◌<◌, ◌≤◌, List, [], ◌∷◌, length, get_or, nat_eq, Bool, true, false, cond, ◌&&◌, refl, ap, arith, sym, ◌∙◌, subst, Option, None, Some, inl, inr, ◌⊎◌}
+use Rattle.std.proofs.Common.{◌≡◌, ℕ, ℤ, pos, suc, ◌+◌, ◌<◌, ◌≤◌, List, [], ◌∷◌, length, get_or, nat_eq, Bool, true, false, cond, ◌&&◌, refl, ap, arith, sym, ◌∙◌, subst, Option, None, Some, inl, inr, ◌⊎◌}
 use Rattle.std.specs.List.{count_by}
 use Rattle.std.specs.Ordering.{int_eq}
 use Rattle.std.specs.Cmp.{signed_Decides}
@@ -7,13 +7,11 @@ use Rattle.std.proofs.lemmas.Bool.{eqb-true}
 use Rattle.std.proofs.lemmas.Bool.Decides.{eqb_tells}
 use Rattle.std.proofs.lemmas.List.Sums.{sum_by-cons, sum_by-le-sum_by}
 use Rattle.assign_core.specs.Numbered.{IsNumber, numbered, renumbered}
-use Rattle.assign_core.specs.Benefits.{benefit_rows}
 use Rattle.assign_core.specs.Matching.{owner_of}
-use Rattle.assign_core.specs.Prices.{IsTable}
-use Rattle.assign_core.specs.Slackness.{AllSlack, HasSlack, IsCertificate}
+use Rattle.assign_core.specs.Slackness.{HasSlack, IsCertificate}
 use Rattle.assign_core.proofs.BenefitRows.{length-benefit_rows}
 use Rattle.assign_core.proofs.Matchings.{owned_assigned, zip_from_places}
-use Rattle.assign_core.proofs.NumberedLemmas.{numbered-other, numbered-past, numbered-same}
+use Rattle.assign_core.proofs.NumberedLemmas.{numbered-other, numbered-same}
 use Rattle.price_log.proofs.Histories.{today_is_table}
 use Rattle.scaled_values.specs.Scaled.{benefits_of}
 use Rattle.bidder.specs.Offers.{benefits_at}

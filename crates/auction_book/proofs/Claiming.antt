@@ -1,16 +1,11 @@
 -- What a claim answers.
-use Rattle.std.proofs.Common.{◌≡◌, ℕ, List, [], ◌∷◌, length, Bool, true, false, cond, refl, arith, ap, subst, sym, ◌∙◌}
+use Rattle.std.proofs.Common.{◌≡◌, Bool, true, false, cond, refl}
 use Rattle.scaled_values.specs.Scaled.{greatest_of}
 use Rattle.bidder.specs.Offers.{IsAsk}
-use Rattle.auction_book.specs.declared.answers.Claim.{Claim}
-use Rattle.auction_book.specs.declared.answers.Claim.TheVariants as claim
-use Rattle.auction_book.specs.Book.{BookData, ask_of, is_refuted, persons_of}
-use Rattle.auction_book.specs.Claims.{IsAsked, claim_front, claim_of}
+use Rattle.auction_book.specs.Book.{BookData, ask_of}
 use Rattle.auction_book.specs.Free.{IsFree}
-use Rattle.auction_book.specs.Phases.{is_done}
 use Rattle.auction_book.proofs.Opening.{greatest_is_price}
 use Rattle.auction_book.proofs.PhaseBounds.{is_eps}
-use Rattle.auction_book.proofs.Places.{claimed_person}
 
 pub cond_by : {A : Type 0} (P : A → Type 0) (t : Bool) (x y : A) → (t ≡ true → P x) → (t ≡ false → P y) → P (cond t x y)
 cond_by P true x y f g = f refl

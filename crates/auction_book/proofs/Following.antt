@@ -1,18 +1,18 @@
 -- What other workers rely on stays through each change.
-use Rattle.std.proofs.Common.{◌≡◌, ◌≢◌, ℕ, List, length, get_or, Bool, true, false, cond, ◌&&◌, not, IsTrue, refl, arith, sym, ◌∙◌, subst, ap, Option, None, Some, pos}
+use Rattle.std.proofs.Common.{◌≡◌, ℕ, get_or, Bool, true, false, ◌&&◌, not, refl, arith, sym, ◌∙◌, subst, Option, None, Some, pos}
 use Rattle.std.specs.List.{count_by}
 use Rattle.std.specs.Ordering.{int_eq}
 use Rattle.std.specs.Cmp.{signed_Decides}
 use Rattle.std.proofs.lemmas.Bool.{eqb-true}
 use Rattle.assign_core.specs.Hall.{HallLists}
-use Rattle.assign_core.specs.Numbered.{numbered, renumbered}
+use Rattle.assign_core.specs.Numbered.{numbered}
 use Rattle.assign_core.specs.Prices.{IsBelow}
 use Rattle.assign_core.proofs.Matchings.{below_itself, below_through}
 use Rattle.assign_core.proofs.NumberedLemmas.{length-renumbered, numbered-other, numbered_in}
 use Rattle.price_log.proofs.Histories.{continues-refl, continues-trans}
-use Rattle.auction_book.specs.Book.{BookData, Holds, ask_of, is_some, persons_of, prices_of}
+use Rattle.auction_book.specs.Book.{BookData, Holds, is_some, persons_of, prices_of}
 use Rattle.auction_book.specs.Phases.{IsOver, is_assigned, is_over}
-use Rattle.auction_book.specs.Changes.{caught_up, claimed, given_up, phased, released, recorded}
+use Rattle.auction_book.specs.Changes.{caught_up, claimed, given_up, phased, recorded}
 use Rattle.auction_book.specs.Follows.{Follows, GoesOn}
 use Rattle.auction_book.specs.Free.{IsFree}
 use Rattle.auction_book.proofs.Accepting.{released_follows}

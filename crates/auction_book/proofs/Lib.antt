@@ -2,6 +2,7 @@ pub mod Places
 pub mod Listings
 pub mod Keeping
 pub mod PhaseBounds
+pub mod Moving
 pub mod Accepting
 pub mod Rooms
 pub mod Opening

@@ -1,5 +1,5 @@
 -- A book at the start of a run, and at the start of a phase.
-use Rattle.std.proofs.Common.{◌≡◌, ℕ, ℤ, pos, zero, suc, ◌+ℤ◌, ◌*ℤ◌, ◌≤ℤ◌, ◌+◌, ◌-◌, ◌^◌, ◌<◌, ◌≤◌, List, [], ◌∷◌, ◌++◌, length, take, drop, replicate, nat_eq, sum, Bool, false, cond, refl, ap, arith, sym, ◌∙◌, subst, Option, None, Some}
+use Rattle.std.proofs.Common.{◌≡◌, ℕ, ℤ, pos, zero, suc, ◌+ℤ◌, ◌*ℤ◌, ◌≤ℤ◌, ◌+◌, ◌-◌, ◌<◌, ◌≤◌, List, [], ◌∷◌, ◌++◌, length, take, drop, replicate, nat_eq, sum, Bool, false, cond, refl, ap, arith, sym, ◌∙◌, subst, Option, None, Some}
 use Rattle.std.specs.List.{All, count_by}
 use Rattle.std.specs.Option.{option_and_then}
 use Rattle.std.proofs.lemmas.Int.{ints}
@@ -174,6 +174,10 @@ length-persons (suc n) = let i = length-persons n in let a : length (persons n +
 -- the greatest of a table is a price
 pub greatest_is_price : (p : List ℤ) → IsTable p → IsPrice (greatest_of p)
 greatest_is_price p table = greatest_holds IsPrice p (record { least = omega (arith, ints); below = omega (arith, ints) }) table.each
+
+-- and so is what was read as the greatest of its slice
+pub greatest_read : (p slice : List ℤ) (g : ℤ) → g ≡ greatest_of slice → slice ≡ p → IsTable p → IsPrice g
+greatest_read p slice g e same table = subst IsPrice (sym (e ∙ ap greatest_of same)) (greatest_is_price p table)
 
 pub phase_few : (b : BookData) → IsFree b → b.phase ≤ 23
 phase_few b free = let f = few b.base (b.phase - 1) b.eps free.problem free.in_phase.slackness in let g = free.in_phase.begins in omega arith

@@ -1,5 +1,5 @@
 -- Claims, recorded Hall sets, stops and catching up keep the invariant.
-use Rattle.std.proofs.Common.{◌≡◌, ℕ, ◌<◌, ◌≤◌, List, [], ◌∷◌, length, get_or, fold, min, nat_le, true, refl, ap, arith, sym, ◌∙◌, None, Some, inl, inr, ◌⊎◌, zero, suc}
+use Rattle.std.proofs.Common.{◌≡◌, ℕ, ◌<◌, ◌≤◌, List, [], ◌∷◌, length, drop, get_or, fold, min, nat_le, refl, ap, arith, sym, ◌∙◌, Option, None, Some, inl, inr, ◌⊎◌, zero, suc}
 use Rattle.std.proofs.lemmas.Bool.{cond-true, cond-false}
 use Rattle.std.proofs.lemmas.Bool.Decides.{eqb_tells, leb_tells}
 use Rattle.assign_core.specs.Numbered.{numbered, renumbered}
@@ -13,45 +13,16 @@ use Rattle.price_log.specs.History.{Continues, History, IsHistory, last_version,
 use Rattle.price_log.proofs.Histories.{continues-refl, continues-trim, today-trim, trim_version, trimmed_is}
 use Rattle.auction_book.proofs.Places.{claimed_places}
 use Rattle.auction_book.proofs.Accepting.{released_free}
+use Rattle.auction_book.proofs.Moving.{moved_free}
 
 pub claimed_free : (b : BookData) (worker : ℕ) → IsFree b → 0 < worker → worker ≤ length b.claims → numbered b.claims worker None ≡ None → 0 < length b.queue → IsFree (claimed b worker)
-claimed_free b worker free first last none some = record {
-  problem = free.problem;
-  sizes = record {
-    priced = free.sizes.priced;
-    started = free.sizes.started;
-    counted = free.sizes.counted ∙ sym (length-renumbered b.claims worker (Some (get_or b.queue 0 0)));
-    noted = free.sizes.noted ∙ sym (length-renumbered b.claims worker (Some (get_or b.queue 0 0)));
-  };
-  owners_match = free.owners_match;
-  owners_slack = free.owners_slack;
-  placed_once = λ i. claimed_places b.owners b.queue b.claims worker i first last none some ∙ free.placed_once i;
-  log_ascends = free.log_ascends;
-  priced = free.priced;
-  topped = free.topped;
-  in_phase = free.in_phase;
-  counts_total = free.counts_total;
-  progress = free.progress;
-  recorded = free.recorded;
-  taken_before = free.taken_before;
-}
+claimed_free b worker free first last none some =
+    let front : Option ℕ = Some (get_or b.queue 0 0) in
+    moved_free b (drop 1 b.queue) (renumbered b.claims worker front) b.refuted free (length-renumbered b.claims worker front)
+    (λ i. claimed_places b.owners b.queue b.claims worker i first last none some) free.recorded
 
 pub set_free : (b : BookData) (lists : HallLists) → IsFree b → IsHallSet b.base.problem lists.persons lists.objects → IsFree (with_set b lists)
-set_free b lists free hall = record {
-  problem = free.problem;
-  sizes = free.sizes;
-  owners_match = free.owners_match;
-  owners_slack = free.owners_slack;
-  placed_once = free.placed_once;
-  log_ascends = free.log_ascends;
-  priced = free.priced;
-  topped = free.topped;
-  in_phase = free.in_phase;
-  counts_total = free.counts_total;
-  progress = free.progress;
-  recorded = hall;
-  taken_before = free.taken_before;
-}
+set_free b lists free hall = moved_free b b.queue b.claims (Some lists) free refl (λ i. refl) hall
 
 pub recorded_free : (b : BookData) (worker person : ℕ) (lists : HallLists) → IsFree b → Holds b worker person → IsHallSet b.base.problem lists.persons lists.objects → IsFree (recorded b worker person lists)
 recorded_free b worker person lists free held hall = set_free (released b worker person) lists (released_free b worker person free held) hall

@@ -1,5 +1,5 @@
 -- Each event keeps what holds of the core.
-use Rattle.std.proofs.Common.{◌≡◌, ◌≢◌, ℕ, ℤ, pos, zero, suc, ◌+◌, ◌<◌, ◌≤◌, ◌≤ℤ◌, List, [], ◌∷◌, ◌++◌, length, get_or, replicate, nat_le, Bool, true, false, cond, ◌&&◌, MatchBool, IsTrue, Result, Ok, Err, refl, ap, arith, sym, ◌∙◌, subst, Option, None, Some, inl, inr}
+use Rattle.std.proofs.Common.{◌≡◌, ◌≢◌, ℕ, ℤ, zero, suc, ◌+◌, ◌<◌, ◌≤◌, ◌≤ℤ◌, List, [], ◌∷◌, ◌++◌, length, get_or, replicate, nat_le, Bool, true, false, cond, ◌&&◌, MatchBool, Result, Ok, Err, refl, ap, arith, sym, ◌∙◌, subst, Option, None, Some, inl, inr}
 use Rattle.std.proofs.lemmas.List.{get_or-replicate, length-replicate}
 use Rattle.std.proofs.lemmas.Bool.Decides.{eqb_tells, nat_tests}
 use Rattle.assign_core.specs.Numbered.{IsNumber, numbered, renumbered}
@@ -25,17 +25,17 @@ use Rattle.auction_book.specs.declared.answers.Claim.TheVariants as claim
 use Rattle.auction_book.specs.declared.schedule.Event.{Event}
 use Rattle.auction_book.specs.declared.schedule.Seat.{Seat}
 use Rattle.auction_book.specs.Book.{BookData, Holds, ask_of, is_refuted, persons_of, prices_of, version_of}
-use Rattle.auction_book.specs.Changes.{accepted, caught_up, claimed, phased, recorded, released}
+use Rattle.auction_book.specs.Changes.{caught_up, claimed, phased, released}
 use Rattle.auction_book.specs.Claims.{after_claim, claim_front, claim_of}
 use Rattle.auction_book.specs.Follows.{Follows, GoesOn}
 use Rattle.auction_book.specs.Free.{IsFree}
-use Rattle.auction_book.specs.Phases.{IsOver, is_done, is_over, opened}
+use Rattle.auction_book.specs.Phases.{is_done, is_over, opened}
 use Rattle.auction_book.specs.Schedule.{CoreData, Happens, IsFit, IsSeat, Run, core_opened, goes_on, is_worker, seat_at, seat_next, seat_of_prices}
 use Rattle.auction_book.specs.Session.{IsPrepared, Submits, book_left, book_next, book_taken, next_if_over, prepared, table_taken, version_taken}
-use Rattle.auction_book.specs.Submissions.{IsHigh, IsSubmitted}
+use Rattle.auction_book.specs.Submissions.{IsSubmitted}
 use Rattle.auction_book.proofs.Accepting.{accepted_follows, accepted_free, released_follows, released_free}
 use Rattle.auction_book.proofs.Claiming.{cond_by}
-use Rattle.auction_book.proofs.Following.{caught_up_follows, claimed_follows, follows_itself, follows_through, goes_on_itself, goes_on_through, over_is, phased_follows, recorded_follows}
+use Rattle.auction_book.proofs.Following.{caught_up_follows, claimed_follows, follows_itself, goes_on_itself, goes_on_through, over_is, phased_follows, recorded_follows}
 use Rattle.auction_book.proofs.Opening.{no_owner, no_version, opened_free, phased_free}
 use Rattle.auction_book.proofs.OtherChanges.{caught_up_free, caught_up_trimmed, claimed_free, recorded_free}
 use Rattle.auction_book.proofs.Places.{claimed_person}

@@ -1,5 +1,5 @@
 -- How the calls change a book.
-use Rattle.std.specs.Prelude.{ℕ, ℤ, ◌+◌, List, [], ◌∷◌, ◌++◌, Option, None, Some, cond, nat_le, min, drop, fold, replicate, slice_index}
+use Rattle.std.specs.Prelude.{ℕ, ◌+◌, List, [], ◌∷◌, ◌++◌, Option, None, Some, cond, nat_le, min, drop, fold, replicate, slice_index}
 use Rattle.assign_core.specs.Numbered.{numbered, renumbered}
 use Rattle.assign_core.specs.Hall.{HallLists}
 use Rattle.assign_core.specs.Matching.{owner_of}

@@ -8,3 +8,4 @@ pub mod Follows
 pub mod Answers
 pub mod Session
 pub mod Schedule
+pub mod Stored

@@ -24,14 +24,14 @@ IsPrepared b worker table version None = numbered b.claims worker None ≡ None
 IsPrepared b worker table version (Some offer) = (person : ℕ) × Holds b worker person × IsOffer b.base table version (ask_of b) person offer
 
 -- the Hall set of all that a person reaches was recorded, and the claim is over
-abbrev pub IsFound : BookData → ℕ → ℕ → BookData → Type 0
-IsFound b worker person new = (lists : HallLists) × IsRefuted b.base.problem b.owners person lists × (new ≡ recorded b worker person lists)
+abbrev pub IsReachRecorded : BookData → ℕ → ℕ → BookData → Type 0
+IsReachRecorded b worker person new = (lists : HallLists) × IsRefuted b.base.problem b.owners person lists × (new ≡ recorded b worker person lists)
 
 -- the prepared offer is submitted, or searched and recorded; no growth is refused
 abbrev pub Submits : BookData → ℕ → Option Offer → BookData → Type 0
 Submits b worker None new = new ≡ b
 Submits b worker (Some (made.Bid bid)) new = (answer : Result Accepted Refused) × (answer ≢ Err Memory) × IsSubmitted b worker bid answer new
-Submits b worker (Some (made.Below below)) new = IsFound b worker below.person new
+Submits b worker (Some (made.Below below)) new = IsReachRecorded b worker below.person new
 
 -- what stands where a growth was refused: the bid is refused, and a search changes nothing
 abbrev pub IsLeftUndone : BookData → ℕ → Option Offer → BookData → Type 0

@@ -52,50 +52,15 @@ pub struct Book {
 }
 
 impl Model for Book {
-    ghost use Rattle.std.specs.Prelude.{◌≡◌, ◌≤◌, count_by, length};
-    ghost use Rattle.std.specs.Arc.{arc_value};
-    ghost use Rattle.std.specs.VecDeque.{deque_capacity};
-    ghost use Rattle.auction_book.specs.Book.{BookData, is_some};
-    ghost use Rattle.auction_book.specs.Free.{IsFree};
+    ghost use Rattle.auction_book.specs.Book.{BookData};
 
     ghost Value = { BookData };
 
-    ghost view = { λ b. record {
-      base = arc_value b.scaled;
-      phase = b.phase;
-      eps = b.eps;
-      floor = b.floor;
-      start = b.start;
-      start_version = b.start_version;
-      owners = b.owners.items;
-      queue = b.queue.items;
-      claims = b.claims.items;
-      counts = b.counts.items;
-      taken = b.taken.items;
-      log = b.log;
-      refuted = b.refuted;
-      stopped = b.stopped;
-    } };
+    ghost use Rattle.auction_book.specs.Stored.{IsKept, book_of};
 
-    ghost invariant = { λ b. (length b.owners.items ≤ deque_capacity b.queue)
-        × (b.owned ≡ count_by is_some b.owners.items)
-        × (b.workers ≡ length b.claims.items)
-        × IsFree record {
-          base = arc_value b.scaled;
-          phase = b.phase;
-          eps = b.eps;
-          floor = b.floor;
-          start = b.start;
-          start_version = b.start_version;
-          owners = b.owners.items;
-          queue = b.queue.items;
-          claims = b.claims.items;
-          counts = b.counts.items;
-          taken = b.taken.items;
-          log = b.log;
-          refuted = b.refuted;
-          stopped = b.stopped;
-        } };
+    ghost view = { book_of };
+
+    ghost invariant = { IsKept };
 }
 
 // The person, if there is one, waits at the back of the queue.

@@ -76,6 +76,7 @@ fn attend(alloc: Global, book: &mut Book, seat: &mut Seat, event: Event) -> Resu
         × (seat.new ≡ seat_next event b seat.old)) }
 {
     let worker = event.worker;
+    // For the proof alone: the book is free.
     let _claim = book.claimed_by(worker);
     let offer = seat.offer.take();
     submit_offer(alloc, book, worker, offer)?;
@@ -174,6 +175,7 @@ pub fn run_schedule_from(
         (record { book = w.book; seats = w.seats.items })) }
     ensures fit { IfOk result (λ w. IsFit (record { book = w.book; seats = w.seats.items })) }
 {
+    // For the proof alone: the number of persons is in range, and the prices are a table.
     let _n = scaled.n();
     let _table = prices.as_slice();
     let mut seats = open_seats(alloc, &prices, workers)?;

@@ -12,7 +12,7 @@ ghost use Rattle.auction_book.specs.Phases.{is_over};
 ghost use Rattle.auction_book.specs.Submissions.{IsFitting, IsSubmitted};
 ghost use Rattle.auction_book.specs.declared.answers.Accepted.{Accepted};
 ghost use Rattle.auction_book.specs.declared.answers.Refused.{Refused};
-ghost use Rattle.auction_book.specs.Session.{IsFound, IsLeftUndone, IsPrepared, Submits, book_taken, next_if_over, prepared, table_taken, version_taken};
+ghost use Rattle.auction_book.specs.Session.{IsLeftUndone, IsPrepared, IsReachRecorded, Submits, book_taken, next_if_over, prepared, table_taken, version_taken};
 
 use super::answers::{Claim, Refused};
 use super::book::Book;
@@ -38,7 +38,7 @@ pub fn record_below(
     requires phase { below.phase ≡ book.old.phase }
     requires under { (q : List ℤ) × IsBelow q (prices_of book.old)
         × IsUnder (benefits_at book.old.base below.person) q book.old.floor }
-    ensures ok { OnOk result (IsFound book.old worker below.person book.new) }
+    ensures ok { OnOk result (IsReachRecorded book.old worker below.person book.new) }
     ensures err { OnErr result (book.new ≡ book.old) }
     ensures free { IsFree book.new }
 {
@@ -86,6 +86,7 @@ pub fn submit_offer(
     ensures err { OnErr result (IsLeftUndone book.old worker offer book.new) }
     ensures free { IsFree book.new }
 {
+    // For the proof alone: the book is free.
     let _claim = book.claimed_by(worker);
     match offer {
         None => Ok(()),
@@ -109,6 +110,7 @@ pub fn take_prices(
     ensures version { version.new ≡ version_taken catch_up book.old version.old }
     ensures free { IsFree book.new }
 {
+    // For the proof alone: the book is free.
     let _claim = book.claimed_by(worker);
     if catch_up {
         book.catch_up(worker, table, version);

@@ -40,6 +40,7 @@ fn open_with<O: Opening, R: Wait>(
     requires untouched { IsUntouched book }
     ensures { IfOk result (λ opened. opened.1.items ≡ new_desks opened.0 book (length book.claims)) }
 {
+    // For the proof alone: the book is free.
     let _workers = book.workers();
     let (queue, mut pass) = Queue::ruled(alloc, 1)?;
     let desks = seat_desks::<O>(alloc, &queue, &mut pass, &book)?;

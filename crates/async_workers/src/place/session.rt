@@ -85,6 +85,7 @@ fn hand_in(alloc: Global, book: &mut Book, worker: u16, offer: Option<Offer>) ->
     ensures handed_in { IsHandedIn book.old worker offer book.new result.note result.outcome }
     ensures free { IsFree book.new }
 {
+    // For the proof alone: the book is free.
     let _claim = book.claimed_by(worker);
     match offer {
         None => Submission {

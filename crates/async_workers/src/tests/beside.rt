@@ -1,14 +1,13 @@
 // Drawn orders of turns, leaves and stops beside plain workers, whose steps are calls of a book that
 // lies in no place.
-ghost use Rattle.std.specs.Prelude.{◌≡◌, ◌<◌, ◌≤ℤ◌, length, true, IfSome, Some};
-ghost use Rattle.std.specs.Arc.{arc_value};
+ghost use Rattle.std.specs.Prelude.{◌≡◌, length, true, IfSome, Some};
 ghost use Rattle.assign_core.specs.Numbered.{IsNumber};
 ghost use Rattle.assign_core.specs.Prices.{IsBelow};
-ghost use Rattle.scaled_values.specs.Scaled.{greatest_of};
 ghost use Rattle.auction_book.specs.Book.{prices_of};
 ghost use Rattle.auction_book.specs.Session.{IsPrepared};
+ghost use Rattle.async_workers.specs.PlaceRule.{IsUntouched};
 
-use super::drawn::is_book;
+use super::drawn::{Alike, all_alike, is_book};
 use super::*;
 use crate::place::Claimed;
 use auction_book::{begin_next_if_over, submit_offer};
@@ -233,22 +232,16 @@ fn plain_script(
     Ok(came)
 }
 
-fn is_plain(desk: &Desk, plain: &Plain) -> bool {
-    desk.number() == plain.number
-        && desk.table().as_slice() == plain.table.as_slice()
-        && desk.version() == plain.version
-        && desk.accepted() == plain.accepted
-        && desk.claim() == plain.claim
-        && desk.offer() == plain.offer
-        && desk.sessions() == plain.sessions
-}
-
-fn are_plain(desks: &[Desk], plain: &[Plain]) -> bool {
-    desks.len() == plain.len()
-        && desks
-            .iter()
-            .zip(plain.iter())
-            .all(|(desk, worker)| is_plain(desk, worker))
+impl Alike for Plain {
+    fn is_alike(&self, shown: &Shown) -> bool {
+        shown.number == self.number
+            && shown.table.as_slice() == self.table.as_slice()
+            && shown.version == self.version
+            && shown.accepted == self.accepted
+            && shown.claim == self.claim
+            && shown.offer == self.offer
+            && shown.sessions == self.sessions
+    }
 }
 
 // Who waits, in turn, once all claims are given up.
@@ -265,39 +258,66 @@ fn queue_of(alloc: Global, book: &mut Book) -> Result<Vec<Person>, AllocError> {
     Ok(queue)
 }
 
-// Whether the desks of a place and its book are those of plain workers once these steps were taken.
-// What came of the steps, if so.
+// Whether the closed book of a place is that of plain workers, with who waits.
+fn is_left(alloc: Global, story: &mut Story, other: &mut Book) -> Result<bool, AllocError> {
+    let Some(book) = &mut story.book else {
+        return Ok(false);
+    };
+    if !is_book(book, other) {
+        return Ok(false);
+    }
+    let queue = queue_of(alloc, book)?;
+    let waiting = queue_of(alloc, other)?;
+    Ok(queue.as_slice() == waiting.as_slice())
+}
+
+// What came of a script of plain workers, and they and their book after it.
+#[derive(Drop)]
+struct PlainStory {
+    came: Vec<u8>,
+    plain: Vec<Plain>,
+    book: Book,
+}
+
+fn plain_story(
+    alloc: Global,
+    mut book: Book,
+    script: &[u8],
+    refresh: u64,
+) -> Result<PlainStory, AllocError> {
+    let mut plain = open_plain(alloc, book.prices(), book.workers())?;
+    let came = plain_script(alloc, &mut book, plain.as_mut_slice(), script, refresh)?;
+    Ok(PlainStory { came, plain, book })
+}
+
+// Whether a story of desks is that of plain workers. What came of it is added to what came before.
+fn is_told(
+    alloc: Global,
+    story: &mut Story,
+    told: &mut PlainStory,
+    came: &mut Vec<u8>,
+) -> Result<bool, AllocError> {
+    came.extend_from_slice(story.came.as_slice())?;
+    let same = story.came.as_slice() == told.came.as_slice();
+    let seated = all_alike(story.shown.as_slice(), told.plain.as_slice());
+    let left = is_left(alloc, story, &mut told.book)?;
+    Ok(same && seated && left)
+}
+
+// Whether the desks of a place with this book are alike to plain workers with the other one in all that
+// they show once these steps were taken.
 pub(super) fn agrees<R: Wait>(
     rt: &R,
     alloc: Global,
-    scaled: &Arc<Scaled>,
-    prices: &Prices,
+    book: Book,
+    other: Book,
     script: &[u8],
-    workers: u16,
     refresh: u64,
-) -> Result<Option<Vec<u8>>, AllocError>
-    requires workers { 0 < workers }
-    requires long { length prices.now ≡ length (arc_value scaled.now).problem }
-    requires low { greatest_of prices.now ≤ℤ GREATEST_FIRST_PRICE }
+    came: &mut Vec<u8>,
+) -> Result<bool, AllocError>
+    requires { IsUntouched book }
 {
-    let mut other = Book::open_from(alloc, Arc::try_clone(scaled)?, prices.copy(alloc)?, workers)?;
-    let mut plain = open_plain(alloc, prices, workers)?;
-    let told = plain_script(alloc, &mut other, plain.as_mut_slice(), script, refresh)?;
-    let (place, desks) = opened(
-        rt,
-        alloc,
-        Arc::try_clone(scaled)?,
-        prices.copy(alloc)?,
-        workers,
-    )?;
-    let (desks, came) = run_script(rt, alloc, &place, desks, script, refresh, &OpenGate)?;
-    let seated = are_plain(desks.as_slice(), plain.as_slice());
-    let Some(mut book) = closed(rt, place, desks) else {
-        return Ok(None);
-    };
-    let same = seated
-        && came.as_slice() == told.as_slice()
-        && is_book(alloc, &book, &other)?
-        && queue_of(alloc, &mut book)?.as_slice() == queue_of(alloc, &mut other)?.as_slice();
-    Ok(if same { Some(came) } else { None })
+    let mut told = plain_story(alloc, other, script, refresh)?;
+    let mut story = played(rt, alloc, book, script, refresh)?;
+    is_told(alloc, &mut story, &mut told, came)
 }

@@ -5,54 +5,17 @@ ghost use Rattle.std.specs.Arc.{arc_value};
 ghost use Rattle.assign_core.specs.Rows.{IsSize};
 ghost use Rattle.scaled_values.specs.Scaled.{greatest_of};
 
+use super::problems::{drawn_pairs, drawn_prices, drawn_sense, next, scaled_of, size};
 use super::*;
 use auction_book::{Event, Refused, Seat, World, run_schedule_from};
 use std::test::Fail;
-
-// The next number of a congruential generator, by its high bits.
-fn next_number(seed: &mut u64) -> u64 {
-    *seed = seed
-        .wrapping_mul(6364136223846793005)
-        .wrapping_add(1442695040888963407);
-    *seed >> 33
-}
-
-// Some pairs of n persons.
-fn drawn_pairs(alloc: Global, seed: &mut u64, n: u16) -> Result<Vec<Pair>, AllocError> {
-    let range = if next_number(seed) % 2 == 0 { 4 } else { 1000 };
-    let share = next_number(seed) % 3 + 2;
-    let mut pairs = Vec::new(alloc);
-    for i in 1..=n {
-        for j in 1..=n {
-            let cost = (next_number(seed) % range) as i64 - 2;
-            if next_number(seed) % 4 < share {
-                pairs.push((i, j, cost))?;
-            }
-        }
-    }
-    Ok(pairs)
-}
-
-// First prices, all 0 or not.
-fn drawn_prices(alloc: Global, seed: &mut u64, n: u16) -> Result<Prices, AllocError>
-    requires { IsSize n }
-    ensures long { IfOk result (λ prices. length prices ≡ n) }
-    ensures low { IfOk result (λ prices. greatest_of prices ≤ℤ GREATEST_FIRST_PRICE) }
-{
-    let range = if next_number(seed) % 2 == 0 { 1 } else { 50 };
-    let mut given = Vec::new(alloc);
-    for _ in 0..n {
-        given.push(i128::from(next_number(seed) % range))?;
-    }
-    first_prices(alloc, n, given.as_slice())
-}
 
 // A turn; or now and then a leave, and seldom a stop.
 fn drawn_step(seed: &mut u64, leaving: bool) -> u8 {
     if !leaving {
         return b't';
     }
-    match next_number(seed) % 60 {
+    match next(seed, 60) {
         0 => b's',
         1..=8 => b'l',
         _ => b't',
@@ -71,7 +34,7 @@ fn drawn_script(
 {
     let mut script = Vec::new(alloc);
     for _ in 0..count {
-        let worker = (next_number(seed) % u64::from(workers) % 9) as u8;
+        let worker = (next(seed, workers) % 9) as u8;
         script.push(worker.wrapping_add(b'1'))?;
         script.push(drawn_step(seed, leaving))?;
     }
@@ -102,19 +65,27 @@ fn events_of(
     Ok(events)
 }
 
-fn is_seat(desk: &Desk, seat: &Seat) -> bool {
-    desk.table().as_slice() == seat.table.as_slice()
-        && desk.version() == seat.version
-        && desk.offer() == seat.offer
-        && desk.accepted() == seat.accepted
+// What a worker has in another telling of the same steps.
+pub(super) trait Alike {
+    // Whether its desk shows the same.
+    fn is_alike(&self, shown: &Shown) -> bool;
 }
 
-fn are_seats(desks: &[Desk], seats: &[Seat]) -> bool {
-    desks.len() == seats.len()
-        && desks
+pub(super) fn all_alike<T: Alike>(shown: &[Shown], others: &[T]) -> bool {
+    shown.len() == others.len()
+        && shown
             .iter()
-            .zip(seats.iter())
-            .all(|(desk, seat)| is_seat(desk, seat))
+            .zip(others.iter())
+            .all(|(desk, other)| other.is_alike(desk))
+}
+
+impl Alike for Seat {
+    fn is_alike(&self, shown: &Shown) -> bool {
+        shown.table.as_slice() == self.table.as_slice()
+            && shown.version == self.version
+            && shown.offer == self.offer
+            && shown.accepted == self.accepted
+    }
 }
 
 fn is_hall(hall: Option<&HallSet>, other: Option<&HallSet>) -> bool {
@@ -136,57 +107,82 @@ fn is_phase(book: &Book, other: &Book) -> bool {
         && is_hall(book.refuted(), other.refuted())
 }
 
-pub(super) fn is_book(alloc: Global, book: &Book, other: &Book) -> Result<bool, AllocError> {
-    let held = held_by(alloc, book)?;
-    let accepted = accepted_by(alloc, book)?;
-    Ok(
-        book.prices().as_slice() == other.prices().as_slice()
-            && book.version() == other.version()
-            && book.owners() == other.owners()
-            && book.ask() == other.ask()
-            && is_phase(book, other)
-            && held.as_slice() == held_by(alloc, other)?.as_slice()
-            && accepted.as_slice() == accepted_by(alloc, other)?.as_slice(),
-    )
+// Whether the workers of two books have the same claims and acceptances.
+fn are_claims(book: &Book, other: &Book) -> bool {
+    for before in 0..book.workers() {
+        let worker = before + 1;
+        if worker > other.workers()
+            || book.claimed_by(worker) != other.claimed_by(worker)
+            || book.accepted_by(worker) != other.accepted_by(worker)
+        {
+            return false;
+        }
+    }
+    book.workers() == other.workers()
+}
+
+pub(super) fn is_book(book: &Book, other: &Book) -> bool {
+    book.prices().as_slice() == other.prices().as_slice()
+        && book.version() == other.version()
+        && book.owners() == other.owners()
+        && book.ask() == other.ask()
+        && is_phase(book, other)
+        && are_claims(book, other)
+}
+
+fn is_world(story: &Story, world: &World) -> bool {
+    match &story.book {
+        Some(book) => {
+            all_alike(story.shown.as_slice(), world.seats.as_slice()) && is_book(book, &world.book)
+        }
+        None => false,
+    }
+}
+
+// Whether a story is the core's run of the events of which its gate was told.
+fn is_run(
+    alloc: Global,
+    scaled: &Arc<Scaled>,
+    prices: &Prices,
+    workers: u16,
+    refresh: u64,
+    story: &Story,
+) -> Result<bool, AllocError>
+    requires workers { 0 < workers }
+    requires long { length prices.now ≡ length (arc_value scaled.now).problem }
+    requires low { greatest_of prices.now ≤ℤ GREATEST_FIRST_PRICE }
+{
+    let events = events_of(alloc, story.heard.as_slice(), workers, refresh)?;
+    let scaled = Arc::try_clone(scaled)?;
+    let prices = prices.copy(alloc)?;
+    let world = run_schedule_from(alloc, scaled, prices, workers, events.as_slice())?;
+    Ok(is_world(story, &world))
 }
 
 // Whether desks and book are those of the core's world once these turns were taken.
 fn agrees<R: Wait>(
     rt: &R,
     alloc: Global,
-    scaled: Arc<Scaled>,
-    prices: Prices,
-    script: &[u8],
+    scaled: &Arc<Scaled>,
+    prices: &Prices,
     workers: u16,
+    script: &[u8],
     refresh: u64,
 ) -> Result<bool, AllocError>
     requires workers { 0 < workers }
-    requires long { length prices ≡ length (arc_value scaled).problem }
-    requires low { greatest_of prices ≤ℤ GREATEST_FIRST_PRICE }
+    requires long { length prices.now ≡ length (arc_value scaled.now).problem }
+    requires low { greatest_of prices.now ≤ℤ GREATEST_FIRST_PRICE }
 {
-    let first = prices.copy(alloc)?;
-    let same = Arc::try_clone(&scaled)?;
-    let (place, desks) = opened(rt, alloc, scaled, prices, workers)?;
-    let gate = Listener {
-        heard: RefCell::new(Vec::new(alloc)),
-    };
-    let (desks, _came) = run_script(rt, alloc, &place, desks, script, refresh, &gate)?;
-    let events = match gate.heard.try_borrow() {
-        Ok(heard) => events_of(alloc, heard.as_slice(), workers, refresh)?,
-        Err(_) => return Ok(false),
-    };
-    let World { book: other, seats } = run_schedule_from(
-        alloc,
-        same,
-        first,
-        workers,
-        events.as_slice(),
-    )?;
-    let seated = are_seats(desks.as_slice(), seats.as_slice());
-    match closed(rt, place, desks) {
-        Some(book) => Ok(seated && is_book(alloc, &book, &other)?),
-        None => Ok(false),
-    }
+    let book = new_book(alloc, scaled, prices, workers)?;
+    let story = played(rt, alloc, book, script, refresh)?;
+    is_run(alloc, scaled, prices, workers, refresh, &story)
+}
+
+// The script without so many of its last letters.
+fn front_of(script: &[u8], letters: usize) -> &[u8] {
+    script
+        .get(..script.len().saturating_sub(letters))
+        .unwrap_or(script)
 }
 
 // Whether desks and book are those of plain workers after a script, and after some of its fronts. What
@@ -194,30 +190,40 @@ fn agrees<R: Wait>(
 fn fronts_agree<R: Wait>(
     rt: &R,
     alloc: Global,
+    script: &[u8],
+    came: &mut Vec<u8>,
     scaled: &Arc<Scaled>,
     prices: &Prices,
-    script: &[u8],
     workers: u16,
     refresh: u64,
-    came: &mut Vec<u8>,
 ) -> Result<bool, AllocError>
     requires workers { 0 < workers }
     requires long { length prices.now ≡ length (arc_value scaled.now).problem }
     requires low { greatest_of prices.now ≤ℤ GREATEST_FIRST_PRICE }
 {
+    let before = came.len();
     for part in 0..5 {
-        let front = script
-            .get(..script.len().saturating_sub(16 * part))
-            .unwrap_or(script);
-        let Some(letters) = beside::agrees(rt, alloc, scaled, prices, front, workers, refresh)?
-        else {
+        let front = front_of(script, 16 * (4 - part));
+        let book = new_book(alloc, scaled, prices, workers)?;
+        let other = new_book(alloc, scaled, prices, workers)?;
+        came.truncate(before);
+        if !beside::agrees(rt, alloc, book, other, front, refresh, came)? {
             return Ok(false);
-        };
-        if part == 0 {
-            came.extend_from_slice(letters.as_slice())?;
         }
     }
     Ok(true)
+}
+
+// A problem at few different costs or at many.
+fn drawn_problem(alloc: Global, seed: &mut u64, n: u16) -> Result<Arc<Scaled>, AllocError>
+    requires { IsSize n }
+    ensures { IfOk result (λ scaled. length (arc_value scaled).problem ≡ n) }
+{
+    let sense = drawn_sense(seed);
+    let costs = if next(seed, 2) == 0 { 4 } else { 1000 };
+    let share = next(seed, 3) + 2;
+    let pairs = drawn_pairs(alloc, seed, n, share, costs)?;
+    scaled_of(alloc, n, pairs.as_slice(), sense)
 }
 
 // One drawn problem with a drawn order of turns, or of turns, leaves and stops.
@@ -228,32 +234,19 @@ fn drawn_agrees<R: Wait>(
     leaving: bool,
     came: &mut Vec<u8>,
 ) -> Result<bool, AllocError> {
-    let n = size((next_number(seed) % 5) as u16 + 1);
-    let workers = (next_number(seed) % 4) as u16 + 1;
-    let refresh = next_number(seed) % 4;
-    let sense = if next_number(seed) % 2 == 0 {
-        Sense::Min
-    } else {
-        Sense::Max
-    };
-    let pairs = drawn_pairs(alloc, seed, n)?;
-    let scaled = problem_of(alloc, n, pairs.as_slice(), sense)?;
+    let n = size(next(seed, 5) + 1);
+    let workers = next(seed, 4) + 1;
+    let refresh = u64::from(next(seed, 4));
+    let scaled = drawn_problem(alloc, seed, n)?;
     let prices = drawn_prices(alloc, seed, n)?;
-    let steps = (next_number(seed) % 8) as u16 + 33;
+    let steps = next(seed, 8) + 33;
     let script = drawn_script(alloc, seed, workers, steps, leaving)?;
+    let script = script.as_slice();
     if leaving {
-        let script = script.as_slice();
-        return fronts_agree(rt, alloc, &scaled, &prices, script, workers, refresh, came);
+        fronts_agree(rt, alloc, script, came, &scaled, &prices, workers, refresh)
+    } else {
+        agrees(rt, alloc, &scaled, &prices, workers, script, refresh)
     }
-    agrees(
-        rt,
-        alloc,
-        scaled,
-        prices,
-        script.as_slice(),
-        workers,
-        refresh,
-    )
 }
 
 // How many of so many drawn orders agree.

@@ -1,36 +1,45 @@
 // Turns worked by hand: persons 1 and 2 list objects 1 and 2 at costs 1, 2 and 3, 5.
+ghost use Rattle.std.specs.Prelude.{◌<◌, All, IfOk};
+ghost use Rattle.async_workers.specs.PlaceRule.{IsUntouched};
+ghost use Rattle.async_workers.specs.Turns.{CanTurn};
+
+use super::problems::{Pair, first_prices, scaled_of};
 use super::*;
 use auction_book::Refused;
 use std::test::Fail;
 
 const PAIRS: [Pair; 4] = [(1, 1, 1), (1, 2, 2), (2, 1, 3), (2, 2, 5)];
 
-// What came of a script: its letters, what the gate was told, and the book of the closed place.
-#[derive(Drop)]
-struct Story {
-    came: Vec<u8>,
-    heard: Vec<u8>,
-    book: Option<Book>,
+// What is to come of a script: its letters, what the gate is told, and the prices, the acceptances and
+// the claims of the book in the end.
+#[derive(Clone, Copy)]
+struct Wanted {
+    came: &'static str,
+    heard: &'static str,
+    prices: [Price; 2],
+    accepted: [u128; 2],
+    held: [u16; 2],
 }
 
-// A script of two desks on that problem.
-fn played<R: Wait>(rt: &R, alloc: Global, script: &str, refresh: u64) -> Result<Story, AllocError> {
-    let scaled = problem_of(alloc, 2, PAIRS.as_slice(), Sense::Min)?;
+// A book of that problem.
+fn book_of(alloc: Global, workers: u16) -> Result<Book, AllocError>
+    requires { 0 < workers }
+    ensures { IfOk result IsUntouched }
+{
+    let scaled = scaled_of(alloc, 2, PAIRS.as_slice(), Sense::Min)?;
     let prices = first_prices(alloc, 2, &[])?;
-    let (place, desks) = opened(rt, alloc, scaled, prices, 2)?;
-    let gate = Listener {
-        heard: RefCell::new(Vec::new(alloc)),
-    };
-    let (desks, came) = run_script(rt, alloc, &place, desks, script.as_bytes(), refresh, &gate)?;
-    let heard = match gate.heard.try_borrow() {
-        Ok(heard) => letters_of(alloc, heard.as_slice())?,
-        Err(_) => Vec::new(alloc),
-    };
-    Ok(Story {
-        came,
-        heard,
-        book: closed(rt, place, desks),
-    })
+    new_book(alloc, &scaled, &prices, workers)
+}
+
+// A script of two desks.
+fn story_of<R: Wait>(
+    rt: &R,
+    alloc: Global,
+    script: &str,
+    refresh: u64,
+) -> Result<Story, AllocError> {
+    let book = book_of(alloc, 2)?;
+    played(rt, alloc, book, script.as_bytes(), refresh)
 }
 
 fn digit(number: u64) -> u8 {
@@ -70,76 +79,194 @@ fn sign_of(note: Note) -> u8 {
     }
 }
 
-// Whether the book of a story has these prices, acceptances and claims.
-fn is_left(
+// The persons whom workers 1, 2, .. of a book hold.
+fn held_by(alloc: Global, book: &Book) -> Result<Vec<u16>, AllocError> {
+    let mut held = Vec::new(alloc);
+    for worker in 0..book.workers() {
+        let person = match book.claimed_by(worker + 1) {
+            Some(person) => person.0,
+            None => 0,
+        };
+        held.push(person)?;
+    }
+    Ok(held)
+}
+
+// How many bids of workers 1, 2, .. a book has accepted.
+fn accepted_by(alloc: Global, book: &Book) -> Result<Vec<u128>, AllocError> {
+    let mut accepted = Vec::new(alloc);
+    for worker in 0..book.workers() {
+        accepted.push(book.accepted_by(worker + 1))?;
+    }
+    Ok(accepted)
+}
+
+// What of a story isn't as it is to be, if anything.
+fn fault_of(alloc: Global, story: &Story, wanted: &Wanted) -> Result<&'static str, AllocError> {
+    let heard = letters_of(alloc, story.heard.as_slice())?;
+    if story.came.as_slice() != wanted.came.as_bytes() {
+        Ok("came")
+    } else if heard.as_slice() != wanted.heard.as_bytes() {
+        Ok("heard")
+    } else {
+        book_fault_of(alloc, story, wanted)
+    }
+}
+
+fn book_fault_of(
     alloc: Global,
     story: &Story,
-    prices: &[Price],
-    accepted: &[u128],
-    held: &[u16],
-) -> Result<bool, AllocError> {
-    match &story.book {
-        Some(book) => Ok(
-            book.prices().as_slice() == prices
-                && accepted_by(alloc, book)?.as_slice() == accepted
-                && held_by(alloc, book)?.as_slice() == held,
-        ),
-        None => Ok(false),
+    wanted: &Wanted,
+) -> Result<&'static str, AllocError> {
+    let Some(book) = &story.book else {
+        return Ok("no book");
+    };
+    let accepted = accepted_by(alloc, book)?;
+    let held = held_by(alloc, book)?;
+    if book.prices().as_slice() != wanted.prices.as_slice() {
+        Ok("prices")
+    } else if accepted.as_slice() != wanted.accepted.as_slice() {
+        Ok("accepted")
+    } else if held.as_slice() != wanted.held.as_slice() {
+        Ok("held")
+    } else {
+        Ok("")
     }
+}
+
+// What of these wants a script doesn't meet, if anything.
+fn fault<R: Wait>(
+    rt: &R,
+    alloc: Global,
+    script: &str,
+    refresh: u64,
+    wanted: &Wanted,
+) -> Result<&'static str, AllocError> {
+    let story = story_of(rt, alloc, script, refresh)?;
+    fault_of(alloc, &story, wanted)
 }
 
 #[test]
 fn a_worker_leaves_and_the_other_ends(rt: HostRuntime) -> Result<(), Fail> {
-    let alloc = rt.alloc();
-    let story = played(&rt, alloc, "1t 1l 1l 2t 2t 2t 2t 2t 2t", 1)?;
-    assert_eq!(rt; story.came.as_slice(), "CynCCCCCD".as_bytes());
-    let heard = "1-1o2-2o2s12+2o2s22+2o2s32+2o2s42+2o2s52+";
-    assert_eq!(rt; story.heard.as_slice(), heard.as_bytes());
-    assert!(rt; is_left(alloc, &story, &[14, 12], &[0, 5], &[0, 0])?);
+    let wanted = Wanted {
+        came: "CynCCCCCD",
+        heard: "1-1o2-2o2s12+2o2s22+2o2s32+2o2s42+2o2s52+",
+        prices: [14, 12],
+        accepted: [0, 5],
+        held: [0, 0],
+    };
+    let script = "1t 1l 1l 2t 2t 2t 2t 2t 2t";
+    assert_eq!(rt; fault(&rt, rt.alloc(), script, 1, &wanted)?, "");
     Ok(())
 }
 
 #[test]
 fn a_stop_leaves_a_prepared_bid(rt: HostRuntime) -> Result<(), Fail> {
-    let alloc = rt.alloc();
-    let story = played(&rt, alloc, "1t 2t 1s 2t 1t", 1)?;
-    assert_eq!(rt; story.came.as_slice(), "CCaSS".as_bytes());
-    assert_eq!(rt; story.heard.as_slice(), "1-1o2-2o2s12+1-".as_bytes());
-    assert!(rt; is_left(alloc, &story, &[8, 0], &[0, 1], &[0, 0])?);
+    let wanted = Wanted {
+        came: "CCaSS",
+        heard: "1-1o2-2o2s12+1-",
+        prices: [8, 0],
+        accepted: [0, 1],
+        held: [0, 0],
+    };
+    assert_eq!(rt; fault(&rt, rt.alloc(), "1t 2t 1s 2t 1t", 1, &wanted)?, "");
     Ok(())
 }
 
 #[test]
 fn an_old_table_is_told_the_price(rt: HostRuntime) -> Result<(), Fail> {
-    let alloc = rt.alloc();
-    let story = played(&rt, alloc, "1t 2t 2t 1t 2l", 0)?;
-    assert_eq!(rt; story.came.as_slice(), "CCICn".as_bytes());
-    assert_eq!(rt; story.heard.as_slice(), "1-1o2-2o2s12+1s11<1o".as_bytes());
-    assert!(rt; is_left(alloc, &story, &[8, 0], &[0, 1], &[1, 0])?);
+    let wanted = Wanted {
+        came: "CCICn",
+        heard: "1-1o2-2o2s12+1s11<1o",
+        prices: [8, 0],
+        accepted: [0, 1],
+        held: [1, 0],
+    };
+    assert_eq!(rt; fault(&rt, rt.alloc(), "1t 2t 2t 1t 2l", 0, &wanted)?, "");
     Ok(())
+}
+
+// Whom worker 1 claims next from the book of the closed place once all claims are given up, and whom
+// the workers hold then.
+fn claimed_anew<R: Wait>(
+    rt: &R,
+    alloc: Global,
+    script: &str,
+) -> Result<Option<(Option<Person>, Vec<u16>)>, AllocError> {
+    let Story { book, .. } = story_of(rt, alloc, script, 1)?;
+    let Some(mut book) = book else {
+        return Ok(None);
+    };
+    give_all_up(&mut book);
+    let person = next_person(&mut book);
+    Ok(Some((person, held_by(alloc, &book)?)))
 }
 
 #[test]
 fn a_claim_outlives_its_place(rt: HostRuntime) -> Result<(), Fail> {
-    let alloc = rt.alloc();
-    let mut story = played(&rt, alloc, "1t 2t", 1)?;
-    assert!(rt; is_left(alloc, &story, &[0, 0], &[0, 0], &[1, 2])?);
-    if let Some(book) = &mut story.book {
-        give_all_up(book);
-        assert_eq!(rt; next_person(book), Some(Person(1)));
-        assert_eq!(rt; held_by(alloc, book)?.as_slice(), [1, 0].as_slice());
-    }
+    let wanted = Wanted {
+        came: "CC",
+        heard: "1-1o2-2o",
+        prices: [0, 0],
+        accepted: [0, 0],
+        held: [1, 2],
+    };
+    assert_eq!(rt; fault(&rt, rt.alloc(), "1t 2t", 1, &wanted)?, "");
+    let Some((person, held)) = claimed_anew(&rt, rt.alloc(), "1t 2t")? else {
+        panic!(rt; "no book");
+    };
+    assert_eq!(rt; person, Some(Person(1)));
+    assert_eq!(rt; held.as_slice(), [1, 0].as_slice());
     Ok(())
+}
+
+// The prices of the book that a desk finds in the place.
+fn look<R: Wait>(
+    rt: &R,
+    alloc: Global,
+    place: &BookPlace,
+    desk: &mut Desk,
+) -> Result<Vec<Price>, AllocError>
+    requires { CanTurn place.now desk.old }
+{
+    let held = desk.take(rt, place);
+    let prices = held.book().prices().as_slice().to_vec(alloc);
+    held.give(rt, place, desk);
+    prices
+}
+
+// The table of the first desk, and the prices of the book that it finds in the place.
+fn prices_found<R: Wait>(
+    rt: &R,
+    alloc: Global,
+    place: &BookPlace,
+    mut desks: Vec<Desk>,
+) -> Result<Option<(Vec<Price>, Vec<Price>)>, AllocError>
+    requires { All (CanTurn place.now) desks.items }
+{
+    if desks.is_empty() {
+        return Ok(None);
+    }
+    let own = desks[0].table().as_slice().to_vec(alloc)?;
+    let found = look(rt, alloc, place, &mut desks[0])?;
+    Ok(Some((own, found)))
+}
+
+// The same after a script of one desk.
+fn prices_after<R: Wait>(
+    rt: &R,
+    alloc: Global,
+    script: &str,
+) -> Result<Option<(Vec<Price>, Vec<Price>)>, AllocError> {
+    let book = book_of(alloc, 1)?;
+    let (place, desks) = opened(rt, alloc, book)?;
+    let (desks, _came) = run_script(rt, alloc, &place, desks, script.as_bytes(), 0, &OpenGate)?;
+    prices_found(rt, alloc, &place, desks)
 }
 
 #[test]
 fn the_next_book_has_the_own_raise(rt: HostRuntime) -> Result<(), Fail> {
-    let alloc = rt.alloc();
-    let scaled = problem_of(alloc, 2, PAIRS.as_slice(), Sense::Min)?;
-    let prices = first_prices(alloc, 2, &[])?;
-    let (place, desks) = opened(&rt, alloc, scaled, prices, 1)?;
-    let (desks, _came) = run_script(&rt, alloc, &place, desks, "1t1t".as_bytes(), 0, &OpenGate)?;
-    let Some((own, found)) = prices_found(&rt, alloc, &place, desks)? else {
+    let Some((own, found)) = prices_after(&rt, rt.alloc(), "1t1t")? else {
         panic!(rt; "no desk");
     };
     assert_eq!(rt; own.as_slice(), [0, 0].as_slice());

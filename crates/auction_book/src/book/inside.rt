@@ -1,6 +1,6 @@
 // What tests see of a book beside what everybody does.
 use super::Book;
-use assign_core::{Person, Prices};
+use assign_core::{Object, Person, Price, Prices};
 use std::alloc::{AllocError, Global};
 
 impl Book {
@@ -26,5 +26,28 @@ impl Book {
     // The version at the phase's start.
     pub(crate) fn start_version(&self) -> u128 {
         self.start_version
+    }
+
+    // Whether the answer is of these objects and prices.
+    pub(crate) fn answers(
+        &self,
+        alloc: Global,
+        objects: &[Object],
+        prices: &[Price],
+    ) -> Result<bool, AllocError> {
+        match self.answer(alloc)? {
+            Some(found) => Ok(
+                found.assignment.objects() == objects && found.prices.as_slice() == prices,
+            ),
+            None => Ok(false),
+        }
+    }
+
+    // Whether this Hall set is recorded.
+    pub(crate) fn records(&self, persons: &[Person], objects: &[Object]) -> bool {
+        match self.refuted() {
+            Some(hall) => hall.persons() == persons && hall.objects() == objects,
+            None => false,
+        }
     }
 }

@@ -75,6 +75,7 @@ impl Book {
         requires { IsNumber (length self.now.claims) worker }
         ensures { result ≡ numbered self.now.counts worker 0 }
     {
+        // For the proof alone: opens the model, by which there are as many counts as claims.
         let _claim = &self.claims;
         self.counts[worker as usize - 1]
     }

@@ -1,5 +1,5 @@
 // Calls of a book by workers with tables of their own, each where its conditions are met.
-ghost use Rattle.std.specs.Prelude.{◌≡◌, IfOk, All, length};
+ghost use Rattle.std.specs.Prelude.{◌≡◌, All, IfOk, length};
 ghost use Rattle.assign_core.specs.Numbered.{IsNumber};
 ghost use Rattle.assign_core.specs.Prices.{IsBelow};
 ghost use Rattle.bidder.specs.Offers.{IsSound, IsSoundOffer};
@@ -22,8 +22,17 @@ pub(crate) struct Desk {
     pub version: u128,
 }
 
+// A book and the desks of its workers.
+#[derive(Drop)]
+pub(crate) struct Office {
+    pub book: Book,
+    pub desks: Vec<Desk>,
+    ghost below: { All (λ d. IsBelow d.table (prices_of book)) desks.items },
+    ghost earlier: { All (λ d. IsEarlier book.log d.table d.version) desks.items },
+}
+
 // How what a worker brings differs from what it should bring.
-#[derive(Clone, Copy, Debug, PartialEq, Eq)]
+#[derive(Clone, Copy, PartialEq, Eq)]
 pub(crate) enum Slip {
     Nothing,
     // It names another phase.
@@ -33,7 +42,7 @@ pub(crate) enum Slip {
 }
 
 // A call, by some worker.
-#[derive(Clone, Copy, Debug, PartialEq, Eq)]
+#[derive(Clone, Copy, PartialEq, Eq)]
 pub(crate) enum Call {
     Claim,
     // The bid of the claimed person, from the worker's table.
@@ -48,7 +57,7 @@ pub(crate) enum Call {
 }
 
 // What a call answers, in plain numbers.
-#[derive(Clone, Copy, Debug, PartialEq, Eq)]
+#[derive(Clone, Copy, PartialEq, Eq)]
 pub(crate) enum Told {
     // The call's conditions aren't met, so it wasn't made.
     Unasked,
@@ -160,12 +169,10 @@ pub(crate) fn offered(book: &Book, desk: &Desk, person: Person) -> Offer
 }
 
 // The same from the table of a worker, if there is one.
-pub(crate) fn offer_of(book: &Book, desks: &[Desk], worker: u16, person: u16) -> Option<Offer>
-    requires { All (λ d. IsBelow d.table (prices_of book.now)) desks.now }
-{
-    let desk = desks.get((worker as usize).wrapping_sub(1))?;
-    let person = Person(number(book.scaled().n(), person));
-    Some(offered(book, desk, person))
+pub(crate) fn offer_of(office: &Office, worker: u16, person: u16) -> Option<Offer> {
+    let desk = office.desks.get((worker as usize).wrapping_sub(1))?;
+    let person = Person(number(office.book.scaled().n(), person));
+    Some(offered(&office.book, desk, person))
 }
 
 fn submit_bid(book: &mut Book, desk: &Desk, worker: u16, bid: Bid) -> Told
@@ -174,6 +181,7 @@ fn submit_bid(book: &mut Book, desk: &Desk, worker: u16, bid: Bid) -> Told
     requires sound { IsSound book.old.base (ask_of book.old) desk.now.table bid }
     ensures { GoesOn book.old book.new }
 {
+    // For the proof alone: the book is free.
     let _claim = book.claimed_by(worker);
     let Bid { object, level, .. } = bid;
     told_bid(object, level, book.submit(worker, bid))
@@ -205,6 +213,7 @@ pub(crate) fn submit_untimely(book: &mut Book, worker: u16, bid: Bid) -> Told
     requires { IsNumber (length book.old.claims) worker }
     ensures { GoesOn book.old book.new }
 {
+    // For the proof alone: the book is free.
     let _claim = book.claimed_by(worker);
     if bid.phase == book.ask().phase {
         return Told::Unasked;
@@ -220,7 +229,7 @@ pub(crate) fn below(
     slip: Slip,
 ) -> Result<Told, AllocError>
     requires { IsNumber (length book.old.claims) worker }
-    ensures { IfOk result (λ _. GoesOn book.old book.new) }
+    ensures { GoesOn book.old book.new }
 {
     let Some(person) = book.claimed_by(worker) else {
         return Ok(Told::Unasked);
@@ -236,7 +245,7 @@ pub(crate) fn below(
 }
 
 fn next_phase(alloc: Global, book: &mut Book) -> Result<Told, AllocError>
-    ensures { IfOk result (λ _. GoesOn book.old book.new) }
+    ensures { GoesOn book.old book.new }
 {
     if !book.phase_over() {
         return Ok(Told::Unasked);
@@ -277,7 +286,7 @@ fn call_at(
 ) -> Result<Told, AllocError>
     requires worker { IsNumber (length book.old.claims) worker }
     requires below { IsBelow desk.now.table (prices_of book.old) }
-    ensures { IfOk result (λ _. GoesOn book.old book.new) }
+    ensures { GoesOn book.old book.new }
 {
     match call {
         Call::Claim => Ok(claim(book, worker)),
@@ -298,6 +307,7 @@ fn catch_up(book: &mut Book, desk: &mut Desk, worker: u16) -> Told
     ensures below { IsBelow desk.new.table (prices_of book.new) }
     ensures earlier { IsEarlier book.new.log desk.new.table desk.new.version }
 {
+    // For the proof alone: the book is free.
     let _claim = book.claimed_by(worker);
     book.catch_up(worker, &mut desk.table, &mut desk.version);
     Told::Nothing
@@ -313,10 +323,11 @@ fn call_by(
     requires worker { IsNumber (length book.old.claims) worker }
     requires below { IsBelow desk.old.table (prices_of book.old) }
     requires earlier { IsEarlier book.old.log desk.old.table desk.old.version }
-    ensures on { IfOk result (λ _. GoesOn book.old book.new) }
-    ensures below { IfOk result (λ _. IsBelow desk.new.table (prices_of book.new)) }
-    ensures earlier { IfOk result (λ _. IsEarlier book.new.log desk.new.table desk.new.version) }
+    ensures on { GoesOn book.old book.new }
+    ensures below { IsBelow desk.new.table (prices_of book.new) }
+    ensures earlier { IsEarlier book.new.log desk.new.table desk.new.version }
 {
+    // For the proof alone: the book is free.
     let _claim = book.claimed_by(worker);
     if call == Call::CatchUp {
         return Ok(catch_up(book, desk, worker));
@@ -327,24 +338,19 @@ fn call_by(
 // A call by a worker, if there is such a worker.
 pub(crate) fn call_of(
     alloc: Global,
-    book: &mut Book,
-    desks: &mut [Desk],
+    office: &mut Office,
     worker: u16,
     call: Call,
-) -> Result<Told, AllocError>
-    requires below { All (λ d. IsBelow d.table (prices_of book.old)) desks.old }
-    requires earlier { All (λ d. IsEarlier book.old.log d.table d.version) desks.old }
-    ensures below { IfOk result (λ _. All (λ d. IsBelow d.table (prices_of book.new)) desks.new) }
-    ensures earlier { IfOk result (λ _. All (λ d. IsEarlier book.new.log d.table d.version) desks.new) }
-{
-    if worker == 0 || worker > book.workers() || worker as usize > desks.len() {
+) -> Result<Told, AllocError> {
+    if worker == 0 || worker > office.book.workers() || worker as usize > office.desks.len() {
         return Ok(Told::Unasked);
     }
-    call_by(alloc, book, &mut desks[worker as usize - 1], worker, call)
+    let desk = &mut office.desks[worker as usize - 1];
+    call_by(alloc, &mut office.book, desk, worker, call)
 }
 
 // A desk for each of so many workers, with these prices.
-pub(crate) fn open_desks(alloc: Global, book: &Book, workers: u16) -> Result<Vec<Desk>, AllocError>
+fn open_desks(alloc: Global, book: &Book, workers: u16) -> Result<Vec<Desk>, AllocError>
     ensures below { IfOk result (λ desks. All (λ d. IsBelow d.table (prices_of book.now)) desks.items) }
     ensures earlier { IfOk result (λ desks. All (λ d. IsEarlier book.now.log d.table d.version) desks.items) }
 {
@@ -357,4 +363,10 @@ pub(crate) fn open_desks(alloc: Global, book: &Book, workers: u16) -> Result<Vec
         })?;
     }
     Ok(desks)
+}
+
+// The book with such desks.
+pub(crate) fn open_office(alloc: Global, book: Book, workers: u16) -> Result<Office, AllocError> {
+    let desks = open_desks(alloc, &book, workers)?;
+    Ok(Office { book, desks })
 }

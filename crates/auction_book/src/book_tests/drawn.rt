@@ -127,6 +127,18 @@ pub(crate) struct Case {
     pub workers: u16,
 }
 
+// A case of two persons and two workers: person 1 lists objects 1 and 2 at 1 and 2, person 2 at 3
+// and 5.
+pub(crate) fn two_persons(alloc: Global, first: &[Price]) -> Result<Case, AllocError> {
+    Ok(Case {
+        n: 2,
+        pairs: vec![in alloc; (1, 1, 1), (1, 2, 2), (2, 1, 3), (2, 2, 5)]?,
+        sense: Sense::Min,
+        first: first.to_vec(alloc)?,
+        workers: 2,
+    })
+}
+
 // Pairs of n persons: all of them or some, with few costs or many.
 fn drawn_pairs(alloc: Global, seed: &mut u64, n: u16) -> Result<Vec<Pair>, AllocError> {
     let range = [3, 20, 1000]

@@ -1,4 +1,5 @@
 // A plain book: the rules of the auction over lists, with the table of every version.
+use super::drawn::Case;
 use assign_core::{Cost, Object, Person, Price, Sense};
 use std::alloc::{AllocError, Global};
 
@@ -82,15 +83,10 @@ fn range_of(benefits: &[Option<i128>]) -> (i128, i128) {
 }
 
 // A book with these first prices.
-pub(crate) fn opened(
-    alloc: Global,
-    n: u16,
-    pairs: &[Pair],
-    sense: Sense,
-    first: &[Price],
-    workers: u16,
-) -> Result<PlainBook, AllocError> {
-    let benefits = benefits_of(alloc, n, pairs, sense)?;
+pub(crate) fn opened(alloc: Global, case: &Case) -> Result<PlainBook, AllocError> {
+    let (n, workers) = (case.n, case.workers as usize);
+    let first: &[Price] = case.first.as_slice();
+    let benefits = benefits_of(alloc, n, case.pairs.as_slice(), case.sense)?;
     let (least, spread) = range_of(benefits.as_slice());
     let mut tables = Vec::new(alloc);
     tables.push(first.to_vec(alloc)?)?;
@@ -106,9 +102,9 @@ pub(crate) fn opened(
         start_version: 0,
         owners: Vec::new(alloc),
         queue: Vec::new(alloc),
-        claims: vec![in alloc; None; workers as usize]?,
-        counts: vec![in alloc; 0; workers as usize]?,
-        taken: vec![in alloc; 0; workers as usize]?,
+        claims: vec![in alloc; None; workers]?,
+        counts: vec![in alloc; 0; workers]?,
+        taken: vec![in alloc; 0; workers]?,
         tables,
         first_kept: 0,
         hall: None,

@@ -1,18 +1,13 @@
 // Drawn sequences of calls, beside a plain book.
-ghost use Rattle.std.specs.Prelude.{All, IfOk};
-ghost use Rattle.assign_core.specs.Prices.{IsBelow};
-ghost use Rattle.price_log.specs.History.{IsEarlier};
-ghost use Rattle.auction_book.specs.Book.{prices_of};
-
 use super::super::book::Book;
 use super::calls::{
-    Call, Desk, Slip, Told, call_of, named, open_desks, told_below, told_bid, told_claim,
+    Call, Office, Slip, Told, call_of, named, open_office, told_below, told_bid, told_claim,
 };
 use super::drawn::{Case, draw, drawn_case, first_prices, scaled_of, size};
 use super::plain::{PlainBook, at, bound, offer, opened, prices, version};
 use super::plain_calls;
 use super::plain_calls::{ask, phase_over};
-use assign_core::{HallSet, Object, Person, Price};
+use assign_core::{Object, Person, Price};
 use std::alloc::{AllocError, Global};
 use std::test::Fail;
 
@@ -21,6 +16,13 @@ use std::test::Fail;
 pub(crate) struct PlainDesk {
     table: Vec<Price>,
     version: u128,
+}
+
+// A plain book and the desks of its workers.
+#[derive(Drop)]
+pub(crate) struct PlainOffice {
+    pub book: PlainBook,
+    pub desks: Vec<PlainDesk>,
 }
 
 // Whom a worker speaks for: whom it claimed, or another one.
@@ -70,6 +72,43 @@ fn below(
     Ok(told_below(answer))
 }
 
+fn claim(plain: &mut PlainBook, worker: u16) -> Told {
+    if at(plain.claims.as_slice(), worker).flatten().is_some() {
+        return Told::Unasked;
+    }
+    told_claim(plain_calls::claim(plain, worker))
+}
+
+fn next_phase(alloc: Global, plain: &mut PlainBook) -> Result<Told, AllocError> {
+    if !phase_over(plain) {
+        return Ok(Told::Unasked);
+    }
+    plain_calls::next_phase(alloc, plain)?;
+    Ok(Told::Nothing)
+}
+
+fn give_up(plain: &mut PlainBook, worker: u16) -> Result<Told, AllocError> {
+    plain_calls::give_up(plain, worker)?;
+    Ok(Told::Nothing)
+}
+
+fn catch_up(
+    alloc: Global,
+    plain: &mut PlainBook,
+    desk: &mut PlainDesk,
+    worker: u16,
+) -> Result<Told, AllocError> {
+    plain_calls::catch_up(plain, worker);
+    desk.table = prices(plain).to_vec(alloc)?;
+    desk.version = version(plain);
+    Ok(Told::Nothing)
+}
+
+fn set_stopped(plain: &mut PlainBook, stopped: bool) -> Told {
+    plain.stopped = stopped;
+    Told::Nothing
+}
+
 pub(crate) fn plain_call(
     alloc: Global,
     plain: &mut PlainBook,
@@ -78,34 +117,19 @@ pub(crate) fn plain_call(
     call: Call,
 ) -> Result<Told, AllocError> {
     match call {
-        Call::Claim => {
-            if at(plain.claims.as_slice(), worker).flatten().is_some() {
-                return Ok(Told::Unasked);
-            }
-            return Ok(told_claim(plain_calls::claim(plain, worker)));
-        }
-        Call::Submit(slip) => return submit(alloc, plain, desk, worker, slip),
-        Call::Below(slip) => return below(alloc, plain, worker, slip),
-        Call::NextPhase => {
-            if !phase_over(plain) {
-                return Ok(Told::Unasked);
-            }
-            plain_calls::next_phase(alloc, plain)?;
-        }
-        Call::GiveUp => plain_calls::give_up(plain, worker)?,
-        Call::Stop => plain.stopped = true,
-        Call::Resume => plain.stopped = false,
-        Call::CatchUp => {
-            plain_calls::catch_up(plain, worker);
-            desk.table = prices(plain).to_vec(alloc)?;
-            desk.version = version(plain);
-        }
+        Call::Claim => Ok(claim(plain, worker)),
+        Call::Submit(slip) => submit(alloc, plain, desk, worker, slip),
+        Call::Below(slip) => below(alloc, plain, worker, slip),
+        Call::NextPhase => next_phase(alloc, plain),
+        Call::GiveUp => give_up(plain, worker),
+        Call::Stop => Ok(set_stopped(plain, true)),
+        Call::Resume => Ok(set_stopped(plain, false)),
+        Call::CatchUp => catch_up(alloc, plain, desk, worker),
     }
-    Ok(Told::Nothing)
 }
 
 // A desk for each worker, with these prices.
-pub(crate) fn open_plain_desks(
+fn open_plain_desks(
     alloc: Global,
     first: &[Price],
     workers: u16,
@@ -121,16 +145,10 @@ pub(crate) fn open_plain_desks(
 }
 
 // Whether both books have the same recorded Hall set, or none.
-pub(crate) fn same_hall(
-    hall: Option<&HallSet>,
-    plain: Option<&(Vec<Person>, Vec<Object>)>,
-) -> bool {
-    match (hall, plain) {
-        (None, None) => true,
-        (Some(hall), Some((persons, objects))) => {
-            hall.persons() == persons.as_slice() && hall.objects() == objects.as_slice()
-        }
-        _ => false,
+fn same_hall(book: &Book, plain: &PlainBook) -> bool {
+    match &plain.hall {
+        None => book.refuted().is_none(),
+        Some((persons, objects)) => book.records(persons.as_slice(), objects.as_slice()),
     }
 }
 
@@ -168,7 +186,7 @@ pub(crate) fn same(alloc: Global, book: &Book, plain: &PlainBook) -> Result<bool
             && book.version() == version(plain)
             && book.first_kept() == plain.first_kept
             && book.stopped() == plain.stopped
-            && same_hall(book.refuted(), plain.hall.as_ref())
+            && same_hall(book, plain)
             && same_workers(book, plain)
             && same_phase(book, plain),
     )
@@ -180,15 +198,9 @@ pub(crate) fn same_answer(
     book: &Book,
     plain: &PlainBook,
 ) -> Result<bool, AllocError> {
-    match (book.answer(alloc)?, plain_calls::answer(alloc, plain)?) {
-        (None, None) => Ok(true),
-        (Some(certificate), Some(objects)) => {
-            Ok(
-                certificate.assignment.objects() == objects.as_slice()
-                    && certificate.prices.as_slice() == prices(plain),
-            )
-        }
-        _ => Ok(false),
+    match plain_calls::answer(alloc, plain)? {
+        None => Ok(book.answer(alloc)?.is_none()),
+        Some(objects) => book.answers(alloc, objects.as_slice(), prices(plain)),
     }
 }
 
@@ -276,88 +288,79 @@ fn all_came(kinds: Kinds, times: u64) -> bool {
     .all(|count| *count >= times)
 }
 
+// Where the drawing stands, and what came so far.
+#[derive(Drop)]
+struct Draws {
+    seed: u64,
+    kinds: Kinds,
+}
+
 // Whether a drawn call does the same to both books.
 fn agrees(
     alloc: Global,
-    book: &mut Book,
-    desks: &mut [Desk],
-    plain: &mut PlainBook,
-    plain_desks: &mut [PlainDesk],
-    seed: &mut u64,
-    kinds: &mut Kinds,
-) -> Result<bool, AllocError>
-    requires below { All (λ d. IsBelow d.table (prices_of book.old)) desks.old }
-    requires earlier { All (λ d. IsEarlier book.old.log d.table d.version) desks.old }
-    ensures below { IfOk result (λ _. All (λ d. IsBelow d.table (prices_of book.new)) desks.new) }
-    ensures earlier { IfOk result (λ _. All (λ d. IsEarlier book.new.log d.table d.version) desks.new) }
-{
-    let place = draw(seed, plain_desks.len() as u64) as usize;
-    let call = drawn_call(seed);
+    office: &mut Office,
+    plain: &mut PlainOffice,
+    draws: &mut Draws,
+) -> Result<bool, AllocError> {
+    let place = draw(&mut draws.seed, plain.desks.len() as u64) as usize;
+    let call = drawn_call(&mut draws.seed);
     let worker = u16::try_from(place).unwrap_or(0).wrapping_add(1);
-    let told = call_of(alloc, book, desks, worker, call)?;
-    let Some(desk) = plain_desks.get_mut(place) else {
+    let told = call_of(alloc, office, worker, call)?;
+    let Some(desk) = plain.desks.get_mut(place) else {
         return Ok(false);
     };
-    let expected = plain_call(alloc, plain, desk, worker, call)?;
-    note(kinds, call, told);
-    Ok(told == expected && same(alloc, book, plain)? && same_answer(alloc, book, plain)?)
+    let expected = plain_call(alloc, &mut plain.book, desk, worker, call)?;
+    note(&mut draws.kinds, call, told);
+    Ok(
+        told == expected
+            && same(alloc, &office.book, &plain.book)?
+            && same_answer(alloc, &office.book, &plain.book)?,
+    )
 }
 
 // Whether so many drawn calls do the same to both books.
 fn all_agree(
     alloc: Global,
-    book: &mut Book,
-    desks: &mut [Desk],
-    plain: &mut PlainBook,
-    plain_desks: &mut [PlainDesk],
-    seed: &mut u64,
-    kinds: &mut Kinds,
+    office: &mut Office,
+    plain: &mut PlainOffice,
+    draws: &mut Draws,
     calls: u32,
-) -> Result<bool, AllocError>
-    requires below { All (λ d. IsBelow d.table (prices_of book.old)) desks.old }
-    requires earlier { All (λ d. IsEarlier book.old.log d.table d.version) desks.old }
-{
+) -> Result<bool, AllocError> {
     for _ in 0..calls {
-        if !agrees(alloc, book, desks, plain, plain_desks, seed, kinds)? {
+        if !agrees(alloc, office, plain, draws)? {
             return Ok(false);
         }
     }
     Ok(true)
 }
 
-// Whether so many drawn calls on a drawn problem do the same to both books.
-fn sequence_agrees(
-    alloc: Global,
-    seed: &mut u64,
-    kinds: &mut Kinds,
-    calls: u32,
-) -> Result<bool, AllocError> {
-    let case = drawn_case(alloc, seed, 4, 3)?;
+// The office of a case, of at least one worker.
+pub(crate) fn open_case(alloc: Global, case: &Case) -> Result<Office, AllocError> {
     let n = size(case.n);
+    let workers = case.workers.max(1);
     let scaled = scaled_of(alloc, n, case.pairs.as_slice(), case.sense)?;
     let prices = first_prices(alloc, n, case.first.as_slice())?;
-    let workers = case.workers.max(1);
-    let mut book = Book::open_from(alloc, scaled, prices, workers)?;
-    let mut desks = open_desks(alloc, &book, workers)?;
-    let mut plain = opened(
-        alloc,
-        n,
-        case.pairs.as_slice(),
-        case.sense,
-        case.first.as_slice(),
-        workers,
-    )?;
-    let mut plain_desks = open_plain_desks(alloc, case.first.as_slice(), workers)?;
-    all_agree(
-        alloc,
-        &mut book,
-        desks.as_mut_slice(),
-        &mut plain,
-        plain_desks.as_mut_slice(),
-        seed,
-        kinds,
-        calls,
-    )
+    let book = Book::open_from(alloc, scaled, prices, workers)?;
+    open_office(alloc, book, workers)
+}
+
+// The same in plain.
+fn open_plain(alloc: Global, case: &Case) -> Result<PlainOffice, AllocError> {
+    let desks = open_plain_desks(alloc, case.first.as_slice(), case.workers)?;
+    let book = opened(alloc, case)?;
+    Ok(PlainOffice { book, desks })
+}
+
+pub(crate) fn open_both(alloc: Global, case: &Case) -> Result<(Office, PlainOffice), AllocError> {
+    let office = open_case(alloc, case)?;
+    Ok((office, open_plain(alloc, case)?))
+}
+
+// Whether so many drawn calls on a drawn problem do the same to both books.
+fn sequence_agrees(alloc: Global, draws: &mut Draws, calls: u32) -> Result<bool, AllocError> {
+    let case = drawn_case(alloc, &mut draws.seed, 4, 3)?;
+    let (mut office, mut plain) = open_both(alloc, &case)?;
+    all_agree(alloc, &mut office, &mut plain, draws, calls)
 }
 
 const NONE_YET: Kinds = Kinds {
@@ -377,11 +380,13 @@ const NONE_YET: Kinds = Kinds {
 
 #[test]
 fn drawn_sequences_of_calls(rt: HostRuntime) -> Result<(), Fail> {
-    let mut seed = 2026;
-    let mut kinds = NONE_YET;
+    let mut draws = Draws {
+        seed: 2026,
+        kinds: NONE_YET,
+    };
     for _ in 0..2000 {
-        assert!(rt; sequence_agrees(rt.alloc(), &mut seed, &mut kinds, 40)?);
+        assert!(rt; sequence_agrees(rt.alloc(), &mut draws, 40)?);
     }
-    assert!(rt; all_came(kinds, 50));
+    assert!(rt; all_came(draws.kinds, 50));
     Ok(())
 }

@@ -1,33 +1,20 @@
 // Calls of a book on small problems, worked by hand.
-ghost use Rattle.std.specs.Prelude.{◌<◌, All, IfOk};
-ghost use Rattle.assign_core.specs.Prices.{IsBelow};
-ghost use Rattle.price_log.specs.History.{IsEarlier};
-ghost use Rattle.auction_book.specs.Book.{prices_of};
-
 use super::super::book::Book;
-use super::calls::{Call, Desk, Slip, Told, call_of, offer_of, open_desks, submit_untimely};
-use super::drawn::{first_prices, scaled_of, size};
+use super::calls::{Call, Office, Slip, Told, call_of, offer_of, open_office, submit_untimely};
+use super::drawn::{Case, scaled_of, size, two_persons};
 use super::plain::Pair;
+use super::sequences::open_case;
 use assign_core::{MOST_PERSONS, Object, Person, Price, Sense};
 use bidder::{Ask, Bid, Offer};
 use std::alloc::{AllocError, Global};
 use std::test::Fail;
 
-// A book of two persons: person 1 lists objects 1 and 2 at 1 and 2, person 2 at 3 and 5.
-fn two_persons(alloc: Global, first: &[Price]) -> Result<Book, AllocError> {
-    let n = size(2);
-    let pairs = [(1, 1, 1), (1, 2, 2), (2, 1, 3), (2, 2, 5)];
-    let scaled = scaled_of(alloc, n, &pairs, Sense::Min)?;
-    let prices = first_prices(alloc, n, first)?;
-    Book::open_from(alloc, scaled, prices, 2)
-}
-
-// A book of three persons, of whom 1 and 2 list object 1 alone.
-fn three_persons(alloc: Global) -> Result<Book, AllocError> {
+// Three persons, of whom 1 and 2 list object 1 alone.
+fn three_persons(alloc: Global) -> Result<Office, AllocError> {
     let n = size(3);
     let pairs = [(1, 1, 4), (2, 1, 6), (3, 2, 1), (3, 3, 2)];
     let scaled = scaled_of(alloc, n, &pairs, Sense::Min)?;
-    Book::open(alloc, scaled, 2)
+    open_office(alloc, Book::open(alloc, scaled, 2)?, 2)
 }
 
 // A call by a worker, what it answers, and then the first two who wait and the first two prices.
@@ -92,37 +79,22 @@ fn first_two(waiting: &[Person]) -> [u16; 2] {
 }
 
 // Whether a step goes as it was worked out.
-fn goes(alloc: Global, book: &mut Book, desks: &mut [Desk], step: Step) -> Result<bool, AllocError>
-    requires below { All (λ d. IsBelow d.table (prices_of book.old)) desks.old }
-    requires earlier { All (λ d. IsEarlier book.old.log d.table d.version) desks.old }
-    ensures below { IfOk result (λ _. All (λ d. IsBelow d.table (prices_of book.new)) desks.new) }
-    ensures earlier { IfOk result (λ _. All (λ d. IsEarlier book.new.log d.table d.version) desks.new) }
-{
+fn goes(alloc: Global, office: &mut Office, step: Step) -> Result<bool, AllocError> {
     let (worker, call, told, queue, prices) = step;
-    let answer = call_of(alloc, book, desks, worker, call)?;
-    let waiting = book.waiting(alloc)?;
+    let answer = call_of(alloc, office, worker, call)?;
+    let waiting = office.book.waiting(alloc)?;
     Ok(
         answer == told
             && first_two(waiting.as_slice()) == queue
-            && book.prices().as_slice().get(..2) == Some(prices.as_slice()),
+            && office.book.prices().as_slice().get(..2) == Some(prices.as_slice()),
     )
 }
 
 // How many of the first steps go as they were worked out.
-fn steps_that_go(
-    alloc: Global,
-    book: &mut Book,
-    desks: &mut [Desk],
-    steps: &[Step],
-) -> Result<usize, AllocError>
-    requires below { All (λ d. IsBelow d.table (prices_of book.old)) desks.old }
-    requires earlier { All (λ d. IsEarlier book.old.log d.table d.version) desks.old }
-    ensures below { IfOk result (λ _. All (λ d. IsBelow d.table (prices_of book.new)) desks.new) }
-    ensures earlier { IfOk result (λ _. All (λ d. IsEarlier book.new.log d.table d.version) desks.new) }
-{
+fn steps_that_go(alloc: Global, office: &mut Office, steps: &[Step]) -> Result<usize, AllocError> {
     let mut count: usize = 0;
     for step in steps {
-        if !goes(alloc, book, desks, *step)? {
+        if !goes(alloc, office, *step)? {
             break;
         }
         count = count.wrapping_add(1);
@@ -134,31 +106,22 @@ fn steps_that_go(
 // and how many it accepts at most.
 fn after_steps(
     alloc: Global,
-    book: &mut Book,
-    desks: &mut [Desk],
+    office: &mut Office,
     steps: &[Step],
-) -> Result<(usize, u128, u128), AllocError>
-    requires below { All (λ d. IsBelow d.table (prices_of book.old)) desks.old }
-    requires earlier { All (λ d. IsEarlier book.old.log d.table d.version) desks.old }
-    ensures below { IfOk result (λ _. All (λ d. IsBelow d.table (prices_of book.new)) desks.new) }
-    ensures earlier { IfOk result (λ _. All (λ d. IsEarlier book.new.log d.table d.version) desks.new) }
-{
-    let count = steps_that_go(alloc, book, desks, steps)?;
-    Ok((count, book.phase_accepted(), book.phase_bound()))
+) -> Result<(usize, u128, u128), AllocError> {
+    let count = steps_that_go(alloc, office, steps)?;
+    Ok((
+        count,
+        office.book.phase_accepted(),
+        office.book.phase_bound(),
+    ))
 }
 
-// The same after the first phase and after the second.
-fn both_phases(
-    alloc: Global,
-    book: &mut Book,
-    desks: &mut [Desk],
-) -> Result<[(usize, u128, u128); 2], AllocError>
-    requires below { All (λ d. IsBelow d.table (prices_of book.old)) desks.old }
-    requires earlier { All (λ d. IsEarlier book.old.log d.table d.version) desks.old }
-{
-    let first = after_steps(alloc, book, desks, first_phase().as_slice())?;
-    let second = after_steps(alloc, book, desks, second_phase().as_slice())?;
-    Ok([first, second])
+// Whether both phases go as they were worked out.
+fn both_phases_go(alloc: Global, office: &mut Office) -> Result<bool, AllocError> {
+    let first = after_steps(alloc, office, first_phase().as_slice())?;
+    let second = after_steps(alloc, office, second_phase().as_slice())?;
+    Ok(first == (8, 3, 28) && second == (11, 3, 53))
 }
 
 // The person that a worker claimed and how many of its bids were accepted, if there is such a worker.
@@ -169,26 +132,34 @@ fn worker_of(book: &Book, worker: u16) -> Option<(Option<Person>, u128)> {
     Some((book.claimed_by(worker), book.accepted_by(worker)))
 }
 
+// Whether six bids were accepted, four and two of the workers', and nobody is claimed; and whether the
+// answer is the best.
+fn stands_after_six(alloc: Global, book: &Book) -> Result<bool, AllocError> {
+    let answered = book.answers(alloc, &[Object(2), Object(1)], &[14, 12])?;
+    Ok(
+        answered
+            && book.version() == 6
+            && worker_of(book, 1) == Some((None, 4))
+            && worker_of(book, 2) == Some((None, 2)),
+    )
+}
+
+// The office of the two persons, with these first prices.
+fn two_office(alloc: Global, first: &[Price]) -> Result<Office, AllocError> {
+    let case = two_persons(alloc, first)?;
+    open_case(alloc, &case)
+}
+
+// Whether all goes as it was worked out.
+fn six_bids_go(alloc: Global) -> Result<bool, AllocError> {
+    let mut office = two_office(alloc, &[])?;
+    let went = both_phases_go(alloc, &mut office)?;
+    Ok(went && stands_after_six(alloc, &office.book)?)
+}
+
 #[test]
 fn six_bids_of_two_persons(rt: HostRuntime) -> Result<(), Fail> {
-    let alloc = rt.alloc();
-    let mut book = two_persons(alloc, &[])?;
-    let mut desks = open_desks(alloc, &book, 2)?;
-    assert_eq!(rt;
-        both_phases(alloc, &mut book, desks.as_mut_slice())?,
-        [(8, 3, 28), (11, 3, 53)]
-    );
-    assert_eq!(rt; book.version(), 6);
-    assert_eq!(rt; worker_of(&book, 1), Some((None, 4)));
-    assert_eq!(rt; worker_of(&book, 2), Some((None, 2)));
-    let Some(certificate) = book.answer(alloc)? else {
-        panic!(rt; "no answer");
-    };
-    assert_eq!(rt;
-        certificate.assignment.objects(),
-        [Object(2), Object(1)].as_slice()
-    );
-    assert_eq!(rt; certificate.prices.as_slice(), [14, 12].as_slice());
+    assert!(rt; six_bids_go(rt.alloc())?);
     Ok(())
 }
 
@@ -203,42 +174,49 @@ fn unheld() -> [Step; 4] {
     ]
 }
 
-// Then it brings the bid that it made in the first phase.
-fn late_bid(alloc: Global, book: &mut Book, desks: &mut [Desk]) -> Result<(usize, Told), AllocError>
-    requires below { All (λ d. IsBelow d.table (prices_of book.old)) desks.old }
-    requires earlier { All (λ d. IsEarlier book.old.log d.table d.version) desks.old }
-{
-    let first = steps_that_go(alloc, book, desks, first_phase().as_slice())?;
-    let second = steps_that_go(alloc, book, desks, unheld().as_slice())?;
-    if book.workers() == 0 {
-        return Ok((0, Told::Unasked));
-    }
-    let late = Bid {
-        person: Person(1),
-        object: Object(1),
-        level: 5,
-        phase: 1,
-        version: 0,
-    };
-    Ok((first.wrapping_add(second), submit_untimely(book, 1, late)))
+// The bid that person 1 made in the first phase.
+const LATE: Bid = Bid {
+    person: Person(1),
+    object: Object(1),
+    level: 5,
+    phase: 1,
+    version: 0,
+};
+
+// Whether worker 1 is told that the bid names another phase.
+fn is_late(book: &mut Book) -> bool {
+    book.workers() > 0 && submit_untimely(book, 1, LATE) == Told::WrongPhase(1, 5)
+}
+
+// Whether the late bid's person waits again, and nothing else has changed.
+fn stands_after_late(alloc: Global, book: &Book) -> Result<bool, AllocError> {
+    let waiting = book.waiting(alloc)?;
+    Ok(
+        waiting.as_slice() == [Person(2), Person(1)].as_slice()
+            && worker_of(book, 1) == Some((None, 2))
+            && book.prices().as_slice() == [8, 7].as_slice()
+            && book.version() == 3,
+    )
+}
+
+// Whether the steps before go as they were worked out.
+fn late_steps_go(alloc: Global, office: &mut Office) -> Result<bool, AllocError> {
+    let first = steps_that_go(alloc, office, first_phase().as_slice())?;
+    let second = steps_that_go(alloc, office, unheld().as_slice())?;
+    Ok(first == 8 && second == 4)
+}
+
+fn late_bid_goes(alloc: Global) -> Result<bool, AllocError> {
+    let mut office = two_office(alloc, &[])?;
+    let went = late_steps_go(alloc, &mut office)?;
+    let mut book = office.book;
+    let told = is_late(&mut book);
+    Ok(went && told && stands_after_late(alloc, &book)?)
 }
 
 #[test]
 fn a_late_bid_and_one_of_another_person(rt: HostRuntime) -> Result<(), Fail> {
-    let alloc = rt.alloc();
-    let mut book = two_persons(alloc, &[])?;
-    let mut desks = open_desks(alloc, &book, 2)?;
-    assert_eq!(rt;
-        late_bid(alloc, &mut book, desks.as_mut_slice())?,
-        (12, Told::WrongPhase(1, 5))
-    );
-    assert_eq!(rt;
-        book.waiting(alloc)?.as_slice(),
-        [Person(2), Person(1)].as_slice()
-    );
-    assert_eq!(rt; worker_of(&book, 1), Some((None, 2)));
-    assert_eq!(rt; book.prices().as_slice(), [8, 7].as_slice());
-    assert_eq!(rt; book.version(), 3);
+    assert!(rt; late_bid_goes(rt.alloc())?);
     Ok(())
 }
 
@@ -268,10 +246,8 @@ fn recorded() -> [Step; 3] {
 }
 
 // The level of what person 2 offers worker 2, if it's a bid.
-fn level_of_second(book: &Book, desks: &[Desk]) -> Option<Price>
-    requires { All (λ d. IsBelow d.table (prices_of book.now)) desks.now }
-{
-    match offer_of(book, desks, 2, 2) {
+fn level_of_second(office: &Office) -> Option<Price> {
+    match offer_of(office, 2, 2) {
         Some(Offer::Bid(bid)) => Some(bid.level),
         _ => None,
     }
@@ -280,51 +256,50 @@ fn level_of_second(book: &Book, desks: &[Desk]) -> Option<Price>
 // What person 2 offers from the first table and from today's.
 fn old_and_new_offer(
     alloc: Global,
-    book: &mut Book,
-    desks: &mut [Desk],
-) -> Result<(usize, Option<Price>, Option<Price>), AllocError>
-    requires below { All (λ d. IsBelow d.table (prices_of book.old)) desks.old }
-    requires earlier { All (λ d. IsEarlier book.old.log d.table d.version) desks.old }
-{
-    let first = steps_that_go(alloc, book, desks, contested().as_slice())?;
-    let old = level_of_second(book, desks);
-    let _told = call_of(alloc, book, desks, 2, Call::CatchUp)?;
-    let new = level_of_second(book, desks);
-    let second = steps_that_go(alloc, book, desks, recorded().as_slice())?;
+    office: &mut Office,
+) -> Result<(usize, Option<Price>, Option<Price>), AllocError> {
+    let first = steps_that_go(alloc, office, contested().as_slice())?;
+    let old = level_of_second(office);
+    let _told = call_of(alloc, office, 2, Call::CatchUp)?;
+    let new = level_of_second(office);
+    let second = steps_that_go(alloc, office, recorded().as_slice())?;
     Ok((first.wrapping_add(second), old, new))
+}
+
+fn old_table_goes(alloc: Global) -> Result<bool, AllocError> {
+    let mut office = three_persons(alloc)?;
+    let offers = old_and_new_offer(alloc, &mut office)?;
+    let hall = office.book.records(&[Person(1), Person(2)], &[Object(1)]);
+    Ok(offers == (6, Some(52), None) && hall)
 }
 
 #[test]
 fn an_old_table_hides_the_floor(rt: HostRuntime) -> Result<(), Fail> {
-    let alloc = rt.alloc();
-    let mut book = three_persons(alloc)?;
-    let mut desks = open_desks(alloc, &book, 2)?;
-    assert_eq!(rt;
-        old_and_new_offer(alloc, &mut book, desks.as_mut_slice())?,
-        (6, Some(52), None)
-    );
-    let Some(hall) = book.refuted() else {
-        panic!(rt; "no Hall set");
-    };
-    assert_eq!(rt; hall.persons(), [Person(1), Person(2)].as_slice());
-    assert_eq!(rt; hall.objects(), [Object(1)].as_slice());
+    assert!(rt; old_table_goes(rt.alloc())?);
     Ok(())
 }
 
-// The top is 42, so the bound is (42 - 14 + 42 - 12) / 2.
+const LOWERED: Ask = Ask {
+    phase: 1,
+    eps: 2,
+    floor: -43,
+};
+
+// Whether the book starts so. The top is 42, so the bound is (42 - 14 + 42 - 12) / 2.
+fn starts_lowered(book: &Book) -> bool {
+    book.ask() == LOWERED
+        && book.phase_bound() == 29
+        && book.prices().as_slice() == [14, 12].as_slice()
+}
+
+fn lowered_goes(alloc: Global) -> Result<bool, AllocError> {
+    let office = two_office(alloc, &[14, 12])?;
+    Ok(starts_lowered(&office.book))
+}
+
 #[test]
 fn first_prices_lower_the_floor(rt: HostRuntime) -> Result<(), Fail> {
-    let book = two_persons(rt.alloc(), &[14, 12])?;
-    assert_eq!(rt;
-        book.ask(),
-        Ask {
-            phase: 1,
-            eps: 2,
-            floor: -43
-        }
-    );
-    assert_eq!(rt; book.phase_bound(), 29);
-    assert_eq!(rt; book.prices().as_slice(), [14, 12].as_slice());
+    assert!(rt; lowered_goes(rt.alloc())?);
     Ok(())
 }
 
@@ -341,42 +316,35 @@ fn narrow_pairs(alloc: Global, n: u16, shift: u16) -> Result<Vec<Pair>, AllocErr
 }
 
 // Worker 1 claims, bids, and begins the next phase where this one is over.
-fn session(alloc: Global, book: &mut Book, desks: &mut [Desk]) -> Result<(), AllocError>
-    requires below { All (λ d. IsBelow d.table (prices_of book.old)) desks.old }
-    requires earlier { All (λ d. IsEarlier book.old.log d.table d.version) desks.old }
-    ensures below { IfOk result (λ _. All (λ d. IsBelow d.table (prices_of book.new)) desks.new) }
-    ensures earlier { IfOk result (λ _. All (λ d. IsEarlier book.new.log d.table d.version) desks.new) }
-{
-    let _claim = call_of(alloc, book, desks, 1, Call::Claim)?;
-    let _bid = call_of(alloc, book, desks, 1, HONEST)?;
-    let _phase = call_of(alloc, book, desks, 1, Call::NextPhase)?;
+fn session(alloc: Global, office: &mut Office) -> Result<(), AllocError> {
+    let _claim = call_of(alloc, office, 1, Call::Claim)?;
+    let _bid = call_of(alloc, office, 1, HONEST)?;
+    let _phase = call_of(alloc, office, 1, Call::NextPhase)?;
     Ok(())
 }
 
-fn sessions(
-    alloc: Global,
-    book: &mut Book,
-    desks: &mut [Desk],
-    count: u32,
-) -> Result<(), AllocError>
-    requires below { All (λ d. IsBelow d.table (prices_of book.old)) desks.old }
-    requires earlier { All (λ d. IsEarlier book.old.log d.table d.version) desks.old }
-{
+fn sessions(alloc: Global, office: &mut Office, count: u32) -> Result<(), AllocError> {
     for _ in 0..count {
-        session(alloc, book, desks)?;
+        session(alloc, office)?;
     }
     Ok(())
 }
 
-// A book of as many persons as there may be. With a shift of 1 persons 1 and 2 both list object 1.
-fn wide_book(alloc: Global, shift: u16, first: &[Price], workers: u16) -> Result<Book, AllocError>
-    requires { 0 < workers }
-{
-    let n = size(MOST_PERSONS);
-    let pairs = narrow_pairs(alloc, n, shift)?;
-    let scaled = scaled_of(alloc, n, pairs.as_slice(), Sense::Min)?;
-    let prices = first_prices(alloc, n, first)?;
-    Book::open_from(alloc, scaled, prices, workers)
+// An office of as many persons as there may be. With a shift of 1 persons 1 and 2 both list object 1.
+fn wide_office(
+    alloc: Global,
+    shift: u16,
+    first: &[Price],
+    workers: u16,
+) -> Result<Office, AllocError> {
+    let case = Case {
+        n: MOST_PERSONS,
+        pairs: narrow_pairs(alloc, MOST_PERSONS, shift)?,
+        sense: Sense::Min,
+        first: first.to_vec(alloc)?,
+        workers,
+    };
+    open_case(alloc, &case)
 }
 
 // The objects and prices of the first person and of the last, if everybody is assigned.
@@ -398,16 +366,21 @@ fn ends_of(
 // With costs 0 and 1 there are six phases, with eps 1638, 327, 65, 13, 2 and 1. Each ends with the
 // prices of its first bids: the greatest rises by 8192 * (8193 + eps), and is that of the persons
 // with cost 0.
-#[test]
-fn as_many_persons_as_there_may_be(rt: HostRuntime) -> Result<(), Fail> {
-    let alloc = rt.alloc();
-    let mut book = wide_book(alloc, 0, &[], 1)?;
-    let mut desks = open_desks(alloc, &book, 1)?;
-    sessions(alloc, &mut book, desks.as_mut_slice(), 49_152)?;
-    assert_eq!(rt; book.version(), 49_152);
+fn wide_ends(alloc: Global, book: &Book) -> Result<bool, AllocError> {
     let first = (Some(Object(1)), Some(419_463_168));
     let last = (Some(Object(8192)), Some(419_454_975));
-    assert!(rt; ends_of(alloc, &book)? == Some([first, last]));
+    Ok(ends_of(alloc, book)? == Some([first, last]) && book.version() == 49_152)
+}
+
+fn wide_goes(alloc: Global) -> Result<bool, AllocError> {
+    let mut office = wide_office(alloc, 0, &[], 1)?;
+    sessions(alloc, &mut office, 49_152)?;
+    wide_ends(alloc, &office.book)
+}
+
+#[test]
+fn as_many_persons_as_there_may_be(rt: HostRuntime) -> Result<(), Fail> {
+    assert!(rt; wide_goes(rt.alloc())?);
     Ok(())
 }
 
@@ -430,48 +403,36 @@ fn two_searches() -> [(u16, Call); 10] {
 // What the last of these calls answers.
 fn last_told(
     alloc: Global,
-    book: &mut Book,
-    desks: &mut [Desk],
+    office: &mut Office,
     calls: &[(u16, Call)],
-) -> Result<Told, AllocError>
-    requires below { All (λ d. IsBelow d.table (prices_of book.old)) desks.old }
-    requires earlier { All (λ d. IsEarlier book.old.log d.table d.version) desks.old }
-{
+) -> Result<Told, AllocError> {
     let mut told = Told::Unasked;
     for pair in calls {
-        told = call_of(alloc, book, desks, pair.0, pair.1)?;
+        told = call_of(alloc, office, pair.0, pair.1)?;
     }
     Ok(told)
 }
 
-// The numbers of a recorded Hall set's persons and objects, and of the last person that waits.
-fn hall_and_last(
-    alloc: Global,
-    book: &Book,
-) -> Result<(Vec<Person>, Vec<Object>, Option<Person>), AllocError> {
+// Whether the last search is told as recorded.
+fn is_recorded(alloc: Global, office: &mut Office) -> Result<bool, AllocError> {
+    Ok(last_told(alloc, office, two_searches().as_slice())? == Told::Recorded)
+}
+
+// Whether person 2 waits at the back of the queue, and is in the recorded Hall set with person 1.
+fn stands_after_searches(alloc: Global, book: &Book) -> Result<bool, AllocError> {
     let waiting = book.waiting(alloc)?;
-    let last = waiting.last().copied();
-    match book.refuted() {
-        Some(hall) => Ok((
-            hall.persons().to_vec(alloc)?,
-            hall.objects().to_vec(alloc)?,
-            last,
-        )),
-        None => Ok((Vec::new(alloc), Vec::new(alloc), last)),
-    }
+    let hall = book.records(&[Person(1), Person(2)], &[Object(1)]);
+    Ok(hall && waiting.last().copied() == Some(Person(2)))
+}
+
+fn searches_go(alloc: Global) -> Result<bool, AllocError> {
+    let mut office = wide_office(alloc, 1, &[7], 2)?;
+    let told = is_recorded(alloc, &mut office)?;
+    Ok(told && stands_after_searches(alloc, &office.book)?)
 }
 
 #[test]
 fn searches_among_as_many_persons_as_there_may_be(rt: HostRuntime) -> Result<(), Fail> {
-    let alloc = rt.alloc();
-    let mut book = wide_book(alloc, 1, &[7], 2)?;
-    let mut desks = open_desks(alloc, &book, 2)?;
-    let calls = two_searches();
-    let told = last_told(alloc, &mut book, desks.as_mut_slice(), calls.as_slice())?;
-    assert_eq!(rt; told, Told::Recorded);
-    let (persons, objects, last) = hall_and_last(alloc, &book)?;
-    assert_eq!(rt; persons.as_slice(), [Person(1), Person(2)].as_slice());
-    assert_eq!(rt; objects.as_slice(), [Object(1)].as_slice());
-    assert_eq!(rt; last, Some(Person(2)));
+    assert!(rt; searches_go(rt.alloc())?);
     Ok(())
 }

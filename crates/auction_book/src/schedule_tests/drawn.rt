@@ -1,13 +1,10 @@
 // Runs over drawn lists of events, beside a plain book and its workers.
-use super::super::book_tests::drawn::{
-    Case, draw, drawn_case, first_prices, number, scaled_of, size,
-};
-use super::super::book_tests::plain::{PlainBook, opened};
+use super::super::book_tests::drawn::{Case, draw, drawn_case, first_prices, scaled_of, size};
+use super::super::book_tests::plain::PlainBook;
 use super::super::book_tests::plain_calls::answer;
 use super::super::book_tests::sequences::{same, same_answer};
 use super::super::schedule::{Event, Seat, World, run_schedule_from};
-use super::plain_world::{PlainSeat, happen, open_seats};
-use assign_core::Price;
+use super::plain_world::{PlainSeat, PlainWorld, plain_run};
 use std::alloc::{AllocError, Global};
 use std::test::Fail;
 
@@ -76,6 +73,14 @@ fn note(alloc: Global, plain: &PlainBook, ends: &mut Ends) -> Result<(), AllocEr
     Ok(())
 }
 
+fn same_world(alloc: Global, world: &World, plain: &PlainWorld) -> Result<bool, AllocError> {
+    Ok(
+        same_seats(world.seats.as_slice(), plain.seats.as_slice())
+            && same(alloc, &world.book, &plain.book)?
+            && same_answer(alloc, &world.book, &plain.book)?,
+    )
+}
+
 // Whether a drawn run ends in the same world as the plain one.
 fn run_agrees(
     alloc: Global,
@@ -86,25 +91,9 @@ fn run_agrees(
     let case = drawn_case(alloc, seed, 5, 4)?;
     let events = drawn_events(alloc, seed, case.workers, most)?;
     let world = run(alloc, &case, events.as_slice())?;
-    let first: &[Price] = case.first.as_slice();
-    let mut plain = opened(
-        alloc,
-        case.n,
-        case.pairs.as_slice(),
-        case.sense,
-        first,
-        case.workers,
-    )?;
-    let mut seats = open_seats(alloc, first, case.workers)?;
-    for event in events.iter() {
-        happen(alloc, &mut plain, seats.as_mut_slice(), *event)?;
-    }
-    note(alloc, &plain, ends)?;
-    Ok(
-        same_seats(world.seats.as_slice(), seats.as_slice())
-            && same(alloc, &world.book, &plain)?
-            && same_answer(alloc, &world.book, &plain)?,
-    )
+    let plain = plain_run(alloc, &case, events.as_slice())?;
+    note(alloc, &plain.book, ends)?;
+    same_world(alloc, &world, &plain)
 }
 
 #[test]

@@ -1,6 +1,7 @@
 // A plain book and its workers, over lists of events.
 use super::super::answers::Claim;
-use super::super::book_tests::plain::{PlainBook, at, offer, prices, version};
+use super::super::book_tests::drawn::Case;
+use super::super::book_tests::plain::{PlainBook, at, offer, opened, prices, version};
 use super::super::book_tests::plain_calls;
 use super::super::schedule::Event;
 use assign_core::{Person, Price};
@@ -17,11 +18,7 @@ pub(crate) struct PlainSeat {
 }
 
 // A seat for each worker, with these prices.
-pub(crate) fn open_seats(
-    alloc: Global,
-    first: &[Price],
-    workers: u16,
-) -> Result<Vec<PlainSeat>, AllocError> {
+fn open_seats(alloc: Global, first: &[Price], workers: u16) -> Result<Vec<PlainSeat>, AllocError> {
     let mut seats = Vec::new(alloc);
     for _ in 0..workers {
         seats.push(PlainSeat {
@@ -75,7 +72,7 @@ fn offer_from(plain: &PlainBook, table: &[Price], version: u128, person: Person)
 }
 
 // One event.
-pub(crate) fn happen(
+fn happen(
     alloc: Global,
     plain: &mut PlainBook,
     seats: &mut [PlainSeat],
@@ -103,4 +100,36 @@ pub(crate) fn happen(
         _ => None,
     };
     Ok(())
+}
+
+// A plain book and what its workers have.
+#[derive(Drop)]
+pub(crate) struct PlainWorld {
+    pub book: PlainBook,
+    pub seats: Vec<PlainSeat>,
+}
+
+// The plain world of a case before the first event.
+fn open_world(alloc: Global, case: &Case) -> Result<PlainWorld, AllocError> {
+    let seats = open_seats(alloc, case.first.as_slice(), case.workers)?;
+    let book = opened(alloc, case)?;
+    Ok(PlainWorld { book, seats })
+}
+
+fn all_happen(alloc: Global, world: &mut PlainWorld, events: &[Event]) -> Result<(), AllocError> {
+    for event in events {
+        happen(alloc, &mut world.book, world.seats.as_mut_slice(), *event)?;
+    }
+    Ok(())
+}
+
+// The plain world of a case after these events.
+pub(crate) fn plain_run(
+    alloc: Global,
+    case: &Case,
+    events: &[Event],
+) -> Result<PlainWorld, AllocError> {
+    let mut world = open_world(alloc, case)?;
+    all_happen(alloc, &mut world, events)?;
+    Ok(world)
 }

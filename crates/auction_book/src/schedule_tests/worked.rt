@@ -1,5 +1,6 @@
 // Runs of the core on small problems, worked by hand.
-use super::super::schedule::{Event, World, run_schedule};
+use super::super::book::Book;
+use super::super::schedule::{Event, Seat, World, run_schedule};
 use assign_core::{Object, Person, Price, Problem, Sense};
 use bidder::Offer;
 use scaled_values::{Scaled, scale};
@@ -67,46 +68,97 @@ fn is_step(world: &World, worker: u16, step: Step) -> bool {
     }
 }
 
-#[test]
-fn twelve_events_of_two_workers(rt: HostRuntime) -> Result<(), Fail> {
-    let mut events = Vec::new(rt.alloc());
+// The world of the two persons after these events of two workers.
+fn run_two(alloc: Global, events: &[Event]) -> Result<World, AllocError> {
+    let scaled = two_persons(alloc)?;
+    run_schedule(alloc, scaled, 2, events)
+}
+
+// Whether the last of these events leaves this.
+fn goes(alloc: Global, events: &[Event], worker: u16, step: Step) -> Result<bool, AllocError> {
+    let world = run_two(alloc, events)?;
+    Ok(is_step(&world, worker, step))
+}
+
+// Whether the twelve events go as they were worked out, one after the other.
+fn steps_go(alloc: Global) -> Result<bool, AllocError> {
+    let mut events = Vec::new(alloc);
     for (event, step) in twelve_events() {
         events.push(event)?;
-        let world = run_schedule(rt.alloc(), two_persons(rt.alloc())?, 2, events.as_slice())?;
-        assert!(rt; is_step(&world, event.worker, step));
+        if !goes(alloc, events.as_slice(), event.worker, step)? {
+            return Ok(false);
+        }
     }
-    let world = run_schedule(rt.alloc(), two_persons(rt.alloc())?, 2, events.as_slice())?;
-    assert_eq!(rt;
-        world.book.owners(),
-        [Some(Person(2)), Some(Person(1))].as_slice()
-    );
-    assert_eq!(rt; world.book.first_kept(), 2);
-    let Some(certificate) = world.book.answer(rt.alloc())? else {
-        panic!(rt; "no answer");
-    };
-    assert_eq!(rt;
-        certificate.assignment.objects(),
-        [Object(2), Object(1)].as_slice()
-    );
-    assert_eq!(rt; certificate.prices.as_slice(), [14, 9].as_slice());
-    for (seat, told) in world.seats.iter().zip([2u128, 3].iter()) {
-        assert_eq!(rt; seat.accepted, *told);
+    Ok(true)
+}
+
+// The twelve events alone.
+fn known_events(alloc: Global) -> Result<Vec<Event>, AllocError> {
+    let mut events = Vec::new(alloc);
+    for (known, _) in twelve_events() {
+        events.push(known)?;
     }
-    Ok(())
+    Ok(events)
+}
+
+// Whether the workers were told so many acceptances.
+fn told(seats: &[Seat]) -> bool {
+    match seats {
+        [first, second] => first.accepted == 2 && second.accepted == 3,
+        _ => false,
+    }
+}
+
+// Whether all is so after the twelve events.
+fn ends(alloc: Global, world: &World) -> Result<bool, AllocError> {
+    let answered = world
+        .book
+        .answers(alloc, &[Object(2), Object(1)], &[14, 9])?;
+    Ok(
+        answered
+            && world.book.owners() == [Some(Person(2)), Some(Person(1))].as_slice()
+            && world.book.first_kept() == 2
+            && told(world.seats.as_slice()),
+    )
+}
+
+fn twelve_end(alloc: Global) -> Result<bool, AllocError> {
+    let events = known_events(alloc)?;
+    let world = run_two(alloc, events.as_slice())?;
+    ends(alloc, &world)
 }
 
 #[test]
-fn events_of_no_worker_change_nothing(rt: HostRuntime) -> Result<(), Fail> {
-    let mut events = Vec::new(rt.alloc());
+fn twelve_events_of_two_workers(rt: HostRuntime) -> Result<(), Fail> {
+    assert!(rt; steps_go(rt.alloc())?);
+    assert!(rt; twelve_end(rt.alloc())?);
+    Ok(())
+}
+
+// The twelve events, each between two of numbers that no worker has.
+fn events_between(alloc: Global) -> Result<Vec<Event>, AllocError> {
+    let mut events = Vec::new(alloc);
     for (known, _) in twelve_events() {
         events.push(event(0, true))?;
         events.push(known)?;
         events.push(event(3, false))?;
     }
-    let world = run_schedule(rt.alloc(), two_persons(rt.alloc())?, 2, events.as_slice())?;
-    assert_eq!(rt; world.book.prices().as_slice(), [14, 9].as_slice());
-    assert_eq!(rt; world.book.version(), 5);
-    assert_eq!(rt; world.book.first_kept(), 2);
+    Ok(events)
+}
+
+fn ends_between(book: &Book) -> bool {
+    book.prices().as_slice() == [14, 9].as_slice() && book.version() == 5 && book.first_kept() == 2
+}
+
+fn between_end(alloc: Global) -> Result<bool, AllocError> {
+    let events = events_between(alloc)?;
+    let world = run_two(alloc, events.as_slice())?;
+    Ok(ends_between(&world.book))
+}
+
+#[test]
+fn events_of_no_worker_change_nothing(rt: HostRuntime) -> Result<(), Fail> {
+    assert!(rt; between_end(rt.alloc())?);
     Ok(())
 }
 
@@ -122,17 +174,18 @@ fn in_turn(alloc: Global, workers: u16, catch_up: bool) -> Result<Vec<Event>, Al
     Ok(events)
 }
 
+// Whether such events refute the problem of the three persons.
+fn refutes(alloc: Global, workers: u16, catch_up: bool) -> Result<bool, AllocError> {
+    let events = in_turn(alloc, workers, catch_up)?;
+    let scaled = three_persons(alloc)?;
+    let world = run_schedule(alloc, scaled, workers.max(1), events.as_slice())?;
+    Ok(world.book.records(&[Person(1), Person(2)], &[Object(1)]))
+}
+
 #[test]
 fn an_infeasible_problem_is_refuted(rt: HostRuntime) -> Result<(), Fail> {
     for (workers, catch_up) in [(1u16, true), (2, true), (3, false)] {
-        let events = in_turn(rt.alloc(), workers, catch_up)?;
-        let scaled = three_persons(rt.alloc())?;
-        let world = run_schedule(rt.alloc(), scaled, workers.max(1), events.as_slice())?;
-        let Some(hall) = world.book.refuted() else {
-            panic!(rt; "no Hall set");
-        };
-        assert_eq!(rt; hall.persons(), [Person(1), Person(2)].as_slice());
-        assert_eq!(rt; hall.objects(), [Object(1)].as_slice());
+        assert!(rt; refutes(rt.alloc(), workers, catch_up)?);
     }
     Ok(())
 }

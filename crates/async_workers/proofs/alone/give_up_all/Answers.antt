@@ -1,7 +1,6 @@
-use Rattle.std.proofs.Common.{◌≡◌, ◌∙◌, ◌+◌, None, ap, arith}
+use Rattle.std.proofs.Common.{◌∙◌, ◌+◌, None, ap, arith}
 use Rattle.assign_core.specs.Numbered.{numbered}
 use Rattle.auction_book.specs.Book.{BookData}
-use Rattle.auction_book.specs.Changes.{given_up}
 use Rattle.async_workers.proofs.Single.{all_given_up, one_given_up}
 use Rattle.auction_book.proofs.Following.{goes_on_itself}
 use Rattle.async_workers.proofs.alone.give_up_all.Goals as goal

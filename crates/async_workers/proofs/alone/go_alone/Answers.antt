@@ -1,4 +1,4 @@
-use Rattle.std.proofs.Common.{◌≡◌, ◌∙◌, None, ap}
+use Rattle.std.proofs.Common.{◌∙◌, None, ap}
 use Rattle.assign_core.specs.Numbered.{numbered}
 use Rattle.auction_book.specs.Book.{BookData}
 use Rattle.auction_book.proofs.Following.{goes_on_through}

@@ -1,4 +1,4 @@
-use Rattle.std.proofs.Common.{◌≡◌, ◌∙◌, None, length, refl, sym, ap, subst}
+use Rattle.std.proofs.Common.{◌≡◌, ◌∙◌, None, length, sym, ap, subst}
 use Rattle.assign_core.specs.Numbered.{IsNumber, numbered}
 use Rattle.assign_core.proofs.Matchings.{below_itself}
 use Rattle.scaled_values.specs.Scaled.{ScaledProblem}
@@ -39,20 +39,14 @@ pub returns-clause-goes_on : goal.returns-clause-goes_on
 returns-clause-goes_on c =
     let b = c.claim-claim.new.self in
     let new = c.submit_offer.new.book in
-    let free = c.workers-workers.ensures.free in
-    let follows = alone_claimed c.args.book.now b c.claim-claim.result free c.requires.worker c.requires.none c.claim-claim.ensures.answer c.claim-claim.ensures.book in
-    let made = alone_prepared c.args.book.now b c.deref.result.now c.prices.result.now c.version.result c.claim-claim.result c.prepare-offer.result free c.requires.worker c.requires.none
-    c.claim-claim.ensures.answer c.claim-claim.ensures.book (c.deref.ensures ∙ c.scaled.ensures.scaled) c.prices.ensures.prices c.prepare-offer.ensures in
     on_ok c.submit_offer.result (Submits b 1 c.prepare-offer.result new) (GoesOn c.args.book.now new) c.submit_offer.ensures.ok
-    (λ submits. (alone_left c.args.book.now b new (prices_of b) c.version.result c.prepare-offer.result follows c.claim-claim.ensures.free refl made submits).0)
+    (λ submits. (alone_left c.args.book.now b new c.deref.result.now c.prices.result.now c.version.result c.claim-claim.result c.prepare-offer.result c.workers-workers.ensures.free c.requires.worker c.requires.none c.claim-claim.ensures.answer
+    c.claim-claim.ensures.book (c.deref.ensures ∙ c.scaled.ensures.scaled) c.prices.ensures.prices c.prepare-offer.ensures c.claim-claim.ensures.free submits).0)
 
 pub returns-clause-none : goal.returns-clause-none
 returns-clause-none c =
     let b = c.claim-claim.new.self in
     let new = c.submit_offer.new.book in
-    let free = c.workers-workers.ensures.free in
-    let follows = alone_claimed c.args.book.now b c.claim-claim.result free c.requires.worker c.requires.none c.claim-claim.ensures.answer c.claim-claim.ensures.book in
-    let made = alone_prepared c.args.book.now b c.deref.result.now c.prices.result.now c.version.result c.claim-claim.result c.prepare-offer.result free c.requires.worker c.requires.none
-    c.claim-claim.ensures.answer c.claim-claim.ensures.book (c.deref.ensures ∙ c.scaled.ensures.scaled) c.prices.ensures.prices c.prepare-offer.ensures in
     on_ok c.submit_offer.result (Submits b 1 c.prepare-offer.result new) (numbered new.claims 1 None ≡ None) c.submit_offer.ensures.ok
-    (λ submits. (alone_left c.args.book.now b new (prices_of b) c.version.result c.prepare-offer.result follows c.claim-claim.ensures.free refl made submits).1)
+    (λ submits. (alone_left c.args.book.now b new c.deref.result.now c.prices.result.now c.version.result c.claim-claim.result c.prepare-offer.result c.workers-workers.ensures.free c.requires.worker c.requires.none c.claim-claim.ensures.answer
+    c.claim-claim.ensures.book (c.deref.ensures ∙ c.scaled.ensures.scaled) c.prices.ensures.prices c.prepare-offer.ensures c.claim-claim.ensures.free submits).1)

@@ -1,4 +1,3 @@
-use Rattle.std.specs.List.{All}
 use Rattle.std.proofs.lemmas.List.Elements.{All-set}
 use Rattle.async_workers.specs.Turns.{CanTurn}
 use Rattle.async_workers.proofs.tests.run_script.Goals.{in-None, in-Some+then-at-len+in_ok-push-in-Some, in-Some+else-at-len}

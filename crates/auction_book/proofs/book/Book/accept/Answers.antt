@@ -45,35 +45,6 @@ overflow_add-index_mut c =
     let few = count_fits _ (c.args.worker - 1) c.self.invariant.3 lt in
     record { fits = rw at few }
 
-pub invariant_of-self-2 : goal.invariant_of-self-2
-invariant_of-self-2 c =
-    let s = c.self.inside in
-    let w = c.args.worker in
-    let bid = c.args.bid in
-    let is = c.self.view_is in
-    let hw : 0 < w = c.requires.worker.first in
-    let ho : 0 < bid.object = c.requires.object.first in
-    let at : c.place-place.result ≡ bid.object - 1 = c.place-place.ensures in
-    let lo : bid.object ≤ length s.owners.items = (subst (λ (x : BookData). IsNumber (length x.owners) bid.object) (sym is) c.requires.object).last in
-    let lc : w ≤ length s.claims.items = (subst (λ (x : BookData). IsNumber (length x.claims) w) (sym is) c.requires.worker).last in
-    let ln : w ≤ length s.counts.items = subst (λ m. w ≤ m) (sym c.self.invariant.3.sizes.counted) lc in
-    let more = numbered_read s.counts.items w c.index_mut-3.result.now 0 hw ln c.index_mut-3.ensures.value in
-    let f : SFits w128 bid.level = search rules in
-    let made : c.raise.new.self ≡ after_raise s.log bid.object bid.level = simp to_z-of_z at c.in_ok-raise.ensures.ok in
-    let out = numbered_read s.owners.items bid.object c.index.result.now None ho lo (subst (λ m. c.index.result.now ≡ get_or s.owners.items m c.index.result.now) at c.index.ensures) in
-    let b = c.args.self.now in
-    let free : IsFree b = subst IsFree is c.self.invariant.3 in
-    let q = c.requires.sound in
-    let now = subst (λ (x : BookData). IsFree (accepted x w bid)) (sym is) (accepted_free b w bid free (sound_above b.base (ask_of b) q.0 (prices_of b) bid q.1 q.2) c.requires.high c.requires.held) in (
-      rw (length-set, c.requeue.ensures.capacity) c.self.invariant.0,
-      owned_more s.owners.items bid.object bid.person c.place-place.result s.owned c.newly_owned.result c.index.result.now at ho lo c.self.invariant.1 out c.newly_owned.ensures,
-      rw length-set c.self.invariant.2,
-      rw (at, more, sym (renumber-set s.owners.items bid.object (Some bid.person) ho), sym (renumber-set s.claims.items w None hw), sym (renumber-set s.counts.items w (numbered s.counts.items w 0 + 1) hw), c.requeue.ensures.queue, out, made) now,
-    )
-
-pub returns-clause-free : goal.returns-clause-free
-returns-clause-free c = (invariant_of-self-2 c).3
-
 pub returns-clause-ok : goal.returns-clause-ok
 returns-clause-ok c =
     let s = c.self.inside in
@@ -91,3 +62,25 @@ returns-clause-ok c =
     let made : c.raise.new.self ≡ after_raise s.log bid.object bid.level = simp to_z-of_z at c.in_ok-raise.ensures.ok in
     let out = numbered_read s.owners.items bid.object c.index.result.now None ho lo (subst (λ m. c.index.result.now ≡ get_or s.owners.items m c.index.result.now) at c.index.ensures) in
     rw (at, more, sym (renumber-set s.owners.items bid.object (Some bid.person) ho), sym (renumber-set s.claims.items w None hw), sym (renumber-set s.counts.items w (numbered s.counts.items w 0 + 1) hw), c.requeue.ensures.queue, out, made) (ap (λ (x : BookData). accepted x w bid) is)
+
+pub invariant_of-self-2 : goal.invariant_of-self-2
+invariant_of-self-2 c =
+    let s = c.self.inside in
+    let w = c.args.worker in
+    let bid = c.args.bid in
+    let b = c.args.self.now in
+    let ho : 0 < bid.object = c.requires.object.first in
+    let at : c.place-place.result ≡ bid.object - 1 = c.place-place.ensures in
+    let lo : bid.object ≤ length s.owners.items = (subst (λ (x : BookData). IsNumber (length x.owners) bid.object) (sym c.self.view_is) c.requires.object).last in
+    let out = numbered_read s.owners.items bid.object c.index.result.now None ho lo (subst (λ m. c.index.result.now ≡ get_or s.owners.items m c.index.result.now) at c.index.ensures) in
+    let q = c.requires.sound in
+    let free = subst IsFree c.self.view_is c.self.invariant.3 in
+    let now = accepted_free b w bid free (sound_above b.base (ask_of b) q.0 (prices_of b) bid q.1 q.2) c.requires.high c.requires.held in (
+      rw (length-set, c.requeue.ensures.capacity) c.self.invariant.0,
+      owned_more s.owners.items bid.object bid.person c.place-place.result s.owned c.newly_owned.result c.index.result.now at ho lo c.self.invariant.1 out c.newly_owned.ensures,
+      rw length-set c.self.invariant.2,
+      subst IsFree (sym (returns-clause-ok c)) now,
+    )
+
+pub returns-clause-free : goal.returns-clause-free
+returns-clause-free c = (invariant_of-self-2 c).3

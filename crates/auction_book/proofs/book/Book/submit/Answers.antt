@@ -2,8 +2,10 @@ use Rattle.std.proofs.Common.{rules, ◌≡◌, ◌∙◌, arith, refl, ap, SFit
 use Rattle.std.specs.Int.{w128, w64}
 use Rattle.std.proofs.lemmas.Int.{ints}
 use Rattle.auction_book.specs.Changes.{released}
+use Rattle.auction_book.specs.Submissions.{IsHigh}
 use Rattle.auction_book.proofs.Accepting.{placed_bid}
 use Rattle.auction_book.proofs.book.Book.submit.Goals as goal
+use Rattle.auction_book.proofs.book.Book.submit.Goals.{After-owner-evicted}
 
 pub price-price-requires : goal.price-price-requires
 price-price-requires c = (placed_bid c.args.self.now c.args.bid c.if-not-holds.ensures.free c.requires.fitting (search rules)).priced
@@ -15,34 +17,30 @@ pub returns-then-is_low-clause-submitted : goal.returns-then-is_low-clause-submi
 returns-then-is_low-clause-submitted c =
     let f : SFits w64 c.eps.result = search rules in
     let g : SFits w128 c.args.bid.level = search rules in
-    let x = c.if-is_low.ensures in
-    let y = c.price-price.ensures.price in
     let p = c.price-price.ensures.range in
-    let z = c.eps.ensures in
     let same : c.args.bid.phase ≡ c.args.self.now.phase = search rules in
-    (c.if-not-holds.ensures.holds.0 refl, same, omega (arith, ints), omega (arith, ints), c.release-then-is_low.ensures.book)
+    (c.if-not-holds.ensures.holds.0 refl, same, omega (arith, ints, c.if-is_low.ensures, c.price-price.ensures.price, c.eps.ensures), omega (arith, ints, c.price-price.ensures.price), c.release-then-is_low.ensures.book)
+
+-- a bid that isn't too low is high
+is_high : (c : After-owner-evicted) → IsHigh c.args.self.now c.args.bid
+is_high c =
+    let f : SFits w64 c.eps.result = search rules in
+    let g : SFits w128 c.args.bid.level = search rules in
+    let p = c.price-price.ensures.range in
+    omega (arith, ints, c.if-is_low.ensures, c.price-price.ensures.price, c.eps.ensures)
 
 pub returns-in-Ok-clause-submitted : goal.returns-in-Ok-clause-submitted
 returns-in-Ok-clause-submitted c =
-    let f : SFits w64 c.eps.result = search rules in
-    let g : SFits w128 c.args.bid.level = search rules in
-    let x = c.if-is_low.ensures in
-    let y = c.price-price.ensures.price in
-    let p = c.price-price.ensures.range in
-    let z = c.eps.ensures in
+    let high = is_high (goal.at.returns-in-Ok-clause-submitted c).After-owner-evicted in
     let same : c.args.bid.phase ≡ c.args.self.now.phase = search rules in
-    (c.if-not-holds.ensures.holds.0 refl, same, omega (arith, ints), c.owner-evicted.ensures, c.in-Ok.ensures.ok)
+    (c.if-not-holds.ensures.holds.0 refl, same, high, c.owner-evicted.ensures, c.in-Ok.ensures.ok)
 
 pub returns-in-Err-clause-submitted : goal.returns-in-Err-clause-submitted
 returns-in-Err-clause-submitted c =
-    let f : SFits w64 c.eps.result = search rules in
-    let g : SFits w128 c.args.bid.level = search rules in
-    let x = c.if-is_low.ensures in
-    let y = c.price-price.ensures.price in
-    let p = c.price-price.ensures.range in
-    let z = c.eps.ensures in
+    let high = is_high (goal.at.returns-in-Err-clause-submitted c).After-owner-evicted in
     let same : c.args.bid.phase ≡ c.args.self.now.phase = search rules in
-    (c.if-not-holds.ensures.holds.0 refl, same, omega (arith, ints), c.release-in-Err.ensures.book ∙ ap (λ b. released b c.args.worker c.args.bid.person) c.in-Err.ensures.err)
+    let book = c.release-in-Err.ensures.book ∙ ap (λ b. released b c.args.worker c.args.bid.person) c.in-Err.ensures.err in
+    (c.if-not-holds.ensures.holds.0 refl, same, high, book)
 
 pub accept-requires-clause-object : goal.accept-requires-clause-object
 accept-requires-clause-object c = (placed_bid c.args.self.now c.args.bid c.if-not-holds.ensures.free c.requires.fitting (search rules)).owned

@@ -1,57 +1,13 @@
 // Worked problems under gates that hold workers back, and drawn ones beside a search of all
 // assignments.
-ghost use Rattle.std.specs.Prelude.{◌≡◌, ◌<◌, All, IfOk, length};
-ghost use Rattle.assign_core.specs.Numbered.{IsNumber};
-ghost use Rattle.assign_core.specs.Rows.{IsCost, IsSize};
-ghost use Rattle.assign_core.specs.Sparse.{IsTriple};
-
+use super::problems::{Pair, drawn_pairs, drawn_sense, next, problem_of, scaled_of, size};
 use super::*;
-use assign_core::{
-    Cost, GREATEST_COST, MOST_PERSONS, Object, Outcome, Person, Price, Problem, Sense, SolveFault,
-    plain_best,
-};
+use assign_core::{Cost, Numbered, Outcome, plain_best};
 use auction_book::Refused;
-use scaled_values::scale;
-use std::alloc::{AllocError, Global};
 use std::sync::atomic::{AtomicU64, Ordering};
-use std::sync::{Arc, Wait};
 use std::test::Fail;
 use std::thread;
 use std::thread::Threads;
-
-// A pair with its cost.
-type Pair = (u16, u16, Cost);
-
-// A number of persons brought into range.
-fn size(n: u16) -> u16
-    ensures { IsSize result }
-{
-    n.max(1).min(MOST_PERSONS)
-}
-
-// A person and an object of n with a cost, all brought into range.
-fn triple(n: u16, pair: Pair) -> (Person, Object, Cost)
-    requires { IsSize n }
-    ensures { IsTriple n result }
-{
-    (
-        Person(pair.0.max(1).min(n)),
-        Object(pair.1.max(1).min(n)),
-        pair.2.max(-GREATEST_COST).min(GREATEST_COST),
-    )
-}
-
-// The problem that lists these pairs.
-fn problem_of(alloc: Global, n: u16, pairs: &[Pair]) -> Result<Problem, AllocError>
-    requires { IsSize n }
-    ensures { IfOk result (λ problem. length problem ≡ n) }
-{
-    let mut triples = Vec::with_capacity(alloc, pairs.len())?;
-    for pair in pairs {
-        triples.push(triple(n, *pair))?;
-    }
-    Problem::sparse(alloc, n, triples.as_slice())
-}
 
 // The pairs of a dense problem, from its costs row by row.
 fn dense(alloc: Global, n: u16, costs: &[Cost]) -> Result<Vec<Pair>, AllocError> {
@@ -67,37 +23,39 @@ fn dense(alloc: Global, n: u16, costs: &[Cost]) -> Result<Vec<Pair>, AllocError>
 
 // What became of a run: the objects and prices, or the persons and objects of a Hall set; and how
 // many bids of each worker were accepted.
-#[derive(Debug, PartialEq, Eq, Drop)]
+#[derive(Drop)]
 enum Seen {
     Best(Vec<u16>, Vec<Price>, Vec<u128>),
     Hall(Vec<u16>, Vec<u16>),
     Refused,
 }
 
-fn told(alloc: Global, outcome: &Outcome, tallies: &[Tally]) -> Result<Seen, AllocError> {
+fn numbers_of<T: Numbered>(alloc: Global, those: &[T]) -> Result<Vec<u16>, AllocError> {
+    let mut numbers = Vec::new(alloc);
+    for it in those {
+        numbers.push((*it).number())?;
+    }
+    Ok(numbers)
+}
+
+fn counts_of(alloc: Global, tallies: &[Tally]) -> Result<Vec<u128>, AllocError> {
     let mut accepted = Vec::new(alloc);
     for tally in tallies {
         accepted.push(tally.accepted)?;
     }
+    Ok(accepted)
+}
+
+fn told(alloc: Global, outcome: &Outcome, tallies: &[Tally]) -> Result<Seen, AllocError> {
     match outcome {
         Outcome::Best(certificate) => {
-            let mut objects = Vec::new(alloc);
-            for object in certificate.assignment.objects() {
-                objects.push(object.0)?;
-            }
+            let objects = numbers_of(alloc, certificate.assignment.objects())?;
             let prices = certificate.prices.as_slice().to_vec(alloc)?;
-            Ok(Seen::Best(objects, prices, accepted))
+            Ok(Seen::Best(objects, prices, counts_of(alloc, tallies)?))
         }
         Outcome::Hall(hall) => {
-            let mut persons = Vec::new(alloc);
-            for person in hall.persons() {
-                persons.push(person.0)?;
-            }
-            let mut objects = Vec::new(alloc);
-            for object in hall.objects() {
-                objects.push(object.0)?;
-            }
-            Ok(Seen::Hall(persons, objects))
+            let persons = numbers_of(alloc, hall.persons())?;
+            Ok(Seen::Hall(persons, numbers_of(alloc, hall.objects())?))
         }
     }
 }
@@ -113,20 +71,42 @@ fn solved<G: Gate + Sync, R: Threads + Wait + Sync>(
     refresh: u64,
     gate: &G,
 ) -> Result<Seen, AllocError> {
-    let problem = problem_of(alloc, size(n), pairs)?;
-    let scaled = Arc::new(alloc, scale(alloc, problem, sense)?)?;
+    let scaled = scaled_of(alloc, size(n), pairs, sense)?;
     match solve_workers(rt, alloc, scaled, workers.max(1), refresh, gate) {
         Ok((outcome, tallies)) => told(alloc, &outcome, tallies.as_slice()),
         Err(_) => Ok(Seen::Refused),
     }
 }
 
+// What workers come to on a dense problem, under `Min`.
+fn dense_solved<G: Gate + Sync, R: Threads + Wait + Sync>(
+    rt: &R,
+    alloc: Global,
+    n: u16,
+    costs: &[Cost],
+    workers: u16,
+    refresh: u64,
+    gate: &G,
+) -> Result<Seen, AllocError> {
+    let pairs = dense(alloc, n, costs)?;
+    solved(
+        rt,
+        alloc,
+        n,
+        pairs.as_slice(),
+        Sense::Min,
+        workers,
+        refresh,
+        gate,
+    )
+}
+
 // ---- gates
 // So many turns a gate holds a worker at most.
 const TURNS: u32 = 1_000_000;
 
-// Holds the first offers, and the first submissions too if `pairs_up`, until as many workers have
-// reached theirs; and then the first submission of worker 1 until worker 2 was told so many acceptances.
+// Holds the first offers, and where `waiting` is above 0 the first submissions, until as many workers
+// have reached theirs; and then that of worker 1 until worker 2 was told so many acceptances.
 #[derive(Drop)]
 struct Holding {
     workers: u64,
@@ -220,18 +200,7 @@ fn eight<G: Gate + Sync, R: Threads + Wait + Sync>(
     refresh: u64,
     gate: &G,
 ) -> Result<Option<Vec<u16>>, AllocError> {
-    let pairs = dense(alloc, 8, &EIGHT)?;
-    let seen = solved(
-        rt,
-        alloc,
-        8,
-        pairs.as_slice(),
-        Sense::Min,
-        workers,
-        refresh,
-        gate,
-    )?;
-    match seen {
+    match dense_solved(rt, alloc, 8, &EIGHT, workers, refresh, gate)? {
         Seen::Best(objects, _, _) => Ok(Some(objects)),
         _ => Ok(None),
     }
@@ -260,53 +229,45 @@ fn all_workers_start(rt: HostRuntime) -> Result<(), Fail> {
     Ok(())
 }
 
+// What two workers come to that never catch up by themselves, where worker 1 is held until worker 2
+// was told so many acceptances; how many bids were refused at price 1; and whether one was held too long.
+fn stale_bid<R: Threads + Wait + Sync>(
+    rt: &R,
+    alloc: Global,
+    waiting: u64,
+    n: u16,
+    costs: &[Cost],
+) -> Result<(Seen, u64, u64), AllocError> {
+    let gate = new_gate(2, waiting);
+    let seen = dense_solved(rt, alloc, n, costs, 2, 0, &gate)?;
+    let refused = gate.refused.load(Ordering::SeqCst);
+    Ok((seen, refused, gate.late.load(Ordering::SeqCst)))
+}
+
 #[test]
 fn stale_bid_refused(rt: HostRuntime) -> Result<(), Fail> {
-    let gate = new_gate(2, 1);
-    let pairs = dense(rt.alloc(), 2, &[2, 2, 2, 2])?;
-    let seen = solved(
-        &rt,
-        rt.alloc(),
-        2,
-        pairs.as_slice(),
-        Sense::Min,
-        2,
-        0,
-        &gate,
-    )?;
+    let (seen, refused, late) = stale_bid(&rt, rt.alloc(), 1, 2, &[2, 2, 2, 2])?;
     let Seen::Best(objects, prices, accepted) = seen else {
         panic!(rt; "no assignment");
     };
     assert!(rt; objects.as_slice() == [1, 2].as_slice() || objects.as_slice() == [2, 1].as_slice());
     assert_eq!(rt; prices.as_slice(), [1, 2].as_slice());
     assert_eq!(rt; accepted.as_slice(), [1, 1].as_slice());
-    assert_eq!(rt; gate.refused.load(Ordering::SeqCst), 1);
-    assert_eq!(rt; gate.late.load(Ordering::SeqCst), 0);
+    assert_eq!(rt; (refused, late), (1, 0));
     Ok(())
 }
 
 #[test]
 fn stale_bid_accepted(rt: HostRuntime) -> Result<(), Fail> {
-    let gate = new_gate(2, 2);
-    let pairs = dense(rt.alloc(), 3, &[0, 1, 1, 1, 0, 1, 1, 1, 0])?;
-    let seen = solved(
-        &rt,
-        rt.alloc(),
-        3,
-        pairs.as_slice(),
-        Sense::Min,
-        2,
-        0,
-        &gate,
-    )?;
+    let costs = [0, 1, 1, 1, 0, 1, 1, 1, 0];
+    let (seen, refused, late) = stale_bid(&rt, rt.alloc(), 2, 3, &costs)?;
     let Seen::Best(objects, prices, accepted) = seen else {
         panic!(rt; "no assignment");
     };
     assert_eq!(rt; objects.as_slice(), [1, 2, 3].as_slice());
     assert_eq!(rt; prices.as_slice(), [5, 5, 5].as_slice());
     assert_eq!(rt; accepted.as_slice(), [1, 2].as_slice());
-    assert_eq!(rt; gate.refused.load(Ordering::SeqCst), 0);
-    assert_eq!(rt; gate.late.load(Ordering::SeqCst), 0);
+    assert_eq!(rt; (refused, late), (0, 0));
     Ok(())
 }
 
@@ -326,34 +287,13 @@ fn three_persons_and_no_assignment(rt: HostRuntime) -> Result<(), Fail> {
 }
 
 // ---- drawn problems
-// The next of a sequence of numbers that look drawn by lot, below `end`.
-fn next(seed: &mut u64, end: u16) -> u16
-    requires { 0 < end }
-    ensures { result < end }
-{
-    *seed = seed
-        .wrapping_mul(6_364_136_223_846_793_005)
-        .wrapping_add(1_442_695_040_888_963_407);
-    ((*seed >> 33) % u64::from(end)) as u16
-}
-
 // A problem of at most eight persons, of which each may list some objects or all. Few are the
 // greatest, since the search that they are compared with tries all assignments.
 fn drawn(alloc: Global, seed: &mut u64) -> Result<(u16, Vec<Pair>), AllocError> {
-    let (one, other) = (next(seed, 8), next(seed, 8));
-    let n = if one < other { one } else { other } + 1;
+    let n = next(seed, 8).min(next(seed, 8)) + 1;
     let share = next(seed, 4) + 1;
-    let spread = next(seed, 30) + 1;
-    let mut pairs = Vec::new(alloc);
-    for i in 0..n {
-        for j in 0..n {
-            if next(seed, 4) < share {
-                let cost = Cost::from(next(seed, spread));
-                pairs.push((i + 1, j + 1, cost - 10))?;
-            }
-        }
-    }
-    Ok((n, pairs))
+    let costs = next(seed, 30) + 1;
+    Ok((n, drawn_pairs(alloc, seed, n, share, costs)?))
 }
 
 // The sum of the costs of the objects given to persons 1, 2, ..
@@ -389,11 +329,7 @@ fn agrees<R: Threads + Wait + Sync>(
     seed: &mut u64,
 ) -> Result<bool, AllocError> {
     let (n, pairs) = drawn(alloc, seed)?;
-    let sense = if next(seed, 2) == 0 {
-        Sense::Min
-    } else {
-        Sense::Max
-    };
+    let sense = drawn_sense(seed);
     let workers = next(seed, 8) + 1;
     let refresh = u64::from(next(seed, 4));
     let cost = best_cost(alloc, n, pairs.as_slice(), sense)?;

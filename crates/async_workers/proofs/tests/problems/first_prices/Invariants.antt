@@ -2,7 +2,7 @@ use Rattle.std.proofs.Common.{◌≡◌, ◌≤ℤ◌, length}
 use Rattle.std.specs.List.{All}
 use Rattle.assign_core.specs.declared.numbers.TheConstants.{GREATEST_FIRST_PRICE}
 use Rattle.assign_core.specs.Prices.{IsPrice}
-use Rattle.async_workers.proofs.tests.first_prices.Given as goal
+use Rattle.async_workers.proofs.tests.problems.first_prices.Given as goal
 
 abbrev pub invariant-loop-i : goal.invariant-loop-i
 invariant-loop-i l = record {

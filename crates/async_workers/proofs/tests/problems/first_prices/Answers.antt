@@ -4,7 +4,7 @@ use Rattle.assign_core.specs.declared.numbers.TheConstants.{GREATEST_FIRST_PRICE
 use Rattle.scaled_values.specs.Scaled.{greatest_of}
 use Rattle.scaled_values.proofs.BenefitRange.{greatest_holds}
 use Rattle.async_workers.proofs.Desks.{if_ok}
-use Rattle.async_workers.proofs.tests.first_prices.Goals as goal
+use Rattle.async_workers.proofs.tests.problems.first_prices.Goals as goal
 
 pub new-requires : goal.new-requires
 new-requires c =

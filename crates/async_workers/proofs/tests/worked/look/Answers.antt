@@ -1,5 +1,5 @@
 use Rattle.async_workers.proofs.Hands.{hand_taken}
-use Rattle.async_workers.proofs.tests.look.Goals as goal
+use Rattle.async_workers.proofs.tests.worked.look.Goals as goal
 
 pub give-requires-clause-held : goal.give-requires-clause-held
 give-requires-clause-held g c =

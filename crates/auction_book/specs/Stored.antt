@@ -1,0 +1,30 @@
+-- What is stored of a book, and which book it is to a contract.
+use Rattle.std.specs.Prelude.{◌≡◌, ◌≤◌, count_by, length}
+use Rattle.std.specs.Arc.{arc_value}
+use Rattle.std.specs.VecDeque.{deque_capacity}
+use Rattle.auction_book.specs.declared.book.Book.TheInside.{Inside}
+use Rattle.auction_book.specs.Book.{BookData, is_some}
+use Rattle.auction_book.specs.Free.{IsFree}
+
+-- the book of these fields
+abbrev pub book_of : Inside → BookData
+book_of b = record {
+  base = arc_value b.scaled;
+  phase = b.phase;
+  eps = b.eps;
+  floor = b.floor;
+  start = b.start;
+  start_version = b.start_version;
+  owners = b.owners.items;
+  queue = b.queue.items;
+  claims = b.claims.items;
+  counts = b.counts.items;
+  taken = b.taken.items;
+  log = b.log;
+  refuted = b.refuted;
+  stopped = b.stopped;
+}
+
+-- the queue has its room, the owned objects and the workers are counted, and the book is free
+abbrev pub IsKept : Inside → Type 0
+IsKept b = (length b.owners.items ≤ deque_capacity b.queue) × (b.owned ≡ count_by is_some b.owners.items) × (b.workers ≡ length b.claims.items) × IsFree (book_of b)
