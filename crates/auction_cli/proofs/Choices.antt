@@ -11,7 +11,7 @@ use Rattle.auction_cli.specs.declared.words.Words.{Words}
 use Rattle.auction_cli.specs.declared.words.WordsFault.{WordsFault}
 use Rattle.auction_cli.specs.declared.words.WordsFault.TheVariants as wrong
 use Rattle.auction_cli.specs.declared.words.WordsFault.TheVariants.{Clap, Memory}
-use Rattle.auction_cli.proofs.CommandLines.{file_of, flag_word, flags_of, mode_is_named, no_file_mode, solve_flags, solves, verifies}
+use Rattle.auction_cli.proofs.CommandLines.{file_of, flag_word, flags_of, mode_is_named, no_file_mode, solve_flags, solves, some_is, verifies}
 
 -- a text of a number in range is read as that number
 pub number_read : (E : Type 0) (G : List ℕ → Result ℕ E → Type 0) (digits : Text) (o : Option ℕ) (least most : ℕ) → ReadsOne G digits o → ((u : List ℕ) (x : Result ℕ E) → G u x → ParsesUnsigned 64 10 u x) →
@@ -19,11 +19,8 @@ pub number_read : (E : Type 0) (G : List ℕ → Result ℕ E → Type 0) (digit
 number_read E G digits (Some v) least most h only within = ap Some (only digits (Ok v) h).1
 number_read E G digits None least most h only within = absurd (only digits (Err h.0) h.1 (within.0, within.1))
 
-none_is_some : {A : Type 0} (x : A) → None ≡ Some x → ⊥
+pub none_is_some : {A : Type 0} (x : A) → None ≡ Some x → ⊥
 none_is_some x e = cc
-
-some_is : {A : Type 0} (x y : A) → Some x ≡ Some y → x ≡ y
-some_is x y e = cc
 
 pub mode_told : (rows : List Row) (name : Text) (o : Option Mode) (r : Result Mode WordsFault) → Some name ≡ first_of (codes "mode") rows → IfSome o (λ mode. name ≡ mode_name mode) → r ≡ ok_or o wrong.Mode →
     IfOk r (NamesMode rows)
@@ -48,12 +45,12 @@ chosen_outcome words found (Err (Clap error)) none is ok err = absurd err
 
 -- a line of `solve`, by what its options are told by
 pub solve_taken : (found : Option (Text × List Row)) (r : Result Words WordsFault) (wanted : SolveOpts) (workers refresh : Text) (start : Option Text) → flags_of found ≡ Some (solve_flags wanted workers refresh start) →
-    IsUnsignedIn 1 64 workers × IsUnsignedIn 0 1000000 refresh → wanted.workers ≡ digits_value 10 (without_leading_plus workers) → wanted.refresh ≡ digits_value 10 (without_leading_plus refresh) →
+    wanted.workers ≡ digits_value 10 (without_leading_plus workers) → wanted.refresh ≡ digits_value 10 (without_leading_plus refresh) →
     IfOk r (Chooses found) → IfErr r (IsChoiceFault found) → IsTaken (Solves wanted start) r
-solve_taken found (Ok asked) wanted workers refresh start e in_range w h ok err = solves found asked wanted workers refresh start e in_range.0 in_range.1 w h ok
-solve_taken found (Err wrong.Mode) wanted workers refresh start e in_range w h ok err = absurd (mode_is_named found wanted workers refresh start e err)
-solve_taken found (Err Memory) wanted workers refresh start e in_range w h ok err = refl
-solve_taken found (Err (Clap error)) wanted workers refresh start e in_range w h ok err = absurd err
+solve_taken found (Ok asked) wanted workers refresh start e w h ok err = solves found asked wanted workers refresh start e w h ok
+solve_taken found (Err wrong.Mode) wanted workers refresh start e w h ok err = absurd (mode_is_named found wanted workers refresh start e err)
+solve_taken found (Err Memory) wanted workers refresh start e w h ok err = refl
+solve_taken found (Err (Clap error)) wanted workers refresh start e w h ok err = absurd err
 
 -- and one of `verify`
 pub verify_taken : (found : Option (Text × List Row)) (r : Result Words WordsFault) (name : Text) → file_of found ≡ Some (codes "verify", (Some (flag_word true), Some name)) → IfOk r (Chooses found) → IfErr r (IsChoiceFault found) →

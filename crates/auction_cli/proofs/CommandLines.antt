@@ -1,7 +1,8 @@
 -- What clap finds in words, and command lines that are written out.
-use Rattle.std.proofs.Common.{◌≡◌, ◌∙◌, arith, refl, sym, ap, subst, codes, Bool, true, false, List, [], ◌∷◌, Option, Some, None, option_map, unwrap_or}
+use Rattle.std.proofs.Common.{◌≡◌, ◌∙◌, ◌≤◌, ℕ, refl, sym, ap, subst, codes, Bool, true, false, List, [], ◌∷◌, Option, Some, None, option_map, unwrap_or}
 use Rattle.std.specs.Borrow.{Bor}
-use Rattle.clap.specs.Words.{App, HasMatchesOf, IsUnsignedIn, Row, Text, fault_of, first_of, found_of, is_simple, is_simple_and_free, kind_of, one_of, one_text, rows_of, subcommand_of, subcommand_rows_of, takes}
+use Rattle.std.specs.Prelude.{Err, IfOk, Ok, Result}
+use Rattle.clap.specs.Words.{App, HasMatchesOf, Row, Text, fault_of, first_of, found_of, is_simple, is_simple_and_free, kind_of, one_of, one_text, rows_of, subcommand_of, subcommand_rows_of, takes}
 use Rattle.clap.specs.declared.parser.matches.ArgMatches.{ArgMatches}
 use Rattle.clap.proofs.WalkLemmas.{one_text-rows}
 use Rattle.clap.specs.declared.error.Error.{Error}
@@ -10,7 +11,7 @@ use Rattle.clap.proofs.OnLiterals.{clap_on_literals}
 use Rattle.std.specs.Str.Parse.{digits_value, without_leading_plus}
 use Rattle.assign_core.specs.declared.sense.Sense.{Sense}
 use Rattle.assign_core.specs.declared.sense.Sense.TheVariants.{Min, Max}
-use Rattle.auction_cli.specs.Words.{Chooses, ChoosesSolving, IsFaultOf, IsFlag, NamesNoMode, Solves, Verifies, full_line, full_options, is_max, mode_name, program, usual_options}
+use Rattle.auction_cli.specs.Words.{Chooses, ChoosesSolving, IsFaultOf, IsFlag, IsInRanges, IsNumberFor, NamesNoMode, Solves, Verifies, full_line, full_options, is_max, mode_name, program, usual_options}
 use Rattle.auction_cli.specs.declared.words.Mode.{Mode}
 use Rattle.auction_cli.specs.declared.words.Mode.TheVariants.{Rounds, Workers}
 use Rattle.auction_cli.specs.declared.words.SolveOpts.{SolveOpts}
@@ -108,11 +109,15 @@ flag_is : (text : Option Text) (flag b : Bool) → IsFlag text flag → text ≡
 flag_is text flag true f e = f.set e
 flag_is text flag false f e = f.unset e
 
-some_is : {A : Type 0} (x y : A) → Some x ≡ Some y → x ≡ y
+pub some_is : {A : Type 0} (x y : A) → Some x ≡ Some y → x ≡ y
 some_is x y e = cc
 
-other_command : codes "verify" ≡ codes "solve" → ⊥
+pub other_command : codes "verify" ≡ codes "solve" → ⊥
 other_command e = cc
+
+-- the number of a text that is known
+number_is : (text : Option Text) (least most : ℕ) {number : ℕ} (digits : Text) → IsNumberFor text least most number → text ≡ Some digits → number ≡ digits_value 10 (without_leading_plus digits)
+number_is text least most digits h e = h.value ∙ ap (λ (d : Text). digits_value 10 (without_leading_plus d)) (some_is _ _ (sym h.told ∙ e))
 
 same_sense : (a b : Sense) → is_max a ≡ is_max b → a ≡ b
 same_sense Min Min e = refl
@@ -126,28 +131,42 @@ same_mode Workers Workers e = refl
 same_mode Rounds Workers e = cc
 same_mode Workers Rounds e = cc
 
+pub at_most : (text : Option Text) (least most number : ℕ) → IsNumberFor text least most number → number ≤ most
+at_most text least most number h = rw h.value h.in_range.3
+
+at_least : (text : Option Text) (least most number : ℕ) → IsNumberFor text least most number → least ≤ number
+at_least text least most number h = rw h.value h.in_range.2
+
+pub in_ranges : (found : Option (Text × List Row)) (r : Result Words WordsFault) → IfOk r (Chooses found) → IfOk r IsInRanges
+in_ranges found (Ok (Solve options start)) h = record {
+  some_workers = at_least _ _ _ _ h.2.workers;
+  most_workers = at_most _ _ _ _ h.2.workers;
+  most_refresh = at_most _ _ _ _ h.2.refresh;
+}
+in_ranges found (Ok (Verify sparse report)) h = tt
+in_ranges found (Err fault) h = tt
+
 -- the options that a line is told by
-pub options_are : (rows : List Row) (o wanted : SolveOpts) (workers refresh : Text) (start : Option Text) → flags_of (Some (codes "solve", rows)) ≡ Some (solve_flags wanted workers refresh start) → ChoosesSolving rows o →
-    IsUnsignedIn 1 64 workers → IsUnsignedIn 0 1000000 refresh → wanted.workers ≡ digits_value 10 (without_leading_plus workers) → wanted.refresh ≡ digits_value 10 (without_leading_plus refresh) → o ≡ wanted
-options_are rows o wanted workers refresh start e h in_workers in_refresh w r =
+pub options_are : (rows : List Row) (o wanted : SolveOpts) (workers refresh : Text) (start : Option Text) → flags_of (Some (codes "solve", rows)) ≡ Some (solve_flags wanted workers refresh start) → ChoosesSolving rows o → wanted.workers ≡ digits_value 10 (without_leading_plus workers) → wanted.refresh ≡ digits_value 10 (without_leading_plus refresh) → o ≡ wanted
+options_are rows o wanted workers refresh start e h w r =
     let all = some_is _ _ e in
     let sparse : o.sparse ≡ wanted.sparse = flag_is _ _ wanted.sparse h.sparse (ap (λ (q : Flags). q.sparse) all) in
     let mode : o.mode ≡ wanted.mode = same_mode _ _ (some_is _ _ (sym h.mode ∙ ap (λ (q : Flags). q.mode) all)) in
-    let many : o.workers ≡ wanted.workers = h.workers.value workers (ap (λ (q : Flags). q.workers) all) in_workers ∙ sym w in
-    let often : o.refresh ≡ wanted.refresh = h.refresh.value refresh (ap (λ (q : Flags). q.refresh) all) in_refresh ∙ sym r in
+    let many : o.workers ≡ wanted.workers = number_is _ _ _ workers h.workers (ap (λ (q : Flags). q.workers) all) ∙ sym w in
+    let often : o.refresh ≡ wanted.refresh = number_is _ _ _ refresh h.refresh (ap (λ (q : Flags). q.refresh) all) ∙ sym r in
     let prices : o.prices ≡ wanted.prices = flag_is _ _ wanted.prices h.prices (ap (λ (q : Flags). q.prices) all) in
     let sense : o.sense ≡ wanted.sense = same_sense _ _ (flag_is _ _ (is_max wanted.sense) h.sense (ap (λ (q : Flags). q.max) all)) in
     λ i. record { sparse = sparse i; mode = mode i; workers = many i; refresh = often i; prices = prices i; sense = sense i }
 
 pub solves : (found : Option (Text × List Row)) (asked : Words) (wanted : SolveOpts) (workers refresh : Text) (start : Option Text) → flags_of found ≡ Some (solve_flags wanted workers refresh start) →
-    IsUnsignedIn 1 64 workers → IsUnsignedIn 0 1000000 refresh → wanted.workers ≡ digits_value 10 (without_leading_plus workers) → wanted.refresh ≡ digits_value 10 (without_leading_plus refresh) →
+    wanted.workers ≡ digits_value 10 (without_leading_plus workers) → wanted.refresh ≡ digits_value 10 (without_leading_plus refresh) →
     Chooses found asked → Solves wanted start asked
-solves found (Solve options file) wanted workers refresh start e in_workers in_refresh w r h =
+solves found (Solve options file) wanted workers refresh start e w r h =
     let told : flags_of (Some (codes "solve", h.0)) ≡ Some (solve_flags wanted workers refresh start) = ap flags_of (sym h.1) ∙ e in (
-      options_are h.0 options wanted workers refresh start told h.2 in_workers in_refresh w r,
+      options_are h.0 options wanted workers refresh start told h.2 w r,
       h.3 ∙ ap (λ (q : Flags). q.start) (some_is _ _ told),
     )
-solves found (Verify sparse report) wanted workers refresh start e in_workers in_refresh w r h =
+solves found (Verify sparse report) wanted workers refresh start e w r h =
     absurd (other_command (ap (λ (q : Flags). q.name) (some_is _ _ (ap flags_of (sym h.1) ∙ e))))
 
 -- a line that names its mode is refused for no mode
@@ -155,12 +174,6 @@ pub mode_is_named : (found : Option (Text × List Row)) (wanted : SolveOpts) (wo
 mode_is_named found wanted workers refresh start e h =
     let told : flags_of (Some (codes "solve", h.0)) ≡ Some (solve_flags wanted workers refresh start) = ap flags_of (sym h.1) ∙ e in
     h.2 wanted.mode (ap (λ (q : Flags). q.mode) (some_is _ _ told))
-
-pub plain_numbers : IsUnsignedIn 1 64 (codes "4") × IsUnsignedIn 0 1000000 (codes "1")
-plain_numbers = (((omega arith, (omega arith, tt)), omega arith, omega arith, omega arith), ((omega arith, (omega arith, tt)), omega arith, omega arith, omega arith))
-
-pub full_numbers : IsUnsignedIn 1 64 (codes "64") × IsUnsignedIn 0 1000000 (codes "0")
-full_numbers = (((omega arith, (omega arith, (omega arith, tt))), omega arith, omega arith, omega arith), ((omega arith, (omega arith, tt)), omega arith, omega arith, omega arith))
 
 pub verifies : (found : Option (Text × List Row)) (asked : Words) (s : Bool) (name : Text) → file_of found ≡ Some (codes "verify", (Some (flag_word s), Some name)) →
     Chooses found asked → Verifies s name asked

@@ -20,7 +20,7 @@ use Rattle.report.specs.Reports.{Report, best, hall}
 use Rattle.auction_cli.specs.declared.finding.Finding.{Finding}
 use Rattle.auction_cli.specs.declared.finding.Finding.TheVariants.{OtherCost}
 use Rattle.auction_cli.specs.declared.verify.Verified.TheVariants.{Yes, No}
-use Rattle.auction_cli.specs.Findings.{HaveOneFinding, Follows, HasCost, HasOtherCost, HaveCosts, IsFound, IsFoundInCosts, IsSo, hall_finding, objects_of, sense_of, verdict_of}
+use Rattle.auction_cli.specs.Findings.{HaveOneFinding, Follows, HasCost, HasOtherCost, HaveCosts, IsFoundInReport, IsFoundInCosts, IsSo, hall_finding, objects_of, sense_of, verdict_of}
 
 no_is_yes : No ≡ Yes → ⊥
 no_is_yes e = cc
@@ -84,7 +84,7 @@ hall_yes halls.Count y = absurd (no_is_yes y)
 hall_yes halls.Yes y = refl
 
 -- where nothing is wrong, what the report says is so
-pub found_is_so : (rows : List Listing) (report : Report) (finding : Finding) → IsProblem rows → IsFound rows report finding → verdict_of finding ≡ Yes → IsSo rows report
+pub found_is_so : (rows : List Listing) (report : Report) (finding : Finding) → IsProblem rows → IsFoundInReport rows report finding → verdict_of finding ≡ Yes → IsSo rows report
 found_is_so rows (best sense cost pairs None) finding problem found y = absurd (no_is_yes (sym (ap verdict_of found) ∙ y))
 found_is_so rows (best sense cost pairs (Some prices)) finding problem found y =
     let beyond = follows_yes _ found.0 finding found.2 y in

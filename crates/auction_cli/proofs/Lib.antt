@@ -6,3 +6,5 @@ pub mod Findings
 pub mod Subcommands
 pub mod Verdicts
 pub mod Starts
+pub mod Rows
+pub mod Numbers

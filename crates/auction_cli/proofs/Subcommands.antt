@@ -10,11 +10,11 @@ use Rattle.clap.specs.Lexer.{long_of, short_of}
 use Rattle.clap.specs.Simple.{App, Shape, entered, label_of, names_of, rows_at, argument_words, built, subcommand_of}
 use Rattle.clap.specs.Faults.{word_fault, other_fault, turn_fault, step_fault, walk_fault, built_fault, entered_fault, fault_of, check_fault}
 
-first_none : (a b : Kinds) → or_else a b ≡ [] → a ≡ []
+pub first_none : (a b : Kinds) → or_else a b ≡ [] → a ≡ []
 first_none [] b e = refl
 first_none (k ∷ ks) b e = cc
 
-then_none : (a b : Kinds) → or_else a b ≡ [] → b ≡ []
+pub then_none : (a b : Kinds) → or_else a b ≡ [] → b ≡ []
 then_none [] b e = e
 then_none (k ∷ ks) b e = cc
 
@@ -121,7 +121,7 @@ stops a words d r q e =
       entered = entered_some a.top (finished a.top.rules (walk a.top.rules (names_of a) nothing_held words).held) _ r q (then_none _ _ rest);
     }
 
-or_false : (b : Bool) → (b || false) ≡ true → b ≡ true
+pub or_false : (b : Bool) → (b || false) ≡ true → b ≡ true
 or_false true e = refl
 or_false false e = e
 

@@ -6,12 +6,12 @@ use Rattle.report.specs.Answers.{Answers}
 use Rattle.report.specs.Reports.{Report}
 use Rattle.auction_cli.specs.declared.finding.Finding.{Finding}
 use Rattle.auction_cli.specs.Solve.{Reads}
-use Rattle.auction_cli.specs.Findings.{IsFound}
+use Rattle.auction_cli.specs.Findings.{IsFoundInReport}
 use Rattle.auction_cli.specs.Verify.{IsFinding}
 use Rattle.auction_cli.proofs.Findings.{found_is_so}
 
 pub finding_is : (sparse : Bool) (input text : Option (List ℕ)) (rows : List Listing) (report : Report) (finding : Finding) → IsProblem rows →
-    IfSome input (λ bytes. Reads sparse bytes (Ok rows)) → IfSome text (λ bytes. Answers bytes (Ok report)) → IsFound rows report finding → IsFinding sparse input text finding
+    IfSome input (λ bytes. Reads sparse bytes (Ok rows)) → IfSome text (λ bytes. Answers bytes (Ok report)) → IsFoundInReport rows report finding → IsFinding sparse input text finding
 finding_is sparse input text rows report finding problem read said found = record {
   rows = rows;
   report = report;

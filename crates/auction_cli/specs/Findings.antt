@@ -92,16 +92,16 @@ IsFoundInHall rows persons objects finding =
     (v : HallVerdict) × IsHallVerdict rows persons objects v × (finding ≡ hall_finding v)
 
 -- what is found in a report that is held against a problem
-abbrev pub IsFound : List Listing → Report → Finding → Type 0
-IsFound rows (best sense cost pairs None) finding = finding ≡ NoPrices
-IsFound rows (best sense cost pairs (Some prices)) finding =
+abbrev pub IsFoundInReport : List Listing → Report → Finding → Type 0
+IsFoundInReport rows (best sense cost pairs None) finding = finding ≡ NoPrices
+IsFoundInReport rows (best sense cost pairs (Some prices)) finding =
     IsFoundInBest (sense_of sense) rows cost pairs prices finding
-IsFound rows (hall sense persons objects) finding = IsFoundInHall rows persons objects finding
+IsFoundInReport rows (hall sense persons objects) finding = IsFoundInHall rows persons objects finding
 
 -- a problem and a report have one finding
 abbrev pub HaveOneFinding : Type 0
 HaveOneFinding = (rows : List Listing) (report : Report) (first second : Finding) → IsProblem rows
-    → IsFound rows report first → IsFound rows report second → first ≡ second
+    → IsFoundInReport rows report first → IsFoundInReport rows report second → first ≡ second
 
 -- whether nothing is wrong
 abbrev pub verdict_of : Finding → Verified

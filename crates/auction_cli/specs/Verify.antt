@@ -6,7 +6,7 @@ use Rattle.report.specs.Answers as reports
 use Rattle.report.specs.Reports.{Report}
 use Rattle.report.specs.Writing.{IsCutOff}
 use Rattle.auction_cli.specs.Solve.{IsRefused, IsRefusedReport, Reads}
-use Rattle.auction_cli.specs.Findings.{IsFound, IsSo, finding_line, verdict_of}
+use Rattle.auction_cli.specs.Findings.{IsFoundInReport, IsSo, finding_line, verdict_of}
 use Rattle.auction_cli.specs.declared.finding.Finding.{Finding}
 use Rattle.auction_cli.specs.declared.verify.Verified.{Verified}
 use Rattle.auction_cli.specs.declared.verify.Verified.TheVariants.{Yes}
@@ -24,7 +24,7 @@ pub record IsFinding (sparse : Bool) (input text : Option (List ℕ)) (finding :
   pub report : Report
   pub problem : IfSome input (λ bytes. Reads sparse bytes (Ok rows))
   pub said : IfSome text (λ bytes. reports.Answers bytes (Ok report))
-  pub found : IsFound rows report finding
+  pub found : IsFoundInReport rows report finding
   pub so : verdict_of finding ≡ Yes → IsSo rows report
 
 -- what a run has read, of the problem and of the report, and written, by how it ended: one line, or

@@ -75,11 +75,21 @@ mode_name Workers = codes "workers"
 abbrev pub NamesMode : List Row → Mode → Type 0
 NamesMode rows mode = first_of (codes "mode") rows ≡ Some (mode_name mode)
 
--- a number in range, by the text that clap has for its option
+-- the text that clap has for an option is a number in range, and this is the number
 pub record IsNumberFor (text : Option Text) (least most number : ℕ) : Type 0 where
-  pub from : least ≤ number
-  pub to : number ≤ most
-  pub value : (digits : Text) → text ≡ Some digits → IsUnsignedIn least most digits → number ≡ digits_value 10 (without_leading_plus digits)
+  pub digits : Text
+  pub told : text ≡ Some digits
+  pub in_range : IsUnsignedIn least most digits
+  pub value : number ≡ digits_value 10 (without_leading_plus digits)
+
+-- the text is a number in range
+abbrev pub IsNumberIn : Option Text → ℕ → ℕ → Type 0
+IsNumberIn text least most = (number : ℕ) × IsNumberFor text least most number
+
+-- both options of `solve` that take a number have one in range
+pub record HasNumbers (rows : List Row) : Type 0 where
+  pub workers : IsNumberIn (one_of (codes "workers") rows) 1 64
+  pub refresh : IsNumberIn (one_of (codes "refresh") rows) 0 1000000
 
 -- the options of `solve`, by what clap finds behind it
 pub record ChoosesSolving (rows : List Row) (options : SolveOpts) : Type 0 where
@@ -124,6 +134,10 @@ abbrev pub IsFaultOf : Error → WordsFault → Type 0
 IsFaultOf error Memory = kind_of error ≡ OutOfMemory
 IsFaultOf error (Clap told) = (told ≡ error) × (kind_of error ≢ OutOfMemory)
 IsFaultOf error wrong.Mode = ⊥
+
+-- behind `solve` both numbers are in range
+abbrev pub HasNumbersIfSolving : Option (Text × List Row) → Type 0
+HasNumbersIfSolving found = (rows : List Row) → found ≡ Some (codes "solve", rows) → HasNumbers rows
 
 -- clap finds no fault in the words, and this is what they choose
 abbrev pub AskFor : List Text → Words → Type 0

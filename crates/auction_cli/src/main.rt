@@ -1,10 +1,16 @@
 //! Solves assignment problems from the command line.
 #![tactic(auto)]
 
+#[cfg(test)]
+mod command_tests;
+#[cfg(test)]
+mod fault_tests;
 mod finding;
 #[cfg(test)]
 mod mode_tests;
 mod program;
+#[cfg(test)]
+mod report_tests;
 mod run;
 #[cfg(test)]
 mod schedule_tests;
@@ -12,13 +18,13 @@ mod schedule_tests;
 mod start_tests;
 #[cfg(test)]
 mod streams;
-#[cfg(test)]
-mod tests;
 mod verify;
 #[cfg(test)]
 mod verify_drawn_tests;
 #[cfg(test)]
 mod verify_tests;
+#[cfg(test)]
+mod watched;
 mod words;
 
 use program::{NoReport, NoWords, Reports, run_program};

@@ -1,7 +1,7 @@
 // Both modes, on problems whose reports, or what is compared of them, are the same for any threads.
 use crate::run::{Ended, run_solve};
 use crate::streams::{ample_sheet, whole_text};
-use crate::tests::{first_line, run_with};
+use crate::watched::{first_line, run_with};
 use crate::words::{Mode, SolveOpts};
 use assign_core::Sense;
 use async_workers::{Gate, Note};
@@ -21,38 +21,32 @@ const EIGHT: &[u8] = b"8
 ";
 
 // The words of either mode, with few and many workers.
-const MODES: [&[&str]; 6] = [
-    &["--mode", "rounds", "--workers", "9"],
-    &["--mode", "workers", "--workers", "1"],
-    &["--mode=workers"],
-    &["--mode", "workers", "--refresh", "0"],
-    &["--mode", "workers", "--workers", "64"],
-    &["--refresh=1000", "--workers=2", "--mode=workers"],
+const MODES: [&str; 6] = [
+    "--mode rounds --workers 9",
+    "--mode workers --workers 1",
+    "--mode=workers",
+    "--mode workers --refresh 0",
+    "--mode workers --workers 64",
+    "--refresh=1000 --workers=2 --mode=workers",
 ];
 
 // A problem under some options, a report for `--start`, and the status and the beginning of the
 // report that is written.
-type Worked = (
-    &'static [&'static str],
-    &'static [u8],
-    &'static [u8],
-    u8,
-    &'static str,
-);
+type Worked = (&'static str, &'static [u8], &'static [u8], u8, &'static str);
 
 #[test]
 fn reports_in_both_modes(rt: HostRuntime) -> Result<(), Fail> {
     let two: &[u8] = b"sense min\ncost 5\nassign 1 2 2\nassign 2 1 3\nprice 1 14\nprice 2 12\n";
     let table: [Worked; 8] = [
         (
-            &["--prices"],
+            "solve --prices",
             b"1 7",
             b"",
             0,
             "sense min\ncost 7\nassign 1 1 7\nprice 1 1\n",
         ),
         (
-            &[],
+            "solve",
             b"2 1 2 3 5",
             b"",
             0,
@@ -60,42 +54,43 @@ fn reports_in_both_modes(rt: HostRuntime) -> Result<(), Fail> {
         ),
         // All alike: which object is whose is open.
         (
-            &["--max", "--prices"],
+            "solve --max --prices",
             b"3 2 2 2 2 2 2 2 2 2",
             b"",
             0,
             "sense max\ncost 6\nassign 1 ",
         ),
         (
-            &[],
+            "solve",
             b"2 1000000 -1000000 -1000000 1000000",
             b"",
             0,
             "sense min\ncost -2000000\nassign 1 2 -1000000\nassign 2 1 -1000000\n",
         ),
         (
-            &["--sparse"],
+            "solve --sparse",
             b"3 1 1 4 2 1 6 3 2 1 3 3 2",
             b"",
             1,
             "sense min\ninfeasible\npersons 2 1 2\nobjects 1 1\n",
         ),
         (
-            &[],
+            "solve",
             EIGHT,
             b"",
             0,
-            "sense min\ncost 224\nassign 1 3 22\nassign 2 1 8\nassign 3 4 29\nassign 4 8 44\nassign 5 2 18\nassign 6 7 37\nassign 7 5 31\nassign 8 6 35\n",
+            "sense min\ncost 224\nassign 1 3 22\nassign 2 1 8\nassign 3 4 29\nassign 4 8 44\n\
+             assign 5 2 18\nassign 6 7 37\nassign 7 5 31\nassign 8 6 35\n",
         ),
         (
-            &["--start", "report"],
+            "solve --start report",
             b"2 1 2 3 5",
             two,
             0,
             "sense min\ncost 5\nassign 1 2 2\nassign 2 1 3\n",
         ),
         (
-            &["--start", "report", "--prices"],
+            "solve --start report --prices",
             b"1 7",
             b"sense min\ncost 7\nassign 1 1 7\nprice 1 1000000000000000000000\n",
             0,
@@ -104,10 +99,8 @@ fn reports_in_both_modes(rt: HostRuntime) -> Result<(), Fail> {
     ];
     for (options, text, report, status, start) in table {
         for mode in MODES {
-            let mut words = Vec::from_slice(rt.alloc(), &["auction_cli", "solve"])?;
-            words.extend_from_slice(options)?;
-            words.extend_from_slice(mode)?;
-            let seen = run_with(&rt, rt.alloc(), words.as_slice(), text, report, 4096)?;
+            let line = format!(in rt.alloc(); "{options} {mode}")?;
+            let seen = run_with(&rt, rt.alloc(), line.as_str(), text, report, 4096)?;
             assert_eq!(rt; seen.errors.len(), 0);
             assert!(rt; seen.out.as_slice().starts_with(start.as_bytes()));
             assert_eq!(rt; seen.status, status);
@@ -119,36 +112,34 @@ fn reports_in_both_modes(rt: HostRuntime) -> Result<(), Fail> {
 #[test]
 fn refused_modes(rt: HostRuntime) -> Result<(), Fail> {
     let mode = "usage: mode is rounds or workers";
-    let table: [(&[&str], &str); 8] = [
-        (&["--mode", "round"], mode),
-        (&["--mode="], mode),
-        (&["--mode", "Workers", "--workers", "64"], mode),
+    let table = [
+        ("solve --mode round", mode),
+        ("solve --mode=", mode),
+        ("solve --mode Workers --workers 64", mode),
         (
-            &["--workers", "0"],
+            "solve --workers 0",
             "error: invalid value '0' for '--workers <K>': 0 is not in 1..=64",
         ),
         (
-            &["--workers=65", "--mode=rounds"],
+            "solve --workers=65 --mode=rounds",
             "error: invalid value '65' for '--workers <K>': 65 is not in 1..=64",
         ),
         (
-            &["--workers", "four"],
+            "solve --workers four",
             "error: invalid value 'four' for '--workers <K>': invalid digit found in string",
         ),
         (
-            &["--refresh", "1000001"],
+            "solve --refresh 1000001",
             "error: invalid value '1000001' for '--refresh <R>': 1000001 is not in 0..=1000000",
         ),
         (
-            &["--mode", "rounds", "--mode", "rounds"],
+            "solve --mode rounds --mode rounds",
             "error: the argument '--mode <MODE>' cannot be used multiple times",
         ),
     ];
-    for (options, line) in table {
-        let mut words = Vec::from_slice(rt.alloc(), &["auction_cli", "solve"])?;
-        words.extend_from_slice(options)?;
-        let seen = run_with(&rt, rt.alloc(), words.as_slice(), b"1 7", b"", 4096)?;
-        assert_eq!(rt; first_line(seen.errors.as_slice()), line.as_bytes());
+    for (line, errors) in table {
+        let seen = run_with(&rt, rt.alloc(), line, b"1 7", b"", 4096)?;
+        assert_eq!(rt; first_line(seen.errors.as_slice()), errors.as_bytes());
         assert_eq!(rt; seen.out.len(), 0);
         assert_eq!(rt; seen.status, 2);
     }

@@ -1,7 +1,8 @@
 // The whole program: from words and streams to an end with its status.
 ghost use Rattle.std.specs.Prelude.{◌≡◌, ◌<◌, ℕ, List, None, Some, Ok, Err, IfOk, Option, map};
 ghost use Rattle.clap.specs.Words.{Text};
-ghost use Rattle.auction_cli.specs.Program.{Asks, AsksForReport, EndsFailed, ErrorOutcome, Given, Known, ProgramOutcome, Tells, exit_status, given_by};
+ghost use Rattle.auction_cli.specs.Program.{Asks, AsksForReport, Given, Known, given_by};
+ghost use Rattle.auction_cli.specs.Program.{EndsFailed, ErrorOutcome, ProgramOutcome, Tells, exit_status};
 ghost use Rattle.auction_cli.specs.Words.{WordsOutcome};
 ghost use Rattle.auction_cli.specs.declared.words.Words.TheVariants.{Solve, Verify};
 ghost use Rattle.auction_cli.specs.declared.words.WordsFault.TheVariants.{Clap};

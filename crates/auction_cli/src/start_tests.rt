@@ -1,5 +1,6 @@
 // Runs that begin at the prices of a report.
-use crate::tests::{first_line, run_with};
+use crate::streams::next_number;
+use crate::watched::{assert_reported, assert_told, first_line, run_with};
 use std::alloc::{AllocError, Global};
 use std::process::Abort;
 use std::sync::Wait;
@@ -16,71 +17,62 @@ const TWO_FROM_TWO: &str =
 
 #[test]
 fn runs_from_reports(rt: HostRuntime) -> Result<(), Fail> {
-    let table: [(&[&str], &[u8], &[u8], &str); 8] = [
+    let table: [(&str, &[u8], &[u8], &str); 8] = [
         (
-            &["auction_cli", "solve", "--start", "report", "--prices"],
+            "solve --start report --prices",
             b"2 1 2 3 5",
             TWO,
             TWO_FROM_TWO,
         ),
         // In version 1, which has no sense.
         (
-            &["auction_cli", "solve", "--start", "report", "--prices"],
+            "solve --start report --prices",
             b"2 1 2 3 5",
             b"cost 5\nassign 1 2 2\nassign 2 1 3\nprice 1 14\nprice 2 12\n",
             TWO_FROM_TWO,
         ),
         // The prices alone are looked at.
         (
-            &["auction_cli", "solve", "--start", "report", "--prices"],
+            "solve --start report --prices",
             b"2 1 2 3 5",
             b"sense max\ncost -9\nassign 1 7 7\nassign 2 7 -7\nprice 1 14\nprice 2 12\n",
             TWO_FROM_TWO,
         ),
         (
-            &[
-                "auction_cli",
-                "solve",
-                "--start",
-                "report",
-                "--sparse",
-                "--prices",
-            ],
+            "solve --start report --sparse --prices",
             b"2 1 1 1 1 2 2 2 1 3 2 2 5",
             TWO,
             TWO_FROM_TWO,
         ),
         (
-            &["auction_cli", "solve", "--start", "report"],
+            "solve --start report",
             b"2 1 2 3 5",
             TWO,
             "sense min\ncost 5\nassign 1 2 2\nassign 2 1 3\n",
         ),
         (
-            &["auction_cli", "solve", "--start", "report", "--max"],
+            "solve --start report --max",
             b"2 1 2 3 5",
             TWO,
             "sense max\ncost 6\nassign 1 1 1\nassign 2 2 5\n",
         ),
         (
-            &["auction_cli", "solve", "--start", "report", "--prices"],
+            "solve --start report --prices",
             b"1 7",
             b"cost 7\nassign 1 1 7\nprice 1 0\n",
             "sense min\ncost 7\nassign 1 1 7\nprice 1 1\n",
         ),
         (
-            &["auction_cli", "solve", "--start", "report", "--prices"],
+            "solve --start report --prices",
             b"1 7",
             b"sense min\ncost 7\nassign 1 1 7\nprice 1 1000000000000000000000\n",
             "sense min\ncost 7\nassign 1 1 7\nprice 1 1000000000000000000001\n",
         ),
     ];
-    for (words, text, report, out) in table {
+    for (line, text, report, out) in table {
         for most in [1, 65536] {
-            let seen = run_with(&rt, rt.alloc(), words, text, report, most)?;
-            assert_eq!(rt; seen.out.as_slice(), out.as_bytes());
-            assert_eq!(rt; seen.errors.len(), 0);
-            assert_eq!(rt; seen.status, 0);
+            let seen = run_with(&rt, rt.alloc(), line, text, report, most)?;
+            assert_reported(&rt, &seen, 0, out);
         }
     }
     Ok(())
@@ -91,21 +83,18 @@ fn no_assignment_from_prices(rt: HostRuntime) -> Result<(), Fail> {
     let seen = run_with(
         &rt,
         rt.alloc(),
-        &["auction_cli", "solve", "--sparse", "--start", "report"],
+        "solve --sparse --start report",
         b"3 1 1 4 2 1 6 3 2 1 3 3 2",
         b"cost 6\nassign 1 1 2\nassign 2 2 2\nassign 3 3 2\nprice 1 1\nprice 2 1\nprice 3 2\n",
         65536,
     )?;
     let out = "sense min\ninfeasible\npersons 2 1 2\nobjects 1 1\n";
-    assert_eq!(rt; seen.out.as_slice(), out.as_bytes());
-    assert_eq!(rt; seen.errors.len(), 0);
-    assert_eq!(rt; seen.status, 1);
+    assert_reported(&rt, &seen, 1, out);
     Ok(())
 }
 
 #[test]
 fn refused_starts(rt: HostRuntime) -> Result<(), Fail> {
-    let words = ["auction_cli", "solve", "--start", "report"];
     let table: [(&[u8], &[u8], &str); 8] = [
         (
             b"1 7",
@@ -138,21 +127,11 @@ fn refused_starts(rt: HostRuntime) -> Result<(), Fail> {
     ];
     for (text, report, line) in table {
         for most in [1, 65536] {
-            let seen = run_with(&rt, rt.alloc(), &words, text, report, most)?;
-            assert_eq!(rt; seen.errors.as_slice(), line.as_bytes());
-            assert_eq!(rt; seen.status, 3);
-            assert_eq!(rt; seen.out.len(), 0);
+            let seen = run_with(&rt, rt.alloc(), "solve --start report", text, report, most)?;
+            assert_told(&rt, &seen, 3, line);
         }
     }
     Ok(())
-}
-
-// The next number of a congruential generator, by its high bits.
-fn next_number(seed: &mut u64) -> u64 {
-    *seed = seed
-        .wrapping_mul(6364136223846793005)
-        .wrapping_add(1442695040888963407);
-    *seed >> 33
 }
 
 // The costs of `n` persons, from -9 to 9.
@@ -188,8 +167,8 @@ fn cost_line(text: &[u8]) -> &[u8] {
 // Solves a problem, changes one of its costs, and solves it again, from zeros and from the prices.
 fn assert_same_cost(
     rt: &(impl Threads + Wait + Sync + Abort + AllocGlobal),
-    cold_words: &[&str],
-    warm_words: &[&str],
+    cold_line: &str,
+    warm_line: &str,
     seed: &mut u64,
 ) -> Result<(), Fail> {
     let alloc = rt.alloc();
@@ -201,10 +180,10 @@ fn assert_same_cost(
         costs[place] = (next_number(seed) % 19) as i64 - 9;
     }
     let after = dense_text(alloc, n, costs.as_slice())?;
-    let old = run_with(rt, alloc, cold_words, before.as_bytes(), b"", 4096)?;
-    let cold = run_with(rt, alloc, cold_words, after.as_bytes(), b"", 4096)?;
+    let old = run_with(rt, alloc, cold_line, before.as_bytes(), b"", 4096)?;
+    let cold = run_with(rt, alloc, cold_line, after.as_bytes(), b"", 4096)?;
     let report = old.out.as_slice();
-    let warm = run_with(rt, alloc, warm_words, after.as_bytes(), report, 4096)?;
+    let warm = run_with(rt, alloc, warm_line, after.as_bytes(), report, 4096)?;
     assert_eq!(rt; cold.status, 0);
     assert_eq!(rt; warm.status, 0);
     assert_eq!(rt;
@@ -216,29 +195,16 @@ fn assert_same_cost(
 }
 
 // The words of a run from zeros, and of one from its prices.
-const PAIRS: [(&[&str], &[&str]); 4] = [
+const PAIRS: [(&str, &str); 4] = [
+    ("solve --prices", "solve --start report"),
+    ("solve --prices --max", "solve --max --start report"),
     (
-        &["auction_cli", "solve", "--prices"],
-        &["auction_cli", "solve", "--start", "report"],
+        "solve --prices --mode=workers",
+        "solve --start=report --mode=workers",
     ),
     (
-        &["auction_cli", "solve", "--prices", "--max"],
-        &["auction_cli", "solve", "--max", "--start", "report"],
-    ),
-    (
-        &["auction_cli", "solve", "--prices", "--mode=workers"],
-        &["auction_cli", "solve", "--start=report", "--mode=workers"],
-    ),
-    (
-        &["", "solve", "--prices", "--max", "--mode=workers"],
-        &[
-            "",
-            "solve",
-            "--max",
-            "--start=report",
-            "--mode=workers",
-            "--refresh=0",
-        ],
+        "solve --prices --max --mode=workers",
+        "solve --max --start=report --mode=workers --refresh=0",
     ),
 ];
 

@@ -4,7 +4,7 @@ use std::io;
 use std::io::{Read, Write};
 
 /// Gives a text in pieces of at most so many bytes, and is interrupted behind it where told so.
-#[derive(Drop)]
+#[derive(Clone, Copy)]
 pub struct Pieces<'a> {
     pub text: &'a [u8],
     pub most: usize,

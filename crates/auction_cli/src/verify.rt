@@ -4,7 +4,7 @@ ghost use Rattle.assign_core.specs.Rows.{listed_in, row_of};
 ghost use Rattle.assign_core.specs.Assignment.{total};
 ghost use Rattle.dual_checker.specs.Faults.{IsFirst};
 ghost use Rattle.report.specs.SeenReports.{seen_report};
-ghost use Rattle.auction_cli.specs.Findings.{HasOtherCost, HaveCosts, IsFound, IsFoundInBest, IsFoundInCosts, IsFoundInHall, objects_of};
+ghost use Rattle.auction_cli.specs.Findings.{HasOtherCost, HaveCosts, IsFoundInReport, IsFoundInBest, IsFoundInCosts, IsFoundInHall, objects_of};
 ghost use Rattle.auction_cli.specs.Verify.{VerifyOutcome};
 
 use crate::finding::Finding;
@@ -135,7 +135,7 @@ fn found_in_hall(
 
 // What is found in a report.
 fn found_in(alloc: Global, problem: &Problem, report: &Report) -> Result<Finding, AllocError>
-    ensures { IfOk result (λ finding. IsFound problem.now (seen_report report.now) finding) }
+    ensures { IfOk result (λ finding. IsFoundInReport problem.now (seen_report report.now) finding) }
 {
     match report {
         Report::Best {

@@ -1,10 +1,14 @@
 // The command line.
-ghost use Rattle.std.specs.Prelude.{◌≡◌, ◌≤◌, ℕ, [], ◌∷◌, codes, map, true, false, None, Some, IfErr, IfOk, IfSome, IsErr};
+ghost use Rattle.std.specs.Prelude.{◌≡◌, ℕ, [], ◌∷◌, codes, map, true, false, None, Some, IfErr, IfOk, IfSome, IsErr};
 ghost use Rattle.std.specs.Option.{option_map};
 ghost use Rattle.std.specs.String.{string_bytes};
 ghost use Rattle.assign_core.specs.declared.sense.Sense.TheVariants.{Max, Min};
-ghost use Rattle.clap.specs.Words.{app_of, first_of, found_of, one_of, rows_of, rule_of, subcommand_rows_of, Row, Text};
-ghost use Rattle.auction_cli.specs.Words.{Chooses, ChoosesSolving, ChoosesVerifying, IsChoiceFault, IsFaultOf, IsInRanges, IsNumberFor, IsTaken, NamesCommand, NamesMode, Solves, Verifies, WordsOutcome, flag_rule, full_line, full_options, is_max, mode_name, numbered_rule, plain_solve_app, program, solve_app, usual_options, valued_rule, verify_app};
+ghost use Rattle.clap.specs.Words.{app_of, first_of, found_of, one_of, rows_of, rule_of, subcommand_rows_of, Text};
+ghost use Rattle.auction_cli.specs.Words.{Chooses, ChoosesSolving, ChoosesVerifying, IsChoiceFault, NamesCommand, NamesMode};
+ghost use Rattle.auction_cli.specs.Words.{HasNumbers, HasNumbersIfSolving, IsNumberFor, IsNumberIn};
+ghost use Rattle.auction_cli.specs.Words.{IsFaultOf, IsInRanges, IsTaken, Solves, Verifies, WordsOutcome};
+ghost use Rattle.auction_cli.specs.Words.{flag_rule, numbered_rule, plain_solve_app, program, solve_app, valued_rule, verify_app};
+ghost use Rattle.auction_cli.specs.Words.{full_line, full_options, is_max, mode_name, usual_options};
 
 use assign_core::Sense;
 use clap::builder::ValueParser;
@@ -257,38 +261,31 @@ fn chosen_mode(solve: &ArgMatches<'_>) -> Result<Mode, WordsFault>
     }
 }
 
-// A number in this range, or the usual one.
-fn number_or(number: Option<u64>, range: (u64, u64), usual: u64) -> u64
-    requires { (range.0 ≤ usual) × (usual ≤ range.1) }
-    ensures from { range.0 ≤ result }
-    ensures to { result ≤ range.1 }
-    ensures value { (n : ℕ) → number ≡ Some n → range.0 ≤ n → n ≤ range.1 → result ≡ n }
+// The number of an option that has one.
+fn chosen_number(solve: &ArgMatches<'_>, name: &str) -> u64
+    requires { (least : ℕ) × (most : ℕ)
+        × IsNumberIn (one_of name.now (rows_of (found_of solve.now))) least most }
+    ensures { (least : ℕ) → (most : ℕ)
+        → IsNumberIn (one_of name.now (rows_of (found_of solve.now))) least most
+        → IsNumberFor (one_of name.now (rows_of (found_of solve.now))) least most result }
 {
-    match number {
-        Some(number) if range.0 <= number && number <= range.1 => number,
-        _ => usual,
+    match solve.get_one::<u64>(name) {
+        Some(number) => number,
+        None => unreachable!(),
     }
-}
-
-// The number of an option that has one in this range. The usual one, which is never taken here,
-// stands for none: clap refuses words without one.
-fn chosen_number(solve: &ArgMatches<'_>, name: &str, range: (u64, u64), usual: u64) -> u64
-    requires { (range.0 ≤ usual) × (usual ≤ range.1) }
-    ensures { IsNumberFor (one_of name.now (rows_of (found_of solve.now))) range.0 range.1 result }
-{
-    number_or(solve.get_one::<u64>(name), range, usual)
 }
 
 // What the words behind `solve` choose, with this mode.
 fn solve_options(solve: &ArgMatches<'_>, mode: Mode) -> SolveOpts
-    requires { NamesMode (rows_of (found_of solve.now)) mode }
+    requires mode { NamesMode (rows_of (found_of solve.now)) mode }
+    requires numbers { HasNumbers (rows_of (found_of solve.now)) }
     ensures { ChoosesSolving (rows_of (found_of solve.now)) result }
 {
     SolveOpts {
         sparse: solve.get_flag("sparse"),
         mode,
-        workers: chosen_number(solve, "workers", (1, MOST_WORKERS), 4) as u16,
-        refresh: chosen_number(solve, "refresh", (0, MOST_REFRESH), 1),
+        workers: chosen_number(solve, "workers") as u16,
+        refresh: chosen_number(solve, "refresh"),
         prices: solve.get_flag("prices"),
         sense: sense_by(solve.get_flag("max")),
     }
@@ -307,6 +304,7 @@ fn start_name(alloc: Global, solve: &ArgMatches<'_>) -> Result<Option<String>, A
 
 // What the words behind `solve` choose, with the file.
 fn solve_words(alloc: Global, solve: &ArgMatches<'_>) -> Result<Words, WordsFault>
+    requires { HasNumbers (rows_of (found_of solve.now)) }
     ensures ok { IfOk result (Chooses (Some (codes "solve", rows_of (found_of solve.now)))) }
     ensures err { IfErr result (IsChoiceFault (Some (codes "solve", rows_of (found_of solve.now)))) }
 {
@@ -331,7 +329,8 @@ fn verify_options(alloc: Global, verify: &ArgMatches<'_>) -> Result<Words, Alloc
 
 // What words choose that clap takes.
 fn chosen(alloc: Global, matches: &ArgMatches<'_>) -> Result<Words, WordsFault>
-    requires { NamesCommand (subcommand_rows_of matches.now) }
+    requires names { NamesCommand (subcommand_rows_of matches.now) }
+    requires numbers { HasNumbersIfSolving (subcommand_rows_of matches.now) }
     ensures ok { IfOk result (Chooses (subcommand_rows_of matches.now)) }
     ensures err { IfErr result (IsChoiceFault (subcommand_rows_of matches.now)) }
 {

@@ -1,15 +1,20 @@
 use Rattle.std.proofs.Common.{◌∙◌, List, ap, ap₂, codes, map, refl, subst, sym}
 use Rattle.clap.specs.Words.{Text, subcommand_of, takes}
-use Rattle.auction_cli.specs.Words.{NamesCommand, full_options, program, usual_options}
+use Rattle.auction_cli.specs.Words.{HasNumbersIfSolving, NamesCommand, full_options, program, usual_options}
 use Rattle.auction_cli.proofs.Choices.{chosen_outcome, solve_taken, verify_taken}
-use Rattle.auction_cli.proofs.CommandLines.{file_is_taken, file_of, file_words, flags_of, full_flags, full_is_taken, full_numbers, is_memory, plain_flags, plain_is_taken, plain_numbers, taken_words}
+use Rattle.auction_cli.proofs.CommandLines.{file_is_taken, file_of, file_words, flags_of, full_flags, full_is_taken, in_ranges, is_memory, plain_flags, plain_is_taken, taken_words}
+use Rattle.auction_cli.proofs.Numbers.{has_numbers}
 use Rattle.auction_cli.proofs.Subcommands.{names_command}
 use Rattle.auction_cli.proofs.words.read_words.Goals as goal
 
 pub chosen-requires : goal.chosen-requires
 chosen-requires g c =
-    let t = taken_words _ (map g.S.AsStr.text c.args.words.now) _ c.in_ok-command.ensures c.in-Ok.ensures.kinds c.in-Ok.ensures.matches in
-    subst NamesCommand (sym t.1) (names_command (map g.S.AsStr.text c.args.words.now) t.0)
+    let words = map g.S.AsStr.text c.args.words.now in
+    let t = taken_words _ words _ c.in_ok-command.ensures c.in-Ok.ensures.kinds c.in-Ok.ensures.matches in
+    record { names = subst NamesCommand (sym t.1) (names_command words t.0); numbers = subst HasNumbersIfSolving (sym t.1) (has_numbers words t.0) }
+
+pub returns-in-Ok-clause-ranges : goal.returns-in-Ok-clause-ranges
+returns-in-Ok-clause-ranges g c = in_ranges _ c.chosen.result c.chosen.ensures.ok
 
 pub returns-in-Ok-clause-outcome : goal.returns-in-Ok-clause-outcome
 returns-in-Ok-clause-outcome g c =
@@ -19,12 +24,12 @@ returns-in-Ok-clause-outcome g c =
 pub returns-in-Ok-clause-solve : goal.returns-in-Ok-clause-solve
 returns-in-Ok-clause-solve g c = λ name e.
     let t = taken_words _ (map g.S.AsStr.text c.args.words.now) _ c.in_ok-command.ensures c.in-Ok.ensures.kinds c.in-Ok.ensures.matches in
-    solve_taken _ c.chosen.result usual_options (codes "4") (codes "1") _ (ap flags_of t.1 ∙ ap (λ (words : List Text). flags_of (subcommand_of program words)) e ∙ plain_flags name) plain_numbers refl refl c.chosen.ensures.ok c.chosen.ensures.err
+    solve_taken _ c.chosen.result usual_options (codes "4") (codes "1") _ (ap flags_of t.1 ∙ ap (λ (words : List Text). flags_of (subcommand_of program words)) e ∙ plain_flags name) refl refl c.chosen.ensures.ok c.chosen.ensures.err
 
 pub returns-in-Ok-clause-options : goal.returns-in-Ok-clause-options
 returns-in-Ok-clause-options g c = λ name e.
     let t = taken_words _ (map g.S.AsStr.text c.args.words.now) _ c.in_ok-command.ensures c.in-Ok.ensures.kinds c.in-Ok.ensures.matches in
-    solve_taken _ c.chosen.result full_options (codes "64") (codes "0") _ (ap flags_of t.1 ∙ ap (λ (words : List Text). flags_of (subcommand_of program words)) e ∙ full_flags name) full_numbers refl refl c.chosen.ensures.ok c.chosen.ensures.err
+    solve_taken _ c.chosen.result full_options (codes "64") (codes "0") _ (ap flags_of t.1 ∙ ap (λ (words : List Text). flags_of (subcommand_of program words)) e ∙ full_flags name) refl refl c.chosen.ensures.ok c.chosen.ensures.err
 
 pub returns-in-Ok-clause-verify : goal.returns-in-Ok-clause-verify
 returns-in-Ok-clause-verify g c = λ name e.

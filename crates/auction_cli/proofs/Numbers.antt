@@ -1,0 +1,59 @@
+-- Words of `solve` without a fault have both numbers in range.
+use Rattle.std.proofs.Common.{◌≡◌, ap, sym, refl, subst, codes, Bool, true, false, true≢false, List, [], ◌∷◌, Option, None, Some}
+use Rattle.std.specs.Prelude.{find, if◌then◌else◌, option_map}
+use Rattle.std.specs.Option.{option_map_or}
+use Rattle.auction_cli.specs.Words.{HasNumbers, HasNumbersIfSolving, program, solve_app, verify_app}
+use Rattle.auction_cli.proofs.CommandLines.{other_command, some_is}
+use Rattle.auction_cli.proofs.Rows.{AllKnown, number_there}
+use Rattle.auction_cli.proofs.Subcommands.{first_none, then_none}
+use Rattle.clap.specs.Faults.{entered_fault, fault_of, level_fault, walk_fault}
+use Rattle.clap.specs.Simple.{Shape, argument_words, built, built_leaf, entered, help_shape, inherited, label_of, marked_built, names_of, rows_at, subcommand_of, with_leaf_noted}
+use Rattle.clap.specs.Walk.{Row, Text, answers_to, nothing_held, rows_after, stop_after, walk_from}
+
+-- a subcommand as it is built
+abbrev built_sub : Shape → Shape
+built_sub s = built_leaf (inherited (with_leaf_noted (marked_built program.top)) s)
+
+abbrev solve_shape : Shape
+solve_shape = built_sub solve_app.top
+
+never : {A : Type 0} → false ≡ true → A
+never e = absurd (true≢false (sym e))
+
+knows_workers : AllKnown (codes "workers") (codes "4") 1 64 solve_shape.rules
+knows_workers = (never, (never, (never, (never, (never, ((λ e. refl), (never, (never, tt))))))))
+
+knows_refresh : AllKnown (codes "refresh") (codes "1") 0 1000000 solve_shape.rules
+knows_refresh = (never, (never, (never, (never, (never, (never, ((λ e. refl), (never, tt))))))))
+
+help_is_other : codes "help" ≡ codes "solve" → ⊥
+help_is_other e = cc
+
+solve_numbers : (words : List Text) → level_fault solve_shape [] nothing_held words false [] ≡ [] → HasNumbers (rows_after solve_shape.rules [] words)
+solve_numbers words e = record {
+  workers = number_there (codes "workers") (codes "4") 1 64 solve_shape words knows_workers refl e;
+  refresh = number_there (codes "refresh") (codes "1") 0 1000000 solve_shape words knows_refresh refl e;
+}
+
+find_numbers : (p : Text × List Text) (solve verify help : Shape) → ((words : List Text) → level_fault solve [] nothing_held words false [] ≡ [] → HasNumbers (rows_after solve.rules [] words)) →
+    (verify.name ≡ codes "solve" → ⊥) → (help.name ≡ codes "solve" → ⊥) →
+    option_map_or (λ s. level_fault s [] nothing_held p.1 false []) (find (λ s. answers_to p.0 (label_of s)) (solve ∷ verify ∷ help ∷ [])) [] ≡ [] →
+    HasNumbersIfSolving (option_map (λ s. rows_at s p.1) (find (λ s. answers_to p.0 (label_of s)) (solve ∷ verify ∷ help ∷ [])))
+find_numbers p solve verify help numbers v h e = go (answers_to p.0 (label_of solve)) (answers_to p.0 (label_of verify)) (answers_to p.0 (label_of help)) e
+  where
+    go : (a b c : Bool) → option_map_or (λ s. level_fault s [] nothing_held p.1 false []) (if a then Some solve else (if b then Some verify else (if c then Some help else None))) [] ≡ [] →
+        HasNumbersIfSolving (option_map (λ s. rows_at s p.1) (if a then Some solve else (if b then Some verify else (if c then Some help else None))))
+    go true b c e = λ rows is. subst HasNumbers (ap (λ (q : Text × List Row). q.1) (some_is _ _ is)) (numbers p.1 e)
+    go false true c e = λ rows is. absurd (v (ap (λ (q : Text × List Row). q.0) (some_is _ _ is)))
+    go false false true e = λ rows is. absurd (h (ap (λ (q : Text × List Row). q.0) (some_is _ _ is)))
+    go false false false e = λ rows is. cc
+
+-- the words of a command line without a fault
+pub has_numbers : (words : List Text) → fault_of program words ≡ [] → HasNumbersIfSolving (subcommand_of program words)
+has_numbers words e =
+    go (stop_after (built program).top.rules (names_of (built program)) (argument_words program words))
+    (first_none _ _ (then_none (walk_fault (built program).top (names_of (built program)) (walk_from nothing_held) (argument_words program words)) _ e))
+  where
+    go : (stop : Option (Text × List Text)) → entered_fault (built program) stop ≡ [] → HasNumbersIfSolving (entered (built program) stop)
+    go None e = λ rows is. cc
+    go (Some p) e = find_numbers p solve_shape (built_sub verify_app.top) (built_leaf help_shape) solve_numbers other_command help_is_other e
