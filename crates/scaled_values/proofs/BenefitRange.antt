@@ -1,38 +1,16 @@
 -- Benefits are in range, and so are the least, the greatest and the spread.
-use Rattle.std.proofs.Common.{◌≡◌, ℕ, ℤ, pos, negsuc, ◌≤ℤ◌, ◌≤◌, ◌+◌, ◌*◌, ◌⊎◌, inl, inr, List, [], ◌∷◌, length, map, refl, arith, sym, subst}
+use Rattle.std.proofs.Common.{◌≡◌, ℕ, ℤ, pos, ◌≤ℤ◌, ◌⊎◌, inl, inr, List, [], ◌∷◌, length, map, refl, arith, sym, subst}
 use Rattle.std.specs.List.{All, Contains}
-use Rattle.std.specs.Int.RustNames.{unsigned_abs}
-use Rattle.std.proofs.lemmas.Int.{ints, unsigned_abs-mul, fold-int_min_bounds, fold-int_min_reached, fold-int_max_bounds, fold-int_max_reached}
+use Rattle.std.proofs.lemmas.Int.{ints, fold-int_min_bounds, fold-int_min_reached, fold-int_max_bounds, fold-int_max_reached}
 use Rattle.std.proofs.lemmas.List.Elements.{All-nil, All-cons, All-head, All-tail, All-append, All-map, All-weaker, All-contains, Contains-append_right, Contains-get_or}
 use Rattle.assign_core.specs.declared.sense.Sense.{Sense}
-use Rattle.assign_core.specs.declared.sense.Sense.TheVariants.{Min, Max}
-use Rattle.std.proofs.Math.Nat.{mul-le-mul}
-use Rattle.assign_core.specs.declared.numbers.TheConstants.{MOST_PERSONS, GREATEST_COST}
 use Rattle.assign_core.specs.Rows.{Listing, IsCost, IsRow, IsSize, IsProblem, HasCosts}
-use Rattle.assign_core.specs.Benefits.{factor, benefit, benefit_row, IsBenefit}
+use Rattle.assign_core.specs.Benefits.{benefit, benefit_row, IsBenefit}
+use Rattle.assign_core.proofs.BenefitRows.{IsBenefit-benefit}
 use Rattle.scaled_values.specs.Scaled.{ScaledProblem, benefits_of, values_in, least_of, greatest_of, least_benefit, greatest_benefit, spread, IsLeastOf, IsGreatestOf}
 use Rattle.scaled_values.specs.Limits.{most_spread}
 use Rattle.scaled_values.specs.declared.row.StoredRow.{StoredRow}
 use Rattle.scaled_values.specs.Stored.{IsStored}
-
-abs_factor : (sense : Sense) (n : ℕ) → unsigned_abs (factor sense n) ≡ n + 1
-abs_factor Min n = omega arith
-abs_factor Max n = refl
-
-abs_cost : (c : ℤ) → IsCost c → unsigned_abs c ≤ unsigned_abs GREATEST_COST
-abs_cost (pos k) h = let g = h.greatest in omega (arith, ints)
-abs_cost (negsuc k) h = let g = h.least in omega (arith, ints)
-
-from_abs : (a : ℤ) → unsigned_abs a ≤ (MOST_PERSONS + 1) * unsigned_abs GREATEST_COST → IsBenefit a
-from_abs (pos k) h = record { least = omega (arith, ints); greatest = omega (arith, ints) }
-from_abs (negsuc k) h = record { least = omega (arith, ints); greatest = omega (arith, ints) }
-
-pub IsBenefit-benefit : (sense : Sense) (n : ℕ) (c : ℤ) → IsSize n → IsCost c → IsBenefit (benefit sense n c)
-IsBenefit-benefit sense n c size cost =
-    let f = abs_factor sense n in
-    let m = unsigned_abs-mul (factor sense n) c in
-    let few : n + 1 ≤ MOST_PERSONS + 1 = let s = size.few in omega arith in
-    from_abs (benefit sense n c) (rw (m, f) (mul-le-mul few (abs_cost c cost)))
 
 row_in_range : (sense : Sense) (n : ℕ) (row : Listing) → IsSize n → HasCosts row → All IsBenefit (map (λ e. e.1) (benefit_row sense n row))
 row_in_range sense n row size h =

@@ -5,10 +5,10 @@ use Rattle.std.proofs.lemmas.List.Elements.{All-nil, All-cons, All-head, All-tai
 use Rattle.assign_core.specs.Numbered.{IsNumber}
 use Rattle.assign_core.specs.Rows.{Listing, IsProblem, row_of}
 use Rattle.assign_core.specs.Benefits.{benefit, IsBenefit}
-use Rattle.assign_core.proofs.BenefitRows.{row_of-benefits, IsRising-benefit_row, IsWithin-benefit_row}
+use Rattle.assign_core.proofs.BenefitRows.{IsBenefit-benefit, row_of-benefits, IsRising-benefit_row, IsWithin-benefit_row}
 use Rattle.assign_core.proofs.RowLemmas.{IsRow-row_of}
 use Rattle.scaled_values.specs.Scaled.{ScaledProblem, benefits_of, values_in, least_benefit, greatest_benefit, IsBenefitRow, IsBetween}
-use Rattle.scaled_values.proofs.BenefitRange.{IsBenefit-benefit, least_bounds, greatest_bounds}
+use Rattle.scaled_values.proofs.BenefitRange.{least_bounds, greatest_bounds}
 
 pub benefit_row_is : (s : ScaledProblem) (i : ℕ) → IsProblem s.problem → IsNumber (length s.problem) i → IsBenefitRow (length s.problem) (row_of (benefits_of s) i)
 benefit_row_is s i h number =
