@@ -30,6 +30,9 @@ length-rising n (e ∷ row) rising within =
     let high = (within (length row) e (omega arith)).last in
     omega arith
 
+entry_is : (e f : ℕ × ℤ) (j : ℕ) (v : ℤ) → e.0 ≡ j → v ≡ e.1 → f ≡ (j, v) → e ≡ f
+entry_is e f j v first second h = ap (λ k. (k, e.1)) first ∙ ap (λ z. (j, z)) (sym second) ∙ sym h
+
 pub row_in_order : (n : ℕ) (row : Listing) → IsRising row → IsWithin n row → length row ≡ n → row ≡ row_from 1 (map (λ e. e.1) row)
 row_in_order n row rising within long =
     let values : List ℤ = map (λ e. e.1) row in
@@ -39,9 +42,7 @@ row_in_order n row rising within long =
     let high = object_at_most n row (length row - (k + 1)) k d rising within (omega arith) in
     let here : (get_or row k d).0 ≡ 1 + k = omega arith in
     let value = get_or-map (λ e. e.1) row k d (pos 0) lt in
-    ap (λ j. (j, (get_or row k d).1)) here
-    ∙ ap (λ z. (1 + k, z)) (sym value)
-    ∙ sym (row_from-index 1 k values d (pos 0) (omega arith)))
+    entry_is (get_or row k d) (get_or (row_from 1 values) k d) (1 + k) (get_or values k (pos 0)) here value (row_from-index 1 k values d (pos 0) (omega arith)))
 
 -- the benefits of a full row
 pub full_entries : (sense : Sense) (n : ℕ) (row : Listing) → IsRow n row → length row ≡ n → row_from 1 (map (λ e. e.1) (benefit_row sense n row)) ≡ benefit_row sense n row

@@ -118,16 +118,26 @@ fn dense_pair(alloc: Global) -> Result<Scaled, AllocError> {
     scale(alloc, problem, Sense::Min)
 }
 
+// What a person of it lists, as a line.
+fn dense_row(alloc: Global, i: u16) -> Result<String, AllocError> {
+    row_told(alloc, &dense_pair(alloc)?, i)
+}
+
+#[test]
+fn rows_of_two_persons(rt: HostRuntime) -> Result<(), Fail> {
+    for (i, known) in ["Full([-3, -6])", "Full([-9, -15])"].iter().enumerate() {
+        let row = dense_row(rt.alloc(), i as u16 + 1)?;
+        assert_eq!(rt; row.as_str(), *known);
+    }
+    Ok(())
+}
+
 #[test]
 fn two_persons(rt: HostRuntime) -> Result<(), Fail> {
     let scaled = dense_pair(rt.alloc())?;
     let (n, sense) = (scaled.problem().n(), scaled.sense());
     assert_eq!(rt; (n, scaled.n()), (2, 2));
     assert_eq!(rt; sense, Sense::Min);
-    let first = row_told(rt.alloc(), &scaled, 1)?;
-    assert_eq!(rt; first.as_str(), "Full([-3, -6])");
-    let second = row_told(rt.alloc(), &scaled, 2)?;
-    assert_eq!(rt; second.as_str(), "Full([-9, -15])");
     assert_eq!(rt; range_told(&scaled), ([-15, -3, 12, 2], Some(1)));
     assert_eq!(rt; first_bounds(&scaled, 0), (-29, 28));
     assert_eq!(rt; second_bounds(&scaled, 8), Some((-36, 34)));
@@ -146,36 +156,35 @@ fn few_pairs(alloc: Global, sense: Sense) -> Result<Scaled, AllocError> {
     scale(alloc, problem, sense)
 }
 
+// What the persons of it list, as lines: those under `Min`, then those under `Max`.
+fn few_row(alloc: Global, at: u16) -> Result<String, AllocError> {
+    let sense = if at < 3 { Sense::Min } else { Sense::Max };
+    row_told(alloc, &few_pairs(alloc, sense)?, at % 3 + 1)
+}
+
+#[test]
+fn rows_of_few_pairs(rt: HostRuntime) -> Result<(), Fail> {
+    for (at, known) in [
+        "Pairs([(Object(1), -16)])",
+        "Pairs([(Object(1), -24)])",
+        "Pairs([(Object(2), -4), (Object(3), -8)])",
+        "Pairs([(Object(1), 16)])",
+        "Pairs([(Object(1), 24)])",
+        "Pairs([(Object(2), 4), (Object(3), 8)])",
+    ]
+    .iter()
+    .enumerate()
+    {
+        let row = few_row(rt.alloc(), at as u16)?;
+        assert_eq!(rt; row.as_str(), *known);
+    }
+    Ok(())
+}
+
 #[test]
 fn three_persons_with_few_pairs(rt: HostRuntime) -> Result<(), Fail> {
-    for (sense, rows, extremes, floor) in [
-        (
-            Sense::Min,
-            [
-                "Pairs([(Object(1), -16)])",
-                "Pairs([(Object(1), -24)])",
-                "Pairs([(Object(2), -4), (Object(3), -8)])",
-            ],
-            (-24, -4),
-            -72,
-        ),
-        (
-            Sense::Max,
-            [
-                "Pairs([(Object(1), 16)])",
-                "Pairs([(Object(1), 24)])",
-                "Pairs([(Object(2), 4), (Object(3), 8)])",
-            ],
-            (4, 24),
-            -44,
-        ),
-    ] {
+    for (sense, least, greatest, floor) in [(Sense::Min, -24, -4, -72), (Sense::Max, 4, 24, -44)] {
         let scaled = few_pairs(rt.alloc(), sense)?;
-        for (i, known) in rows.iter().enumerate() {
-            let row = row_told(rt.alloc(), &scaled, i as u16 + 1)?;
-            assert_eq!(rt; row.as_str(), *known);
-        }
-        let (least, greatest) = extremes;
         assert_eq!(rt; range_told(&scaled), ([least, greatest, 20, 4], Some(1)));
         assert_eq!(rt; first_bounds(&scaled, 0), (floor, 72));
     }
