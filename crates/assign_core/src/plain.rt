@@ -107,18 +107,27 @@ mod tests {
     use super::*;
     use std::test::Fail;
 
+    // What a best assignment of two persons gives to each, and its cost.
+    fn best_of_two(alloc: Global, sense: Sense) -> Result<Option<(Vec<Object>, Cost)>, AllocError> {
+        let problem = Problem::dense(alloc, 2, &[1, 2, 3, 5])?;
+        let Some(best) = plain_best(alloc, &problem, sense)? else {
+            return Ok(None);
+        };
+        let objects = best.objects().to_vec(alloc)?;
+        Ok(Some((objects, problem.total(&best))))
+    }
+
     #[test]
     fn two_persons(rt: HostRuntime) -> Result<(), Fail> {
-        let problem = Problem::dense(rt.alloc(), 2, &[1, 2, 3, 5])?;
         for (sense, objects, total) in [
             (Sense::Min, [Object(2), Object(1)], 5),
             (Sense::Max, [Object(1), Object(2)], 6),
         ] {
-            let Some(best) = plain_best(rt.alloc(), &problem, sense)? else {
+            let Some((best, cost)) = best_of_two(rt.alloc(), sense)? else {
                 panic!(rt; "no assignment");
             };
-            assert_eq!(rt; best.objects(), objects.as_slice());
-            assert_eq!(rt; problem.total(&best), total);
+            assert_eq!(rt; best.as_slice(), objects.as_slice());
+            assert_eq!(rt; cost, total);
         }
         Ok(())
     }

@@ -123,16 +123,36 @@ fn a_dense_problem_of_many_persons(rt: HostRuntime) -> Result<(), Fail> {
     Ok(())
 }
 
-#[test]
-fn prices_and_their_changes(rt: HostRuntime) -> Result<(), Fail> {
-    let mut prices = Prices::zeros(rt.alloc(), 3)?;
+// Three prices, of which that of object 2 is set.
+fn one_set(alloc: Global) -> Result<Prices, AllocError>
+    ensures { IfOk result (λ prices. length prices ≡ 3) }
+{
+    let mut prices = Prices::zeros(alloc, 3)?;
     prices.set(Object(2), 1 << 63);
+    Ok(prices)
+}
+
+#[test]
+fn a_price_is_set(rt: HostRuntime) -> Result<(), Fail> {
+    let prices = one_set(rt.alloc())?;
     assert_eq!(rt; prices.price(Object(2)), 1 << 63);
     assert_eq!(rt; prices.as_slice(), [0, 1 << 63, 0].as_slice());
     assert_eq!(rt; prices.narrow(), [0, NARROW_END, 0].as_slice());
-    let mut others = Prices::zeros(rt.alloc(), 3)?;
+    Ok(())
+}
+
+// They, after the prices of others are copied into them.
+fn copied(alloc: Global) -> Result<Prices, AllocError> {
+    let mut prices = one_set(alloc)?;
+    let mut others = Prices::zeros(alloc, 3)?;
     others.set(Object(3), 5);
     prices.copy_from(&others);
+    Ok(prices)
+}
+
+#[test]
+fn prices_are_copied(rt: HostRuntime) -> Result<(), Fail> {
+    let prices = copied(rt.alloc())?;
     assert_eq!(rt; prices.as_slice(), [0, 0, 5].as_slice());
     assert_eq!(rt; prices.narrow(), [0, 0, 5].as_slice());
     Ok(())

@@ -370,9 +370,7 @@ fn below(person: u16, phase: u16) -> Option<Offer> {
 }
 
 // The problem of two persons.
-fn two_persons(alloc: Global) -> Result<Problem, AllocError>
-    ensures { IfOk result (λ problem. length problem ≡ 2) }
-{
+fn two_persons(alloc: Global) -> Result<Problem, AllocError> {
     Problem::dense(alloc, 2, &[1, 2, 3, 5])
 }
 

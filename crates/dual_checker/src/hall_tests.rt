@@ -1,65 +1,45 @@
 // Verdicts on lists of persons and objects, worked by hand.
+use super::tests::{all, by_digits};
 use super::*;
 use assign_core::{MOST_PERSONS, Object, Person, Problem};
+use std::alloc::{AllocError, Global};
 use std::test::Fail;
 
+// Persons 1 and 2 list object 1 alone, and person 3 objects 2 and 3.
+fn three_persons(alloc: Global) -> Result<Problem, AllocError> {
+    let first = vec![in alloc; (Object(1), 4)]?;
+    let second = vec![in alloc; (Object(1), 6)]?;
+    let third = vec![in alloc; (Object(2), 1), (Object(3), 2)]?;
+    Ok(Problem::from_rows(vec![in alloc; first, second, third]?))
+}
+
+// Their verdict on persons and objects by their digits.
+fn verdict_of(alloc: Global, persons: &str, objects: &str) -> Result<HallVerdict, AllocError> {
+    let problem = three_persons(alloc)?;
+    let persons: Vec<Person> = by_digits(alloc, persons)?;
+    let objects: Vec<Object> = by_digits(alloc, objects)?;
+    check_hall(alloc, &problem, persons.as_slice(), objects.as_slice())
+}
+
 #[test]
-fn three_persons(rt: HostRuntime) -> Result<(), Fail> {
-    let first = vec![in rt.alloc(); (Object(1), 4)]?;
-    let second = vec![in rt.alloc(); (Object(1), 6)]?;
-    let third = vec![in rt.alloc(); (Object(2), 1), (Object(3), 2)]?;
-    let problem = Problem::from_rows(vec![in rt.alloc(); first, second, third]?);
-    let none: &[Person] = &[];
-    let no_object: &[Object] = &[];
-    let one: &[Object] = &[Object(1)];
+fn lists_for_three_persons(rt: HostRuntime) -> Result<(), Fail> {
     for (persons, objects, verdict) in [
-        ([Person(1), Person(2)].as_slice(), one, HallVerdict::Yes),
-        ([Person(2)].as_slice(), one, HallVerdict::Count),
-        (none, no_object, HallVerdict::Count),
-        ([Person(2), Person(1)].as_slice(), one, HallVerdict::Order),
-        ([Person(1), Person(1)].as_slice(), one, HallVerdict::Order),
-        (
-            [Person(1)].as_slice(),
-            [Object(1), Object(1)].as_slice(),
-            HallVerdict::Order,
-        ),
-        ([Person(0), Person(1)].as_slice(), one, HallVerdict::Range),
-        ([Person(4)].as_slice(), one, HallVerdict::Range),
-        (
-            [Person(1)].as_slice(),
-            [Object(0)].as_slice(),
-            HallVerdict::Range,
-        ),
-        (
-            [Person(1)].as_slice(),
-            [Object(4)].as_slice(),
-            HallVerdict::Range,
-        ),
-        (
-            [Person(1), Person(3)].as_slice(),
-            one,
-            HallVerdict::Missing(Person(3), Object(2)),
-        ),
-        (
-            [Person(1), Person(2)].as_slice(),
-            [Object(1), Object(3)].as_slice(),
-            HallVerdict::Extra(Object(3)),
-        ),
-        (
-            [Person(1), Person(3)].as_slice(),
-            [Object(2), Object(3)].as_slice(),
-            HallVerdict::Missing(Person(1), Object(1)),
-        ),
-        (
-            [Person(1), Person(2)].as_slice(),
-            [Object(2)].as_slice(),
-            HallVerdict::Missing(Person(1), Object(1)),
-        ),
+        ("12", "1", HallVerdict::Yes),
+        ("2", "1", HallVerdict::Count),
+        ("", "", HallVerdict::Count),
+        ("21", "1", HallVerdict::Order),
+        ("11", "1", HallVerdict::Order),
+        ("1", "11", HallVerdict::Order),
+        ("01", "1", HallVerdict::Range),
+        ("4", "1", HallVerdict::Range),
+        ("1", "0", HallVerdict::Range),
+        ("1", "4", HallVerdict::Range),
+        ("13", "1", HallVerdict::Missing(Person(3), Object(2))),
+        ("12", "13", HallVerdict::Extra(Object(3))),
+        ("13", "23", HallVerdict::Missing(Person(1), Object(1))),
+        ("12", "2", HallVerdict::Missing(Person(1), Object(1))),
     ] {
-        assert_eq!(rt;
-            check_hall(rt.alloc(), &problem, persons, objects)?,
-            verdict
-        );
+        assert_eq!(rt; verdict_of(rt.alloc(), persons, objects)?, verdict);
     }
     Ok(())
 }
@@ -73,16 +53,19 @@ fn a_person_that_lists_nothing(rt: HostRuntime) -> Result<(), Fail> {
 }
 
 // Each person lists object 1 alone.
+fn crowded(alloc: Global) -> Result<Problem, AllocError> {
+    let mut triples = Vec::with_capacity(alloc, MOST_PERSONS as usize)?;
+    for i in 0..MOST_PERSONS {
+        triples.push((Person(i + 1), Object(1), 0))?;
+    }
+    Problem::sparse(alloc, MOST_PERSONS, triples.as_slice())
+}
+
 #[test]
 fn as_many_persons_as_there_may_be(rt: HostRuntime) -> Result<(), Fail> {
     let alloc = rt.alloc();
-    let mut triples = Vec::with_capacity(alloc, MOST_PERSONS as usize)?;
-    let mut persons = Vec::with_capacity(alloc, MOST_PERSONS as usize)?;
-    for i in 0..MOST_PERSONS {
-        triples.push((Person(i + 1), Object(1), 0))?;
-        persons.push(Person(i + 1))?;
-    }
-    let problem = Problem::sparse(alloc, MOST_PERSONS, triples.as_slice())?;
+    let problem = crowded(alloc)?;
+    let persons: Vec<Person> = all(alloc)?;
     let verdict = check_hall(alloc, &problem, persons.as_slice(), &[Object(1)])?;
     assert_eq!(rt; verdict, HallVerdict::Yes);
     Ok(())

@@ -1,88 +1,123 @@
 // Verdicts on small tables, worked by hand.
 use super::*;
-use assign_core::{MOST_PERSONS, Object, PRICE_END, Person, Price, Problem, Sense};
+use assign_core::{MOST_PERSONS, Numbered, Object, PRICE_END, Person, Price, Problem, Sense};
+use std::alloc::{AllocError, Global};
 use std::test::Fail;
+
+// Persons or objects by their digits.
+pub fn by_digits<T: Numbered + Drop>(alloc: Global, digits: &str) -> Result<Vec<T>, AllocError> {
+    let mut numbers = Vec::new(alloc);
+    for digit in digits.bytes() {
+        numbers.push(T::with_number(u16::from(digit.wrapping_sub(b'0'))))?;
+    }
+    Ok(numbers)
+}
+
+// The verdict on objects by their digits.
+fn verdict_of(
+    alloc: Global,
+    problem: &Problem,
+    sense: Sense,
+    objects: &str,
+    prices: &[Price],
+) -> Result<Verdict, AllocError> {
+    let objects: Vec<Object> = by_digits(alloc, objects)?;
+    check(alloc, problem, sense, objects.as_slice(), prices)
+}
+
+fn two_by_two(alloc: Global) -> Result<Problem, AllocError> {
+    Problem::dense(alloc, 2, &[1, 2, 3, 5])
+}
+
+// The verdict on objects by their digits and two prices.
+fn verdict_of_two(
+    alloc: Global,
+    sense: Sense,
+    objects: &str,
+    first: Price,
+    second: Price,
+) -> Result<Verdict, AllocError> {
+    let problem = two_by_two(alloc)?;
+    let prices = vec![in alloc; first, second]?;
+    verdict_of(alloc, &problem, sense, objects, prices.as_slice())
+}
 
 #[test]
 fn two_persons(rt: HostRuntime) -> Result<(), Fail> {
-    let problem = Problem::dense(rt.alloc(), 2, &[1, 2, 3, 5])?;
-    for (sense, first, second, prices, verdict) in [
-        (Sense::Min, 2, 1, [14, 12], Verdict::Yes),
+    for (sense, objects, first, second, verdict) in [
+        (Sense::Min, "21", 14, 12, Verdict::Yes),
         (
             Sense::Min,
-            2,
-            1,
-            [11, 12],
+            "21",
+            11,
+            12,
             Verdict::Slack(Person(1), Object(1)),
         ),
         (
             Sense::Min,
-            1,
-            2,
-            [14, 12],
+            "12",
+            14,
+            12,
             Verdict::Slack(Person(2), Object(1)),
         ),
-        (Sense::Max, 1, 2, [12, 14], Verdict::Yes),
+        (Sense::Max, "12", 12, 14, Verdict::Yes),
         (
             Sense::Min,
-            1,
-            2,
-            [12, 14],
+            "12",
+            12,
+            14,
             Verdict::Slack(Person(2), Object(1)),
         ),
-        (Sense::Min, 0, 1, [14, 12], Verdict::Unlisted(Person(1))),
-        (Sense::Min, 2, 3, [14, 12], Verdict::Unlisted(Person(2))),
-        (Sense::Min, 1, 1, [14, 12], Verdict::Twice(Object(1))),
-        (Sense::Min, 2, 1, [-1, 12], Verdict::PriceRange(Object(1))),
+        (Sense::Min, "01", 14, 12, Verdict::Unlisted(Person(1))),
+        (Sense::Min, "23", 14, 12, Verdict::Unlisted(Person(2))),
+        (Sense::Min, "11", 14, 12, Verdict::Twice(Object(1))),
+        (Sense::Min, "21", -1, 12, Verdict::PriceRange(Object(1))),
         (
             Sense::Min,
-            2,
-            1,
-            [14, PRICE_END],
+            "21",
+            14,
+            PRICE_END,
             Verdict::PriceRange(Object(2)),
         ),
-        (Sense::Min, 0, 0, [-1, -1], Verdict::Unlisted(Person(1))),
-        (Sense::Min, 2, 2, [-1, -1], Verdict::Twice(Object(2))),
-        (Sense::Min, 1, 2, [-1, -1], Verdict::PriceRange(Object(1))),
+        (Sense::Min, "00", -1, -1, Verdict::Unlisted(Person(1))),
+        (Sense::Min, "22", -1, -1, Verdict::Twice(Object(2))),
+        (Sense::Min, "12", -1, -1, Verdict::PriceRange(Object(1))),
     ] {
-        let objects = [Object(first), Object(second)];
-        assert_eq!(rt;
-            check(rt.alloc(), &problem, sense, &objects, &prices)?,
-            verdict
-        );
+        let said = verdict_of_two(rt.alloc(), sense, objects, first, second)?;
+        assert_eq!(rt; said, verdict);
     }
     Ok(())
 }
 
 #[test]
 fn lists_of_another_length(rt: HostRuntime) -> Result<(), Fail> {
-    let problem = Problem::dense(rt.alloc(), 2, &[1, 2, 3, 5])?;
-    let short = check(rt.alloc(), &problem, Sense::Min, &[Object(0)], &[14, 12])?;
+    let problem = two_by_two(rt.alloc())?;
+    let short = verdict_of(rt.alloc(), &problem, Sense::Min, "0", &[14, 12])?;
     assert_eq!(rt; short, Verdict::Length);
-    let objects = [Object(2), Object(1)];
-    let long = check(rt.alloc(), &problem, Sense::Min, &objects, &[14, 12, -1])?;
+    let long = verdict_of(rt.alloc(), &problem, Sense::Min, "21", &[14, 12, -1])?;
     assert_eq!(rt; long, Verdict::Length);
     Ok(())
 }
 
+// Each of four persons lists each object at cost 0.
+fn even(alloc: Global) -> Result<Problem, AllocError> {
+    let costs = [0, 0, 0, 0, 0, 0, 0, 0, 0, 0, 0, 0, 0, 0, 0, 0];
+    Problem::dense(alloc, 4, &costs)
+}
+
+// Each of three persons likes each object better than the one before.
+fn falling(alloc: Global) -> Result<Problem, AllocError> {
+    Problem::dense(alloc, 3, &[5, 1, 0, 5, 1, 0, 5, 1, 0])
+}
+
 #[test]
 fn the_lowest_of_several(rt: HostRuntime) -> Result<(), Fail> {
-    let even = Problem::dense(
-        rt.alloc(),
-        4,
-        &[0, 0, 0, 0, 0, 0, 0, 0, 0, 0, 0, 0, 0, 0, 0, 0],
-    )?;
-    let twice = [Object(2), Object(2), Object(1), Object(1)];
-    assert_eq!(rt;
-        check(rt.alloc(), &even, Sense::Min, &twice, &[0, 0, 0, 0])?,
-        Verdict::Twice(Object(1))
-    );
-    let falling = Problem::dense(rt.alloc(), 3, &[5, 1, 0, 5, 1, 0, 5, 1, 0])?;
-    let objects = [Object(1), Object(2), Object(3)];
-    assert_eq!(rt;
-        check(rt.alloc(), &falling, Sense::Min, &objects, &[0, 0, 0])?,
-        Verdict::Slack(Person(1), Object(2))
-    );
+    let problem = even(rt.alloc())?;
+    let twice = verdict_of(rt.alloc(), &problem, Sense::Min, "2211", &[0, 0, 0, 0])?;
+    assert_eq!(rt; twice, Verdict::Twice(Object(1)));
+    let problem = falling(rt.alloc())?;
+    let slack = verdict_of(rt.alloc(), &problem, Sense::Min, "123", &[0, 0, 0])?;
+    assert_eq!(rt; slack, Verdict::Slack(Person(1), Object(2)));
     Ok(())
 }
 
@@ -100,25 +135,36 @@ fn one_person_at_the_greatest_price(rt: HostRuntime) -> Result<(), Fail> {
     Ok(())
 }
 
+// The persons or the objects from 1 on, as many as there may be.
+pub fn all<T: Numbered + Drop>(alloc: Global) -> Result<Vec<T>, AllocError> {
+    let mut numbers = Vec::with_capacity(alloc, MOST_PERSONS as usize)?;
+    for i in 0..MOST_PERSONS {
+        numbers.push(T::with_number(i + 1))?;
+    }
+    Ok(numbers)
+}
+
 // Each person lists its own object alone.
-#[test]
-fn as_many_persons_as_there_may_be(rt: HostRuntime) -> Result<(), Fail> {
-    let alloc = rt.alloc();
+fn apart(alloc: Global) -> Result<Problem, AllocError> {
     let mut triples = Vec::with_capacity(alloc, MOST_PERSONS as usize)?;
-    let mut objects = Vec::with_capacity(alloc, MOST_PERSONS as usize)?;
     for i in 0..MOST_PERSONS {
         triples.push((Person(i + 1), Object(i + 1), 0))?;
-        objects.push(Object(i + 1))?;
     }
-    let problem = Problem::sparse(alloc, MOST_PERSONS, triples.as_slice())?;
-    let prices: Vec<Price> = vec![in alloc; 0; MOST_PERSONS as usize]?;
-    let verdict = check(
-        alloc,
-        &problem,
-        Sense::Min,
-        objects.as_slice(),
-        prices.as_slice(),
-    )?;
+    Problem::sparse(alloc, MOST_PERSONS, triples.as_slice())
+}
+
+// The verdict on each person's own object, at prices of 0.
+fn verdict_of_apart(alloc: Global) -> Result<Verdict, AllocError> {
+    let problem = apart(alloc)?;
+    let objects: Vec<Object> = all(alloc)?;
+    let prices = vec![in alloc; 0; MOST_PERSONS as usize]?;
+    let (objects, prices) = (objects.as_slice(), prices.as_slice());
+    check(alloc, &problem, Sense::Min, objects, prices)
+}
+
+#[test]
+fn as_many_persons_as_there_may_be(rt: HostRuntime) -> Result<(), Fail> {
+    let verdict = verdict_of_apart(rt.alloc())?;
     assert_eq!(rt; verdict, Verdict::Yes);
     Ok(())
 }

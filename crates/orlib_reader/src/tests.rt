@@ -1,4 +1,7 @@
 // Texts with what they are told to be, read at once and byte by byte.
+ghost use Rattle.std.specs.Prelude.{◌<◌};
+
+use super::layout::Layout;
 use super::{InputFault, read_dense, read_sparse};
 use assign_core::Problem;
 use std::alloc::{AllocError, Global};
@@ -36,116 +39,182 @@ fn told(alloc: Global, read: Result<Problem, InputFault>) -> Result<String, Allo
     }
 }
 
-// A part of a text many times, between a front and a back.
-fn repeated(alloc: Global, front: &[u8], part: &[u8], back: &[u8]) -> Result<Vec<u8>, AllocError> {
-    let mut text = front.to_vec(alloc)?;
-    for _ in 0..5000 {
-        text.extend_from_slice(part)?;
+// What a text gives, read in pieces of at most so many bytes.
+fn line(alloc: Global, layout: Layout, text: &[u8], most: usize) -> Result<String, AllocError> {
+    let mut reader = Pieces {
+        text,
+        most,
+        fails: false,
+    };
+    let read = match layout {
+        Layout::Dense => read_dense(alloc, &mut reader),
+        Layout::Sparse => read_sparse(alloc, &mut reader),
+    };
+    told(alloc, read)
+}
+
+// Whether a text gives this line, read at once and byte by byte.
+fn is_told(alloc: Global, layout: Layout, text: &[u8], wanted: &[u8]) -> Result<bool, AllocError> {
+    let once = line(alloc, layout, text, 65536)?;
+    let bytewise = line(alloc, layout, text, 1)?;
+    Ok(once.as_bytes() == wanted && bytewise.as_bytes() == wanted)
+}
+
+// Of texts and the lines that they give, in turn, the first text that gives another.
+fn other_text<'a>(
+    alloc: Global,
+    layout: Layout,
+    rows: &[&'a [u8]],
+) -> Result<Option<&'a [u8]>, AllocError> {
+    for i in 0..rows.len() / 2 {
+        if !is_told(alloc, layout, rows[2 * i], rows[2 * i + 1])? {
+            return Ok(Some(rows[2 * i]));
+        }
     }
-    text.extend_from_slice(back)?;
-    Ok(text)
-}
-
-// What a dense text gives, read in pieces of at most so many bytes.
-fn dense_line(alloc: Global, text: &[u8], most: usize) -> Result<String, AllocError> {
-    let mut reader = Pieces {
-        text,
-        most,
-        fails: false,
-    };
-    told(alloc, read_dense(alloc, &mut reader))
-}
-
-// The same of a sparse text.
-fn sparse_line(alloc: Global, text: &[u8], most: usize) -> Result<String, AllocError> {
-    let mut reader = Pieces {
-        text,
-        most,
-        fails: false,
-    };
-    told(alloc, read_sparse(alloc, &mut reader))
+    Ok(None)
 }
 
 #[test]
 fn dense_texts(rt: HostRuntime) -> Result<(), Fail> {
-    let table: [(&[u8], &str); 46] = [
-        (b"1 7", "Problem { rows: [[(Object(1), 7)]] }"),
-        (
-            b"2 1 2 3 5",
-            "Problem { rows: [[(Object(1), 1), (Object(2), 2)], [(Object(1), 3), (Object(2), 5)]] }",
-        ),
-        (
-            b"02\r\n\t1\n\n002\n+3\n\x0c\n\x0b5\n\n",
-            "Problem { rows: [[(Object(1), 1), (Object(2), 2)], [(Object(1), 3), (Object(2), 5)]] }",
-        ),
-        (b"8193 1", "input: size out of range"),
-        (b"0", "input: size out of range"),
-        (b"-1 1", "input: size out of range"),
-        (b"", "input: empty"),
-        (b" \t\r\n\x0b\x0c", "input: empty"),
-        (b"x", "input: bad number at byte 0"),
-        (b"1 1000000000001", "input: cost out of range at byte 2"),
-        (b"1 -1000000000001", "input: cost out of range at byte 2"),
-        (
-            b"1 1000000000000",
-            "Problem { rows: [[(Object(1), 1000000000000)]] }",
-        ),
-        (
-            b"1 -1000000000000",
-            "Problem { rows: [[(Object(1), -1000000000000)]] }",
-        ),
-        (b"1 -0", "Problem { rows: [[(Object(1), 0)]] }"),
-        (b"1 +0", "Problem { rows: [[(Object(1), 0)]] }"),
-        (b"2 1 2", "input: truncated after 3 numbers"),
-        (b"1 7 8", "input: extra data at byte 4"),
-        (b"1 7 x", "input: extra data at byte 4"),
-        (b"1 3.0", "input: bad number at byte 2"),
-        (b"2 1 2 1000000000001", "input: cost out of range at byte 6"),
-        (b"2 1 x 1000000000001", "input: bad number at byte 4"),
-        (b"1 \x00", "input: bad number at byte 2"),
-        (b"1 \x1a", "input: bad number at byte 2"),
-        (b"1 \xff", "input: bad number at byte 2"),
-        (b"1 +", "input: bad number at byte 2"),
-        (b"1 -", "input: bad number at byte 2"),
-        (b"1 +-1", "input: bad number at byte 2"),
-        (b"1 1e3", "input: bad number at byte 2"),
-        (b"1 7\x1a", "input: bad number at byte 2"),
-        (b"1 7 \x1a", "input: extra data at byte 4"),
-        (b"2", "input: truncated after 1 numbers"),
-        (b"2 ", "input: truncated after 1 numbers"),
-        (b"2 1", "input: truncated after 2 numbers"),
-        (b"2 1 ", "input: truncated after 2 numbers"),
-        (b"2 1 2", "input: truncated after 3 numbers"),
-        (b"2 1 2 ", "input: truncated after 3 numbers"),
-        (b"2 1 2 3", "input: truncated after 4 numbers"),
-        (b"2 1 2 3 ", "input: truncated after 4 numbers"),
-        (b"+1 -7", "Problem { rows: [[(Object(1), -7)]] }"),
-        (b"1\x0b7\x0c", "Problem { rows: [[(Object(1), 7)]] }"),
-        (b"1 --7", "input: bad number at byte 2"),
-        (b"1 7-", "input: bad number at byte 2"),
-        (b"1 7 +", "input: extra data at byte 4"),
-        (b"2.0 1", "input: bad number at byte 0"),
-        (b" 2 1 2 3 x", "input: bad number at byte 9"),
-        (b"8192", "input: truncated after 1 numbers"),
+    let rows: [&[u8]; 90] = [
+        b"1 7",
+        b"Problem { rows: [[(Object(1), 7)]] }",
+        b"2 1 2 3 5",
+        b"Problem { rows: [[(Object(1), 1), (Object(2), 2)], [(Object(1), 3), (Object(2), 5)]] }",
+        b"02\r\n\t1\n\n002\n+3\n\x0c\n\x0b5\n\n",
+        b"Problem { rows: [[(Object(1), 1), (Object(2), 2)], [(Object(1), 3), (Object(2), 5)]] }",
+        b"8193 1",
+        b"input: size out of range",
+        b"0",
+        b"input: size out of range",
+        b"-1 1",
+        b"input: size out of range",
+        b"",
+        b"input: empty",
+        b" \t\r\n\x0b\x0c",
+        b"input: empty",
+        b"x",
+        b"input: bad number at byte 0",
+        b"1 1000000000001",
+        b"input: cost out of range at byte 2",
+        b"1 -1000000000001",
+        b"input: cost out of range at byte 2",
+        b"1 1000000000000",
+        b"Problem { rows: [[(Object(1), 1000000000000)]] }",
+        b"1 -1000000000000",
+        b"Problem { rows: [[(Object(1), -1000000000000)]] }",
+        b"1 -0",
+        b"Problem { rows: [[(Object(1), 0)]] }",
+        b"1 +0",
+        b"Problem { rows: [[(Object(1), 0)]] }",
+        b"2 1 2",
+        b"input: truncated after 3 numbers",
+        b"1 7 8",
+        b"input: extra data at byte 4",
+        b"1 7 x",
+        b"input: extra data at byte 4",
+        b"1 3.0",
+        b"input: bad number at byte 2",
+        b"2 1 2 1000000000001",
+        b"input: cost out of range at byte 6",
+        b"2 1 x 1000000000001",
+        b"input: bad number at byte 4",
+        b"1 \x00",
+        b"input: bad number at byte 2",
+        b"1 \x1a",
+        b"input: bad number at byte 2",
+        b"1 \xff",
+        b"input: bad number at byte 2",
+        b"1 +",
+        b"input: bad number at byte 2",
+        b"1 -",
+        b"input: bad number at byte 2",
+        b"1 +-1",
+        b"input: bad number at byte 2",
+        b"1 1e3",
+        b"input: bad number at byte 2",
+        b"1 7\x1a",
+        b"input: bad number at byte 2",
+        b"1 7 \x1a",
+        b"input: extra data at byte 4",
+        b"2",
+        b"input: truncated after 1 numbers",
+        b"2 ",
+        b"input: truncated after 1 numbers",
+        b"2 1",
+        b"input: truncated after 2 numbers",
+        b"2 1 ",
+        b"input: truncated after 2 numbers",
+        b"2 1 2 ",
+        b"input: truncated after 3 numbers",
+        b"2 1 2 3",
+        b"input: truncated after 4 numbers",
+        b"2 1 2 3 ",
+        b"input: truncated after 4 numbers",
+        b"+1 -7",
+        b"Problem { rows: [[(Object(1), -7)]] }",
+        b"1\x0b7\x0c",
+        b"Problem { rows: [[(Object(1), 7)]] }",
+        b"1 --7",
+        b"input: bad number at byte 2",
+        b"1 7-",
+        b"input: bad number at byte 2",
+        b"1 7 +",
+        b"input: extra data at byte 4",
+        b"2.0 1",
+        b"input: bad number at byte 0",
+        b" 2 1 2 3 x",
+        b"input: bad number at byte 9",
+        b"8192",
+        b"input: truncated after 1 numbers",
     ];
-    for (text, wanted) in table {
-        assert_eq!(rt; dense_line(rt.alloc(), text, 65536)?.as_str(), wanted);
-        assert_eq!(rt;
-            dense_line(rt.alloc(), text, 1)?.as_str(),
-            wanted,
-            "byte by byte"
-        );
-    }
+    assert_eq!(rt; other_text(rt.alloc(), Layout::Dense, &rows)?, None);
+    Ok(())
+}
+
+#[test]
+fn sparse_texts(rt: HostRuntime) -> Result<(), Fail> {
+    let rows: [&[u8]; 28] = [
+        b"2 1 1 5 2 1",
+        b"input: truncated after 6 numbers",
+        b"2 1 1 5 2",
+        b"input: truncated after 5 numbers",
+        b"2 3 1 5",
+        b"input: index out of range at byte 2",
+        b"2 1 3 5",
+        b"input: index out of range at byte 4",
+        b"2 0 1 5",
+        b"input: index out of range at byte 2",
+        b"2 -1 1 5",
+        b"input: index out of range at byte 2",
+        b"2 1 x 5",
+        b"input: bad number at byte 4",
+        b"2 1 1 1000000000001",
+        b"input: cost out of range at byte 6",
+        b"2 1 1 -1000000000000",
+        b"Problem { rows: [[(Object(1), -1000000000000)], []] }",
+        b"3",
+        b"Problem { rows: [[], [], []] }",
+        b"",
+        b"input: empty",
+        b"0 1 1 1",
+        b"input: size out of range",
+        b"2 1 1 9 1 1 3 1 2 4 2 1 5 2 2 8",
+        b"Problem { rows: [[(Object(1), 3), (Object(2), 4)], [(Object(1), 5), (Object(2), 8)]] }",
+        b"2 2 2 8 2 1 5 1 2 4 1 1 3 1 1 9",
+        b"Problem { rows: [[(Object(1), 3), (Object(2), 4)], [(Object(1), 5), (Object(2), 8)]] }",
+    ];
+    assert_eq!(rt; other_text(rt.alloc(), Layout::Sparse, &rows)?, None);
     Ok(())
 }
 
 // A text with one byte in place of another.
-fn with_byte(alloc: Global, text: &[u8], place: usize, byte: u8) -> Result<Vec<u8>, AllocError> {
-    let mut changed = text.to_vec(alloc)?;
-    if place < changed.len() {
-        changed[place] = byte;
-    }
-    Ok(changed)
+fn with_byte<const N: usize>(text: &[u8; N], place: usize, byte: u8) -> [u8; N]
+    requires { place < N }
+{
+    let mut changed = *text;
+    changed[place] = byte;
+    changed
 }
 
 #[test]
@@ -154,100 +223,74 @@ fn strange_bytes_at_each_place(rt: HostRuntime) -> Result<(), Fail> {
     for byte in [0x00, 0x1a, 0xff] {
         for place in 0..9usize {
             let wanted = format!(in alloc; "input: bad number at byte {}", place - place % 2)?;
-            let dense = with_byte(alloc, b"2 1 2 3 5", place, byte)?;
-            let line = dense_line(alloc, dense.as_slice(), 1)?;
-            assert_eq!(rt; line.as_str(), wanted.as_str());
-            let sparse = with_byte(alloc, b"2 1 2 3 2 1 4", place, byte)?;
-            let line = sparse_line(alloc, sparse.as_slice(), 1)?;
-            assert_eq!(rt; line.as_str(), wanted.as_str());
+            let dense = with_byte(b"2 1 2 3 5", place, byte);
+            let told = line(alloc, Layout::Dense, &dense, 1)?;
+            assert_eq!(rt; told.as_str(), wanted.as_str());
+            let sparse = with_byte(b"2 1 2 3 2 1 4", place, byte);
+            let told = line(alloc, Layout::Sparse, &sparse, 1)?;
+            assert_eq!(rt; told.as_str(), wanted.as_str());
         }
     }
     Ok(())
 }
 
-#[test]
-fn long_numbers(rt: HostRuntime) -> Result<(), Fail> {
-    let alloc = rt.alloc();
-    let one = "Problem { rows: [[(Object(1), 1)]] }";
-    let table: [(bool, Vec<u8>, &str); 7] = [
-        (
-            false,
-            repeated(alloc, b"", b"9", b" 1")?,
-            "input: size out of range",
-        ),
-        (
-            false,
-            repeated(alloc, b"1 -", b"9", b"")?,
-            "input: cost out of range at byte 2",
-        ),
-        (false, repeated(alloc, b"1 ", b"0", b"1")?, one),
-        (
-            true,
-            repeated(alloc, b"", b"9", b" 1")?,
-            "input: size out of range",
-        ),
-        (
-            true,
-            repeated(alloc, b"1 1 ", b"9", b" 1")?,
-            "input: index out of range at byte 4",
-        ),
-        (
-            true,
-            repeated(alloc, b"1 1 1 ", b"9", b"")?,
-            "input: cost out of range at byte 6",
-        ),
-        (true, repeated(alloc, b"1 1 ", b"0", b"1 1")?, one),
-    ];
-    for (sparse, text, wanted) in &table {
-        let line = if *sparse {
-            sparse_line(alloc, text.as_slice(), 65536)?
-        } else {
-            dense_line(alloc, text.as_slice(), 65536)?
-        };
-        assert_eq!(rt; line.as_str(), *wanted);
+// Adds a part to a text many times.
+fn add_many(text: &mut Vec<u8>, part: &[u8]) -> Result<(), AllocError> {
+    for _ in 0..5000 {
+        text.extend_from_slice(part)?;
     }
     Ok(())
 }
 
+// A part many times, between a front and a back.
+fn repeated(alloc: Global, front: &[u8], part: &[u8], back: &[u8]) -> Result<Vec<u8>, AllocError> {
+    let mut text = Vec::new(alloc);
+    text.extend_from_slice(front)?;
+    add_many(&mut text, part)?;
+    text.extend_from_slice(back)?;
+    Ok(text)
+}
+
+// What a text gives that has a part many times.
+fn long_line(
+    alloc: Global,
+    layout: Layout,
+    front: &[u8],
+    part: &[u8],
+    back: &[u8],
+) -> Result<String, AllocError> {
+    let text = repeated(alloc, front, part, back)?;
+    line(alloc, layout, text.as_slice(), 65536)
+}
+
 #[test]
-fn sparse_texts(rt: HostRuntime) -> Result<(), Fail> {
-    let alloc = rt.alloc();
-    let table: [(&[u8], &str); 14] = [
-        (b"2 1 1 5 2 1", "input: truncated after 6 numbers"),
-        (b"2 1 1 5 2", "input: truncated after 5 numbers"),
-        (b"2 3 1 5", "input: index out of range at byte 2"),
-        (b"2 1 3 5", "input: index out of range at byte 4"),
-        (b"2 0 1 5", "input: index out of range at byte 2"),
-        (b"2 -1 1 5", "input: index out of range at byte 2"),
-        (b"2 1 x 5", "input: bad number at byte 4"),
-        (b"2 1 1 1000000000001", "input: cost out of range at byte 6"),
-        (
-            b"2 1 1 -1000000000000",
-            "Problem { rows: [[(Object(1), -1000000000000)], []] }",
-        ),
-        (b"3", "Problem { rows: [[], [], []] }"),
-        (b"", "input: empty"),
-        (b"0 1 1 1", "input: size out of range"),
-        (
-            b"2 1 1 9 1 1 3 1 2 4 2 1 5 2 2 8",
-            "Problem { rows: [[(Object(1), 3), (Object(2), 4)], [(Object(1), 5), (Object(2), 8)]] }",
-        ),
-        (
-            b"2 2 2 8 2 1 5 1 2 4 1 1 3 1 1 9",
-            "Problem { rows: [[(Object(1), 3), (Object(2), 4)], [(Object(1), 5), (Object(2), 8)]] }",
-        ),
-    ];
-    for (text, wanted) in table {
-        assert_eq!(rt; sparse_line(alloc, text, 65536)?.as_str(), wanted);
-        assert_eq!(rt;
-            sparse_line(alloc, text, 1)?.as_str(),
-            wanted,
-            "byte by byte"
-        );
-    }
-    let many = repeated(alloc, b"1\n", b"1 1 7\n", b"1 1 5")?;
-    let line = sparse_line(alloc, many.as_slice(), 65536)?;
-    assert_eq!(rt; line.as_str(), "Problem { rows: [[(Object(1), 5)]] }");
+fn long_dense_numbers(rt: HostRuntime) -> Result<(), Fail> {
+    let told = long_line(rt.alloc(), Layout::Dense, b"", b"9", b" 1")?;
+    assert_eq!(rt; told.as_str(), "input: size out of range");
+    let told = long_line(rt.alloc(), Layout::Dense, b"1 -", b"9", b"")?;
+    assert_eq!(rt; told.as_str(), "input: cost out of range at byte 2");
+    let told = long_line(rt.alloc(), Layout::Dense, b"1 ", b"0", b"1")?;
+    assert_eq!(rt; told.as_str(), "Problem { rows: [[(Object(1), 1)]] }");
+    Ok(())
+}
+
+#[test]
+fn long_sparse_numbers(rt: HostRuntime) -> Result<(), Fail> {
+    let told = long_line(rt.alloc(), Layout::Sparse, b"", b"9", b" 1")?;
+    assert_eq!(rt; told.as_str(), "input: size out of range");
+    let told = long_line(rt.alloc(), Layout::Sparse, b"1 1 ", b"9", b" 1")?;
+    assert_eq!(rt; told.as_str(), "input: index out of range at byte 4");
+    let told = long_line(rt.alloc(), Layout::Sparse, b"1 1 1 ", b"9", b"")?;
+    assert_eq!(rt; told.as_str(), "input: cost out of range at byte 6");
+    let told = long_line(rt.alloc(), Layout::Sparse, b"1 1 ", b"0", b"1 1")?;
+    assert_eq!(rt; told.as_str(), "Problem { rows: [[(Object(1), 1)]] }");
+    Ok(())
+}
+
+#[test]
+fn many_triples(rt: HostRuntime) -> Result<(), Fail> {
+    let told = long_line(rt.alloc(), Layout::Sparse, b"1\n", b"1 1 7\n", b"1 1 5")?;
+    assert_eq!(rt; told.as_str(), "Problem { rows: [[(Object(1), 5)]] }");
     Ok(())
 }
 
