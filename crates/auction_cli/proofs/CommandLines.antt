@@ -140,8 +140,8 @@ at_least text least most number h = rw h.value h.in_range.2
 pub in_ranges : (found : Option (Text × List Row)) (r : Result Words WordsFault) → IfOk r (Chooses found) → IfOk r IsInRanges
 in_ranges found (Ok (Solve options start)) h = record {
   some_workers = at_least _ _ _ _ h.2.workers;
-  most_workers = at_most _ _ _ _ h.2.workers;
-  most_refresh = at_most _ _ _ _ h.2.refresh;
+  few_workers = at_most _ _ _ _ h.2.workers;
+  few_turns = at_most _ _ _ _ h.2.refresh;
 }
 in_ranges found (Ok (Verify sparse report)) h = tt
 in_ranges found (Err fault) h = tt

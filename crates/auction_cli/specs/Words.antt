@@ -35,12 +35,19 @@ valued_rule name usual = record (new_rule name) { long = Some name; value_names 
 abbrev pub numbered_rule : Text → Text → ℕ → ℕ → Rule
 numbered_rule name usual least most = record (valued_rule name usual) { parser = Some (Unsigned least most) }
 
+-- the most workers, and the most turns between two looks at the newest prices
+abbrev pub most_workers : ℕ
+most_workers = 64
+
+abbrev pub most_refresh : ℕ
+most_refresh = 1000000
+
 -- `solve`, but for the options on its mode
 abbrev pub plain_solve_app : App
 plain_solve_app = with_rule (with_rule (with_rule (with_rule (new_app (codes "solve")) (flag_rule (codes "sparse"))) (flag_rule (codes "max"))) (flag_rule (codes "prices"))) start_rule
 
 abbrev pub solve_app : App
-solve_app = with_rule (with_rule (with_rule plain_solve_app (valued_rule (codes "mode") (codes "rounds"))) (numbered_rule (codes "workers") (codes "4") 1 64)) (numbered_rule (codes "refresh") (codes "1") 0 1000000)
+solve_app = with_rule (with_rule (with_rule plain_solve_app (valued_rule (codes "mode") (codes "rounds"))) (numbered_rule (codes "workers") (codes "4") 1 most_workers)) (numbered_rule (codes "refresh") (codes "1") 0 most_refresh)
 
 -- the name of a file, which must be given
 abbrev pub report_rule : Rule
@@ -88,15 +95,15 @@ IsNumberIn text least most = (number : ℕ) × IsNumberFor text least most numbe
 
 -- both options of `solve` that take a number have one in range
 pub record HasNumbers (rows : List Row) : Type 0 where
-  pub workers : IsNumberIn (one_of (codes "workers") rows) 1 64
-  pub refresh : IsNumberIn (one_of (codes "refresh") rows) 0 1000000
+  pub workers : IsNumberIn (one_of (codes "workers") rows) 1 most_workers
+  pub refresh : IsNumberIn (one_of (codes "refresh") rows) 0 most_refresh
 
 -- the options of `solve`, by what clap finds behind it
 pub record ChoosesSolving (rows : List Row) (options : SolveOpts) : Type 0 where
   pub sparse : IsFlag (one_of (codes "sparse") rows) options.sparse
   pub mode : NamesMode rows options.mode
-  pub workers : IsNumberFor (one_of (codes "workers") rows) 1 64 options.workers
-  pub refresh : IsNumberFor (one_of (codes "refresh") rows) 0 1000000 options.refresh
+  pub workers : IsNumberFor (one_of (codes "workers") rows) 1 most_workers options.workers
+  pub refresh : IsNumberFor (one_of (codes "refresh") rows) 0 most_refresh options.refresh
   pub prices : IsFlag (one_of (codes "prices") rows) options.prices
   pub sense : IsFlag (one_of (codes "max") rows) (is_max options.sense)
 
@@ -154,11 +161,11 @@ WordsOutcome words (Err wrong.Mode) = AskForNoMode words
 WordsOutcome words (Err (Clap error)) = IsAmong (kind_of error) (fault_of program words) × (kind_of error ≢ OutOfMemory)
 WordsOutcome words (Err Memory) = ⊤
 
--- 1 to 64 workers, who take the newest prices after 0 to 1000000 sessions
+-- at least one worker, and no more workers or turns than there may be
 pub record HasRanges (options : SolveOpts) : Type 0 where
   pub some_workers : 1 ≤ options.workers
-  pub most_workers : options.workers ≤ 64
-  pub most_refresh : options.refresh ≤ 1000000
+  pub few_workers : options.workers ≤ most_workers
+  pub few_turns : options.refresh ≤ most_refresh
 
 abbrev pub IsInRanges : Words → Type 0
 IsInRanges (Solve options start) = HasRanges options
