@@ -1,5 +1,5 @@
 // Verdicts on lists of persons and objects, worked by hand.
-use super::tests::{all, by_digits};
+use super::tests::{all, by_digits, of_one_object};
 use super::*;
 use assign_core::{MOST_PERSONS, Object, Person, Problem};
 use std::alloc::{AllocError, Global};
@@ -52,19 +52,10 @@ fn a_person_that_lists_nothing(rt: HostRuntime) -> Result<(), Fail> {
     Ok(())
 }
 
-// Each person lists object 1 alone.
-fn crowded(alloc: Global) -> Result<Problem, AllocError> {
-    let mut triples = Vec::with_capacity(alloc, MOST_PERSONS as usize)?;
-    for i in 0..MOST_PERSONS {
-        triples.push((Person(i + 1), Object(1), 0))?;
-    }
-    Problem::sparse(alloc, MOST_PERSONS, triples.as_slice())
-}
-
 #[test]
 fn as_many_persons_as_there_may_be(rt: HostRuntime) -> Result<(), Fail> {
     let alloc = rt.alloc();
-    let problem = crowded(alloc)?;
+    let problem = of_one_object(alloc, false)?;
     let persons: Vec<Person> = all(alloc)?;
     let verdict = check_hall(alloc, &problem, persons.as_slice(), &[Object(1)])?;
     assert_eq!(rt; verdict, HallVerdict::Yes);

@@ -144,18 +144,19 @@ pub fn all<T: Numbered + Drop>(alloc: Global) -> Result<Vec<T>, AllocError> {
     Ok(numbers)
 }
 
-// Each person lists its own object alone.
-fn apart(alloc: Global) -> Result<Problem, AllocError> {
+// As many persons as there may be list one object each: object 1, or their own.
+pub fn of_one_object(alloc: Global, is_own: bool) -> Result<Problem, AllocError> {
     let mut triples = Vec::with_capacity(alloc, MOST_PERSONS as usize)?;
     for i in 0..MOST_PERSONS {
-        triples.push((Person(i + 1), Object(i + 1), 0))?;
+        let object = if is_own { i + 1 } else { 1 };
+        triples.push((Person(i + 1), Object(object), 0))?;
     }
     Problem::sparse(alloc, MOST_PERSONS, triples.as_slice())
 }
 
 // The verdict on each person's own object, at prices of 0.
-fn verdict_of_apart(alloc: Global) -> Result<Verdict, AllocError> {
-    let problem = apart(alloc)?;
+fn verdict_of_own(alloc: Global) -> Result<Verdict, AllocError> {
+    let problem = of_one_object(alloc, true)?;
     let objects: Vec<Object> = all(alloc)?;
     let prices = vec![in alloc; 0; MOST_PERSONS as usize]?;
     let (objects, prices) = (objects.as_slice(), prices.as_slice());
@@ -164,7 +165,7 @@ fn verdict_of_apart(alloc: Global) -> Result<Verdict, AllocError> {
 
 #[test]
 fn as_many_persons_as_there_may_be(rt: HostRuntime) -> Result<(), Fail> {
-    let verdict = verdict_of_apart(rt.alloc())?;
+    let verdict = verdict_of_own(rt.alloc())?;
     assert_eq!(rt; verdict, Verdict::Yes);
     Ok(())
 }
