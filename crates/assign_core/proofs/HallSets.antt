@@ -15,6 +15,10 @@ use Rattle.assign_core.specs.Numbered.{IsNumber, numbered}
 use Rattle.assign_core.specs.Rows.{Listing, listed_in, IsListed}
 use Rattle.assign_core.specs.Assignment.{AreListed, IsAssignment}
 use Rattle.assign_core.specs.Hall.{IsHallSet}
+use Rattle.assign_core.specs.Outcomes.{IsDecided, IsProof}
+use Rattle.assign_core.specs.declared.sense.Sense.{Sense}
+use Rattle.assign_core.specs.declared.outcome.Outcome.{Outcome}
+use Rattle.assign_core.specs.declared.outcome.Outcome.TheVariants.{Best, Hall}
 
 -- different numbers that all stand in a list are at most as many as its elements
 pub few_among : (xs ys : List ℕ) → IsDistinct nat_eq xs → ((x : ℕ) → Contains xs x → Contains ys x) → length xs ≤ length ys
@@ -79,3 +83,7 @@ no_assignment rows persons objects xs hall a =
     let same : length (given xs persons) ≡ length persons = simp length-map in
     let fewer = hall.fewer in
     omega arith
+
+pub decides : (sense : Sense) (rows : List Listing) (outcome : Outcome) → IsProof sense rows outcome → IsDecided rows outcome
+decides sense rows (Best c) proof = (c.assignment, proof.assigned)
+decides sense rows (Hall h) proof = λ xs a. no_assignment rows h.persons h.objects xs proof a

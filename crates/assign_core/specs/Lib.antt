@@ -10,3 +10,4 @@ pub mod Matching
 pub mod Plain
 pub mod Reach
 pub mod Hall
+pub mod Outcomes

@@ -1,5 +1,6 @@
 // Laws of the definitions.
 ghost use Rattle.std.specs.Prelude.{◌≡◌, ℕ, ℤ, pos, ◌+◌, ◌*◌, ◌/◌, ◌%◌, ◌<◌, ◌≤◌, ◌≤ℤ◌, ◌↔◌, ◌^◌, List, Option, None, Some, length, slice_index_or, All, Contains};
+ghost use Rattle.assign_core.specs.declared.outcome.Outcome.{Outcome};
 ghost use Rattle.assign_core.specs.declared.sense.Sense.{Sense};
 ghost use Rattle.assign_core.specs.Numbered.{numbered};
 ghost use Rattle.assign_core.specs.Rows.{Listing, IsProblem, listed_in, row_of};
@@ -9,6 +10,7 @@ ghost use Rattle.assign_core.specs.Benefits.{benefit_rows};
 ghost use Rattle.assign_core.specs.Prices.{IsBelow};
 ghost use Rattle.assign_core.specs.Slackness.{AllSlack};
 ghost use Rattle.assign_core.specs.Matching.{IsMatching, owner_of};
+ghost use Rattle.assign_core.specs.Outcomes.{IsDecided, IsProof};
 ghost use Rattle.assign_core.specs.Sparse.{Triple, least_given};
 
 use super::numbers::{GREATEST_COST, GREATEST_FIRST_PRICE, MOST_PERSONS, NARROW_END, PRICE_END};
@@ -28,6 +30,13 @@ pub fn slack_means_best()
     ensures { (sense : Sense) (rows : List Listing) (xs : List ℕ) (prices : List ℤ)
         → IsProblem rows → IsAssignment rows xs
         → AllSlack (pos 1) prices (benefit_rows sense rows) xs → IsBest sense rows xs }
+{}
+
+/// An outcome that is a proof says whether there is an assignment: a certificate comes only where
+/// there is one, and a Hall set only where there is none.
+pub fn proofs_decide()
+    ensures { (sense : Sense) (rows : List Listing) (outcome : Outcome)
+        → IsProof sense rows outcome → IsDecided rows outcome }
 {}
 
 /// That one table of prices is below another is an order: each is below itself, and what is below

@@ -3,3 +3,4 @@ pub mod Faults
 pub mod Verdicts
 pub mod HallMarks
 pub mod HallVerdicts
+pub mod Confirmed

@@ -2,12 +2,11 @@
 #![tactic(auto)]
 
 mod checker;
+mod confirm;
 mod counts;
 mod hall;
 mod hall_lists;
 mod hall_marks;
-#[cfg(test)]
-mod hall_tests;
 mod hall_verdict;
 mod listed;
 mod priced;
@@ -17,6 +16,7 @@ mod tests;
 mod verdict;
 
 pub use checker::check;
+pub use confirm::{confirm_best, confirm_hall, confirms};
 pub use hall::check_hall;
 pub use hall_verdict::{HallVerdict, one_hall_verdict};
 pub use verdict::{Verdict, one_verdict};

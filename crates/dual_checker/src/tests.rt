@@ -1,4 +1,7 @@
 // Verdicts on small tables, worked by hand.
+mod confirmed;
+mod hall;
+
 use super::*;
 use assign_core::{MOST_PERSONS, Numbered, Object, PRICE_END, Person, Price, Problem, Sense};
 use std::alloc::{AllocError, Global};

@@ -1,12 +1,12 @@
 // Verdicts on lists of persons and objects, worked by hand.
-use super::tests::{all, by_digits, of_one_object};
-use super::*;
+use super::{all, by_digits, of_one_object};
+use crate::*;
 use assign_core::{MOST_PERSONS, Object, Person, Problem};
 use std::alloc::{AllocError, Global};
 use std::test::Fail;
 
 // Persons 1 and 2 list object 1 alone, and person 3 objects 2 and 3.
-fn three_persons(alloc: Global) -> Result<Problem, AllocError> {
+pub fn three_persons(alloc: Global) -> Result<Problem, AllocError> {
     let first = vec![in alloc; (Object(1), 4)]?;
     let second = vec![in alloc; (Object(1), 6)]?;
     let third = vec![in alloc; (Object(2), 1), (Object(3), 2)]?;

@@ -1,0 +1,93 @@
+// Answers of any origin, taken where they are proofs.
+ghost use Rattle.std.specs.Prelude.{◌≡◌, ◌↔◌, IsTrue, IfOk};
+ghost use Rattle.assign_core.specs.Slackness.{IsCertificate};
+ghost use Rattle.assign_core.specs.Hall.{IsHallSet};
+ghost use Rattle.assign_core.specs.Outcomes.{IsProof};
+ghost use Rattle.dual_checker.specs.Confirmed.{IsConfirmed};
+
+use super::checker::check;
+use super::hall::check_hall;
+use super::hall_verdict::HallVerdict;
+use super::verdict::Verdict;
+use assign_core::{
+    Assignment, Certificate, HallSet, Object, Outcome, Person, Price, Prices, Problem, Sense,
+};
+use std::alloc::{AllocError, Global};
+
+/// Whether an outcome is a proof: a certificate under this sense, or a Hall set. The time is that
+/// of `check` or of `check_hall`.
+///
+/// # Errors
+/// Only where memory is refused, before anything is looked at.
+pub fn confirms(
+    alloc: Global,
+    problem: &Problem,
+    sense: Sense,
+    outcome: &Outcome,
+) -> Result<bool, AllocError>
+    ensures { IfOk result (λ yes. IsTrue yes ↔ IsProof sense problem.now outcome.now) }
+{
+    match outcome {
+        Outcome::Best(best) => {
+            let (objects, prices) = (best.assignment.objects(), best.prices.as_slice());
+            Ok(check(alloc, problem, sense, objects, prices)? == Verdict::Yes)
+        }
+        Outcome::Hall(hall) => {
+            let verdict = check_hall(alloc, problem, hall.persons(), hall.objects())?;
+            Ok(verdict == HallVerdict::Yes)
+        }
+    }
+}
+
+/// The outcome that these objects of persons 1, 2, .. and these prices of objects 1, 2, .. are,
+/// where they are a certificate under this sense. `None` exactly where they aren't.
+///
+/// The lists may be of any length and hold any numbers. They are not copied.
+///
+/// # Errors
+/// Only where memory is refused. The lists are dropped then.
+pub fn confirm_best(
+    alloc: Global,
+    problem: &Problem,
+    sense: Sense,
+    objects: Vec<Object>,
+    prices: Vec<Price>,
+) -> Result<Option<Outcome>, AllocError>
+    ensures { IfOk result (IsConfirmed
+        (IsCertificate sense problem.now objects.items prices.items)
+        (Outcome.Best (record { assignment = objects.items; prices = prices.items }))) }
+{
+    let verdict = check(alloc, problem, sense, objects.as_slice(), prices.as_slice())?;
+    if verdict != Verdict::Yes {
+        return Ok(None);
+    }
+    // That there are few enough prices for a table follows from this call.
+    let _few = problem.n();
+    let prices = Prices::new(alloc, prices)?;
+    let assignment = Assignment::new(objects);
+    Ok(Some(Outcome::Best(Certificate { assignment, prices })))
+}
+
+/// The outcome that these persons and objects are, where they are a Hall set. `None` exactly where
+/// they aren't.
+///
+/// The lists may be of any length and hold any numbers. They are not copied.
+///
+/// # Errors
+/// Only where memory is refused. The lists are dropped then.
+pub fn confirm_hall(
+    alloc: Global,
+    problem: &Problem,
+    persons: Vec<Person>,
+    objects: Vec<Object>,
+) -> Result<Option<Outcome>, AllocError>
+    ensures { IfOk result (IsConfirmed
+        (IsHallSet problem.now persons.items objects.items)
+        (Outcome.Hall (record { persons = persons.items; objects = objects.items }))) }
+{
+    let verdict = check_hall(alloc, problem, persons.as_slice(), objects.as_slice())?;
+    if verdict != HallVerdict::Yes {
+        return Ok(None);
+    }
+    Ok(Some(Outcome::Hall(HallSet::new(persons, objects))))
+}
