@@ -4,6 +4,7 @@ use Rattle.std.specs.Option.{option_and_then}
 use Rattle.std.specs.Cmp.{signed_Decides}
 use Rattle.std.specs.Ordering.{int_eq}
 use Rattle.std.proofs.lemmas.Int.{ints, clamps}
+use Rattle.std.proofs.lemmas.Bool.{false_from_ne_true}
 use Rattle.std.proofs.lemmas.Bool.Decides.{leb_tells}
 use Rattle.assign_core.specs.Rows.{IsProblem}
 use Rattle.scaled_values.specs.Scaled.{ScaledProblem, spread, fifth, first_eps, next_eps, eps_after, IsEps}
@@ -116,14 +117,10 @@ IsEps-first s eps e = record { phases = 0; at = ap Some (sym e) }
 pub IsEps-next : (s : ScaledProblem) (eps next : ℤ) → IsEps s eps → next_eps eps ≡ Some next → IsEps s next
 IsEps-next s eps next h e = record { phases = suc h.phases; at = ap (option_and_then next_eps) h.at ∙ e }
 
-is_false : (b : Bool) → (b ≡ true → ⊥) → b ≡ false
-is_false true never = absurd (never refl)
-is_false false never = refl
-
 -- the slackness after one that isn't 1
 pub next_is : (eps : ℤ) → (eps ≡ pos 1 → ⊥) → next_eps eps ≡ Some (fifth eps)
 next_is eps other =
-    let differs : int_eq eps (pos 1) ≡ false = is_false (int_eq eps (pos 1)) (λ e. other ((signed_Decides eps (pos 1)).0 e)) in
+    let differs : int_eq eps (pos 1) ≡ false = false_from_ne_true (int_eq eps (pos 1)) (λ e. other ((signed_Decides eps (pos 1)).0 e)) in
     ap (λ b. cond b None (Some (fifth eps))) differs
 
 true_where_none : (t : Bool) (z : ℤ) → cond t None (Some z) ≡ None → t ≡ true

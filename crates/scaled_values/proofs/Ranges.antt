@@ -6,20 +6,14 @@ use Rattle.std.proofs.lemmas.List.{drop_more, get_or-map, length-map}
 use Rattle.std.proofs.lemmas.List.Sums.{fold-append}
 use Rattle.assign_core.specs.declared.sense.Sense.{Sense}
 use Rattle.assign_core.specs.Rows.{Listing, row_of}
-use Rattle.assign_core.specs.Benefits.{benefit, benefit_row}
+use Rattle.assign_core.specs.Benefits.{benefit_row}
 use Rattle.assign_core.proofs.RowLemmas.{row_of-index}
+use Rattle.assign_core.specs.Dense.{row_from}
 use Rattle.scaled_values.specs.declared.range.Range.{Range}
+use Rattle.scaled_values.specs.declared.row.StoredRow.{StoredRow}
+use Rattle.scaled_values.specs.Held.{stored_entries}
 use Rattle.scaled_values.specs.Range.{widened, range_with}
 use Rattle.scaled_values.specs.Scaled.{values_in, least_of, greatest_of}
-
--- one entry of a row
-pub range_entry : (range : Option Range) (sense : Sense) (n : ℕ) (row : Listing) (i : ℕ) (e : ℕ × ℤ) (r : Range) → i < length row → e ≡ get_or row i e → r ≡ widened range (benefit sense n e.1) →
-    range_with (Some r) (map (λ f. f.1) (benefit_row sense n (drop (i + 1) row))) ≡ range_with range (map (λ f. f.1) (benefit_row sense n (drop i row)))
-range_entry range sense n row i e r lt at h =
-    let rest = map (λ f. f.1) (benefit_row sense n (drop (i + 1) row)) in
-    ap (λ q. range_with (Some q) rest) h
-    ∙ ap (λ f. range_with (Some (widened range (benefit sense n f.1))) rest) at
-    ∙ ap (λ l. range_with range (map (λ f. f.1) (benefit_row sense n l))) (sym (drop_more row i e lt))
 
 -- what is left of the rows of benefits begins with the benefits of the next row
 pub rows_next : (sense : Sense) (n : ℕ) (rows : List Listing) (i : ℕ) → i < length rows →
@@ -32,16 +26,20 @@ rows_next sense n rows i lt =
     drop_more all i [] (omega arith)
     ∙ ap (λ r. r ∷ drop (i + 1) all) (get_or-map (benefit_row sense n) rows i [] [] lt ∙ ap (benefit_row sense n) (sym at))
 
--- one row
-pub range_row : (range : Option Range) (sense : Sense) (n : ℕ) (rows : List Listing) (i : ℕ) (r : Option Range) → i < length rows →
-    r ≡ range_with range (map (λ e. e.1) (benefit_row sense n (row_of rows (i + 1)))) →
-    range_with r (values_in (drop (i + 1) (map (benefit_row sense n) rows))) ≡ range_with range (values_in (drop i (map (benefit_row sense n) rows)))
-range_row range sense n rows i r lt h =
-    let rest = values_in (drop (i + 1) (map (benefit_row sense n) rows)) in
-    let front = map (λ e. e.1) (benefit_row sense n (row_of rows (i + 1))) in
+-- the rows to come begin with the next one
+pub range_row : (range : Option Range) (rows : List StoredRow) (i : ℕ) (row : StoredRow) (r : Option Range) → i < length rows → row ≡ get_or rows i row → r ≡ range_with range (map (λ e. e.1) (stored_entries row)) →
+    range_with r (values_in (map stored_entries (drop (i + 1) rows))) ≡ range_with range (values_in (map stored_entries (drop i rows)))
+range_row range rows i row r lt at h =
+    let rest = values_in (map stored_entries (drop (i + 1) rows)) in
+    let front = map (λ e. e.1) (stored_entries row) in
     ap (λ q. range_with q rest) h
     ∙ sym (fold-append (λ q x. Some (widened q x)) range front rest)
-    ∙ ap (λ l. range_with range (values_in l)) (sym (rows_next sense n rows i lt))
+    ∙ ap (λ l. range_with range (values_in (map stored_entries l))) (ap (λ f. f ∷ drop (i + 1) rows) at ∙ sym (drop_more rows i row lt))
+
+-- the values of a full row are its benefits
+pub values-row_from : (j : ℕ) (xs : List ℤ) → map (λ e. e.1) (row_from j xs) ≡ xs
+values-row_from j [] = refl
+values-row_from j (x ∷ xs) = ap (λ l. x ∷ l) (values-row_from (j + 1) xs)
 
 -- a range holds the least and the greatest
 range_from : (a b : ℤ) (xs : List ℤ) → range_with (Some (record { least = a; greatest = b })) xs ≡ Some (record { least = fold int_min a xs; greatest = fold int_max b xs })

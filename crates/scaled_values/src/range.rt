@@ -1,11 +1,11 @@
 // The least and the greatest benefit of a problem.
-ghost use Rattle.std.specs.Prelude.{◌≡◌, Some, fold, map};
-ghost use Rattle.assign_core.specs.Rows.{IsSize, HasCosts};
-ghost use Rattle.assign_core.specs.Benefits.{benefit_row, benefit_rows};
+ghost use Rattle.std.specs.Prelude.{◌≡◌, map};
 ghost use Rattle.scaled_values.specs.Scaled.{values_in};
+ghost use Rattle.scaled_values.specs.Held.{stored_entries};
 ghost use Rattle.scaled_values.specs.Range.{widened, range_with};
 
-use assign_core::{Benefit, Cost, Object, Person, Problem, Sense};
+use super::row::StoredRow;
+use assign_core::{Benefit, Object};
 
 // The least and the greatest of some benefits.
 #[derive(Clone, Copy)]
@@ -30,32 +30,45 @@ fn widened(range: Option<Range>, benefit: Benefit) -> Range
     }
 }
 
-// The range with the benefits of a row.
-fn range_with_row(
-    range: Option<Range>,
-    sense: Sense,
-    n: u16,
-    row: &[(Object, Cost)],
-) -> Option<Range>
-    requires size { IsSize n }
-    requires costs { HasCosts row.now }
-    ensures { result ≡ range_with range (map (λ e. e.1) (benefit_row sense n row.now)) }
+// The range with more benefits.
+fn range_with(range: Option<Range>, benefits: &[Benefit]) -> Option<Range>
+    ensures { result ≡ range_with range benefits.now }
 {
     let mut range = range;
-    for (_, cost) in row {
-        range = Some(widened(range, sense.benefit(n, *cost)));
+    for benefit in benefits {
+        range = Some(widened(range, *benefit));
     }
     range
 }
 
-// The range of all benefits, if a pair is listed.
-pub fn range_of(problem: &Problem, sense: Sense) -> Option<Range>
-    ensures { result ≡ range_with None (values_in (benefit_rows sense problem.now)) }
+// The range with the benefits of pairs.
+fn range_with_pairs(range: Option<Range>, pairs: &[(Object, Benefit)]) -> Option<Range>
+    ensures { result ≡ range_with range (map (λ e. e.1) pairs.now) }
 {
-    let n = problem.n();
+    let mut range = range;
+    for (_, benefit) in pairs {
+        range = Some(widened(range, *benefit));
+    }
+    range
+}
+
+// The range with the benefits of a row.
+fn range_with_row(range: Option<Range>, row: &StoredRow) -> Option<Range>
+    ensures { result ≡ range_with range (map (λ e. e.1) (stored_entries row.now)) }
+{
+    match row {
+        StoredRow::Full(benefits) => range_with(range, benefits.as_slice()),
+        StoredRow::Pairs(pairs) => range_with_pairs(range, pairs.as_slice()),
+    }
+}
+
+// The range of all benefits, if a pair is listed.
+pub fn range_of(rows: &[StoredRow]) -> Option<Range>
+    ensures { result ≡ range_with None (values_in (map stored_entries rows.now)) }
+{
     let mut range = None;
-    for i in 0..n {
-        range = range_with_row(range, sense, n, problem.row(Person(i + 1)));
+    for row in rows {
+        range = range_with_row(range, row);
     }
     range
 }

@@ -59,7 +59,7 @@ pub fn scale(alloc: Global, problem: Problem, sense: Sense) -> Result<Scaled, Al
     ensures sense { IfOk result (λ s. s.sense ≡ sense) }
 {
     let rows = stored_rows(alloc, &problem, sense)?;
-    let range = range_of(&problem, sense).unwrap_or(Range {
+    let range = range_of(rows.as_slice()).unwrap_or(Range {
         least: 0,
         greatest: 0,
     });

@@ -73,8 +73,32 @@ fn slacknesses_of_wide_problems(rt: HostRuntime) -> Result<(), Fail> {
     assert_eq!(rt; all.as_slice(), known.as_slice());
     let widest = two_pairs(rt.alloc(), GREATEST_COST)?;
     let all = eps_list(rt.alloc(), &widest)?;
-    assert_eq!(rt; all.len(), 23);
-    assert_eq!(rt; all.first().copied(), Some(3_277_200_000_000_000));
+    let known = [
+        3_277_200_000_000_000,
+        655_440_000_000_000,
+        131_088_000_000_000,
+        26_217_600_000_000,
+        5_243_520_000_000,
+        1_048_704_000_000,
+        209_740_800_000,
+        41_948_160_000,
+        8_389_632_000,
+        1_677_926_400,
+        335_585_280,
+        67_117_056,
+        13_423_411,
+        2_684_682,
+        536_936,
+        107_387,
+        21_477,
+        4_295,
+        859,
+        171,
+        34,
+        6,
+        1,
+    ];
+    assert_eq!(rt; all.as_slice(), known.as_slice());
     Ok(())
 }
 
@@ -141,6 +165,9 @@ fn two_persons(rt: HostRuntime) -> Result<(), Fail> {
     assert_eq!(rt; range_told(&scaled), ([-15, -3, 12, 2], Some(1)));
     assert_eq!(rt; first_bounds(&scaled, 0), (-29, 28));
     assert_eq!(rt; second_bounds(&scaled, 8), Some((-36, 34)));
+    // a run that begins at the prices 14 and 12
+    assert_eq!(rt; first_bounds(&scaled, 14), (-43, 42));
+    assert_eq!(rt; second_bounds(&scaled, 20), Some((-48, 46)));
     Ok(())
 }
 

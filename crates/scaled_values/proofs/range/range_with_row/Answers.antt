@@ -1,17 +1,7 @@
-use Rattle.std.proofs.Common.{◌≡◌, rules, ap, ◌∙◌}
-use Rattle.std.proofs.lemmas.Int.{to_z-of_z}
-use mir.Val.{SFits}
-use mir.Syntax.{w64}
-use Rattle.assign_core.specs.Benefits.{benefit}
-use Rattle.scaled_values.specs.Range.{widened}
-use Rattle.scaled_values.proofs.Ranges.{range_entry}
+use Rattle.std.proofs.Common.{ap, ◌∙◌, sym}
+use Rattle.scaled_values.specs.Range.{range_with}
+use Rattle.scaled_values.proofs.Ranges.{values-row_from}
 use Rattle.scaled_values.proofs.range.range_with_row.Goals as goal
 
-pub loop-cost-preserved : goal.loop-cost-preserved
-loop-cost-preserved c =
-    let fits : SFits w64 c.benefit.result = search rules in
-    let cost_fits : SFits w64 c.loop-cost-item.result.1 = search rules in
-    let wide : c.widened.result ≡ widened c.loop-cost.range c.benefit.result = simp to_z-of_z at c.widened.ensures in
-    let value : c.benefit.result ≡ benefit c.args.sense c.args.n c.loop-cost-item.result.1 = simp to_z-of_z at c.benefit.ensures.value in
-    range_entry c.loop-cost.range c.args.sense c.args.n c.args.row.now c.loop-cost.cost-index c.loop-cost-item.result c.widened.result c.loop-cost-test.true c.loop-cost-item.is (wide ∙ ap (widened c.loop-cost.range) value)
-    ∙ c.loop-cost.invariant
+pub returns-in-Full : goal.returns-in-Full
+returns-in-Full c = rw c.in-Full.is (c.range_with.ensures ∙ ap (range_with c.args.range) (c.as_slice.ensures.value ∙ sym (values-row_from 1 c.in-Full.benefits.items)))
