@@ -10,7 +10,7 @@ use Rattle.std.proofs.lemmas.Option.{cond_some}
 use Rattle.std.proofs.lemmas.Slice.Eq.{bytes_eq-Decides}
 use Rattle.std.proofs.lemmas.Str.Parse.{IsNumeralModel, numerals_by_fold, tells_digits, digit_from_value}
 use Rattle.std.proofs.Math.Nat.{pow-le-pow_right}
-use Rattle.report.specs.declared.limits.TheConstants.{MOST_DIGITS}
+use Rattle.report.specs.declared.numerals.TheConstants.{MOST_DIGITS}
 use Rattle.assign_core.specs.declared.numbers.TheConstants.{MOST_PERSONS}
 use Rattle.report.specs.Numerals.{◌>>=◌, value_after, numeral_in, numeral_within, negated, widest_cost, last_price, cost_in, price_in, number_in}
 use Rattle.report.proofs.WordLemmas.{IsWord}

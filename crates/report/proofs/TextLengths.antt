@@ -4,7 +4,8 @@ use Rattle.std.specs.Fmt.{signed_decimal}
 use Rattle.std.specs.List.{AllByRecursion}
 use Rattle.std.proofs.lemmas.Fmt.{length-decimal-le_wide}
 use Rattle.std.proofs.lemmas.List.{length-append, length-map}
-use Rattle.report.specs.declared.limits.TheConstants.{TEXT_LIMIT, MOST_DIGITS}
+use Rattle.report.specs.declared.limits.TheConstants.{TEXT_LIMIT}
+use Rattle.report.specs.declared.numerals.TheConstants.{MOST_DIGITS}
 use Rattle.assign_core.specs.declared.numbers.TheConstants.{MOST_PERSONS}
 use Rattle.assign_core.specs.declared.sense.Sense.{Sense}
 use Rattle.assign_core.specs.declared.sense.Sense.TheVariants.{Min, Max}

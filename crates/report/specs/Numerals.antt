@@ -1,8 +1,8 @@
 -- Numbers in words.
 use Rattle.std.specs.Prelude.{ℕ, ℤ, pos, neg_ℤ, ◌+◌, ◌-◌, ◌*◌, List, [], ◌∷◌, Option, None, Some, nat_abs, nat_le, ◌==◌, ◌&&◌, if◌then◌else◌, decimal, length}
 use Rattle.std.specs.Str.{bytes_eq}
-use Rattle.assign_core.specs.declared.numbers.TheConstants.{MOST_PERSONS, PRICE_END}
-use Rattle.report.specs.declared.limits.TheConstants.{MOST_DIGITS, GREATEST_TOTAL}
+use Rattle.assign_core.specs.declared.numbers.TheConstants.{MOST_PERSONS, GREATEST_COST, PRICE_END}
+use Rattle.report.specs.declared.numerals.TheConstants.{MOST_DIGITS}
 
 infixl 10 ◌>>=◌
 abbrev pub ◌>>=◌ : {A B : Type 0} → Option A → (A → Option B) → Option B
@@ -30,9 +30,9 @@ abbrev pub negated : Option ℕ → Option ℤ
 negated None = None
 negated (Some n) = if n == 0 then None else Some (neg_ℤ (pos n))
 
--- no cost is further from 0 than this
+-- no cost, and no sum of costs, is further from 0 than this
 abbrev pub widest_cost : ℕ
-widest_cost = nat_abs GREATEST_TOTAL
+widest_cost = MOST_PERSONS * nat_abs GREATEST_COST
 
 -- a cost, or a sum of costs
 abbrev pub cost_in : List ℕ → Option ℤ

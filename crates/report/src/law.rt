@@ -1,15 +1,28 @@
 // Laws of the definitions.
-ghost use Rattle.std.specs.Prelude.{◌≡◌, ℕ, ◌≤◌, Bool, List, None, Some, Result, length};
+ghost use Rattle.std.specs.Prelude.{◌≡◌, ℕ, ◌*◌, ◌^◌, ◌≤◌, Bool, List, None, Some, Result, length};
 ghost use Rattle.assign_core.specs.declared.sense.Sense.{Sense};
 ghost use Rattle.assign_core.specs.declared.outcome.Outcome.{Outcome};
 ghost use Rattle.assign_core.specs.Rows.{Listing, IsProblem};
 ghost use Rattle.report.specs.declared.fault.ReportFault.{ReportFault};
-ghost use Rattle.report.specs.declared.limits.TheConstants.{TEXT_LIMIT};
 ghost use Rattle.report.specs.Answers.{Answers, BeginsReport, IsVerdict};
 ghost use Rattle.report.specs.Lines.{Line, report_lines, report_text};
 ghost use Rattle.report.specs.Order.{Draft, finish, said_by};
 ghost use Rattle.report.specs.Outcomes.{IsOutcome, outcome_report};
-ghost use Rattle.report.specs.Reports.{Report, IsReport};
+ghost use Rattle.report.specs.Reports.{Report, IsReport, cost_limit, price_end, total_limit};
+
+use crate::limits::TEXT_LIMIT;
+
+/// Which numbers the limits are: of any text, of version 1, which names no sense, and of version 2,
+/// whatever sense it names.
+pub fn report_limits()
+    ensures text { TEXT_LIMIT ≡ 2 ^ 20 }
+    ensures first_costs { cost_limit None ≡ 10 ^ 6 }
+    ensures first_totals { total_limit None ≡ 8192 * 10 ^ 6 }
+    ensures first_prices { price_end None ≡ 10 ^ 16 }
+    ensures costs { (sense : Sense) → cost_limit (Some sense) ≡ 10 ^ 12 }
+    ensures totals { (sense : Sense) → total_limit (Some sense) ≡ 8192 * 10 ^ 12 }
+    ensures prices { (sense : Sense) → price_end (Some sense) ≡ 10 ^ 22 }
+{}
 
 /// No two reports have one text.
 pub fn one_text()

@@ -47,7 +47,9 @@ mod words;
 mod write;
 
 pub use fault::{ReportFault, StartFault, WriteFault};
-pub use law::{lines_begin_reports, one_answer, one_text, short_text, written_is_report};
+pub use law::{
+    lines_begin_reports, one_answer, one_text, report_limits, short_text, written_is_report,
+};
 pub use read::read_report;
 pub use send::write_text;
 pub use start::start_prices;

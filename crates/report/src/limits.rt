@@ -1,14 +1,8 @@
 // The limits of the format, beside those of problems.
-use assign_core::{Cost, GREATEST_COST, MOST_PERSONS, Price};
+use assign_core::{Cost, Price};
 
 /// A report has at most so many bytes.
 pub const TEXT_LIMIT: u64 = 1 << 20;
-
-/// No number of a report has more digits.
-pub const MOST_DIGITS: usize = 22;
-
-/// No sum of costs is above this, nor below its negation.
-pub const GREATEST_TOTAL: Cost = MOST_PERSONS as Cost * GREATEST_COST;
 
 /// In version 1 no cost of a pair is above this, nor below its negation.
 pub const FIRST_GREATEST_COST: Cost = 1_000_000;

@@ -4,9 +4,11 @@ ghost use Rattle.std.specs.Prelude.{◌≡◌, ◌≤◌, length, IfSome};
 ghost use Rattle.report.specs.Numerals;
 ghost use Rattle.report.specs.Numerals.{value_after};
 
-use crate::limits::{GREATEST_TOTAL, MOST_DIGITS};
-use assign_core::{Cost, MOST_PERSONS, PRICE_END, Price};
+use assign_core::{Cost, GREATEST_COST, MOST_PERSONS, PRICE_END, Price};
 use itoa::Buffer;
+
+/// No number of a report has more digits.
+pub const MOST_DIGITS: usize = 22;
 
 // The value of a short word's digits, whatever its bytes are.
 fn value_of(word: &[u8]) -> u128
@@ -59,7 +61,7 @@ pub fn number_in(word: &[u8]) -> Option<u16>
 pub fn cost_in(word: &[u8]) -> Option<Cost>
     ensures { result ≡ Numerals.cost_in word.now }
 {
-    let most = u128::from(GREATEST_TOTAL.unsigned_abs());
+    let most = u128::from(MOST_PERSONS) * u128::from(GREATEST_COST.unsigned_abs());
     match word {
         [] => None,
         [b'-', digits @ ..] => {

@@ -83,7 +83,7 @@ fn other_answer(alloc: Global, table: &[(&[u8], &str)]) -> Result<Option<usize>,
 
 #[test]
 fn other_texts(rt: HostRuntime) -> Result<(), Fail> {
-    let table: [(&[u8], &str); 18] = [
+    let table: [(&[u8], &str); 19] = [
         (
             b"sense max\ncost 5\nassign 1 1 -1000000000001\n",
             "report: bad line 3",
@@ -125,6 +125,10 @@ fn other_texts(rt: HostRuntime) -> Result<(), Fail> {
         (
             b"cost 5\nassign 1 1 5\nprice 1 0\n",
             "Best { sense: None, cost: 5, rows: [(Object(1), 5)], prices: Some([0]) }",
+        ),
+        (
+            b"cost 5\nassign 1 1 5\nprice 1 9999999999999999\n",
+            "Best { sense: None, cost: 5, rows: [(Object(1), 5)], prices: Some([9999999999999999]) }",
         ),
         (
             b"sense max\ncost 5\nassign 1 1 5\nprice 1 9999999999999999999999\n",
