@@ -5,6 +5,8 @@ use Rattle.std.specs.List.{AllByRecursion}
 use Rattle.std.specs.List.Sorted.{IsStrictlyIncreasing}
 use Rattle.std.proofs.lemmas.Int.{ints}
 use Rattle.std.proofs.lemmas.List.Elements.{All-head, All-tail, recursion_from_All}
+use Rattle.std.proofs.lemmas.Bool.{lt-ltb, le-leb}
+use Rattle.report.proofs.LineLemmas.{rising_more}
 use Rattle.assign_core.specs.declared.numbers.TheConstants.{MOST_PERSONS, GREATEST_COST}
 use Rattle.assign_core.specs.declared.sense.Sense.{Sense}
 use Rattle.assign_core.specs.declared.outcome.Outcome.{Outcome}
@@ -16,7 +18,7 @@ use Rattle.assign_core.specs.Assignment.{AreListed, IsAssignment, total}
 use Rattle.assign_core.specs.Hall.{IsHallSet}
 use Rattle.assign_core.specs.Prices as prices
 use Rattle.assign_core.proofs.Listed.{all_listed, length_zip, object_within}
-use Rattle.report.specs.Reports.{IsReport, IsBestReport, IsHallReport, IsEntry, IsPrice, ArePrices, IsRisingFrom, cost_limit, total_limit}
+use Rattle.report.specs.Reports.{IsReport, IsBestReport, IsHallReport, is_entry, is_price, is_rising, is_total, ArePrices, cost_limit, price_end, total_limit}
 use Rattle.report.specs.Outcomes.{pairs_of, chosen_prices, outcome_report, IsOutcome}
 
 -- an integer between two bounds
@@ -32,14 +34,16 @@ cost_here n row j r s = all_listed (λ e. rows.IsCost e.1) row j r.costs s
 up_to : (n m j : ℕ) → n ≤ m → IsNumber n j → IsNumber m j
 up_to n m j l o = record { first = o.first; last = omega (arith, l, o.last) }
 
-entries_allowed : (n : ℕ) (s : Sense) (rows : List Listing) (xs : List ℕ) → n ≤ MOST_PERSONS → All (IsRow n) rows → AreListed rows xs → AllByRecursion (IsEntry (Some s)) (pairs_of rows xs)
+entries_allowed : (n : ℕ) (s : Sense) (rows : List Listing) (xs : List ℕ) → n ≤ MOST_PERSONS → All (IsRow n) rows → AreListed rows xs → AllByRecursion (λ e. is_entry (Some s) e ≡ true) (pairs_of rows xs)
 entries_allowed n s [] xs l a h = tt
 entries_allowed n s (row ∷ rows) [] l a h = tt
 entries_allowed n s (row ∷ rows) (j ∷ xs) l a h =
     let r = All-head (IsRow n) row rows a in
     let o = object_within n row j r.within h.0 in
     let c = cost_here n row j r h.0 in
-    (record { object = up_to n MOST_PERSONS j l o; cost = abs_between (listed_or_zero row j) (cost_limit (Some s)) c.least c.greatest }, entries_allowed n s rows xs l (All-tail (IsRow n) row rows a) h.1)
+    let m = up_to n MOST_PERSONS j l o in
+    let near = abs_between (listed_or_zero row j) (cost_limit (Some s)) c.least c.greatest in
+    (rw (lt-ltb 0 j m.first, le-leb j MOST_PERSONS m.last) (le-leb _ _ near), entries_allowed n s rows xs l (All-tail (IsRow n) row rows a) h.1)
 
 pairs_long : (rows : List Listing) (xs : List ℕ) → length rows ≡ length xs → length (pairs_of rows xs) ≡ length rows
 pairs_long [] xs e = refl
@@ -59,14 +63,14 @@ total_between n (row ∷ rows) (j ∷ xs) a h =
     let c = cost_here n row j (All-head (IsRow n) row rows a) h.0 in
     sum_between (listed_or_zero row j) (total rows xs) (nat_abs GREATEST_COST) (length rows * nat_abs GREATEST_COST) (suc (length rows) * nat_abs GREATEST_COST) (c.least, c.greatest) (total_between n rows xs (All-tail (IsRow n) row rows a) h.1) (omega arith)
 
-total_allowed : (n : ℕ) (s : Sense) (rows : List Listing) (xs : List ℕ) → length rows ≤ MOST_PERSONS → All (IsRow n) rows → AreListed rows xs → nat_abs (total rows xs) ≤ total_limit (Some s)
+total_allowed : (n : ℕ) (s : Sense) (rows : List Listing) (xs : List ℕ) → length rows ≤ MOST_PERSONS → All (IsRow n) rows → AreListed rows xs → is_total (Some s) (total rows xs) ≡ true
 total_allowed n s rows xs l a h =
     let b = total_between n rows xs a h in
-    omega (arith, abs_between (total rows xs) (length rows * nat_abs GREATEST_COST) b.0 b.1)
+    le-leb _ _ (omega (arith, abs_between (total rows xs) (length rows * nat_abs GREATEST_COST) b.0 b.1))
 
-prices_allowed : (s : Sense) (ps : List ℤ) → AllByRecursion prices.IsPrice ps → AllByRecursion (IsPrice (Some s)) ps
+prices_allowed : (s : Sense) (ps : List ℤ) → AllByRecursion prices.IsPrice ps → AllByRecursion (λ p. is_price (Some s) p ≡ true) ps
 prices_allowed s [] h = tt
-prices_allowed s (pos p ∷ ps) h = let b = h.0.below in (omega (arith, ints, b), prices_allowed s ps h.1)
+prices_allowed s (pos p ∷ ps) h = let b = h.0.below in (lt-ltb p (price_end (Some s)) (omega (arith, ints, b)), prices_allowed s ps h.1)
 prices_allowed s (negsuc p ∷ ps) h = let b = h.0.least in absurd (omega (arith, ints, b))
 
 chosen_allowed : (s : Sense) (n : ℕ) (ps : List ℤ) (choice : Bool) → length ps ≡ n → AllByRecursion prices.IsPrice ps → ArePrices (Some s) n (chosen_prices choice ps)
@@ -89,12 +93,12 @@ best_allowed rows s xs ps choice p a e h =
 
 -- ---- Hall sets
 
-rising_by_index : (last : ℕ) (xs : List ℕ) → (0 < length xs → last < get_or xs 0 0) → ((k : ℕ) → suc k < length xs → get_or xs k 0 < get_or xs (suc k) 0) → AllByRecursion (λ x. x ≤ MOST_PERSONS) xs → IsRisingFrom last xs
-rising_by_index last [] f s h = tt
+rising_by_index : (last : ℕ) (xs : List ℕ) → (0 < length xs → last < get_or xs 0 0) → ((k : ℕ) → suc k < length xs → get_or xs k 0 < get_or xs (suc k) 0) → AllByRecursion (λ x. x ≤ MOST_PERSONS) xs → is_rising last xs ≡ true
+rising_by_index last [] f s h = refl
 rising_by_index last (x ∷ xs) f s h =
-    (f (omega arith), h.0, rising_by_index x xs (λ some. s 0 (omega arith)) (λ k l. s (suc k) (omega arith)) h.1)
+    rising_more last x xs (f (omega arith)) h.0 (rising_by_index x xs (λ some. s 0 (omega arith)) (λ k l. s (suc k) (omega arith)) h.1)
 
-pub rises : (xs : List ℕ) → IsStrictlyIncreasing xs → AllByRecursion (IsNumber MOST_PERSONS) xs → IsRisingFrom 0 xs
+pub rises : (xs : List ℕ) → IsStrictlyIncreasing xs → AllByRecursion (IsNumber MOST_PERSONS) xs → is_rising 0 xs ≡ true
 rises xs s h = rising_by_index 0 xs (first xs h) (λ k l. let e : k + 1 ≡ suc k = omega arith in subst (λ n. get_or xs k 0 < get_or xs n 0) e (s k (omega arith))) (below xs h)
   where
     first : (xs : List ℕ) → AllByRecursion (IsNumber MOST_PERSONS) xs → 0 < length xs → 0 < get_or xs 0 0

@@ -14,6 +14,7 @@ use Rattle.report.specs.Steps.{State, with_line, taken, step, after, start, ende
 use Rattle.report.specs.SeenSteps.{Reads}
 use Rattle.report.specs.SeenReports.{seen_report, seen_result}
 use Rattle.report.specs.declared.value.Report as values
+use Rattle.report.proofs.Elements.{all-append}
 use Rattle.report.proofs.NumeralLemmas.{bind_some}
 use Rattle.report.proofs.LineLemmas.{line_again, line_takes}
 use Rattle.report.proofs.OrderLemmas.{IsDraft, follow_adds}
@@ -77,16 +78,12 @@ whole_line done at k d next line r l e =
       near = omega (arith, l);
     }
 
-no_feed_push : (line : List ℕ) (b : ℕ) → IsWithinLine line → b ≢ 10 → IsWithinLine (line ++ b ∷ [])
-no_feed_push [] b h e = (e, tt)
-no_feed_push (x ∷ line) b h e = (h.0, no_feed_push line b h.1 e)
-
 byte_more : (done : List ℕ) (at k : ℕ) (d : Draft) (line : List ℕ) (b : ℕ) → Reached done at k d line → at < TEXT_LIMIT → b ≢ 10 → Reached (done ++ b ∷ []) (at + 1) k d (line ++ b ∷ [])
 byte_more done at k d line b r l e = record {
   lines = r.lines;
   begins = record { parts = ap (λ x. x ++ b ∷ []) r.begins.parts ∙ append_assoc (lines_text r.lines) line (b ∷ []); order = r.begins.order };
   count = r.count;
-  inside = no_feed_push line b r.inside e;
+  inside = all-append (λ x. x ≢ 10) line (b ∷ []) r.inside (e, tt);
   far = omega (arith, r.far, length-append done (b ∷ []));
   near = omega (arith, l);
 }
@@ -286,11 +283,9 @@ reading_verdict bytes = after_verdict (Ok start) bytes tt
 -- what came is an answer
 pub answers_seen : (bytes : List ℕ) (result : Result values.Report ReportFault) → Reads result (reading bytes) → Answers bytes (seen_result result)
 answers_seen bytes (Ok r) h = subst (Answers bytes) h (reading_answers bytes)
-answers_seen bytes (Err (faults.Line k)) h = subst (Answers bytes) h (reading_answers bytes)
-answers_seen bytes (Err faults.TooLong) h = subst (Answers bytes) h (reading_answers bytes)
-answers_seen bytes (Err (faults.Ends k)) h = subst (Answers bytes) h (reading_answers bytes)
 answers_seen bytes (Err faults.Read) h = tt
 answers_seen bytes (Err faults.Memory) h = tt
+answers_seen bytes (Err fault) h = subst (Answers bytes) h (reading_answers bytes)
 
 -- what is read of bytes that lead to this state is a report
 allowed_after : (bytes : List ℕ) (s : State) (report : Report) → after (Ok start) bytes ≡ Ok s → finished (Ok s) ≡ Ok report → IsReport report

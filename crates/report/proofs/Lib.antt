@@ -1,3 +1,4 @@
+pub mod Elements
 pub mod WordLemmas
 pub mod NumeralLemmas
 pub mod LineLemmas

@@ -1,21 +1,34 @@
 -- Lines: what is read was written so, and what is written is read.
-use Rattle.std.proofs.Common.{◌≡◌, ℕ, ℤ, pos, negsuc, nat_abs, suc, ◌<◌, ◌≤◌, ◌+◌, ◌^◌, List, [], ◌∷◌, Bool, true, false, cond, eqb, ltb, Option, Some, None, length, map, refl, sym, ap, subst, ◌∙◌, arith, decimal, codes}
+use Rattle.std.proofs.Common.{◌≡◌, ℕ, ℤ, pos, negsuc, nat_abs, suc, ◌<◌, ◌≤◌, ◌+◌, ◌^◌, List, [], ◌∷◌, Bool, true, false, cond, eqb, ltb, leb, ◌&&◌, Option, Some, None, length, map, refl, sym, ap, subst, ◌∙◌, arith, decimal, codes}
 use Rattle.std.specs.Fmt.{signed_decimal}
 use Rattle.std.specs.List.{AllByRecursion}
 use Rattle.std.specs.Str.{bytes_eq}
-use Rattle.std.proofs.lemmas.Bool.{eqb-true, eq-eqb, lt-ltb, ltb-true}
+use Rattle.std.proofs.lemmas.Bool.{eqb-true, eq-eqb, lt-ltb, ltb-true, le-leb, leb-true, and_parts}
 use Rattle.std.proofs.lemmas.Option.{cond_some}
 use Rattle.std.proofs.lemmas.Slice.Eq.{bytes_eq-Decides}
 use Rattle.assign_core.specs.declared.numbers.TheConstants.{MOST_PERSONS}
 use Rattle.assign_core.specs.declared.sense.Sense.{Sense}
 use Rattle.assign_core.specs.declared.sense.Sense.TheVariants.{Min, Max}
 use Rattle.report.specs.Words.{joined, words_of}
-use Rattle.report.specs.Reports.{IsRisingFrom}
+use Rattle.report.specs.Reports.{is_rising}
 use Rattle.report.specs.Lines.{Line, sense_line, cost_line, assign_line, price_line, infeasible_line, persons_line, objects_line, sense_word, line_words, line_text}
 use Rattle.report.specs.Numerals.{◌>>=◌, cost_in, price_in, number_in}
 use Rattle.report.specs.Reading.{first_by, at_end, sense_in, read_sense, read_cost, read_assign, read_price, read_infeasible, read_rising, read_list, read_behind, read_words, line_in, IsInRange}
-use Rattle.report.proofs.WordLemmas.{IsWord, words_again, word_by_test, joined-words_of, HasNoFeed, no_feed_joined}
+use Rattle.report.specs.Answers.{IsWithinLine}
+use Rattle.report.proofs.WordLemmas.{IsWord, words_again, word_by_test, joined-words_of, within_joined}
 use Rattle.report.proofs.NumeralLemmas.{bind_some, word_decimal, number_again, cost_again, price_again, within_takes, cost_takes, price_takes}
+
+-- ---- numbers that rise
+
+-- the first of them, and the others
+pub rising_parts : (last x : ℕ) (xs : List ℕ) → is_rising last (x ∷ xs) ≡ true → (last < x) × (x ≤ MOST_PERSONS) × (is_rising x xs ≡ true)
+rising_parts last x xs e =
+    let a = and_parts (ltb last x && leb x MOST_PERSONS) (is_rising x xs) e in
+    let b = and_parts (ltb last x) (leb x MOST_PERSONS) a.0 in
+    (ltb-true last x b.0, leb-true x MOST_PERSONS b.1, a.1)
+
+pub rising_more : (last x : ℕ) (xs : List ℕ) → last < x → x ≤ MOST_PERSONS → is_rising x xs ≡ true → is_rising last (x ∷ xs) ≡ true
+rising_more last x xs l m e = rw (lt-ltb last x l, le-leb x MOST_PERSONS m) e
 
 -- ---- the words of a line are words
 
@@ -23,13 +36,13 @@ word_signed : (c : ℤ) → nat_abs c < 10 ^ 64 → IsWord (signed_decimal c)
 word_signed (pos n) h = word_decimal n h
 word_signed (negsuc n) h = (omega arith, word_decimal (suc n) h)
 
-words_rising : (last : ℕ) (xs : List ℕ) → IsRisingFrom last xs → AllByRecursion IsWord (map decimal xs)
+words_rising : (last : ℕ) (xs : List ℕ) → is_rising last xs ≡ true → AllByRecursion IsWord (map decimal xs)
 words_rising last [] h = tt
-words_rising last (x ∷ xs) h = (word_decimal x (omega (arith, h.1)), words_rising x xs h.2)
+words_rising last (x ∷ xs) h = let p = rising_parts last x xs h in (word_decimal x (omega (arith, p.1)), words_rising x xs p.2)
 
-pub rising_short : (last : ℕ) (xs : List ℕ) → last ≤ MOST_PERSONS → IsRisingFrom last xs → length xs + last ≤ MOST_PERSONS
+pub rising_short : (last : ℕ) (xs : List ℕ) → last ≤ MOST_PERSONS → is_rising last xs ≡ true → length xs + last ≤ MOST_PERSONS
 rising_short last [] l h = omega arith
-rising_short last (x ∷ xs) l h = omega (arith, h.0, rising_short x xs h.1 h.2)
+rising_short last (x ∷ xs) l h = let p = rising_parts last x xs h in omega (arith, p.0, rising_short x xs p.1 p.2)
 
 line_words_are : (line : Line) → IsInRange line → AllByRecursion IsWord (line_words line)
 line_words_are (sense_line Min) h = (word_by_test (codes "sense") refl, (word_by_test (codes "min") refl, tt))
@@ -51,19 +64,20 @@ line_some infeasible_line = omega arith
 line_some (persons_line xs) = omega arith
 line_some (objects_line xs) = omega arith
 
-pub line_no_feed : (line : Line) → IsInRange line → HasNoFeed (line_text line)
-line_no_feed line h = no_feed_joined (line_words line) (line_words_are line h)
+pub line_within : (line : Line) → IsInRange line → IsWithinLine (line_text line)
+line_within line h = within_joined (line_words line) (line_words_are line h)
 
 -- ---- what is written is read
 
-rising_again : (last : ℕ) (xs : List ℕ) → IsRisingFrom last xs → read_rising last (map decimal xs) ≡ Some xs
+rising_again : (last : ℕ) (xs : List ℕ) → is_rising last xs ≡ true → read_rising last (map decimal xs) ≡ Some xs
 unfolding read_rising
 rising_again last [] h = refl
 rising_again last (x ∷ xs) h =
-    let above : ltb last x ≡ true = lt-ltb _ _ h.0 in
-    rw (number_again x h.1, above, rising_again x xs h.2) refl
+    let p = rising_parts last x xs h in
+    let above : ltb last x ≡ true = lt-ltb _ _ p.0 in
+    rw (number_again x p.1, above, rising_again x xs p.2) refl
 
-list_again : (xs : List ℕ) → IsRisingFrom 0 xs → read_list (decimal (length xs) ∷ map decimal xs) ≡ Some xs
+list_again : (xs : List ℕ) → is_rising 0 xs ≡ true → read_list (decimal (length xs) ∷ map decimal xs) ≡ Some xs
 unfolding read_list
 list_again xs h =
     let few : length xs ≤ MOST_PERSONS = omega (arith, rising_short 0 xs (omega arith) h) in
@@ -176,9 +190,9 @@ infeasible_takes : (ws : List (List ℕ)) (line : Line) → read_infeasible ws �
 unfolding read_infeasible
 infeasible_takes ws line e = let z = end_takes infeasible_line line ws e in subst (IsWritten (codes "infeasible") ws) z.1 (ap (λ (r : List (List ℕ)). codes "infeasible" ∷ r) (sym z.0), tt)
 
-rising_takes : (last : ℕ) (ws : List (List ℕ)) (xs : List ℕ) → read_rising last ws ≡ Some xs → (ws ≡ map decimal xs) × IsRisingFrom last xs
+rising_takes : (last : ℕ) (ws : List (List ℕ)) (xs : List ℕ) → read_rising last ws ≡ Some xs → (ws ≡ map decimal xs) × (is_rising last xs ≡ true)
 unfolding read_rising
-rising_takes last [] xs e = let is : [] ≡ xs = cc in subst (λ ys. ([] ≡ map decimal ys) × IsRisingFrom last ys) is (refl, tt)
+rising_takes last [] xs e = let is : [] ≡ xs = cc in subst (λ ys. ([] ≡ map decimal ys) × (is_rising last ys ≡ true)) is (refl, refl)
 rising_takes last (w ∷ ws) xs e =
     let n = bind_some (number_in w) (λ n. cond (ltb last n) (read_rising n ws) None >>= λ ns. Some (n ∷ ns)) xs e in
     let ns = bind_some (cond (ltb last n.0) (read_rising n.0 ws) None) (λ ns. Some (n.0 ∷ ns)) xs n.2 in
@@ -186,13 +200,13 @@ rising_takes last (w ∷ ws) xs e =
     let c = cond_same (ltb last n.0) (read_rising n.0 ws) ns.0 ns.1 in
     let r = rising_takes n.0 ws ns.0 c.1 in
     let is : n.0 ∷ ns.0 ≡ xs = cc (ns.2) in
-    subst (λ ys. (w ∷ ws ≡ map decimal ys) × IsRisingFrom last ys) is (pushed w (decimal n.0) ws (map decimal ns.0) t.0 r.0, (ltb-true _ _ c.0, t.1, r.1))
+    subst (λ ys. (w ∷ ws ≡ map decimal ys) × (is_rising last ys ≡ true)) is (pushed w (decimal n.0) ws (map decimal ns.0) t.0 r.0, rising_more last n.0 ns.0 (ltb-true _ _ c.0) t.1 r.1)
   where
     cond_same : (b : Bool) (x : Option (List ℕ)) (y : List ℕ) → cond b x None ≡ Some y → (b ≡ true) × (x ≡ Some y)
     cond_same true x y e = (refl, e)
     cond_same false x y e = absurd cc
 
-list_takes : (ws : List (List ℕ)) (xs : List ℕ) → read_list ws ≡ Some xs → (ws ≡ decimal (length xs) ∷ map decimal xs) × IsRisingFrom 0 xs
+list_takes : (ws : List (List ℕ)) (xs : List ℕ) → read_list ws ≡ Some xs → (ws ≡ decimal (length xs) ∷ map decimal xs) × (is_rising 0 xs ≡ true)
 unfolding read_list
 list_takes ws xs e =
     let n = bind_some (first_by number_in ws) (λ n. read_rising 0 n.1 >>= λ ns. cond (eqb (length ns) n.0) (Some ns) None) xs e in
@@ -202,10 +216,10 @@ list_takes ws xs e =
     let r = rising_takes 0 n.0.1 ns.0 ns.1 in
     let c = cond_some (eqb (length ns.0) n.0.0) ns.0 xs ns.2 in
     let count = eqb-true (length ns.0) n.0.0 c.0 in
-    subst (λ ys. (ws ≡ decimal (length ys) ∷ map decimal ys) × IsRisingFrom 0 ys) c.1 (listed ws n.0.1 w.0 (decimal n.0.0) (decimal (length ns.0)) (map decimal ns.0) w.1 t.0 (ap decimal count) r.0, r.1)
+    subst (λ ys. (ws ≡ decimal (length ys) ∷ map decimal ys) × (is_rising 0 ys ≡ true)) c.1 (listed ws n.0.1 w.0 (decimal n.0.0) (decimal (length ns.0)) (map decimal ns.0) w.1 t.0 (ap decimal count) r.0, r.1)
 
 -- a line of a list behind its name
-list_line_takes : (made : List ℕ → Line) (name : List ℕ) → ((xs : List ℕ) → line_words (made xs) ≡ name ∷ decimal (length xs) ∷ map decimal xs) → ((xs : List ℕ) → IsRisingFrom 0 xs → IsInRange (made xs))
+list_line_takes : (made : List ℕ → Line) (name : List ℕ) → ((xs : List ℕ) → line_words (made xs) ≡ name ∷ decimal (length xs) ∷ map decimal xs) → ((xs : List ℕ) → is_rising 0 xs ≡ true → IsInRange (made xs))
     → (ws : List (List ℕ)) (line : Line) → (read_list ws >>= λ xs. Some (made xs)) ≡ Some line → IsWritten name ws line
 list_line_takes made name words range ws line e =
     let xs = bind_some (read_list ws) (λ xs. Some (made xs)) line e in

@@ -1,41 +1,36 @@
 -- Lines that may stand at the start of a text are those with which some report begins.
-use Rattle.std.proofs.Common.{◌≡◌, ℕ, ℤ, pos, zero, suc, ◌<◌, ◌+◌, ◌-◌, List, [], ◌∷◌, ◌++◌, Option, Some, None, length, refl, sym, ap, ◌∙◌, arith, append_assoc, append-nil, length-append}
+use Rattle.std.proofs.Common.{◌≡◌, ℕ, ℤ, pos, suc, true, ◌<◌, ◌+◌, ◌-◌, List, [], ◌∷◌, ◌++◌, Option, Some, None, length, refl, sym, ap, ◌∙◌, arith, append_assoc, append-nil, length-append}
 use Rattle.std.specs.List.{AllByRecursion}
+use Rattle.std.proofs.Math.ListN.{replicate}
+use Rattle.std.proofs.lemmas.List.{length-replicate}
+use Rattle.std.proofs.lemmas.List.Elements.{All-replicate, recursion_from_All}
 use Rattle.assign_core.specs.declared.sense.Sense.{Sense}
-use Rattle.report.specs.Reports.{Report, best, hall, IsEntry, IsPrice, IsReport, IsHallReport, price_end}
+use Rattle.report.specs.Reports.{Report, best, hall, is_entry, is_price, IsReport, IsHallReport}
 use Rattle.report.specs.Lines.{Line, cost_line, assign_line, price_line, infeasible_line, persons_line, objects_line, sense_lines, assign_lines, price_lines, report_lines}
 use Rattle.report.specs.Order.{Draft, nothing, with_sense, with_rows, with_prices, infeasible, with_persons, with_objects, finish, follow_all, said_by}
 use Rattle.report.specs.Answers.{BeginsReport}
+use Rattle.report.proofs.Elements.{all-append}
 use Rattle.report.proofs.OrderLemmas.{IsDraft, draft_lines}
 use Rattle.report.proofs.SaidLemmas.{follow-append, follow_none, said_all, report_said}
 
 -- ---- each draft goes on to a report
 
 one_person : IsHallReport (1 ∷ []) []
-one_person = record { some = omega arith; persons_rise = (omega arith, omega arith, tt); objects_rise = tt }
+one_person = record { some = omega arith; persons_rise = refl; objects_rise = refl }
 
-one_row : (s : Option Sense) → IsEntry s (1, pos 0)
-one_row s = record { object = record { first = omega arith; last = omega arith }; cost = omega arith }
+one_row : (s : Option Sense) → is_entry s (1, pos 0) ≡ true
+one_row None = refl
+one_row (Some s) = refl
 
 abbrev zeros : ℕ → List ℤ
-zeros zero = []
-zeros (suc n) = pos 0 ∷ zeros n
+zeros n = replicate n (pos 0)
 
-length-zeros : (n : ℕ) → length (zeros n) ≡ n
-length-zeros zero = refl
-length-zeros (suc n) = ap suc (length-zeros n)
+some_price : (s : Option Sense) → is_price s (pos 0) ≡ true
+some_price None = refl
+some_price (Some s) = refl
 
-some_price : (s : Option Sense) → 0 < price_end s
-some_price None = omega arith
-some_price (Some s) = omega arith
-
-zeros_price : (s : Option Sense) (n : ℕ) → AllByRecursion (IsPrice s) (zeros n)
-zeros_price s zero = tt
-zeros_price s (suc n) = (some_price s, zeros_price s n)
-
-all-append : {A : Type 0} (P : A → Type 0) (xs ys : List A) → AllByRecursion P xs → AllByRecursion P ys → AllByRecursion P (xs ++ ys)
-all-append P [] ys h k = k
-all-append P (x ∷ xs) ys h k = (h.0, all-append P xs ys h.1 k)
+zeros_price : (s : Option Sense) (n : ℕ) → AllByRecursion (λ p. is_price s p ≡ true) (zeros n)
+zeros_price s n = let P : ℤ → Type 0 = λ p. is_price s p ≡ true in recursion_from_All P (zeros n) (All-replicate P n (pos 0) (some_price s))
 
 prices-append : (j : ℕ) (xs ys : List ℤ) → price_lines j (xs ++ ys) ≡ price_lines j xs ++ price_lines (j + length xs) ys
 prices-append j [] ys = let e : j ≡ j + 0 = omega arith in ap (λ k. price_lines k ys) e
@@ -67,10 +62,10 @@ goes_on (with_rows s c (r ∷ rows)) h = (
 )
 goes_on (with_prices s c rows prices) h =
     let left = length rows - length prices in
-    let long : length (prices ++ zeros left) ≡ length rows = omega (arith, h.4, length-append prices (zeros left), length-zeros left) in (
+    let long : length (prices ++ zeros left) ≡ length rows = omega (arith, h.4, length-append prices (zeros left), length-replicate left (pos 0)) in (
       best s c rows (Some (prices ++ zeros left)),
       price_lines (1 + length prices) (zeros left),
-      record { total = h.0; some = omega (arith, h.3, h.4); few = h.1; each = h.2; priced = (long, all-append (IsPrice s) prices (zeros left) h.5 (zeros_price s left)) },
+      record { total = h.0; some = omega (arith, h.3, h.4); few = h.1; each = h.2; priced = (long, all-append (λ p. is_price s p ≡ true) prices (zeros left) h.5 (zeros_price s left)) },
       prices_begin s c rows prices (zeros left),
     )
 goes_on (infeasible s) h = (
@@ -82,7 +77,7 @@ goes_on (infeasible s) h = (
 goes_on (with_persons s persons) h = (
   hall s persons [],
   objects_line [] ∷ [],
-  record { some = h.0; persons_rise = h.1; objects_rise = tt },
+  record { some = h.0; persons_rise = h.1; objects_rise = refl },
   sym (append_assoc (sense_lines s) (infeasible_line ∷ persons_line persons ∷ []) (objects_line [] ∷ [])),
 )
 goes_on (with_objects s persons objects) h = (hall s persons objects, [], h, sym (append-nil (draft_lines (with_objects s persons objects))))

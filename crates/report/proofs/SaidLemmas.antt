@@ -6,11 +6,11 @@ use Rattle.std.proofs.lemmas.Option.{cond_some}
 use Rattle.std.proofs.lemmas.List.{length-append}
 use Rattle.assign_core.specs.declared.numbers.TheConstants.{MOST_PERSONS}
 use Rattle.assign_core.specs.declared.sense.Sense.{Sense}
-use Rattle.report.specs.Reports.{Report, best, hall, IsTotal, IsPrice, IsEntry, ArePrices, IsHallReport, IsReport, total_limit}
+use Rattle.report.specs.Reports.{Report, best, hall, is_total, is_price, is_entry, ArePrices, IsHallReport, IsReport}
 use Rattle.report.specs.Lines.{Line, cost_line, assign_line, price_line, sense_lines, assign_lines, price_lines, lines_of_prices, report_lines}
 use Rattle.report.specs.Order.{Draft, nothing, with_rows, with_prices, with_objects, follow, finish, and_follow, follow_all, said_by, with_cost}
 use Rattle.report.specs.Reading.{IsInRange}
-use Rattle.report.proofs.OrderLemmas.{draft_lines, IsDraft, follow_adds, entry_true, price_true, rising_true}
+use Rattle.report.proofs.OrderLemmas.{draft_lines, IsDraft, follow_adds}
 
 pub follow_none : (lines : List Line) → follow_all None lines ≡ None
 follow_none [] = refl
@@ -54,23 +54,23 @@ finish_takes d r h e = absurd cc
 
 -- ---- a report's lines say it
 
-rows_said : (s : Option Sense) (c : ℤ) (front rows : List (ℕ × ℤ)) (i : ℕ) → i ≡ length front + 1 → length front + length rows ≤ MOST_PERSONS → AllByRecursion (IsEntry s) rows
+rows_said : (s : Option Sense) (c : ℤ) (front rows : List (ℕ × ℤ)) (i : ℕ) → i ≡ length front + 1 → length front + length rows ≤ MOST_PERSONS → AllByRecursion (λ e. is_entry s e ≡ true) rows
     → follow_all (Some (with_rows s c front)) (assign_lines i rows) ≡ Some (with_rows s c (front ++ rows))
 rows_said s c front [] i e l h = ap (λ xs. Some (with_rows s c xs)) (sym (append-nil front))
 rows_said s c front (r ∷ rows) i e l h =
     let place : eqb i (length front + 1) ≡ true = eq-eqb i (length front + 1) e in
     let low : leb i MOST_PERSONS ≡ true = le-leb i MOST_PERSONS (omega arith) in
-    let here : follow (with_rows s c front) (assign_line i r.0 r.1) ≡ Some (with_rows s c (front ++ r ∷ [])) = rw (place, low, entry_true s r.0 r.1 h.0) refl in
+    let here : follow (with_rows s c front) (assign_line i r.0 r.1) ≡ Some (with_rows s c (front ++ r ∷ [])) = rw (place, low, h.0) refl in
     let long : length (front ++ r ∷ []) ≡ length front + 1 = length-append front (r ∷ []) in
     ap (λ d. follow_all d (assign_lines (i + 1) rows)) here ∙ rows_said s c (front ++ r ∷ []) rows (i + 1) (omega arith) (omega arith) h.1 ∙ ap (λ xs. Some (with_rows s c xs)) (append_assoc front (r ∷ []) rows)
 
-prices_said : (s : Option Sense) (c : ℤ) (rows : List (ℕ × ℤ)) (front prices : List ℤ) (j : ℕ) → j ≡ length front + 1 → length front + length prices ≤ length rows → AllByRecursion (IsPrice s) prices
+prices_said : (s : Option Sense) (c : ℤ) (rows : List (ℕ × ℤ)) (front prices : List ℤ) (j : ℕ) → j ≡ length front + 1 → length front + length prices ≤ length rows → AllByRecursion (λ p. is_price s p ≡ true) prices
     → follow_all (Some (with_prices s c rows front)) (price_lines j prices) ≡ Some (with_prices s c rows (front ++ prices))
 prices_said s c rows front [] j e l h = ap (λ xs. Some (with_prices s c rows xs)) (sym (append-nil front))
 prices_said s c rows front (p ∷ prices) j e l h =
     let place : eqb j (length front + 1) ≡ true = eq-eqb j (length front + 1) e in
     let room : ltb (length front) (length rows) ≡ true = lt-ltb (length front) (length rows) (omega arith) in
-    let here : follow (with_prices s c rows front) (price_line j p) ≡ Some (with_prices s c rows (front ++ p ∷ [])) = rw (place, room, price_true s p h.0) refl in
+    let here : follow (with_prices s c rows front) (price_line j p) ≡ Some (with_prices s c rows (front ++ p ∷ [])) = rw (place, room, h.0) refl in
     let long : length (front ++ p ∷ []) ≡ length front + 1 = length-append front (p ∷ []) in
     ap (λ d. follow_all d (price_lines (j + 1) prices)) here ∙ prices_said s c rows (front ++ p ∷ []) prices (j + 1) (omega arith) (omega arith) h.1 ∙ ap (λ xs. Some (with_prices s c rows xs)) (append_assoc front (p ∷ []) prices)
 
@@ -83,21 +83,21 @@ all_prices_said : (s : Option Sense) (c : ℤ) (rows : List (ℕ × ℤ)) (price
 all_prices_said s c rows None some h = (with_rows s c rows, refl, rw (lt-ltb 0 (length rows) some) refl)
 all_prices_said s c rows (Some []) some h = absurd (omega (arith, h.0))
 all_prices_said s c rows (Some (p ∷ prices)) some h =
-    let here : follow (with_rows s c rows) (price_line 1 p) ≡ Some (with_prices s c rows (p ∷ [])) = rw (lt-ltb 0 (length rows) some, price_true s p h.1.0) refl in
+    let here : follow (with_rows s c rows) (price_line 1 p) ≡ Some (with_prices s c rows (p ∷ [])) = rw (lt-ltb 0 (length rows) some, h.1.0) refl in
     let rest = ap (λ d. follow_all d (price_lines 2 prices)) here ∙ prices_said s c rows (p ∷ []) prices 2 (omega arith) (omega (arith, h.0)) h.1.1 in
     (with_prices s c rows (p ∷ prices), rest, rw (eq-eqb (length (p ∷ prices)) (length rows) h.0) refl)
 
-cost_said : (s : Option Sense) (c : ℤ) → IsTotal s c → with_cost s c ≡ Some (with_rows s c [])
-cost_said s c h = rw (le-leb (nat_abs c) (total_limit s) h) refl
+cost_said : (s : Option Sense) (c : ℤ) → is_total s c ≡ true → with_cost s c ≡ Some (with_rows s c [])
+cost_said s c h = rw h refl
 
 -- the sense line, if there is one, and the line behind it
-sense_said : (s : Option Sense) (c : ℤ) (lines : List Line) → IsTotal s c → follow_all (Some nothing) (sense_lines s ++ cost_line c ∷ lines) ≡ follow_all (Some (with_rows s c [])) lines
+sense_said : (s : Option Sense) (c : ℤ) (lines : List Line) → is_total s c ≡ true → follow_all (Some nothing) (sense_lines s ++ cost_line c ∷ lines) ≡ follow_all (Some (with_rows s c [])) lines
 sense_said None c lines h = ap (λ d. follow_all d lines) (cost_said None c h)
 sense_said (Some s) c lines h = ap (λ d. follow_all d lines) (cost_said (Some s) c h)
 
 hall_said : (s : Option Sense) (persons objects : List ℕ) → IsHallReport persons objects → follow_all (Some nothing) (report_lines (hall s persons objects)) ≡ Some (with_objects s persons objects)
-hall_said None persons objects h = rw (lt-ltb 0 (length persons) h.some, rising_true 0 persons h.persons_rise) (rw (rising_true 0 objects h.objects_rise) refl)
-hall_said (Some s) persons objects h = rw (lt-ltb 0 (length persons) h.some, rising_true 0 persons h.persons_rise) (rw (rising_true 0 objects h.objects_rise) refl)
+hall_said None persons objects h = rw (lt-ltb 0 (length persons) h.some, h.persons_rise) (rw h.objects_rise refl)
+hall_said (Some s) persons objects h = rw (lt-ltb 0 (length persons) h.some, h.persons_rise) (rw h.objects_rise refl)
 
 pub report_said : (r : Report) → IsReport r → (d : Draft) × (said_by (report_lines r) ≡ Some d) × (finish d ≡ Some r)
 report_said (best s c rows prices) h =

@@ -7,8 +7,8 @@ use Rattle.report.specs.Order.{Draft, follow, follow_all}
 use Rattle.report.specs.declared.limits.TheConstants.{TEXT_LIMIT}
 use Rattle.report.specs.Reading.{IsInRange}
 use Rattle.report.specs.Steps.{State, with_line, taken, step, after}
-use Rattle.report.proofs.WordLemmas.{HasNoFeed}
-use Rattle.report.proofs.LineLemmas.{line_again, line_no_feed}
+use Rattle.report.specs.Answers.{IsWithinLine}
+use Rattle.report.proofs.LineLemmas.{line_again, line_within}
 use Rattle.report.proofs.OrderLemmas.{IsDraft, follow_adds}
 use Rattle.report.proofs.SaidLemmas.{follow_none}
 use Rattle.report.proofs.Streams.{after-append}
@@ -27,7 +27,7 @@ byte_in_line at k d line b l ne =
     rw (room, no) refl
 
 -- bytes that end no line
-pub inside_line : (at k : ℕ) (d : Draft) (line bytes : List ℕ) → HasNoFeed bytes → at + length bytes ≤ TEXT_LIMIT → after (Ok (at_state at k d line)) bytes ≡ Ok (at_state (at + length bytes) k d (line ++ bytes))
+pub inside_line : (at k : ℕ) (d : Draft) (line bytes : List ℕ) → IsWithinLine bytes → at + length bytes ≤ TEXT_LIMIT → after (Ok (at_state at k d line)) bytes ≡ Ok (at_state (at + length bytes) k d (line ++ bytes))
 inside_line at k d line [] h l = ap (λ (s : State). Ok s) (same_state at (at + 0) k k d line (line ++ []) (omega arith) refl (sym (append-nil line)))
 inside_line at k d line (b ∷ bytes) h l =
     ap (λ r. after r bytes) (byte_in_line at k d line b (omega arith) h.0)
@@ -46,7 +46,7 @@ pub one_line : (at k : ℕ) (d next : Draft) (line : Line) (rest : List ℕ) →
     → after (Ok (at_state at k d [])) (line_text line ++ 10 ∷ rest) ≡ after (Ok (at_state (at + length (line_text line) + 1) (k + 1) next [])) rest
 one_line at k d next line rest h f l =
     after-append (Ok (at_state at k d [])) (line_text line) (10 ∷ rest)
-    ∙ ap (λ r. after r (10 ∷ rest)) (inside_line at k d [] (line_text line) (line_no_feed line h) (omega arith))
+    ∙ ap (λ r. after r (10 ∷ rest)) (inside_line at k d [] (line_text line) (line_within line h) (omega arith))
     ∙ ap (λ r. after r rest) (feed (at + length (line_text line)) k d (line_text line) l ∙ ap (with_line (at + length (line_text line)) k) (taken_again d line h ∙ f))
 
 abbrev Reads : ℕ → ℕ → Draft → List Line → Draft → List ℕ → Type 0

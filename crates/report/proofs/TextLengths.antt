@@ -1,5 +1,5 @@
 -- How long the text of a report may be.
-use Rattle.std.proofs.Common.{◌≡◌, ℕ, ℤ, pos, negsuc, nat_abs, suc, ◌≤◌, ◌+◌, ◌*◌, List, [], ◌∷◌, ◌++◌, Option, Some, None, length, map, refl, sym, ap, ◌∙◌, arith, append_assoc, decimal, codes}
+use Rattle.std.proofs.Common.{◌≡◌, ℕ, ℤ, pos, negsuc, nat_abs, suc, ◌≤◌, ◌+◌, ◌*◌, true, List, [], ◌∷◌, ◌++◌, Option, Some, None, length, map, refl, sym, ap, ◌∙◌, arith, append_assoc, decimal, codes}
 use Rattle.std.specs.Fmt.{signed_decimal}
 use Rattle.std.specs.List.{AllByRecursion}
 use Rattle.std.proofs.lemmas.Fmt.{length-decimal-le_wide}
@@ -10,11 +10,12 @@ use Rattle.assign_core.specs.declared.numbers.TheConstants.{MOST_PERSONS}
 use Rattle.assign_core.specs.declared.sense.Sense.{Sense}
 use Rattle.assign_core.specs.declared.sense.Sense.TheVariants.{Min, Max}
 use Rattle.report.specs.Words.{behind_spaces}
-use Rattle.report.specs.Reports.{Report, best, hall, IsRisingFrom, IsReport, ArePrices}
+use Rattle.report.specs.Reports.{Report, best, hall, is_rising, IsReport, ArePrices}
 use Rattle.report.specs.Lines.{Line, cost_line, assign_line, price_line, infeasible_line, persons_line, objects_line, line_text, lines_text, sense_lines, assign_lines, price_lines, lines_of_prices, report_lines, report_text}
 use Rattle.report.specs.Numerals.{widest_cost, last_price}
 use Rattle.report.specs.Reading.{IsInRange}
-use Rattle.report.proofs.LineLemmas.{rising_short}
+use Rattle.report.proofs.Elements.{all_split}
+use Rattle.report.proofs.LineLemmas.{rising_parts, rising_short}
 
 -- bounds on the bytes of words
 abbrev All_upto : ℕ → List (List ℕ) → Type 0
@@ -85,12 +86,12 @@ prices_short j (p ∷ prices) h =
     let k = prices_short (j + 1) prices h.1 in
     omega (arith, e, a, k)
 
-numbers_short : (last : ℕ) (xs : List ℕ) → IsRisingFrom last xs → All_upto 4 (map decimal xs)
+numbers_short : (last : ℕ) (xs : List ℕ) → is_rising last xs ≡ true → All_upto 4 (map decimal xs)
 numbers_short last [] h = tt
-numbers_short last (x ∷ xs) h = (small_short x h.1, numbers_short x xs h.2)
+numbers_short last (x ∷ xs) h = let p = rising_parts last x xs h in (small_short x p.1, numbers_short x xs p.2)
 
 -- behind the word of a list line
-list_short : (xs : List ℕ) → IsRisingFrom 0 xs → length (behind_spaces (decimal (length xs) ∷ map decimal xs)) ≤ 40965
+list_short : (xs : List ℕ) → is_rising 0 xs ≡ true → length (behind_spaces (decimal (length xs) ∷ map decimal xs)) ≤ 40965
 list_short xs h =
     let few = rising_short 0 xs (omega arith) h in
     let b = behind_short 4 (decimal (length xs) ∷ map decimal xs) (small_short (length xs) (omega (arith, few)), numbers_short 0 xs h) in
@@ -104,10 +105,6 @@ sense_short (Some Max) lines = omega arith
 rest_short : (prices : Option (List ℤ)) → AllByRecursion IsInRange (lines_of_prices prices) → (n : ℕ) → (s : Option Sense) → ArePrices s n prices → n ≤ MOST_PERSONS → length (lines_text (lines_of_prices prices)) ≤ 491520
 rest_short None h n s a l = omega arith
 rest_short (Some prices) h n s a l = let k = prices_short 1 prices h in omega (arith, k, a.0)
-
-all_split : (P : Line → Type 0) (xs ys : List Line) → AllByRecursion P (xs ++ ys) → AllByRecursion P xs × AllByRecursion P ys
-all_split P [] ys h = (tt, h)
-all_split P (x ∷ xs) ys h = let r = all_split P xs ys h.1 in ((h.0, r.0), r.1)
 
 pub text_short : (r : Report) → IsReport r → AllByRecursion IsInRange (report_lines r) → length (report_text r) ≤ TEXT_LIMIT
 text_short (best s c rows prices) h n =

@@ -1,12 +1,14 @@
 -- Words, joined and parted.
-use Rattle.std.proofs.Common.{◌≡◌, ◌≢◌, ℕ, suc, ◌<◌, List, [], ◌∷◌, ◌++◌, Bool, true, false, cond, eqb, ltb, ◌&&◌, length, take, drop, get_or, zero, Option, Some, None, refl, sym, ap, ◌∙◌, arith}
+use Rattle.std.proofs.Common.{◌≡◌, ◌≢◌, ℕ, suc, ◌<◌, ◌+◌, List, [], ◌∷◌, ◌++◌, Bool, true, false, cond, eqb, ltb, ◌&&◌, length, take, drop, get_or, zero, Option, Some, None, refl, sym, ap, ◌∙◌, arith}
 use Rattle.std.specs.Prelude.{◌↔◌, IsTrue, not, is_some}
 use Rattle.std.specs.Option.{option_copied}
 use denote.Ref.{Bor}
 use Rattle.std.specs.List.{AllByRecursion}
 use Rattle.std.proofs.lemmas.Bool.{eqb-true, ne_eqb, eq-eqb, and_parts, ltb-true}
+use Rattle.std.proofs.lemmas.List.{drop-drop}
 use Rattle.report.specs.Words.{behind_spaces, joined, with_byte, words_of, HasNoSpace}
 use Rattle.report.specs.WordsLeft.{words_left}
+use Rattle.report.specs.Answers.{IsWithinLine}
 
 -- a line has one word at least
 pub words_some : (bytes : List ℕ) → 0 < length (words_of bytes)
@@ -57,15 +59,11 @@ words_parted (b ∷ bytes) (suc at) lt e h =
     let no : eqb b 32 ≡ false = ne_eqb b 32 (h 0 (omega arith)) in
     ap (λ t. cond t ([] ∷ words_of bytes) (with_byte b (words_of bytes))) no ∙ ap (with_byte b) (words_parted bytes at (omega arith) e (λ k l. h (suc k) (omega arith)))
 
-drop_one : (at : ℕ) (xs : List ℕ) → drop 1 (drop at xs) ≡ drop (suc at) xs
-drop_one zero xs = refl
-drop_one (suc at) [] = refl
-drop_one (suc at) (x ∷ xs) = drop_one at xs
-
 pub words_split : (line word behind rest : List ℕ) (at : ℕ) → at < length line → get_or line at 0 ≡ 32 → HasNoSpace line at → word ≡ take at line → behind ≡ drop at line → rest ≡ drop 1 behind
     → words_of line ≡ word ∷ words_of rest
 words_split line word behind rest at lt e h w b r =
-    let last : drop (suc at) line ≡ rest = sym (r ∙ ap (drop 1) b ∙ drop_one at line) in
+    let next : at + 1 ≡ suc at = omega arith in
+    let last : drop (suc at) line ≡ rest = sym (r ∙ ap (drop 1) b ∙ drop-drop 1 at line ∙ ap (λ n. drop n line) next) in
     words_parted line at lt e h ∙ rw (last, w) refl
 
 -- no word is left just where no part of the line is
@@ -90,25 +88,17 @@ words_behind (b ∷ w) ws h k =
 pub words_of-joined : (w : List ℕ) (ws : List (List ℕ)) → AllByRecursion IsWord (w ∷ ws) → words_of (joined (w ∷ ws)) ≡ w ∷ ws
 words_of-joined w ws h = words_behind w ws h.0 h.1
 
-pub words-append : (a b : List ℕ) → IsWord a → IsWord b → IsWord (a ++ b)
-words-append [] b h k = k
-words-append (x ∷ a) b h k = (h.0, words-append a b h.1 k)
+within-append : (a b : List ℕ) → IsWord a → IsWithinLine b → IsWithinLine (a ++ b)
+within-append [] b h k = k
+within-append (x ∷ a) b h k = (λ e. omega (arith, h.0), within-append a b h.1 k)
 
--- no line feed
-abbrev pub HasNoFeed : List ℕ → Type 0
-HasNoFeed bytes = AllByRecursion (λ b. b ≢ 10) bytes
+within_behind : (ws : List (List ℕ)) → AllByRecursion IsWord ws → IsWithinLine (behind_spaces ws)
+within_behind [] h = tt
+within_behind (w ∷ ws) h = (λ e. omega (arith, e), within-append w (behind_spaces ws) h.0 (within_behind ws h.1))
 
-no_feed-append : (a b : List ℕ) → IsWord a → HasNoFeed b → HasNoFeed (a ++ b)
-no_feed-append [] b h k = k
-no_feed-append (x ∷ a) b h k = (λ e. omega (arith, h.0), no_feed-append a b h.1 k)
-
-no_feed_behind : (ws : List (List ℕ)) → AllByRecursion IsWord ws → HasNoFeed (behind_spaces ws)
-no_feed_behind [] h = tt
-no_feed_behind (w ∷ ws) h = (λ e. omega (arith, e), no_feed-append w (behind_spaces ws) h.0 (no_feed_behind ws h.1))
-
-pub no_feed_joined : (ws : List (List ℕ)) → AllByRecursion IsWord ws → HasNoFeed (joined ws)
-no_feed_joined [] h = tt
-no_feed_joined (w ∷ ws) h = no_feed-append w (behind_spaces ws) h.0 (no_feed_behind ws h.1)
+pub within_joined : (ws : List (List ℕ)) → AllByRecursion IsWord ws → IsWithinLine (joined ws)
+within_joined [] h = tt
+within_joined (w ∷ ws) h = within-append w (behind_spaces ws) h.0 (within_behind ws h.1)
 
 pub words_again : (ws : List (List ℕ)) → 0 < length ws → AllByRecursion IsWord ws → words_of (joined ws) ≡ ws
 words_again [] h k = absurd (omega arith)

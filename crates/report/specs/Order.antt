@@ -1,8 +1,8 @@
 -- Which line may stand where.
-use Rattle.std.specs.Prelude.{ℕ, ℤ, pos, negsuc, ◌+◌, List, [], ◌∷◌, ◌++◌, Option, None, Some, Bool, true, false, nat_lt, nat_le, ◌==◌, ◌&&◌, if◌then◌else◌, length, nat_abs}
+use Rattle.std.specs.Prelude.{ℕ, ℤ, ◌+◌, List, [], ◌∷◌, ◌++◌, Option, None, Some, nat_lt, nat_le, ◌==◌, ◌&&◌, if◌then◌else◌, length}
 use Rattle.assign_core.specs.declared.numbers.TheConstants.{MOST_PERSONS}
 use Rattle.assign_core.specs.declared.sense.Sense.{Sense}
-use Rattle.report.specs.Reports.{Report, best, hall, cost_limit, total_limit, price_end}
+use Rattle.report.specs.Reports.{Report, best, hall, is_entry, is_price, is_rising, is_total}
 use Rattle.report.specs.Lines.{Line, sense_line, cost_line, assign_line, price_line, infeasible_line, persons_line, objects_line}
 
 -- what the lines so far have said
@@ -18,31 +18,13 @@ pub data Draft : Type 0 where
   -- a whole Hall set
   with_objects : Option Sense → List ℕ → List ℕ → Draft
 
-abbrev pub is_cost : Option Sense → ℤ → Bool
-is_cost sense c = nat_le (nat_abs c) (cost_limit sense)
-
-abbrev pub is_total : Option Sense → ℤ → Bool
-is_total sense c = nat_le (nat_abs c) (total_limit sense)
-
-abbrev pub is_price : Option Sense → ℤ → Bool
-is_price sense (pos p) = nat_lt p (price_end sense)
-is_price sense (negsuc p) = false
-
--- each number is above the one before it, the first above this number, none above the most persons
-abbrev pub is_rising : ℕ → List ℕ → Bool
-is_rising last [] = true
-is_rising last (x ∷ xs) = nat_lt last x && nat_le x MOST_PERSONS && is_rising x xs
-
-abbrev pub is_entry : Option Sense → ℕ → ℤ → Bool
-is_entry sense j c = nat_lt 0 j && nat_le j MOST_PERSONS && is_cost sense c
-
 abbrev pub with_cost : Option Sense → ℤ → Option Draft
 with_cost sense c = if is_total sense c then Some (with_rows sense c []) else None
 
 -- the next row
 abbrev pub row_more : Option Sense → ℤ → List (ℕ × ℤ) → ℕ → ℕ → ℤ → Option Draft
 row_more sense cost rows i j c =
-    if (i == length rows + 1) && nat_le i MOST_PERSONS && is_entry sense j c
+    if (i == length rows + 1) && nat_le i MOST_PERSONS && is_entry sense (j, c)
     then Some (with_rows sense cost (rows ++ (j, c) ∷ [])) else None
 
 -- the first price, behind one row at least

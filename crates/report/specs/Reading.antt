@@ -1,11 +1,11 @@
 -- A line from its words.
-use Rattle.std.specs.Prelude.{◌≡◌, ℕ, pos, negsuc, ◌≤◌, List, [], ◌∷◌, Option, None, Some, nat_lt, ◌==◌, if◌then◌else◌, codes, length, nat_abs}
+use Rattle.std.specs.Prelude.{◌≡◌, ℕ, pos, negsuc, ◌≤◌, List, [], ◌∷◌, Option, None, Some, IsTrue, nat_lt, ◌==◌, if◌then◌else◌, codes, length, nat_abs}
 use Rattle.std.specs.Str.{bytes_eq}
 use Rattle.assign_core.specs.declared.numbers.TheConstants.{MOST_PERSONS}
 use Rattle.assign_core.specs.declared.sense.Sense.{Sense}
 use Rattle.assign_core.specs.declared.sense.Sense.TheVariants.{Min, Max}
 use Rattle.report.specs.Words.{words_of}
-use Rattle.report.specs.Reports.{IsRisingFrom}
+use Rattle.report.specs.Reports.{is_rising}
 use Rattle.report.specs.Lines.{Line, sense_line, cost_line, assign_line, price_line, infeasible_line, persons_line, objects_line}
 use Rattle.report.specs.Numerals.{◌>>=◌, cost_in, price_in, number_in, widest_cost, last_price}
 
@@ -106,5 +106,5 @@ IsInRange (assign_line i j c) = (i ≤ MOST_PERSONS) × (j ≤ MOST_PERSONS) × 
 IsInRange (price_line j (pos p)) = (j ≤ MOST_PERSONS) × (p ≤ last_price)
 IsInRange (price_line j (negsuc p)) = ⊥
 IsInRange infeasible_line = Unit {0}
-IsInRange (persons_line xs) = IsRisingFrom 0 xs
-IsInRange (objects_line xs) = IsRisingFrom 0 xs
+IsInRange (persons_line xs) = IsTrue (is_rising 0 xs)
+IsInRange (objects_line xs) = IsTrue (is_rising 0 xs)

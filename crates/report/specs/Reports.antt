@@ -1,9 +1,8 @@
 -- What a report says, and the ranges of its numbers.
-use Rattle.std.specs.Prelude.{◌≡◌, ℕ, ℤ, pos, negsuc, ◌*◌, ◌<◌, ◌≤◌, List, [], ◌∷◌, Option, None, Some, length, nat_abs}
+use Rattle.std.specs.Prelude.{◌≡◌, ℕ, ℤ, pos, negsuc, ◌*◌, ◌<◌, ◌≤◌, List, [], ◌∷◌, Option, None, Some, Bool, true, false, IsTrue, nat_lt, nat_le, ◌&&◌, length, nat_abs}
 use Rattle.std.specs.List.{AllByRecursion}
 use Rattle.assign_core.specs.declared.numbers.TheConstants.{MOST_PERSONS, GREATEST_COST, PRICE_END}
 use Rattle.assign_core.specs.declared.sense.Sense.{Sense}
-use Rattle.assign_core.specs.Numbered.{IsNumber}
 use Rattle.report.specs.declared.limits.TheConstants.{FIRST_GREATEST_COST, FIRST_PRICE_END}
 
 -- A best assignment: the sense, the cost, object and cost of each person, and the prices, if they
@@ -26,45 +25,45 @@ abbrev pub price_end : Option Sense → ℕ
 price_end None = nat_abs FIRST_PRICE_END
 price_end (Some sense) = nat_abs PRICE_END
 
-abbrev pub IsCost : Option Sense → ℤ → Type 0
-IsCost sense c = nat_abs c ≤ cost_limit sense
+abbrev pub is_cost : Option Sense → ℤ → Bool
+is_cost sense c = nat_le (nat_abs c) (cost_limit sense)
 
-abbrev pub IsTotal : Option Sense → ℤ → Type 0
-IsTotal sense c = nat_abs c ≤ total_limit sense
+abbrev pub is_total : Option Sense → ℤ → Bool
+is_total sense c = nat_le (nat_abs c) (total_limit sense)
 
 -- from 0 on, below the end of prices
-abbrev pub IsPrice : Option Sense → ℤ → Type 0
-IsPrice sense (pos p) = p < price_end sense
-IsPrice sense (negsuc p) = ⊥
+abbrev pub is_price : Option Sense → ℤ → Bool
+is_price sense (pos p) = nat_lt p (price_end sense)
+is_price sense (negsuc p) = false
 
 -- a person's object, and the cost of the pair
-pub record IsEntry (sense : Option Sense) (e : ℕ × ℤ) : Type 0 where
-  pub object : IsNumber MOST_PERSONS e.0
-  pub cost : IsCost sense e.1
+abbrev pub is_entry : Option Sense → ℕ × ℤ → Bool
+is_entry sense e = nat_lt 0 e.0 && nat_le e.0 MOST_PERSONS && is_cost sense e.1
 
 -- no prices, or one for each of n objects
 abbrev pub ArePrices : Option Sense → ℕ → Option (List ℤ) → Type 0
 ArePrices sense n None = Unit {0}
-ArePrices sense n (Some prices) = (length prices ≡ n) × AllByRecursion (IsPrice sense) prices
+ArePrices sense n (Some prices) =
+    (length prices ≡ n) × AllByRecursion (λ p. IsTrue (is_price sense p)) prices
 
 -- each number is above the one before it, the first above this number, none above the most persons
-abbrev pub IsRisingFrom : ℕ → List ℕ → Type 0
-IsRisingFrom last [] = Unit {0}
-IsRisingFrom last (x ∷ xs) = (last < x) × (x ≤ MOST_PERSONS) × IsRisingFrom x xs
+abbrev pub is_rising : ℕ → List ℕ → Bool
+is_rising last [] = true
+is_rising last (x ∷ xs) = nat_lt last x && nat_le x MOST_PERSONS && is_rising x xs
 
 -- what a report on a best assignment may say
 pub record IsBestReport (sense : Option Sense) (cost : ℤ) (rows : List (ℕ × ℤ)) (prices : Option (List ℤ)) : Type 0 where
-  pub total : IsTotal sense cost
+  pub total : IsTrue (is_total sense cost)
   pub some : 0 < length rows
   pub few : length rows ≤ MOST_PERSONS
-  pub each : AllByRecursion (IsEntry sense) rows
+  pub each : AllByRecursion (λ e. IsTrue (is_entry sense e)) rows
   pub priced : ArePrices sense (length rows) prices
 
 -- what a report on a Hall set may say
 pub record IsHallReport (persons objects : List ℕ) : Type 0 where
   pub some : 0 < length persons
-  pub persons_rise : IsRisingFrom 0 persons
-  pub objects_rise : IsRisingFrom 0 objects
+  pub persons_rise : IsTrue (is_rising 0 persons)
+  pub objects_rise : IsTrue (is_rising 0 objects)
 
 -- what a report may say
 abbrev pub IsReport : Report → Type 0

@@ -9,9 +9,7 @@ use Rattle.report.specs.SeenReports.{seen_report}
 abbrev pub Fails : {Y : Type 0} → ReportFault → Result Y ReportFault → Type 0
 Fails faults.Memory reading = Unit {0}
 Fails faults.Read reading = Unit {0}
-Fails (faults.Line k) reading = reading ≡ Err (faults.Line k)
-Fails faults.TooLong reading = reading ≡ Err faults.TooLong
-Fails (faults.Ends k) reading = reading ≡ Err (faults.Ends k)
+Fails fault reading = reading ≡ Err fault
 
 abbrev pub Gives : {X Y : Type 0} → (X → Y) → Result X ReportFault → Result Y ReportFault → Type 0
 Gives view (Ok x) reading = reading ≡ Ok (view x)

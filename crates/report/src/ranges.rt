@@ -1,6 +1,5 @@
 // The ranges of a report's numbers, by its version: version 1 has no sense.
 ghost use Rattle.std.specs.Prelude.{◌≡◌, pos};
-ghost use Rattle.report.specs.Order;
 ghost use Rattle.report.specs.Reports;
 
 use crate::limits::{FIRST_GREATEST_COST, FIRST_PRICE_END};
@@ -27,28 +26,28 @@ fn price_end(sense: Option<Sense>) -> Price
 }
 
 fn is_cost(sense: Option<Sense>, cost: Cost) -> bool
-    ensures { result ≡ Order.is_cost sense cost }
+    ensures { result ≡ Reports.is_cost sense cost }
 {
     cost.unsigned_abs() <= cost_limit(sense)
 }
 
 /// Whether this may be the cost of all pairs.
 pub fn is_total(sense: Option<Sense>, cost: Cost) -> bool
-    ensures { result ≡ Order.is_total sense cost }
+    ensures { result ≡ Reports.is_total sense cost }
 {
     cost.unsigned_abs() <= u64::from(MOST_PERSONS) * cost_limit(sense)
 }
 
 /// Whether a person may have this object at this cost.
 pub fn is_entry(sense: Option<Sense>, object: Object, cost: Cost) -> bool
-    ensures { result ≡ Order.is_entry sense object cost }
+    ensures { result ≡ Reports.is_entry sense (object, cost) }
 {
     object.0 > 0 && object.0 <= MOST_PERSONS && is_cost(sense, cost)
 }
 
 /// Whether an object may have this price.
 pub fn is_price(sense: Option<Sense>, price: Price) -> bool
-    ensures { result ≡ Order.is_price sense price }
+    ensures { result ≡ Reports.is_price sense price }
 {
     price >= 0 && price < price_end(sense)
 }
