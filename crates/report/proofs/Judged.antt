@@ -8,10 +8,10 @@ use Rattle.report.specs.Reports.{Report, IsReport}
 use Rattle.report.specs.Lines.{Line, line_text, lines_text, report_lines, report_text}
 use Rattle.report.specs.Order.{Draft, nothing, follow, finish, and_follow, said_by}
 use Rattle.report.specs.declared.limits.TheConstants.{TEXT_LIMIT}
-use Rattle.report.specs.Answers.{IsWithinLine, Begins, IsNoLine, HasBadLine, EndsInside, EndsBefore, IsTooLong, Answers, IsVerdict}
-use Rattle.report.specs.Reading.{line_in}
-use Rattle.report.specs.Steps.{State, with_line, taken, step, after, start, ended, finished_state, finished, reading}
-use Rattle.report.specs.SeenSteps.{Reads}
+use Rattle.report.specs.Answers.{IsWithinLine, Begins, IsNoLine, HasBadLine, EndsInside, EndsBefore, IsTooLong, Answers, SpeaksOfText}
+use Rattle.report.specs.inside.Reading.{line_in}
+use Rattle.report.specs.inside.Steps.{State, with_line, taken, step, after, start, ended, finished_state, finished, reading}
+use Rattle.report.specs.inside.SeenSteps.{Reads}
 use Rattle.report.specs.SeenReports.{seen_report, seen_result}
 use Rattle.report.specs.declared.value.Report as values
 use Rattle.report.proofs.Elements.{all-append}
@@ -228,7 +228,7 @@ long_again bytes (lines, d, line, begins, inside, long) =
     ∙ ap finished (over_more (length (take TEXT_LIMIT bytes)) (length lines) d line (drop TEXT_LIMIT bytes) (omega (arith, full)) left)
 
 -- an answer that the definitions allow is the reading
-pub answers_only : (bytes : List ℕ) (answer : Result Report ReportFault) → IsVerdict answer → Answers bytes answer → reading bytes ≡ answer
+pub answers_only : (bytes : List ℕ) (answer : Result Report ReportFault) → SpeaksOfText answer → Answers bytes answer → reading bytes ≡ answer
 answers_only bytes (Ok r) v h = ap reading h.text ∙ reading_again r h.allowed
 answers_only bytes (Err (faults.Line k)) v (inl h) = bad_again bytes k h
 answers_only bytes (Err (faults.Line k)) v (inr h) = inside_again bytes k h
@@ -239,7 +239,7 @@ answers_only bytes (Err faults.Memory) v h = absurd v
 
 -- ---- the laws
 
-pub one_answer_lem : (bytes : List ℕ) (a b : Result Report ReportFault) → IsVerdict a → IsVerdict b → Answers bytes a → Answers bytes b → a ≡ b
+pub one_answer_lem : (bytes : List ℕ) (a b : Result Report ReportFault) → SpeaksOfText a → SpeaksOfText b → Answers bytes a → Answers bytes b → a ≡ b
 one_answer_lem bytes a b v w h k = sym (answers_only bytes a v h) ∙ answers_only bytes b w k
 
 pub one_text_lem : (a b : Report) → IsReport a → IsReport b → report_text a ≡ report_text b → a ≡ b
@@ -249,17 +249,17 @@ pub short_text_lem : (r : Report) → IsReport r → length (report_text r) ≤ 
 short_text_lem r h = let said = report_said r h in text_short r h (said_all nothing (report_lines r) said.0 tt said.1).2
 
 -- the reading speaks of the text alone
-finished_verdict : (k : ℕ) (d : Draft) (line : List ℕ) → IsVerdict (finished_state k d line)
+finished_verdict : (k : ℕ) (d : Draft) (line : List ℕ) → SpeaksOfText (finished_state k d line)
 finished_verdict k d [] = end_verdict k (finish d)
   where
-    end_verdict : (k : ℕ) (o : Option Report) → IsVerdict (ended k o)
+    end_verdict : (k : ℕ) (o : Option Report) → SpeaksOfText (ended k o)
     end_verdict k None = tt
     end_verdict k (Some r) = tt
 finished_verdict k d (b ∷ line) = tt
 
 abbrev IsStepVerdict : Result State ReportFault → Type 0
 IsStepVerdict (Ok s) = Unit {0}
-IsStepVerdict (Err e) = IsVerdict (Err e)
+IsStepVerdict (Err e) = SpeaksOfText (Err e)
 
 step_verdict : (s : State) (b : ℕ) → IsStepVerdict (step s b)
 step_verdict s b = by_tests (leb TEXT_LIMIT s.at) (eqb b 10) (taken s.draft s.open_line)
@@ -270,13 +270,13 @@ step_verdict s b = by_tests (leb TEXT_LIMIT s.at) (eqb b 10) (taken s.draft s.op
     by_tests false true (Some d) = tt
     by_tests false false o = tt
 
-after_verdict : (r : Result State ReportFault) (bytes : List ℕ) → IsStepVerdict r → IsVerdict (finished (after r bytes))
+after_verdict : (r : Result State ReportFault) (bytes : List ℕ) → IsStepVerdict r → SpeaksOfText (finished (after r bytes))
 after_verdict (Ok s) [] h = finished_verdict s.lines s.draft s.open_line
 after_verdict (Ok s) (b ∷ bytes) h = after_verdict (step s b) bytes (step_verdict s b)
 after_verdict (Err e) [] h = h
 after_verdict (Err e) (b ∷ bytes) h = h
 
-pub reading_verdict : (bytes : List ℕ) → IsVerdict (reading bytes)
+pub reading_verdict : (bytes : List ℕ) → SpeaksOfText (reading bytes)
 unfolding reading
 reading_verdict bytes = after_verdict (Ok start) bytes tt
 

@@ -9,11 +9,12 @@ use Rattle.std.proofs.lemmas.Slice.Eq.{bytes_eq-Decides}
 use Rattle.assign_core.specs.declared.numbers.TheConstants.{MOST_PERSONS}
 use Rattle.assign_core.specs.declared.sense.Sense.{Sense}
 use Rattle.assign_core.specs.declared.sense.Sense.TheVariants.{Min, Max}
-use Rattle.report.specs.Words.{joined, words_of}
+use Rattle.report.specs.Words.{joined}
+use Rattle.report.specs.inside.WordsLeft.{words_of}
 use Rattle.report.specs.Reports.{is_rising}
 use Rattle.report.specs.Lines.{Line, sense_line, cost_line, assign_line, price_line, infeasible_line, persons_line, objects_line, sense_word, line_words, line_text}
-use Rattle.report.specs.Numerals.{◌>>=◌, cost_in, price_in, number_in}
-use Rattle.report.specs.Reading.{first_by, at_end, sense_in, read_sense, read_cost, read_assign, read_price, read_infeasible, read_rising, read_list, read_behind, read_words, line_in, IsInRange}
+use Rattle.report.specs.inside.Numerals.{◌>>=◌, cost_in, price_in, number_in}
+use Rattle.report.specs.inside.Reading.{first_by, at_end, sense_in, read_sense, read_cost, read_assign, read_price, read_infeasible, read_rising, read_list, read_behind, read_words, line_in, IsInRange}
 use Rattle.report.specs.Answers.{IsWithinLine}
 use Rattle.report.proofs.WordLemmas.{IsWord, words_again, word_by_test, joined-words_of, within_joined}
 use Rattle.report.proofs.NumeralLemmas.{bind_some, word_decimal, number_again, cost_again, price_again, within_takes, cost_takes, price_takes}

@@ -12,7 +12,7 @@ use Rattle.std.proofs.lemmas.Str.Parse.{IsNumeralModel, numerals_by_fold, tells_
 use Rattle.std.proofs.Math.Nat.{pow-le-pow_right}
 use Rattle.report.specs.declared.numerals.TheConstants.{MOST_DIGITS}
 use Rattle.assign_core.specs.declared.numbers.TheConstants.{MOST_PERSONS}
-use Rattle.report.specs.Numerals.{◌>>=◌, value_after, numeral_in, numeral_within, negated, widest_cost, last_price, cost_in, price_in, number_in}
+use Rattle.report.specs.inside.Numerals.{◌>>=◌, value_after, numeral_in, numeral_within, negated, widest_cost, last_price, cost_in, price_in, number_in}
 use Rattle.report.proofs.WordLemmas.{IsWord}
 
 own : IsNumeralModel (AllDigits 10) (value_after 0)

@@ -9,8 +9,8 @@ use Rattle.assign_core.specs.declared.sense.Sense.{Sense}
 use Rattle.report.specs.Reports.{cost_limit, total_limit, price_end, is_cost, is_total, is_price, is_rising, is_entry, IsHallReport}
 use Rattle.report.specs.Lines.{Line, sense_line, cost_line, assign_line, price_line, infeasible_line, persons_line, objects_line, sense_lines, assign_lines, price_lines}
 use Rattle.report.specs.Order.{Draft, nothing, with_sense, with_rows, with_prices, infeasible, with_persons, with_objects, with_cost, follow}
-use Rattle.report.specs.Numerals.{widest_cost}
-use Rattle.report.specs.Reading.{IsInRange}
+use Rattle.report.specs.inside.Numerals.{widest_cost}
+use Rattle.report.specs.inside.Reading.{IsInRange}
 use Rattle.report.proofs.Elements.{all-append}
 
 -- ---- ranges

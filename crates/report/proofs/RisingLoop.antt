@@ -2,8 +2,8 @@
 use Rattle.std.proofs.Common.{◌≡◌, ℕ, ◌<◌, ◌≤◌, List, [], ◌∷◌, ◌++◌, true, false, Option, Some, None, ltb, map, refl, sym, ap, ◌∙◌, append_assoc, append-nil}
 use Rattle.std.proofs.lemmas.Bool.{lt-ltb, le-ltb}
 use Rattle.std.proofs.lemmas.List.{map-append}
-use Rattle.report.specs.Numerals.{◌>>=◌, number_in}
-use Rattle.report.specs.Reading.{read_rising}
+use Rattle.report.specs.inside.Numerals.{◌>>=◌, number_in}
+use Rattle.report.specs.inside.Reading.{read_rising}
 
 -- what was read before, and what is still read
 abbrev pub with_front : List ℕ → Option (List ℕ) → Option (List ℕ)

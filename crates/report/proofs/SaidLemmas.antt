@@ -9,7 +9,7 @@ use Rattle.assign_core.specs.declared.sense.Sense.{Sense}
 use Rattle.report.specs.Reports.{Report, best, hall, is_total, is_price, is_entry, ArePrices, IsHallReport, IsReport}
 use Rattle.report.specs.Lines.{Line, cost_line, assign_line, price_line, sense_lines, assign_lines, price_lines, lines_of_prices, report_lines}
 use Rattle.report.specs.Order.{Draft, nothing, with_rows, with_prices, with_objects, follow, finish, and_follow, follow_all, said_by, with_cost}
-use Rattle.report.specs.Reading.{IsInRange}
+use Rattle.report.specs.inside.Reading.{IsInRange}
 use Rattle.report.proofs.OrderLemmas.{draft_lines, IsDraft, follow_adds}
 
 pub follow_none : (lines : List Line) → follow_all None lines ≡ None

@@ -5,8 +5,8 @@ use Rattle.std.proofs.lemmas.List.{length-append}
 use Rattle.report.specs.Lines.{Line, line_text, lines_text}
 use Rattle.report.specs.Order.{Draft, follow, follow_all}
 use Rattle.report.specs.declared.limits.TheConstants.{TEXT_LIMIT}
-use Rattle.report.specs.Reading.{IsInRange}
-use Rattle.report.specs.Steps.{State, with_line, taken, step, after}
+use Rattle.report.specs.inside.Reading.{IsInRange}
+use Rattle.report.specs.inside.Steps.{State, with_line, taken, step, after}
 use Rattle.report.specs.Answers.{IsWithinLine}
 use Rattle.report.proofs.LineLemmas.{line_again, line_within}
 use Rattle.report.proofs.OrderLemmas.{IsDraft, follow_adds}

@@ -12,8 +12,8 @@ use Rattle.assign_core.specs.declared.sense.Sense.TheVariants.{Min, Max}
 use Rattle.report.specs.Words.{behind_spaces}
 use Rattle.report.specs.Reports.{Report, best, hall, is_rising, IsReport, ArePrices}
 use Rattle.report.specs.Lines.{Line, cost_line, assign_line, price_line, infeasible_line, persons_line, objects_line, line_text, lines_text, sense_lines, assign_lines, price_lines, lines_of_prices, report_lines, report_text}
-use Rattle.report.specs.Numerals.{widest_cost, last_price}
-use Rattle.report.specs.Reading.{IsInRange}
+use Rattle.report.specs.inside.Numerals.{widest_cost, last_price}
+use Rattle.report.specs.inside.Reading.{IsInRange}
 use Rattle.report.proofs.Elements.{all_split}
 use Rattle.report.proofs.LineLemmas.{rising_parts, rising_short}
 

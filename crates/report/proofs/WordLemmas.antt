@@ -6,8 +6,8 @@ use denote.Ref.{Bor}
 use Rattle.std.specs.List.{AllByRecursion}
 use Rattle.std.proofs.lemmas.Bool.{eqb-true, ne_eqb, eq-eqb, and_parts, ltb-true}
 use Rattle.std.proofs.lemmas.List.{drop-drop}
-use Rattle.report.specs.Words.{behind_spaces, joined, with_byte, words_of, HasNoSpace}
-use Rattle.report.specs.WordsLeft.{words_left}
+use Rattle.report.specs.Words.{behind_spaces, joined}
+use Rattle.report.specs.inside.WordsLeft.{with_byte, words_of, HasNoSpace, words_left}
 use Rattle.report.specs.Answers.{IsWithinLine}
 
 -- a line has one word at least

@@ -3,7 +3,8 @@ use Rattle.std.proofs.Common.{◌≡◌, ℕ, ◌<◌, ◌≤◌, ◌+◌, List,
 use Rattle.std.proofs.Common.{take-add, add-one, unwrap_or, ℤ, pos, map, get_or, decimal}
 use Rattle.std.proofs.lemmas.List.{drop_more, drop_all}
 use Rattle.std.specs.Io.KnownBytes.{Appends}
-use Rattle.report.specs.Writing.{Sent, IsCutOff, Puts, Writes}
+use Rattle.report.specs.Writing.{Sent, IsCutOff, Writes}
+use Rattle.report.specs.inside.Holding.{Puts}
 use Rattle.report.specs.declared.fault.WriteFault.{WriteFault}
 use Rattle.std.proofs.Common.{Result, Ok, Err}
 use Rattle.report.specs.Words.{behind_spaces}

@@ -69,7 +69,7 @@ Answers bytes (Ok report) = IsTextOf bytes report
 Answers bytes (Err fault) = HasFault bytes fault
 
 -- answers that speak of the text, and not of memory or of the reader
-abbrev pub IsVerdict : Result Report ReportFault → Type 0
-IsVerdict (Err faults.Read) = ⊥
-IsVerdict (Err faults.Memory) = ⊥
-IsVerdict answer = Unit {0}
+abbrev pub SpeaksOfText : Result Report ReportFault → Type 0
+SpeaksOfText (Err faults.Read) = ⊥
+SpeaksOfText (Err faults.Memory) = ⊥
+SpeaksOfText answer = Unit {0}

@@ -1,4 +1,4 @@
--- What goes out, and what is held back.
+-- What goes out.
 use Rattle.std.specs.Prelude.{◌≡◌, ℕ, ◌<◌, List, ◌++◌, Option, Result, Ok, Err, length}
 use Rattle.std.specs.Io.KnownBytes.{Appends}
 use Rattle.report.specs.declared.fault.WriteFault.{WriteFault}
@@ -10,12 +10,6 @@ Sent old new text left = (out : List ℕ) × Appends old new out × (text ≡ ou
 -- a beginning of the text went out, and not all of it
 abbrev pub IsCutOff : Option (List ℕ) → Option (List ℕ) → List ℕ → Type 0
 IsCutOff old new text = (left : List ℕ) × (0 < length left) × Sent old new text left
-
--- what was held back and this text went out, but for what is held back then
-abbrev pub Puts : {X : Type 0} → Option (List ℕ) → Option (List ℕ) → List ℕ → List ℕ
-    → Result X WriteFault → List ℕ → Type 0
-Puts old new kept held (Ok x) text = Sent old new (kept ++ text) held
-Puts old new kept held (Err e) text = IsCutOff old new (kept ++ text)
 
 -- all of the text went out, or a beginning of it where the writer fails
 abbrev pub Writes : {X : Type 0} → Option (List ℕ) → Option (List ℕ)

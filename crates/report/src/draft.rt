@@ -2,10 +2,10 @@
 ghost use Rattle.std.specs.Prelude.{◌≡◌, IfOk};
 ghost use Rattle.std.specs.Option.{option_map};
 ghost use Rattle.report.specs.Order;
-ghost use Rattle.report.specs.SeenLines.{seen_line};
-ghost use Rattle.report.specs.SeenDrafts.{seen_draft};
+ghost use Rattle.report.specs.inside.SeenLines.{seen_line};
+ghost use Rattle.report.specs.inside.SeenDrafts.{seen_draft};
 ghost use Rattle.report.specs.SeenReports.{seen_report};
-ghost use Rattle.report.specs.Reading.{IsInRange};
+ghost use Rattle.report.specs.inside.Reading.{IsInRange};
 
 use crate::line::Line;
 use crate::ranges::{is_entry, is_price, is_total};

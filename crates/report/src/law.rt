@@ -4,7 +4,7 @@ ghost use Rattle.assign_core.specs.declared.sense.Sense.{Sense};
 ghost use Rattle.assign_core.specs.declared.outcome.Outcome.{Outcome};
 ghost use Rattle.assign_core.specs.Rows.{Listing, IsProblem};
 ghost use Rattle.report.specs.declared.fault.ReportFault.{ReportFault};
-ghost use Rattle.report.specs.Answers.{Answers, BeginsReport, IsVerdict};
+ghost use Rattle.report.specs.Answers.{Answers, BeginsReport, SpeaksOfText};
 ghost use Rattle.report.specs.Lines.{Line, report_lines, report_text};
 ghost use Rattle.report.specs.Order.{Draft, finish, said_by};
 ghost use Rattle.report.specs.Outcomes.{IsOutcome, outcome_report};
@@ -34,9 +34,9 @@ pub fn one_text()
 /// fault, that fault stands exactly where the definition says.
 pub fn one_answer()
     ensures some { (bytes : List ℕ) → (answer : Result Report ReportFault)
-        × IsVerdict answer × Answers bytes answer }
+        × SpeaksOfText answer × Answers bytes answer }
     ensures one { (bytes : List ℕ) (first second : Result Report ReportFault)
-        → IsVerdict first → IsVerdict second
+        → SpeaksOfText first → SpeaksOfText second
         → Answers bytes first → Answers bytes second → first ≡ second }
 {}
 

@@ -1,10 +1,10 @@
 // The lines of a report.
 ghost use Rattle.std.specs.Prelude.{◌≡◌, IfOk};
 ghost use Rattle.std.specs.Option.{option_map};
-ghost use Rattle.report.specs.Reading.{read_assign, read_behind, read_cost, read_infeasible};
-ghost use Rattle.report.specs.Reading.{read_objects, read_persons, read_price, read_sense};
-ghost use Rattle.report.specs.Reading;
-ghost use Rattle.report.specs.SeenLines.{seen_line};
+ghost use Rattle.report.specs.inside.Reading.{read_assign, read_behind, read_cost, read_infeasible};
+ghost use Rattle.report.specs.inside.Reading.{read_objects, read_persons, read_price, read_sense};
+ghost use Rattle.report.specs.inside.Reading;
+ghost use Rattle.report.specs.inside.SeenLines.{seen_line};
 
 use crate::lists::list_in;
 use crate::words::Words;
@@ -23,7 +23,7 @@ pub enum Line {
     Objects(Vec<Object>),
 }
 
-#[tactic(auto, unfolding(crate::specs::Reading::read_sense))]
+#[tactic(auto, unfolding(crate::specs::inside::Reading::read_sense))]
 fn sense_line(words: &mut Words) -> Option<Line>
     ensures { option_map seen_line result ≡ read_sense words.old }
 {
@@ -34,7 +34,7 @@ fn sense_line(words: &mut Words) -> Option<Line>
     Some(Line::Sense(sense))
 }
 
-#[tactic(auto, unfolding(crate::specs::Reading::read_cost))]
+#[tactic(auto, unfolding(crate::specs::inside::Reading::read_cost))]
 fn cost_line(words: &mut Words) -> Option<Line>
     ensures { option_map seen_line result ≡ read_cost words.old }
 {
@@ -45,7 +45,7 @@ fn cost_line(words: &mut Words) -> Option<Line>
     Some(Line::Cost(cost))
 }
 
-#[tactic(auto, unfolding(crate::specs::Reading::read_assign))]
+#[tactic(auto, unfolding(crate::specs::inside::Reading::read_assign))]
 fn assign_line(words: &mut Words) -> Option<Line>
     ensures { option_map seen_line result ≡ read_assign words.old }
 {
@@ -58,7 +58,7 @@ fn assign_line(words: &mut Words) -> Option<Line>
     Some(Line::Assign(person, Object(object), cost))
 }
 
-#[tactic(auto, unfolding(crate::specs::Reading::read_price))]
+#[tactic(auto, unfolding(crate::specs::inside::Reading::read_price))]
 fn price_line(words: &mut Words) -> Option<Line>
     ensures { option_map seen_line result ≡ read_price words.old }
 {
@@ -70,7 +70,7 @@ fn price_line(words: &mut Words) -> Option<Line>
     Some(Line::Price(object, price))
 }
 
-#[tactic(auto, unfolding(crate::specs::Reading::read_infeasible))]
+#[tactic(auto, unfolding(crate::specs::inside::Reading::read_infeasible))]
 fn infeasible_line(words: &mut Words) -> Option<Line>
     ensures { option_map seen_line result ≡ read_infeasible words.old }
 {
@@ -123,7 +123,7 @@ fn line_behind(alloc: Global, word: &[u8], words: &mut Words) -> Result<Option<L
 }
 
 /// The line that bytes are, if they are one.
-#[tactic(auto, unfolding(crate::specs::Reading::line_in))]
+#[tactic(auto, unfolding(crate::specs::inside::Reading::line_in))]
 pub fn line_in(alloc: Global, bytes: &[u8]) -> Result<Option<Line>, AllocError>
     ensures { IfOk result (λ x. option_map seen_line x ≡ Reading.line_in bytes.now) }
 {

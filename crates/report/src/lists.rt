@@ -1,7 +1,7 @@
 // The numbers of a list line: how many there are, and then each above the one before.
 ghost use Rattle.std.specs.Prelude.{◌≡◌, IfOk, map};
 ghost use Rattle.std.specs.Option.{option_map};
-ghost use Rattle.report.specs.Reading.{read_list, read_rising};
+ghost use Rattle.report.specs.inside.Reading.{read_list, read_rising};
 
 use crate::numerals::number_in;
 use crate::words::Words;
@@ -32,7 +32,7 @@ fn rising<N: Numbered>(alloc: Global, words: &mut Words) -> Result<Option<Vec<N>
 ///
 /// # Errors
 /// Only where memory is refused.
-#[tactic(auto, unfolding(crate::specs::Reading::read_list))]
+#[tactic(auto, unfolding(crate::specs::inside::Reading::read_list))]
 pub fn list_in<N: Numbered>(alloc: Global, words: &mut Words) -> Result<Option<Vec<N>>, AllocError>
     ensures { IfOk result (λ x. option_map (λ v. map N.number_of v.items) x ≡ read_list words.old) }
 {

@@ -1,10 +1,10 @@
 // Takes the text of a report byte by byte.
 ghost use Rattle.std.specs.Prelude.{◌≡◌, ◌≤◌, ◌<◌, ◌+◌, IfOk, Ok, OnOk, length};
 ghost use Rattle.std.specs.Option.{option_map};
-ghost use Rattle.report.specs.Steps;
-ghost use Rattle.report.specs.Steps.{step, after, start, finished, with_line};
-ghost use Rattle.report.specs.SeenSteps.{Gives, Reads};
-ghost use Rattle.report.specs.SeenDrafts.{seen_draft};
+ghost use Rattle.report.specs.inside.Steps;
+ghost use Rattle.report.specs.inside.Steps.{step, after, start, finished, with_line};
+ghost use Rattle.report.specs.inside.SeenSteps.{Gives, Reads};
+ghost use Rattle.report.specs.inside.SeenDrafts.{seen_draft};
 
 use crate::draft::Draft;
 use crate::fault::ReportFault;
@@ -28,8 +28,8 @@ pub struct Machine {
 impl Model for Machine {
     ghost use Rattle.std.specs.Prelude.{◌≤◌};
     ghost use Rattle.report.specs.declared.limits.TheConstants.{TEXT_LIMIT};
-    ghost use Rattle.report.specs.Steps.{State};
-    ghost use Rattle.report.specs.SeenDrafts.{seen_draft};
+    ghost use Rattle.report.specs.inside.Steps.{State};
+    ghost use Rattle.report.specs.inside.SeenDrafts.{seen_draft};
 
     ghost Value = { State };
 
@@ -44,7 +44,7 @@ impl Model for Machine {
 }
 
 // What a line's bytes add to a draft.
-#[tactic(auto, unfolding(crate::specs::Steps::taken))]
+#[tactic(auto, unfolding(crate::specs::inside::Steps::taken))]
 fn taken(alloc: Global, draft: Draft, bytes: &[u8]) -> Result<Option<Draft>, AllocError>
     ensures { IfOk result
         (λ x. option_map seen_draft x ≡ Steps.taken (seen_draft draft) bytes.now) }

@@ -1,8 +1,8 @@
 // Numbers in words. A number's value is taken whatever its bytes are; then its digits are written
 // and compared, so that each number has one form.
 ghost use Rattle.std.specs.Prelude.{◌≡◌, ◌≤◌, length, IfSome};
-ghost use Rattle.report.specs.Numerals;
-ghost use Rattle.report.specs.Numerals.{value_after};
+ghost use Rattle.report.specs.inside.Numerals;
+ghost use Rattle.report.specs.inside.Numerals.{value_after};
 
 use assign_core::{Cost, GREATEST_COST, MOST_PERSONS, PRICE_END, Price};
 use itoa::Buffer;
@@ -23,7 +23,7 @@ fn value_of(word: &[u8]) -> u128
 }
 
 // The number whose digits a word is.
-#[tactic(auto, unfolding(crate::specs::Numerals::numeral_in))]
+#[tactic(auto, unfolding(crate::specs::inside::Numerals::numeral_in))]
 fn numeral_in(word: &[u8]) -> Option<u128>
     ensures { result ≡ Numerals.numeral_in word.now }
 {

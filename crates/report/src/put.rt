@@ -4,7 +4,7 @@ ghost use Rattle.std.specs.Prelude.{◌≡◌, ◌+◌, ◌≤◌, length, map, 
 ghost use Rattle.report.specs.Words.{behind_spaces, joined};
 ghost use Rattle.report.specs.Lines;
 ghost use Rattle.report.specs.Lines.{lines_text};
-ghost use Rattle.report.specs.Writing.{Puts};
+ghost use Rattle.report.specs.inside.Holding.{Puts};
 
 use crate::fault::WriteFault;
 use crate::pending::{Pending, WORD_ROOM};

@@ -1,7 +1,7 @@
 // Reads a report.
 ghost use Rattle.std.specs.Prelude.{◌≡◌, Ok, IfOk, IfSome};
-ghost use Rattle.report.specs.Steps.{reading};
-ghost use Rattle.report.specs.SeenSteps.{Reads};
+ghost use Rattle.report.specs.inside.Steps.{reading};
+ghost use Rattle.report.specs.inside.SeenSteps.{Reads};
 ghost use Rattle.report.specs.SeenReports.{seen_report, seen_result};
 ghost use Rattle.report.specs.Reports.{IsReport};
 ghost use Rattle.report.specs.Answers.{Answers};
@@ -16,9 +16,9 @@ use std::io::Read;
 // So many bytes are read at once.
 const PIECE: usize = 16384;
 
-// The report that a text gives, taken byte by byte. Each turn takes a byte at least, so that the
-// turns suffice for every text within the limit.
-#[tactic(auto, unfolding(crate::specs::Steps::reading))]
+// The report that a text gives, taken byte by byte. Each read takes a byte at least, so that so many
+// reads suffice for every text within the limit.
+#[tactic(auto, unfolding(crate::specs::inside::Steps::reading))]
 fn read_all<R: Read>(alloc: Global, r: &mut R) -> Result<Report, ReportFault>
     ensures reading { IfSome (R.remaining r.old) (λ bytes. Reads result (reading bytes)) }
     ensures allowed { IfOk result (λ report. IsReport (seen_report report)) }

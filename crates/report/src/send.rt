@@ -1,6 +1,7 @@
 // Lets bytes go out.
 ghost use Rattle.std.specs.Prelude.{◌≡◌, ◌+◌, ◌≤◌, [], length, OnOk};
-ghost use Rattle.report.specs.Writing.{Puts, Writes};
+ghost use Rattle.report.specs.Writing.{Writes};
+ghost use Rattle.report.specs.inside.Holding.{Puts};
 
 use crate::fault::WriteFault;
 use crate::pending::{PART_ROOM, Pending, ROOM};

@@ -1,8 +1,8 @@
 // The words of a line.
 ghost use Rattle.std.specs.Prelude.{◌≡◌, ◌<◌, [], ◌∷◌, ◌↔◌, IsTrue, MatchOption, length, slice_index};
-ghost use Rattle.report.specs.Words.{words_of, HasNoSpace};
-ghost use Rattle.report.specs.Reading.{Takes, sense_in};
-ghost use Rattle.report.specs.Numerals.{cost_in, price_in, number_in};
+ghost use Rattle.report.specs.inside.WordsLeft.{words_of, HasNoSpace};
+ghost use Rattle.report.specs.inside.Reading.{Takes, sense_in};
+ghost use Rattle.report.specs.inside.Numerals.{cost_in, price_in, number_in};
 
 use crate::numerals;
 use assign_core::{Cost, Price, Sense};
@@ -17,7 +17,7 @@ pub struct Words<'a> {
 impl<'a> Model for Words<'a> {
     ghost use Rattle.std.specs.Prelude.{ℕ, List};
     ghost use Rattle.std.specs.Option.{option_copied};
-    ghost use Rattle.report.specs.WordsLeft.{words_left};
+    ghost use Rattle.report.specs.inside.WordsLeft.{words_left};
 
     ghost Value = { List (List ℕ) };
 

@@ -5,7 +5,8 @@ ghost use Rattle.report.specs.Outcomes.{IsOutcome, chosen_prices, outcome_report
 ghost use Rattle.report.specs.Reports;
 ghost use Rattle.report.specs.Lines;
 ghost use Rattle.report.specs.Lines.{lines_text, report_text};
-ghost use Rattle.report.specs.Writing.{Puts, Writes};
+ghost use Rattle.report.specs.Writing.{Writes};
+ghost use Rattle.report.specs.inside.Holding.{Puts};
 
 use crate::fault::WriteFault;
 use crate::pending::Pending;

@@ -1,5 +1,5 @@
 use Rattle.std.proofs.Common.{ap}
-use Rattle.report.specs.SeenLines.{seen_line}
+use Rattle.report.specs.inside.SeenLines.{seen_line}
 use Rattle.report.proofs.OrderLemmas.{objects_follow}
 use Rattle.report.proofs.draft.hall_objects.Goals as goal
 

@@ -1,6 +1,6 @@
 use Rattle.std.proofs.Common.{ap, arith, sym}
 use Rattle.std.proofs.lemmas.Bool.{eqb-false}
-use Rattle.report.specs.SeenLines.{seen_line}
+use Rattle.report.specs.inside.SeenLines.{seen_line}
 use Rattle.report.proofs.OrderLemmas.{persons_follow}
 use Rattle.report.proofs.draft.hall_persons.Goals as goal
 

@@ -1,5 +1,5 @@
 use Rattle.std.proofs.Common.{◌≡◌, length, map}
-use Rattle.report.specs.Reading.{read_rising}
+use Rattle.report.specs.inside.Reading.{read_rising}
 use Rattle.report.proofs.RisingLoop.{with_front}
 use Rattle.report.proofs.lists.rising.Given as goal
 

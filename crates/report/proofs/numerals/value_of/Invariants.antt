@@ -1,5 +1,5 @@
 use Rattle.std.proofs.Common.{◌≡◌, ◌+◌, ◌*◌, ◌^◌, ◌≤◌, drop}
-use Rattle.report.specs.Numerals.{value_after}
+use Rattle.report.specs.inside.Numerals.{value_after}
 use Rattle.report.proofs.numerals.value_of.Given as goal
 
 abbrev pub invariant-loop-b : goal.invariant-loop-b

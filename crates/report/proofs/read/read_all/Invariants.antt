@@ -1,6 +1,6 @@
 use Rattle.std.proofs.Common.{◌≡◌, ◌≤◌, ℕ, List, Ok}
 use Rattle.report.specs.declared.limits.TheConstants.{TEXT_LIMIT}
-use Rattle.report.specs.Steps.{after, start}
+use Rattle.report.specs.inside.Steps.{after, start}
 use Rattle.report.proofs.Streams.{Follows}
 use Rattle.report.proofs.read.read_all.Given as goal
 

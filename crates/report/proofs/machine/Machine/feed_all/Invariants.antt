@@ -1,6 +1,6 @@
 use Rattle.std.proofs.Common.{◌≡◌, ◌+◌, ◌≤◌, Ok, drop}
 use Rattle.report.specs.declared.limits.TheConstants.{TEXT_LIMIT}
-use Rattle.report.specs.Steps.{after}
+use Rattle.report.specs.inside.Steps.{after}
 use Rattle.report.proofs.machine.Machine.feed_all.Given as goal
 
 abbrev pub invariant-loop-b : goal.invariant-loop-b

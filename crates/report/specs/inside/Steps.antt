@@ -5,8 +5,8 @@ use Rattle.report.specs.declared.fault.ReportFault.TheVariants as faults
 use Rattle.report.specs.declared.limits.TheConstants.{TEXT_LIMIT}
 use Rattle.report.specs.Reports.{Report}
 use Rattle.report.specs.Order.{Draft, nothing, follow, finish}
-use Rattle.report.specs.Numerals.{◌>>=◌}
-use Rattle.report.specs.Reading.{line_in}
+use Rattle.report.specs.inside.Numerals.{◌>>=◌}
+use Rattle.report.specs.inside.Reading.{line_in}
 
 -- bytes and lines so far, what the lines said, and the line that is open
 pub record State : Type 0 where

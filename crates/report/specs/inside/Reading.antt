@@ -4,10 +4,10 @@ use Rattle.std.specs.Str.{bytes_eq}
 use Rattle.assign_core.specs.declared.numbers.TheConstants.{MOST_PERSONS}
 use Rattle.assign_core.specs.declared.sense.Sense.{Sense}
 use Rattle.assign_core.specs.declared.sense.Sense.TheVariants.{Min, Max}
-use Rattle.report.specs.Words.{words_of}
+use Rattle.report.specs.inside.WordsLeft.{words_of}
 use Rattle.report.specs.Reports.{is_rising}
 use Rattle.report.specs.Lines.{Line, sense_line, cost_line, assign_line, price_line, infeasible_line, persons_line, objects_line}
-use Rattle.report.specs.Numerals.{◌>>=◌, cost_in, price_in, number_in, widest_cost, last_price}
+use Rattle.report.specs.inside.Numerals.{◌>>=◌, cost_in, price_in, number_in, widest_cost, last_price}
 
 -- the first word by this reading, and the words behind it
 abbrev pub first_by : {A : Type 0} → (List ℕ → Option A) → List (List ℕ)
