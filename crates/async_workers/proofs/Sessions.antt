@@ -2,7 +2,6 @@
 use Rattle.std.proofs.Common.{◌≡◌, ◌≢◌, ℕ, ℤ, ◌+◌, List, [], ◌∷◌, ◌++◌, Bool, true, false, length, Option, None, Some, Result, Ok, Err, OnErr, IfOk, inl, inr, refl, sym, ap, ◌∙◌, subst, arith, length-append}
 use Rattle.assign_core.specs.Numbered.{numbered}
 use Rattle.assign_core.specs.Prices.{IsBelow}
-use Rattle.assign_core.proofs.NumberedLemmas.{numbered-same, numbered_in}
 use Rattle.bidder.specs.declared.offers.Bid.{Bid}
 use Rattle.bidder.specs.declared.offers.Offer.{Offer}
 use Rattle.bidder.specs.declared.offers.Offer.TheVariants as made
@@ -12,72 +11,23 @@ use Rattle.auction_book.specs.declared.answers.Claim.TheVariants as claim
 use Rattle.auction_book.specs.declared.answers.Refused.{Refused}
 use Rattle.auction_book.specs.declared.answers.Refused.TheVariants.{NotClaimed, WrongPhase, TooLow, Memory}
 use Rattle.auction_book.specs.Book.{BookData, Holds, persons_of, prices_of}
-use Rattle.auction_book.specs.Changes.{phased, released}
+use Rattle.auction_book.specs.Changes.{phased}
 use Rattle.auction_book.specs.Claims.{IsAsked, after_claim, claim_of}
 use Rattle.auction_book.specs.Follows.{Follows}
 use Rattle.auction_book.specs.Free.{IsFree}
 use Rattle.auction_book.specs.Phases.{is_over}
-use Rattle.auction_book.specs.Session.{IsPrepared, Submits, book_next, book_taken, next_if_over}
+use Rattle.auction_book.specs.Session.{EndsClaim, IsHandedIn, IsNoted, IsPrepared, IsUndone, book_next, book_taken, next_if_over, note_of}
 use Rattle.auction_book.specs.Submissions.{IsSubmitted}
-use Rattle.auction_book.proofs.Accepting.{released_follows, released_free}
 use Rattle.auction_book.proofs.Claiming.{cond_by}
 use Rattle.auction_book.proofs.Following.{claimed_follows, follows_itself, follows_through, over_is}
 use Rattle.auction_book.proofs.Places.{everyone}
-use Rattle.auction_book.proofs.Runs.{IsLeft, judged_left, offer_left, ready}
+use Rattle.auction_book.proofs.Runs.{ready}
 use Rattle.scaled_values.specs.Scaled.{ScaledProblem}
-use Rattle.async_workers.specs.declared.gate.Note.{Note}
+use Rattle.auction_book.specs.declared.answers.Note.{Note}
 use Rattle.async_workers.specs.Desk.{DeskData}
 use Rattle.async_workers.specs.Hand.{IsInHand}
-use Rattle.async_workers.specs.Session.{Ends, EndsUndone, IsHandedIn, IsNoted, IsUndone, Leaves, catches_up, caught_in, counted, is_too_low, note_of, with_table}
+use Rattle.async_workers.specs.Session.{Ends, EndsUndone, Leaves, catches_up, caught_in, counted, is_too_low, with_table}
 use Rattle.async_workers.proofs.Hands.{hand_follows, hand_own}
-
--- a submission in the words of the core
-pub submits_of : (b new : BookData) (worker : ℕ) (offer : Option Offer) (told : Note) → IsNoted b worker offer new told → Submits b worker offer new
-submits_of b new worker None told noted = noted.0
-submits_of b new worker (Some (made.Bid bid)) told noted = (noted.0, noted.1, noted.2)
-submits_of b new worker (Some (made.Below below)) told noted = noted.0
-
--- what the worker's offer leaves: no claim, and a stop where there was one
-pub record IsHanded (worker : ℕ) (b new : BookData) : Type 0 where
-  pub left : IsLeft worker b new
-  pub stopped : new.stopped ≡ b.stopped
-
-judged_stopped : (b new : BookData) (worker : ℕ) (bid : Bid) (answer : Result Accepted Refused) → IsSubmitted b worker bid answer new → new.stopped ≡ b.stopped
-judged_stopped b new worker bid (Ok a) s = ap (λ (b : BookData). b.stopped) s.4
-judged_stopped b new worker bid (Err NotClaimed) s = ap (λ (b : BookData). b.stopped) s.1
-judged_stopped b new worker bid (Err WrongPhase) s = ap (λ (b : BookData). b.stopped) s.2
-judged_stopped b new worker bid (Err (TooLow price)) s = ap (λ (b : BookData). b.stopped) s.4
-judged_stopped b new worker bid (Err Memory) s = ap (λ (b : BookData). b.stopped) s.3
-
-pub noted_stopped : (b new : BookData) (worker : ℕ) (offer : Option Offer) (told : Note) → IsNoted b worker offer new told → new.stopped ≡ b.stopped
-noted_stopped b new worker None told noted = ap (λ (b : BookData). b.stopped) noted.0
-noted_stopped b new worker (Some (made.Bid bid)) told noted = judged_stopped b new worker bid noted.0 noted.2
-noted_stopped b new worker (Some (made.Below below)) told noted = ap (λ (b : BookData). b.stopped) noted.0.2
-
-pub released_handed : (b new : BookData) (worker person : ℕ) → IsFree b → Holds b worker person → new ≡ released b worker person → IsHanded worker b new
-released_handed b new worker person free held is =
-    let r = numbered_in b.claims worker person held in
-    subst (IsHanded worker b) (sym is) record {
-      left = record {
-        step = record { free = released_free b worker person free held; follows = released_follows b worker person };
-        none = numbered-same b.claims worker None None r.0 r.1;
-      };
-      stopped = refl;
-    }
-
-undone_handed : (b new : BookData) (worker : ℕ) (table : List ℤ) (version : ℕ) (offer : Option Offer) (told : Note) → IsFree b → IsBelow table (prices_of b) → IsPrepared b worker table version offer → IsUndone b worker offer new told → IsHanded worker b new
-undone_handed b new worker table version None told free below prepared undone = absurd undone
-undone_handed b new worker table version (Some (made.Bid bid)) told free below h undone = record {
-  left = judged_left worker h.0 b new table bid (Err Memory) free below h.1 h.2.0 h.2.1 h.2.3 undone.0;
-  stopped = judged_stopped b new worker bid (Err Memory) undone.0;
-}
-undone_handed b new worker table version (Some (made.Below below_floor)) told free below h undone = released_handed b new worker below_floor.person free undone.0 undone.1
-
-pub handed_in : {E : Type 0} (b new : BookData) (worker : ℕ) (table : List ℤ) (version : ℕ) (offer : Option Offer) (told : Note) (outcome : Result (Unit {0}) E) → IsFree b → IsBelow table (prices_of b) → IsPrepared b worker table version offer →
-    IsHandedIn b worker offer new told outcome → IsHanded worker b new
-handed_in b new worker table version offer told (Ok done) free below prepared is =
-    record { left = offer_left worker b new table version offer free below prepared (submits_of b new worker offer told is); stopped = noted_stopped b new worker offer told is }
-handed_in b new worker table version offer told (Err refused) free below prepared is = undone_handed b new worker table version offer told free below prepared is
 
 -- an offer prepared from the desk's table may go in
 pub may_go_in : (d : DeskData) (taken b c : BookData) (worker : ℕ) (offer given : Option Offer) → IsInHand d taken b → IsPrepared b d.number d.table d.version offer → c ≡ b → worker ≡ d.number → given ≡ offer →
@@ -89,14 +39,10 @@ may_go_in d taken b c worker offer given hand prepared same_book same_worker sam
   subst (λ (z : BookData × ℕ × Option Offer). IsPrepared z.0 z.1 d.table d.version z.2) (λ i. (sym same_book i, sym same_worker i, sym same_offer i)) prepared,
 )
 
-pub hand_handed : {E : Type 0} (d : DeskData) (taken b c new : BookData) (worker : ℕ) (offer given : Option Offer) (told : Note) (outcome : Result (Unit {0}) E) → IsInHand d taken b → IsPrepared b d.number d.table d.version offer → c ≡ b → worker ≡ d.number → given ≡ offer →
-    IsHandedIn c worker given new told outcome → IsHanded d.number b new
-hand_handed d taken b c new worker offer given told outcome hand prepared same_book same_worker same_offer is =
-    handed_in b new d.number d.table d.version offer told outcome hand.may.free hand.may.below prepared
-    (subst (λ (z : BookData × ℕ × Option Offer). IsHandedIn z.0 z.1 z.2 new told outcome) (λ i. (same_book i, same_worker i, same_offer i)) is)
-
-pub handed_hand : (d : DeskData) (taken b new : BookData) → IsInHand d taken b → IsHanded d.number b new → IsInHand d taken new
-handed_hand d taken b new hand is = hand_follows d taken b new hand is.left.step.follows is.stopped is.left.step.free
+pub handed_hand : (d : DeskData) (taken b c new : BookData) (worker : ℕ) → IsInHand d taken b → c ≡ b → worker ≡ d.number → EndsClaim worker c new → IsFree new → IsInHand d taken new
+handed_hand d taken b c new worker hand same_book same_worker ends free =
+    let e : EndsClaim d.number b new = subst (λ (z : BookData × ℕ). EndsClaim z.1 z.0 new) (λ i. (same_book i, same_worker i)) ends in
+    hand_follows d taken b new hand e.follows e.stopped free
 
 -- claims and phases
 pub next_stopped : (b : BookData) → (next_if_over b).stopped ≡ b.stopped
@@ -190,9 +136,6 @@ taken_claims false b worker = refl
 pub taken_stopped : (caught : Bool) (b : BookData) (worker : ℕ) → (book_taken caught b worker).stopped ≡ b.stopped
 taken_stopped true b worker = refl
 taken_stopped false b worker = refl
-
-pub noted_of : {E : Type 0} (b new : BookData) (worker : ℕ) (offer : Option Offer) (told : Note) (outcome : Result (Unit {0}) E) (done : Unit {0}) → outcome ≡ Ok done → IsHandedIn b worker offer new told outcome → IsNoted b worker offer new told
-noted_of {E} b new worker offer told outcome done went handed = subst (λ (o : Result (Unit {0}) E). IsHandedIn b worker offer new told o) went handed
 
 -- a session whose offer went in
 pub ends : {E : Type 0} (refresh : ℕ) (d e : DeskData) (b left kept new : BookData) (offer : Option Offer) (told : Note) (too_low : Bool) (outcome : Result Claim E) → IsPrepared b d.number d.table d.version offer → IsNoted b d.number offer left told → numbered left.claims d.number None ≡ None → too_low ≡ is_too_low told →

@@ -1,7 +1,6 @@
 -- One thread goes on with a book as worker 1.
 use Rattle.std.proofs.Common.{◌≡◌, ℕ, ℤ, zero, suc, ◌+◌, ◌<◌, List, [], ◌∷◌, Option, None, Some, cond, length, get_or, refl, sym, ap, ◌∙◌, subst, arith, Result, Ok, Err, OnOk, false}
 use Rattle.assign_core.specs.Numbered.{IsNumber, numbered}
-use Rattle.assign_core.proofs.Matchings.{below_itself}
 use Rattle.assign_core.proofs.NumberedLemmas.{numbered-same, numbered_in}
 use Rattle.scaled_values.specs.Scaled.{ScaledProblem}
 use Rattle.scaled_values.proofs.RowFacts.{benefit_row_is}
@@ -15,11 +14,10 @@ use Rattle.auction_book.specs.Claims.{after_claim, claim_front, claim_of}
 use Rattle.auction_book.specs.Follows.{Follows, GoesOn}
 use Rattle.auction_book.specs.Free.{IsFree}
 use Rattle.auction_book.specs.Phases.{is_done, is_over}
-use Rattle.auction_book.specs.Session.{IsPrepared, Submits, next_if_over, prepared}
+use Rattle.auction_book.specs.Session.{IsPrepared, next_if_over, prepared}
 use Rattle.auction_book.proofs.Claiming.{cond_by}
 use Rattle.auction_book.proofs.Following.{claimed_follows, follows_itself, given_up_follows, goes_on_through, over_is, phased_follows, stop_follows}
 use Rattle.auction_book.proofs.Places.{claimed_person}
-use Rattle.auction_book.proofs.Runs.{offer_left}
 
 given_none : (b : BookData) (worker : ℕ) (o : Option ℕ) → numbered b.claims worker None ≡ o → numbered (given_up b worker o).claims worker None ≡ None
 given_none b worker None is = is
@@ -69,15 +67,6 @@ alone_prepared b new s table version answer offer free number none is_answer is_
 pub alone_claimed : (b new : BookData) (answer : Claim) → IsFree b → IsNumber (length b.claims) 1 → numbered b.claims 1 None ≡ None → answer ≡ claim_of b → new ≡ after_claim b 1 answer → Follows 1 b new
 alone_claimed b new answer free number none is_answer is_new =
     subst (Follows 1 b) (sym is_new) (subst (IsClaimed b 0) (sym is_answer) (claimed_is b 0 free number none)).follows
-
--- the book once worker 1 has claimed, and has submitted its offer from today's prices
-pub alone_left : (b mid new : BookData) (s : ScaledProblem) (table : List ℤ) (version : ℕ) (answer : Claim) (offer : Option Offer) → IsFree b → IsNumber (length b.claims) 1 → numbered b.claims 1 None ≡ None →
-    answer ≡ claim_of b → mid ≡ after_claim b 1 answer → s ≡ mid.base → table ≡ prices_of mid → offer ≡ prepared s table version answer → IsFree mid → Submits mid 1 offer new → GoesOn b new × (numbered new.claims 1 None ≡ None)
-alone_left b mid new s table version answer offer free number none is_answer is_mid is_base is_table is_offer mid_free submits =
-    let follows = alone_claimed b mid answer free number none is_answer is_mid in
-    let made = alone_prepared b mid s table version answer offer free number none is_answer is_mid is_base is_table is_offer in
-    let left = offer_left 1 mid new (prices_of mid) version offer mid_free (below_itself (prices_of mid)) made submits in
-    (goes_on_through b mid new follows.goes_on left.step.follows.goes_on, left.none)
 
 -- the next phase, if this one is over
 pub alone_next : (b mid new : BookData) → GoesOn b mid → IsFree mid → numbered mid.claims 1 None ≡ None → new ≡ next_if_over mid → GoesOn b new × (numbered new.claims 1 None ≡ None)

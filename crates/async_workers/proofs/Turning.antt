@@ -23,7 +23,7 @@ use Rattle.auction_book.proofs.Claiming.{cond_by}
 use Rattle.auction_book.proofs.Following.{given_up_follows, goes_on_through}
 use Rattle.auction_book.proofs.Places.{claimed_person}
 use Rattle.auction_book.proofs.Runs.{IsAttended, attended, next_workers, same_offers}
-use Rattle.async_workers.specs.declared.gate.Note.{Note}
+use Rattle.auction_book.specs.declared.answers.Note.{Note}
 use Rattle.async_workers.specs.declared.gate.Turn.{Turn}
 use Rattle.async_workers.specs.declared.place.Claimed.{Claimed}
 use Rattle.async_workers.specs.Desk.{DeskData, IsAway, told_by}
@@ -33,7 +33,7 @@ use Rattle.async_workers.specs.Session.{Ends, caught_in, counted, with_table}
 use Rattle.async_workers.specs.Turns.{CanTurn, EndsRun, Given, Gives, HasOffer, StepsOut, Turned, WorksOn, seat_of, stopped_if, turn_of, with_told}
 use Rattle.async_workers.specs.Views.{claim_in, claim_with}
 use Rattle.async_workers.proofs.Hands.{hand_follows, hand_given}
-use Rattle.async_workers.proofs.Sessions.{next_stopped, noted_stopped, submits_of, taken_stopped}
+use Rattle.async_workers.proofs.Sessions.{next_stopped, taken_stopped}
 
 -- what a told claim says of the book
 told_none : (o : Option ℕ) (ask : Ask) → None ≡ claim_with o ask → o ≡ None
@@ -180,14 +180,14 @@ event : (refresh : ℕ) (d k : DeskData) (told : Note) (answer : Claim) (taken p
     IsAttended d.number (caught_in refresh d told) g.taken g.submitted d.table d.version
 event refresh d k told answer taken put away has g =
     let t = g.was_told taken put away in
-    attended d.number (caught_in refresh d told) g.taken g.submitted (seat_of d) g.free t.number (seated d g.taken taken put has t) (submits_of g.taken g.submitted d.number d.offer told g.noted)
+    attended d.number (caught_in refresh d told) g.taken g.submitted (seat_of d) g.free t.number (seated d g.taken taken put has t) (told, g.noted)
 
 -- the problem of the book before the claim is the desk's
 event_base : (refresh : ℕ) (d k : DeskData) (told : Note) (answer : Claim) (taken put : BookData) → IsAway d taken put → HasOffer d → (g : Gives refresh d k told answer) →
     d.base ≡ (book_next (caught_in refresh d told) g.submitted d.number).base
 event_base refresh d k told answer taken put away has g =
     let a = event refresh d k told answer taken put away has g in
-    (g.was_told taken put away).base ∙ sym (a.ready.next.follows.goes_on.base ∙ a.ready.taken.follows.goes_on.base ∙ a.left.step.follows.goes_on.base)
+    (g.was_told taken put away).base ∙ sym (a.ready.next.follows.goes_on.base ∙ a.ready.taken.follows.goes_on.base ∙ a.left.ends.follows.goes_on.base)
 
 -- a desk that has claimed and prepared may take a turn again
 pub can_turn_again : (place : TableId) (refresh : ℕ) (d k e : DeskData) (told : Note) (answer : Claim) → CanTurn place d → k.place ≡ place → Gives refresh d k told answer → e ≡ record k { offer = prepared k.base k.table k.version answer } → CanTurn place e
@@ -227,7 +227,7 @@ turned refresh place d k e told answer t can g is turn_is =
       told = g.was_told;
       note = told;
       submitted = g.submitted;
-      submits = submits_of g.taken g.submitted w d.offer told g.noted;
+      submits = (told, g.noted);
       noted = g.noted;
       away = subst (λ (e : DeskData). IsAway e g.taken put) (sym is) g.away;
       desk = is ∙ ap (λ (k' : DeskData). record k' { offer = prepared k.base k.table k.version answer }) g.desk
@@ -242,7 +242,7 @@ stops_run refresh place d k told answer t can g is asked =
     let c = caught_in refresh d told in
     let w = d.number in
     let b = book_next c g.submitted w in
-    let stopped : b.stopped ≡ true = next_stopped (book_taken c g.submitted w) ∙ taken_stopped c g.submitted w ∙ noted_stopped g.taken g.submitted w d.offer told g.noted ∙ (g.was_told away.0 away.1 away.2).stopped asked in
+    let stopped : b.stopped ≡ true = next_stopped (book_taken c g.submitted w) ∙ taken_stopped c g.submitted w ∙ (event refresh d k told answer away.0 away.1 away.2 can.offer g).left.ends.stopped ∙ (g.was_told away.0 away.1 away.2).stopped asked in
     subst EndsRun (sym (is ∙ ap turn_of g.answered)) (ends_stopped b stopped)
   where
     ends_when : (stopped : Bool) (c : Claim) → stopped ≡ true → EndsRun (turn_of (cond stopped claim.Stopped c))

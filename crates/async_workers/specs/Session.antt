@@ -10,35 +10,15 @@ use Rattle.auction_book.specs.declared.answers.Refused.TheVariants.{TooLow, Memo
 use Rattle.auction_book.specs.Book.{BookData, Holds}
 use Rattle.auction_book.specs.Changes.{released}
 use Rattle.auction_book.specs.Claims.{claim_of}
-use Rattle.auction_book.specs.Session.{IsReachRecorded, book_left, book_next, book_taken, table_taken, version_taken}
+use Rattle.auction_book.specs.Session.{IsNoted, book_left, book_next, book_taken, table_taken, version_taken}
 use Rattle.auction_book.specs.Submissions.{IsSubmitted}
-use Rattle.async_workers.specs.declared.gate.Note.{Note}
-use Rattle.async_workers.specs.declared.gate.Note.TheVariants as note
+use Rattle.auction_book.specs.declared.answers.Note.{Note}
+use Rattle.auction_book.specs.declared.answers.Note.TheVariants as note
 use Rattle.async_workers.specs.Desk.{DeskData}
-
--- what is told of a bid that was answered
-abbrev pub note_of : Result Accepted Refused → Note
-note_of (Ok a) = note.Accepted
-note_of (Err r) = note.Refused r
 
 abbrev pub is_too_low : Note → Bool
 is_too_low (note.Refused (TooLow price)) = true
 is_too_low told = false
-
--- what is told of an offer that was submitted, or searched, without a refused growth
-abbrev pub IsNoted : BookData → ℕ → Option Offer → BookData → Note → Type 0
-IsNoted b worker None new told = (new ≡ b) × (told ≡ note.Nothing)
-IsNoted b worker (Some (made.Bid bid)) new told = (answer : Result Accepted Refused) × (answer ≢ Err Memory) × IsSubmitted b worker bid answer new × (told ≡ note_of answer)
-IsNoted b worker (Some (made.Below below)) new told = IsReachRecorded b worker below.person new × (told ≡ note.Nothing)
-
--- and of one that met a refused growth: the bid is refused, or the claim is given up
-abbrev pub IsUndone : BookData → ℕ → Option Offer → BookData → Note → Type 0
-IsUndone b worker None new told = ⊥
-IsUndone b worker (Some (made.Bid bid)) new told = IsSubmitted b worker bid (Err Memory) new × (told ≡ note.Refused Memory)
-IsUndone b worker (Some (made.Below below)) new told = Holds b worker below.person × (new ≡ released b worker below.person) × (told ≡ note.Nothing)
-
-abbrev pub IsHandedIn : {E : Type 0} → BookData → ℕ → Option Offer → BookData → Note → Result (Unit {0}) E → Type 0
-IsHandedIn b worker offer new told outcome = MatchResult outcome (λ done. IsNoted b worker offer new told) (λ refused. IsUndone b worker offer new told)
 
 -- one more, up to the greatest number that is counted
 abbrev pub one_more : ℕ → ℕ

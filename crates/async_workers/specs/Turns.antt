@@ -13,15 +13,15 @@ use Rattle.auction_book.specs.Claims.{claim_of}
 use Rattle.auction_book.specs.Follows.{GoesOn}
 use Rattle.auction_book.specs.Free.{IsFree}
 use Rattle.auction_book.specs.Schedule.{seat_next}
-use Rattle.auction_book.specs.Session.{Submits, book_left, book_next, book_taken}
-use Rattle.async_workers.specs.declared.gate.Note.{Note}
+use Rattle.auction_book.specs.Session.{IsNoted, Submits, book_left, book_next, book_taken}
+use Rattle.auction_book.specs.declared.answers.Note.{Note}
 use Rattle.async_workers.specs.declared.gate.Turn.{Turn}
 use Rattle.async_workers.specs.declared.gate.Turn.TheVariants as turn
 use Rattle.async_workers.specs.declared.place.Claimed.{Claimed}
 use Rattle.async_workers.specs.declared.rule.View.{View}
 use Rattle.async_workers.specs.Desk.{DeskData, IsAway, IsReady, told_by}
 use Rattle.async_workers.specs.PlaceRule.{IsTold}
-use Rattle.async_workers.specs.Session.{IsNoted, Leaves, caught_in, counted, with_table}
+use Rattle.async_workers.specs.Session.{Leaves, caught_in, counted, with_table}
 use Rattle.async_workers.specs.Views.{claim_in}
 
 -- a desk with a claim has prepared the offer of its person from its table, and one without a claim has none

@@ -45,15 +45,15 @@ fn give_up_all(book: &mut Book)
 fn offer_alone(alloc: Global, book: &mut Book) -> Result<(), AllocError>
     requires worker { IsNumber (length book.old.claims) 1 }
     requires none { numbered book.old.claims 1 None ≡ None }
-    ensures goes_on { OnOk result (GoesOn book.old book.new) }
-    ensures none { OnOk result (numbered book.new.claims 1 None ≡ None) }
+    ensures goes_on { GoesOn book.old book.new }
+    ensures none { numbered book.new.claims 1 None ≡ None }
     ensures free { IsFree book.new }
 {
     // For the proof alone: the book is free.
     let _workers = book.workers();
     let claim = book.claim(1);
     let offer = prepare(book.scaled(), book.prices(), book.version(), claim);
-    submit_offer(alloc, book, 1, offer)
+    submit_offer(alloc, book, 1, offer).outcome
 }
 
 // The offer of a person, and the next phase if this one is over then.

@@ -1,6 +1,6 @@
 // What a turn answers, and who is told of it.
 use assign_core::{Object, Person};
-use auction_book::Refused;
+use auction_book::Note;
 
 /// What a turn that met no fault answers.
 #[derive(Clone, Copy, Debug, PartialEq, Eq)]
@@ -25,15 +25,6 @@ pub enum TurnFault {
     /// An alternating path from a person whose offer is below the floor to a free object. The floor is
     /// exact, so no turn answers this.
     Stuck(Person, Vec<Object>),
-}
-
-/// What came of the offer in a session.
-#[derive(Clone, Copy, Debug, PartialEq, Eq)]
-pub enum Note {
-    /// There was no bid.
-    Nothing,
-    Accepted,
-    Refused(Refused),
 }
 
 /// Who is told of the steps of a worker's turn, all of them while the worker is without the book.

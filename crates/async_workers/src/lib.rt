@@ -12,6 +12,7 @@ mod solving;
 mod tests;
 mod working;
 
-pub use gate::{Gate, Note, OpenGate, Turn, TurnFault};
+pub use auction_book::Note;
+pub use gate::{Gate, OpenGate, Turn, TurnFault};
 pub use place::{BookPlace, Claimed, Desk, Held, ask_stop, close_place, leave, open_place, turn};
 pub use solving::{Tally, solve_workers, solve_workers_from};

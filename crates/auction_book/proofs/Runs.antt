@@ -18,6 +18,7 @@ use Rattle.bidder.proofs.Sound.{bid_sound, offer_is, sound_above}
 use Rattle.price_log.specs.History.{IsEarlier, table_at}
 use Rattle.price_log.proofs.Histories.{earlier_stays, today-at}
 use Rattle.auction_book.specs.declared.answers.Accepted.{Accepted}
+use Rattle.auction_book.specs.declared.answers.Note.{Note}
 use Rattle.auction_book.specs.declared.answers.Refused.{Refused}
 use Rattle.auction_book.specs.declared.answers.Refused.TheVariants.{NotClaimed, WrongPhase, TooLow, Memory}
 use Rattle.auction_book.specs.declared.answers.Claim.{Claim}
@@ -31,7 +32,7 @@ use Rattle.auction_book.specs.Follows.{Follows, GoesOn}
 use Rattle.auction_book.specs.Free.{IsFree}
 use Rattle.auction_book.specs.Phases.{is_done, is_over, opened}
 use Rattle.auction_book.specs.Schedule.{CoreData, Happens, IsFit, IsSeat, Run, core_opened, goes_on, is_worker, seat_at, seat_next, seat_of_prices}
-use Rattle.auction_book.specs.Session.{IsPrepared, Submits, book_left, book_next, book_taken, next_if_over, prepared, table_taken, version_taken}
+use Rattle.auction_book.specs.Session.{EndsClaim, IsHandedIn, IsNoted, IsPrepared, IsUndone, Submits, book_left, book_next, book_taken, next_if_over, prepared, table_taken, version_taken}
 use Rattle.auction_book.specs.Submissions.{IsSubmitted}
 use Rattle.auction_book.proofs.Accepting.{accepted_follows, accepted_free, released_follows, released_free}
 use Rattle.auction_book.proofs.Claiming.{cond_by}
@@ -79,23 +80,24 @@ pub record IsStep (w : ℕ) (b new : BookData) : Type 0 where
 over_claim : (b : BookData) (w person : ℕ) → Holds b w person → numbered (renumbered b.claims w None) w None ≡ None
 over_claim b w person held = let r = numbered_in b.claims w person held in numbered-same b.claims w None None r.0 r.1
 
--- what a submission leaves: no claim of the worker
+-- what a submission leaves
 pub record IsLeft (w : ℕ) (b new : BookData) : Type 0 where
-  pub step : IsStep w b new
-  pub none : numbered new.claims w None ≡ None
+  pub free : IsFree new
+  pub ends : EndsClaim w b new
 
+-- what a released claim leaves
 left_released : (w person : ℕ) (b new : BookData) → IsFree b → Holds b w person → new ≡ released b w person → IsLeft w b new
 left_released w person b new free held e =
-    subst (IsLeft w b) (sym e) (record { step = record { free = released_free b w person free held; follows = released_follows b w person }; none = over_claim b w person held })
+    subst (IsLeft w b) (sym e) (record { free = released_free b w person free held; ends = record { follows = released_follows b w person; none = over_claim b w person held; stopped = refl } })
 
 -- after a prepared bid was judged
-pub judged_left : (w person : ℕ) (b new : BookData) (table : List ℤ) (bid : Bid) (answer : Result Accepted Refused) → IsFree b → IsBelow table (prices_of b) → Holds b w person → bid.person ≡ person → bid.phase ≡ b.phase → IsBid b.base table (ask_of b) bid →
+judged_left : (w person : ℕ) (b new : BookData) (table : List ℤ) (bid : Bid) (answer : Result Accepted Refused) → IsFree b → IsBelow table (prices_of b) → Holds b w person → bid.person ≡ person → bid.phase ≡ b.phase → IsBid b.base table (ask_of b) bid →
     IsSubmitted b w bid answer new → IsLeft w b new
 judged_left w person b new table bid (Ok a) free below held who phase is s =
     let sound = bid_sound b.base table (ask_of b) bid is in
     subst (IsLeft w b) (sym s.4) (record {
-      step = record { free = accepted_free b w bid free (sound_above b.base (ask_of b) table (prices_of b) bid below sound) s.2 s.0; follows = accepted_follows b w bid table free below sound s.2 };
-      none = over_claim b w bid.person s.0;
+      free = accepted_free b w bid free (sound_above b.base (ask_of b) table (prices_of b) bid below sound) s.2 s.0;
+      ends = record { follows = accepted_follows b w bid table free below sound s.2; none = over_claim b w bid.person s.0; stopped = refl };
     })
 judged_left w person b new table bid (Err NotClaimed) free below held who phase is s = absurd (s.0 (held ∙ ap Some (sym who)))
 judged_left w person b new table bid (Err WrongPhase) free below held who phase is s = absurd (s.1 phase)
@@ -103,15 +105,30 @@ judged_left w person b new table bid (Err (TooLow price)) free below held who ph
 judged_left w person b new table bid (Err Memory) free below held who phase is s = left_released w bid.person b new free s.0 s.3
 
 -- after the worker's offer was submitted
-pub offer_left : (w : ℕ) (b new : BookData) (table : List ℤ) (version : ℕ) (offer : Option Offer) → IsFree b → IsBelow table (prices_of b) → IsPrepared b w table version offer → Submits b w offer new → IsLeft w b new
-offer_left w b new table version None free below h s = subst (IsLeft w b) (sym s) (record { step = record { free = free; follows = follows_itself b w }; none = h })
-offer_left w b new table version (Some (made.Bid bid)) free below h s = judged_left w h.0 b new table bid s.0 free below h.1 h.2.0 h.2.1 h.2.3 s.2
-offer_left w b new table version (Some (made.Below under)) free below h s =
+pub noted_left : (w : ℕ) (b new : BookData) (table : List ℤ) (version : ℕ) (offer : Option Offer) (told : Note) → IsFree b → IsBelow table (prices_of b) → IsPrepared b w table version offer → IsNoted b w offer new told → IsLeft w b new
+noted_left w b new table version None told free below h s = subst (IsLeft w b) (sym s.0) (record { free = free; ends = record { follows = follows_itself b w; none = h; stopped = refl } })
+noted_left w b new table version (Some (made.Bid bid)) told free below h s = judged_left w h.0 b new table bid s.0 free below h.1 h.2.0 h.2.1 h.2.3 s.2
+noted_left w b new table version (Some (made.Below under)) told free below h s =
     let held : Holds b w under.person = h.1 ∙ ap Some (sym h.2.0) in
-    subst (IsLeft w b) (sym s.2) (record {
-      step = record { free = recorded_free b w under.person s.0 free held s.1.hall; follows = recorded_follows b w under.person s.0 };
-      none = over_claim b w under.person held;
+    let reach = s.0 in
+    subst (IsLeft w b) (sym reach.2) (record {
+      free = recorded_free b w under.person reach.0 free held reach.1.hall;
+      ends = record { follows = recorded_follows b w under.person reach.0; none = over_claim b w under.person held; stopped = refl };
     })
+
+undone_left : (w : ℕ) (b new : BookData) (table : List ℤ) (version : ℕ) (offer : Option Offer) (told : Note) → IsFree b → IsBelow table (prices_of b) → IsPrepared b w table version offer → IsUndone b w offer new told → IsLeft w b new
+undone_left w b new table version None told free below h s = absurd s
+undone_left w b new table version (Some (made.Bid bid)) told free below h s = judged_left w h.0 b new table bid (Err Memory) free below h.1 h.2.0 h.2.1 h.2.3 s.0
+undone_left w b new table version (Some (made.Below under)) told free below h s = left_released w under.person b new free s.0 s.1
+
+pub handed_left : {E : Type 0} (w : ℕ) (b new : BookData) (table : List ℤ) (version : ℕ) (offer : Option Offer) (told : Note) (outcome : Result (Unit {0}) E) → IsFree b → IsBelow table (prices_of b) → IsPrepared b w table version offer →
+    IsHandedIn b w offer new told outcome → IsLeft w b new
+handed_left w b new table version offer told (Ok done) free below h s = noted_left w b new table version offer told free below h s
+handed_left w b new table version offer told (Err refused) free below h s = undone_left w b new table version offer told free below h s
+
+-- what was told where no growth was refused
+pub noted_of : {E : Type 0} (b new : BookData) (worker : ℕ) (offer : Option Offer) (told : Note) (outcome : Result (Unit {0}) E) (done : Unit {0}) → outcome ≡ Ok done → IsHandedIn b worker offer new told outcome → IsNoted b worker offer new told
+noted_of {E} b new worker offer told outcome done went handed = subst (λ (o : Result (Unit {0}) E). IsHandedIn b worker offer new told o) went handed
 
 -- catching up
 step_taken : (catch_up : Bool) (w : ℕ) (b : BookData) → IsFree b → IsStep w b (book_taken catch_up b w)
@@ -229,13 +246,13 @@ happened_fit core e b fit number submits =
     let w = e.worker in
     let seat = seat_at core w in
     let is = fit.each w number in
-    let left = offer_left w core.book b seat.table seat.version seat.offer fit.book is.long is.prepared submits in
-    let one = left.step in
-    let own = own_kept core.book b seat.table seat.version fit.book one.follows.goes_on (record { long = is.long; earlier = is.earlier }) in
+    let one = noted_left w core.book b seat.table seat.version seat.offer submits.0 fit.book is.long is.prepared submits.1 in
+    let left = one.ends in
+    let own = own_kept core.book b seat.table seat.version fit.book left.follows.goes_on (record { long = is.long; earlier = is.earlier }) in
     let r = ready w e.catch_up b seat.table seat.version one.free left.none own in
     let taken = book_taken e.catch_up b w in
     let next = book_next e.catch_up b w in
-    let more = one.follows.goes_on.workers in
+    let more = left.follows.goes_on.workers in
     let more2 = r.taken.follows.goes_on.workers in
     let more3 = r.next.follows.goes_on.workers in
     let in_claims : w ≤ length next.claims = let x = fit.seats in let l = number.last in omega arith in
@@ -262,10 +279,10 @@ happened_fit core e b fit number submits =
               (seat_kept w k next last_book (seat_at core k) r.next.free four.step.follows t.1
               (seat_kept w k taken next (seat_at core k) r.taken.free r.next.follows t.1
               (seat_kept w k b taken (seat_at core k) one.free r.taken.follows t.1
-              (seat_kept w k core.book b (seat_at core k) fit.book one.follows t.1 (fit.each k (record { first = in_seats.first; last = let l = in_seats.last in omega arith }))))))
+              (seat_kept w k core.book b (seat_at core k) fit.book left.follows t.1 (fit.each k (record { first = in_seats.first; last = let l = in_seats.last in omega arith }))))))
         ];
       };
-      on = goes_on_through core.book b last_book one.follows.goes_on
+      on = goes_on_through core.book b last_book left.follows.goes_on
           (goes_on_through b taken last_book r.taken.follows.goes_on
           (goes_on_through taken next last_book r.next.follows.goes_on four.step.follows.goes_on));
     }
@@ -330,13 +347,13 @@ pub record IsAttended (w : ℕ) (catch_up : Bool) (b new : BookData) (table : Li
 
 pub attended : (w : ℕ) (catch_up : Bool) (b new : BookData) (seat : Seat) → IsFree b → IsNumber (length b.claims) w → IsSeat b w seat → Submits b w seat.offer new → IsAttended w catch_up b new seat.table seat.version
 attended w catch_up b new seat free number is submits =
-    let left = offer_left w b new seat.table seat.version seat.offer free is.long is.prepared submits in
-    let own = own_kept b new seat.table seat.version free left.step.follows.goes_on (record { long = is.long; earlier = is.earlier }) in
+    let left = noted_left w b new seat.table seat.version seat.offer submits.0 free is.long is.prepared submits.1 in
+    let own = own_kept b new seat.table seat.version free left.ends.follows.goes_on (record { long = is.long; earlier = is.earlier }) in
     record {
       left = left;
       own = own;
-      ready = ready w catch_up new seat.table seat.version left.step.free left.none own;
-      number = subst (λ n. IsNumber n w) (sym left.step.follows.goes_on.workers) number;
+      ready = ready w catch_up new seat.table seat.version left.free left.ends.none own;
+      number = subst (λ n. IsNumber n w) (sym left.ends.follows.goes_on.workers) number;
     }
 
 -- the number of workers before the claim

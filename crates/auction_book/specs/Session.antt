@@ -1,5 +1,5 @@
 -- What one worker's session with the book does.
-use Rattle.std.specs.Prelude.{◌≡◌, ℕ, ℤ, List, Option, None, Some, Bool, cond, Result, Err, ◌≢◌}
+use Rattle.std.specs.Prelude.{◌≡◌, ℕ, ℤ, List, Option, None, Some, Bool, cond, Result, Ok, Err, ◌≢◌, MatchResult}
 use Rattle.assign_core.specs.Hall.{HallLists}
 use Rattle.assign_core.specs.Numbered.{numbered}
 use Rattle.scaled_values.specs.Scaled.{ScaledProblem}
@@ -10,11 +10,14 @@ use Rattle.hall_refuter.specs.Search.{IsRefuted}
 use Rattle.auction_book.specs.declared.answers.Claim.{Claim}
 use Rattle.auction_book.specs.declared.answers.Claim.TheVariants as claim
 use Rattle.auction_book.specs.declared.answers.Accepted.{Accepted}
+use Rattle.auction_book.specs.declared.answers.Note.{Note}
+use Rattle.auction_book.specs.declared.answers.Note.TheVariants as note
 use Rattle.auction_book.specs.declared.answers.Refused.{Refused}
 use Rattle.auction_book.specs.declared.answers.Refused.TheVariants.{Memory}
 use Rattle.auction_book.specs.Book.{BookData, Holds, ask_of, prices_of, version_of}
-use Rattle.auction_book.specs.Changes.{caught_up, phased, recorded}
+use Rattle.auction_book.specs.Changes.{caught_up, phased, recorded, released}
 use Rattle.auction_book.specs.Claims.{after_claim, claim_of}
+use Rattle.auction_book.specs.Follows.{Follows}
 use Rattle.auction_book.specs.Phases.{is_over}
 use Rattle.auction_book.specs.Submissions.{IsSubmitted}
 
@@ -27,17 +30,35 @@ IsPrepared b worker table version (Some offer) = (person : ℕ) × Holds b worke
 abbrev pub IsReachRecorded : BookData → ℕ → ℕ → BookData → Type 0
 IsReachRecorded b worker person new = (lists : HallLists) × IsRefuted b.base.problem b.owners person lists × (new ≡ recorded b worker person lists)
 
--- the prepared offer is submitted, or searched and recorded; no growth is refused
-abbrev pub Submits : BookData → ℕ → Option Offer → BookData → Type 0
-Submits b worker None new = new ≡ b
-Submits b worker (Some (made.Bid bid)) new = (answer : Result Accepted Refused) × (answer ≢ Err Memory) × IsSubmitted b worker bid answer new
-Submits b worker (Some (made.Below below)) new = IsReachRecorded b worker below.person new
+-- what is told of a bid that was answered
+abbrev pub note_of : Result Accepted Refused → Note
+note_of (Ok a) = note.Accepted
+note_of (Err r) = note.Refused r
 
--- what stands where a growth was refused: the bid is refused, and a search changes nothing
-abbrev pub IsLeftUndone : BookData → ℕ → Option Offer → BookData → Type 0
-IsLeftUndone b worker None new = new ≡ b
-IsLeftUndone b worker (Some (made.Bid bid)) new = IsSubmitted b worker bid (Err Memory) new
-IsLeftUndone b worker (Some (made.Below below)) new = new ≡ b
+-- what is told of an offer that was submitted, or searched and recorded, without a refused growth
+abbrev pub IsNoted : BookData → ℕ → Option Offer → BookData → Note → Type 0
+IsNoted b worker None new told = (new ≡ b) × (told ≡ note.Nothing)
+IsNoted b worker (Some (made.Bid bid)) new told = (answer : Result Accepted Refused) × (answer ≢ Err Memory) × IsSubmitted b worker bid answer new × (told ≡ note_of answer)
+IsNoted b worker (Some (made.Below below)) new told = IsReachRecorded b worker below.person new × (told ≡ note.Nothing)
+
+-- and of one that met a refused growth: the bid is refused, or the claim is given up
+abbrev pub IsUndone : BookData → ℕ → Option Offer → BookData → Note → Type 0
+IsUndone b worker None new told = ⊥
+IsUndone b worker (Some (made.Bid bid)) new told = IsSubmitted b worker bid (Err Memory) new × (told ≡ note.Refused Memory)
+IsUndone b worker (Some (made.Below below)) new told = Holds b worker below.person × (new ≡ released b worker below.person) × (told ≡ note.Nothing)
+
+abbrev pub IsHandedIn : {E : Type 0} → BookData → ℕ → Option Offer → BookData → Note → Result (Unit {0}) E → Type 0
+IsHandedIn b worker offer new told outcome = MatchResult outcome (λ done. IsNoted b worker offer new told) (λ refused. IsUndone b worker offer new told)
+
+-- what an offer leaves, whatever came of it: the worker has no claim, and the book is stopped where it was
+pub record EndsClaim (worker : ℕ) (b new : BookData) : Type 0 where
+  pub follows : Follows worker b new
+  pub none : numbered new.claims worker None ≡ None
+  pub stopped : new.stopped ≡ b.stopped
+
+-- no growth was refused, whatever was told
+abbrev pub Submits : BookData → ℕ → Option Offer → BookData → Type 0
+Submits b worker offer new = (told : Note) × IsNoted b worker offer new told
 
 -- the book, the worker's table and its version once the worker has caught up, if it does
 abbrev pub book_taken : Bool → BookData → ℕ → BookData

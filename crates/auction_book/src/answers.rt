@@ -1,6 +1,7 @@
 // What a book answers.
 use assign_core::{Person, Price};
 use bidder::Ask;
+use std::alloc::AllocError;
 
 /// A bid was accepted.
 #[derive(Clone, Copy, Debug, PartialEq, Eq)]
@@ -20,6 +21,26 @@ pub enum Refused {
     TooLow(Price),
     /// A growth was refused.
     Memory,
+}
+
+/// What came of a worker's offer.
+#[derive(Clone, Copy, Debug, PartialEq, Eq)]
+pub enum Note {
+    /// There was no bid.
+    Nothing,
+    /// A bid was accepted.
+    Accepted,
+    /// A bid was refused.
+    Refused(Refused),
+}
+
+/// What is told of a worker's offer, and whether a growth was refused.
+#[must_use]
+#[derive(Drop)]
+pub struct Submission {
+    pub note: Note,
+    /// An error where a growth was refused.
+    pub outcome: Result<(), AllocError>,
 }
 
 /// What a worker that asks for a person gets.

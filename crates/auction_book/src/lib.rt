@@ -12,7 +12,7 @@ mod schedule;
 mod schedule_tests;
 mod session;
 
-pub use answers::{Accepted, Claim, Refused};
+pub use answers::{Accepted, Claim, Note, Refused, Submission};
 pub use book::Book;
 pub use law::{changes_follow, floor_is_exact, fresh_bids_are_high, phase_is_bounded};
 pub use schedule::{

@@ -79,7 +79,7 @@ fn attend(alloc: Global, book: &mut Book, seat: &mut Seat, event: Event) -> Resu
     // For the proof alone: the book is free.
     let _claim = book.claimed_by(worker);
     let offer = seat.offer.take();
-    submit_offer(alloc, book, worker, offer)?;
+    submit_offer(alloc, book, worker, offer).outcome?;
     seat.accepted = book.accepted_by(worker);
     take_prices(
         book,

@@ -1,20 +1,19 @@
 // The steps of a worker's session with the book.
-ghost use Rattle.std.specs.Prelude.{◌≡◌, ◌≢◌, ℕ, ℤ, List, Result, OnErr, OnOk, length, true};
+ghost use Rattle.std.specs.Prelude.{◌≡◌, ℕ, ℤ, List, None, Some, OnErr, OnOk, length, true};
 ghost use Rattle.assign_core.specs.Numbered.{IsNumber, numbered};
 ghost use Rattle.assign_core.specs.Prices.{IsBelow};
 ghost use Rattle.scaled_values.specs.Scaled.{ScaledProblem};
 ghost use Rattle.bidder.specs.Offers.{IsUnder, benefits_at};
+ghost use Rattle.bidder.specs.declared.offers.Offer.TheVariants as made;
 ghost use Rattle.price_log.specs.History.{IsEarlier};
 ghost use Rattle.auction_book.specs.Book.{Holds, prices_of};
 ghost use Rattle.auction_book.specs.Claims.{IsAsked};
 ghost use Rattle.auction_book.specs.Free.{IsFree};
 ghost use Rattle.auction_book.specs.Phases.{is_over};
-ghost use Rattle.auction_book.specs.Submissions.{IsFitting, IsSubmitted};
-ghost use Rattle.auction_book.specs.declared.answers.Accepted.{Accepted};
-ghost use Rattle.auction_book.specs.declared.answers.Refused.{Refused};
-ghost use Rattle.auction_book.specs.Session.{IsLeftUndone, IsPrepared, IsReachRecorded, Submits, book_taken, next_if_over, prepared, table_taken, version_taken};
+ghost use Rattle.auction_book.specs.Submissions.{IsFitting};
+ghost use Rattle.auction_book.specs.Session.{EndsClaim, IsHandedIn, IsPrepared, IsReachRecorded, book_taken, next_if_over, prepared, table_taken, version_taken};
 
-use super::answers::{Claim, Refused};
+use super::answers::{Claim, Note, Refused, Submission};
 use super::book::Book;
 use assign_core::Prices;
 use bidder::{BelowFloor, Bid, Offer, make_bid};
@@ -52,46 +51,71 @@ pub fn record_below(
     }
 }
 
-// A bid is submitted. Only a refused growth is told.
-fn submit_bid(book: &mut Book, worker: u16, bid: Bid) -> Result<(), AllocError>
+// A bid is submitted.
+fn submit_bid(book: &mut Book, worker: u16, bid: Bid) -> Submission
     requires worker { IsNumber (length book.old.claims) worker }
     requires fitting { IsFitting book.old bid }
-    ensures ok { OnOk result ((answer : Result Accepted Refused) × (answer ≢ Err Refused.Memory)
-        × IsSubmitted book.old worker bid answer book.new) }
-    ensures err { OnErr result (IsSubmitted book.old worker bid (Err Refused.Memory) book.new) }
+    ensures handed_in { IsHandedIn book.old worker (Some (made.Bid bid)) book.new result.note result.outcome }
     ensures free { IsFree book.new }
 {
     match book.submit(worker, bid) {
-        Err(Refused::Memory) => Err(AllocError),
-        _ => Ok(()),
+        Ok(_) => Submission {
+            note: Note::Accepted,
+            outcome: Ok(()),
+        },
+        Err(Refused::Memory) => Submission {
+            note: Note::Refused(Refused::Memory),
+            outcome: Err(AllocError),
+        },
+        Err(refused) => Submission {
+            note: Note::Refused(refused),
+            outcome: Ok(()),
+        },
+    }
+}
+
+// What stops a person below the floor is recorded. Where memory is refused the claim is given up.
+fn submit_below(alloc: Global, book: &mut Book, worker: u16, below: BelowFloor) -> Submission
+    requires worker { IsNumber (length book.old.claims) worker }
+    requires held { Holds book.old worker below.person }
+    requires phase { below.phase ≡ book.old.phase }
+    requires under { (q : List ℤ) × IsBelow q (prices_of book.old)
+        × IsUnder (benefits_at book.old.base below.person) q book.old.floor }
+    ensures handed_in { IsHandedIn book.old worker (Some (made.Below below)) book.new result.note result.outcome }
+    ensures free { IsFree book.new }
+{
+    let outcome = record_below(alloc, book, worker, below);
+    if outcome.is_err() {
+        book.give_up(worker);
+    }
+    Submission {
+        note: Note::Nothing,
+        outcome,
     }
 }
 
 /// Submits a worker's prepared offer, if it has one: a bid is accepted or refused, and what stops a
-/// person below the floor is recorded.
+/// person below the floor is recorded. The worker's claim is over then, whatever came of it.
 ///
-/// # Errors
-/// Only where memory is refused. A bid is refused then, so that its person waits again, and after
-/// a search nothing has changed.
-pub fn submit_offer(
-    alloc: Global,
-    book: &mut Book,
-    worker: u16,
-    offer: Option<Offer>,
-) -> Result<(), AllocError>
+/// Where a growth is refused the outcome is an error: a bid is refused for want of memory then, and
+/// after a search only the claim is given up, so that the person waits again.
+pub fn submit_offer(alloc: Global, book: &mut Book, worker: u16, offer: Option<Offer>) -> Submission
     requires worker { IsNumber (length book.old.claims) worker }
     requires prepared { (table : List ℤ) × (version : ℕ) × IsBelow table (prices_of book.old)
         × IsPrepared book.old worker table version offer }
-    ensures ok { OnOk result (Submits book.old worker offer book.new) }
-    ensures err { OnErr result (IsLeftUndone book.old worker offer book.new) }
+    ensures handed_in { IsHandedIn book.old worker offer book.new result.note result.outcome }
+    ensures ends { EndsClaim worker book.old book.new }
     ensures free { IsFree book.new }
 {
     // For the proof alone: the book is free.
     let _claim = book.claimed_by(worker);
     match offer {
-        None => Ok(()),
+        None => Submission {
+            note: Note::Nothing,
+            outcome: Ok(()),
+        },
         Some(Offer::Bid(bid)) => submit_bid(book, worker, bid),
-        Some(Offer::Below(below)) => record_below(alloc, book, worker, below),
+        Some(Offer::Below(below)) => submit_below(alloc, book, worker, below),
     }
 }
 

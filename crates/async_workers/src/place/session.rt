@@ -1,100 +1,25 @@
 // A session with the book in hand.
-ghost use Rattle.std.specs.Prelude.{◌≡◌, ℕ, ℤ, List, None, true, length, IfOk, OnErr};
+ghost use Rattle.std.specs.Prelude.{◌≡◌, None, true, length, IfOk, OnErr};
 ghost use Rattle.assign_core.specs.Numbered.{IsNumber, numbered};
-ghost use Rattle.assign_core.specs.Prices.{IsBelow};
 ghost use Rattle.auction_book.specs.declared.answers.Claim.{Claim};
-ghost use Rattle.auction_book.specs.Book.{BookData, Holds, prices_of};
+ghost use Rattle.auction_book.specs.Book.{BookData};
 ghost use Rattle.auction_book.specs.Claims.{IsAsked, after_claim, claim_of};
 ghost use Rattle.auction_book.specs.Free.{IsFree};
 ghost use Rattle.auction_book.specs.Phases.{is_over};
-ghost use Rattle.auction_book.specs.Session.{IsPrepared, book_taken, next_if_over};
-ghost use Rattle.auction_book.specs.Submissions.{IsFitting};
-ghost use Rattle.bidder.specs.Offers.{IsUnder, benefits_at};
-ghost use Rattle.bidder.specs.declared.offers.Offer.TheVariants as made;
+ghost use Rattle.auction_book.specs.Session.{IsHandedIn, IsPrepared, book_taken, next_if_over};
 ghost use Rattle.async_workers.specs.Hand.{IsInHand};
-ghost use Rattle.async_workers.specs.Session.{Ends, IsHandedIn, catches_up, counted, is_too_low, with_table};
+ghost use Rattle.async_workers.specs.Session.{Ends, catches_up, counted, is_too_low, with_table};
 
 use super::{Desk, Held};
-use crate::gate::Note;
-use auction_book::{Book, Claim, Refused, begin_next_if_over, record_below};
-use bidder::{BelowFloor, Bid, Offer};
+use auction_book::{Claim, Note, Refused, Submission, begin_next_if_over, submit_offer};
+use bidder::Offer;
 use std::alloc::{AllocError, Global};
-
-// What came of an offer, and whether a growth was refused.
-#[derive(Drop)]
-pub(super) struct Submission {
-    pub note: Note,
-    pub outcome: Result<(), AllocError>,
-}
 
 // What came of a session: what is told of its offer, and what the worker's claim was answered.
 #[derive(Drop)]
 pub(super) struct Ended {
     pub note: Note,
     pub outcome: Result<Claim, AllocError>,
-}
-
-// A bid is submitted.
-fn submit_bid(book: &mut Book, worker: u16, bid: Bid) -> Submission
-    requires worker { IsNumber (length book.old.claims) worker }
-    requires fitting { IsFitting book.old bid }
-    ensures handed_in { IsHandedIn book.old worker (Some (made.Bid bid)) book.new result.note result.outcome }
-    ensures free { IsFree book.new }
-{
-    match book.submit(worker, bid) {
-        Ok(_) => Submission {
-            note: Note::Accepted,
-            outcome: Ok(()),
-        },
-        Err(Refused::Memory) => Submission {
-            note: Note::Refused(Refused::Memory),
-            outcome: Err(AllocError),
-        },
-        Err(refused) => Submission {
-            note: Note::Refused(refused),
-            outcome: Ok(()),
-        },
-    }
-}
-
-// What stops a person below the floor is recorded. Where memory is refused the claim is given up.
-fn search(alloc: Global, book: &mut Book, worker: u16, below: BelowFloor) -> Submission
-    requires worker { IsNumber (length book.old.claims) worker }
-    requires held { Holds book.old worker below.person }
-    requires phase { below.phase ≡ book.old.phase }
-    requires under { (q : List ℤ) × IsBelow q (prices_of book.old)
-        × IsUnder (benefits_at book.old.base below.person) q book.old.floor }
-    ensures handed_in { IsHandedIn book.old worker (Some (made.Below below)) book.new result.note result.outcome }
-    ensures free { IsFree book.new }
-{
-    let outcome = record_below(alloc, book, worker, below);
-    if outcome.is_err() {
-        book.give_up(worker);
-    }
-    Submission {
-        note: Note::Nothing,
-        outcome,
-    }
-}
-
-// The worker's offer, if it has one, is submitted or searched.
-fn hand_in(alloc: Global, book: &mut Book, worker: u16, offer: Option<Offer>) -> Submission
-    requires worker { IsNumber (length book.old.claims) worker }
-    requires prepared { (table : List ℤ) × (version : ℕ) × IsBelow table (prices_of book.old)
-        × IsPrepared book.old worker table version offer }
-    ensures handed_in { IsHandedIn book.old worker offer book.new result.note result.outcome }
-    ensures free { IsFree book.new }
-{
-    // For the proof alone: the book is free.
-    let _claim = book.claimed_by(worker);
-    match offer {
-        None => Submission {
-            note: Note::Nothing,
-            outcome: Ok(()),
-        },
-        Some(Offer::Bid(bid)) => submit_bid(book, worker, bid),
-        Some(Offer::Below(below)) => search(alloc, book, worker, below),
-    }
 }
 
 impl Held {
@@ -116,7 +41,7 @@ fn offer_in(alloc: Global, held: &mut Held, desk: &Desk) -> Submission
     ensures none { numbered held.new.book.claims desk.now.number None ≡ None }
 {
     let offer = held.take_offer();
-    hand_in(alloc, held.book_mut(), desk.number, offer)
+    submit_offer(alloc, held.book_mut(), desk.number, offer)
 }
 
 fn was_too_low(note: Note) -> bool

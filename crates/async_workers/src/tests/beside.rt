@@ -106,7 +106,7 @@ fn submit(alloc: Global, book: &mut Book, plain: &Plain, offer: Offer) -> Result
     requires below { IsBelow plain.now.table (prices_of book.old) }
     requires prepared { IsPrepared book.old plain.now.number plain.now.table plain.now.version (Some offer) }
 {
-    submit_offer(alloc, book, plain.number, Some(offer))
+    submit_offer(alloc, book, plain.number, Some(offer)).outcome
 }
 
 fn is_prepared(plain: &Plain, offer: &Offer) -> bool {

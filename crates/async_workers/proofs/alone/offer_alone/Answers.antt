@@ -1,13 +1,12 @@
-use Rattle.std.proofs.Common.{◌≡◌, ◌∙◌, None, length, sym, ap, subst}
-use Rattle.assign_core.specs.Numbered.{IsNumber, numbered}
+use Rattle.std.proofs.Common.{◌∙◌, length, sym, ap, subst}
+use Rattle.assign_core.specs.Numbered.{IsNumber}
 use Rattle.assign_core.proofs.Matchings.{below_itself}
 use Rattle.scaled_values.specs.Scaled.{ScaledProblem}
 use Rattle.auction_book.specs.Book.{BookData, prices_of}
 use Rattle.auction_book.specs.Claims.{IsAsked}
-use Rattle.auction_book.specs.Follows.{GoesOn}
-use Rattle.auction_book.specs.Session.{Submits}
+use Rattle.auction_book.proofs.Following.{goes_on_through}
 use Rattle.auction_book.proofs.Runs.{after_claim-base}
-use Rattle.async_workers.proofs.Single.{alone_claimed, alone_left, alone_prepared, on_ok}
+use Rattle.async_workers.proofs.Single.{alone_claimed, alone_prepared}
 use Rattle.async_workers.proofs.alone.offer_alone.Goals as goal
 
 pub prepare-offer-requires-clause-table : goal.prepare-offer-requires-clause-table
@@ -37,16 +36,5 @@ submit_offer-requires-clause-prepared c =
 
 pub returns-clause-goes_on : goal.returns-clause-goes_on
 returns-clause-goes_on c =
-    let b = c.claim-claim.new.self in
-    let new = c.submit_offer.new.book in
-    on_ok c.submit_offer.result (Submits b 1 c.prepare-offer.result new) (GoesOn c.args.book.now new) c.submit_offer.ensures.ok
-    (λ submits. (alone_left c.args.book.now b new c.deref.result.now c.prices.result.now c.version.result c.claim-claim.result c.prepare-offer.result c.workers-workers.ensures.free c.requires.worker c.requires.none c.claim-claim.ensures.answer
-    c.claim-claim.ensures.book (c.deref.ensures ∙ c.scaled.ensures.scaled) c.prices.ensures.prices c.prepare-offer.ensures c.claim-claim.ensures.free submits).0)
-
-pub returns-clause-none : goal.returns-clause-none
-returns-clause-none c =
-    let b = c.claim-claim.new.self in
-    let new = c.submit_offer.new.book in
-    on_ok c.submit_offer.result (Submits b 1 c.prepare-offer.result new) (numbered new.claims 1 None ≡ None) c.submit_offer.ensures.ok
-    (λ submits. (alone_left c.args.book.now b new c.deref.result.now c.prices.result.now c.version.result c.claim-claim.result c.prepare-offer.result c.workers-workers.ensures.free c.requires.worker c.requires.none c.claim-claim.ensures.answer
-    c.claim-claim.ensures.book (c.deref.ensures ∙ c.scaled.ensures.scaled) c.prices.ensures.prices c.prepare-offer.ensures c.claim-claim.ensures.free submits).1)
+    let claimed = alone_claimed c.args.book.now c.claim-claim.new.self c.claim-claim.result c.workers-workers.ensures.free c.requires.worker c.requires.none c.claim-claim.ensures.answer c.claim-claim.ensures.book in
+    goes_on_through c.args.book.now c.claim-claim.new.self c.submit_offer.new.book claimed.goes_on c.submit_offer.ensures.ends.follows.goes_on

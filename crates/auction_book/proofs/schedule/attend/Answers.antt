@@ -5,7 +5,7 @@ use Rattle.scaled_values.specs.Scaled.{ScaledProblem}
 use Rattle.auction_book.specs.Book.{BookData}
 use Rattle.auction_book.specs.Claims.{IsAsked, after_claim, claim_of}
 use Rattle.auction_book.specs.Session.{IsPrepared, Submits, book_next, next_if_over}
-use Rattle.auction_book.proofs.Runs.{IsAttended, after_claim-base, attended, next_long, next_workers, same_offers, same_seats}
+use Rattle.auction_book.proofs.Runs.{IsAttended, after_claim-base, attended, next_long, next_workers, noted_of, same_offers, same_seats}
 use Rattle.auction_book.proofs.schedule.attend.Goals as goal
 use Rattle.auction_book.proofs.schedule.attend.Goals.{After-deref, In_ok-begin_next_if_over, In_ok-submit_offer}
 
@@ -15,7 +15,8 @@ submit_offer-requires-clause-prepared c =
     (s.table, s.version, c.requires.seat.long, subst (IsPrepared c.args.book.now c.args.event.worker s.table s.version) (sym c.take-offer.ensures.value) c.requires.seat.prepared)
 
 submits : (c : In_ok-submit_offer) → Submits c.args.book.now c.args.event.worker c.args.seat.now.offer c.submit_offer.new.book
-submits c = subst (λ (o : Option Offer). Submits c.args.book.now c.args.event.worker o c.submit_offer.new.book) c.take-offer.ensures.value c.in_ok-submit_offer.ensures.ok
+submits c = subst (λ (o : Option Offer). Submits c.args.book.now c.args.event.worker o c.submit_offer.new.book) c.take-offer.ensures.value
+    (c.submit_offer.result.note, noted_of c.args.book.now c.submit_offer.new.book c.args.event.worker c.take-offer.result c.submit_offer.result.note c.submit_offer.result.outcome _ c.in_ok-submit_offer.was c.submit_offer.ensures.handed_in)
 
 attends : (c : In_ok-submit_offer) → IsAttended c.args.event.worker c.args.event.catch_up c.args.book.now c.submit_offer.new.book c.args.seat.now.table c.args.seat.now.version
 attends c = attended c.args.event.worker c.args.event.catch_up c.args.book.now c.submit_offer.new.book c.args.seat.now c.claimed_by-claim.ensures.free c.requires.worker c.requires.seat (submits c)

@@ -1,6 +1,7 @@
 use Rattle.std.proofs.Common.{◌∙◌, ap}
 use Rattle.async_workers.specs.Session.{counted}
-use Rattle.async_workers.proofs.Sessions.{ends, ends_undone, noted_of}
+use Rattle.auction_book.proofs.Runs.{noted_of}
+use Rattle.async_workers.proofs.Sessions.{ends, ends_undone}
 use Rattle.async_workers.proofs.place.session.session.Goals as goal
 
 pub returns-in-Err-clause-ends : goal.returns-in-Err-clause-ends
