@@ -1,5 +1,6 @@
 // Answers of any origin, taken where they are proofs.
-ghost use Rattle.std.specs.Prelude.{◌≡◌, ◌↔◌, IsTrue, IfOk};
+ghost use Rattle.std.specs.Prelude.{◌≡◌, ◌↔◌, IsTrue, IfOk, IfSome};
+ghost use Rattle.assign_core.specs.declared.sense.Sense.{Sense};
 ghost use Rattle.assign_core.specs.Slackness.{IsCertificate};
 ghost use Rattle.assign_core.specs.Hall.{IsHallSet};
 ghost use Rattle.assign_core.specs.Outcomes.{IsProof};
@@ -53,9 +54,10 @@ pub fn confirm_best(
     objects: Vec<Object>,
     prices: Vec<Price>,
 ) -> Result<Option<Outcome>, AllocError>
-    ensures { IfOk result (IsConfirmed
+    ensures lists { IfOk result (IsConfirmed
         (IsCertificate sense problem.now objects.items prices.items)
         (Outcome.Best (record { assignment = objects.items; prices = prices.items }))) }
+    ensures proof { IfOk result (λ found. IfSome found (IsProof sense problem.now)) }
 {
     let verdict = check(alloc, problem, sense, objects.as_slice(), prices.as_slice())?;
     if verdict != Verdict::Yes {
@@ -81,9 +83,11 @@ pub fn confirm_hall(
     persons: Vec<Person>,
     objects: Vec<Object>,
 ) -> Result<Option<Outcome>, AllocError>
-    ensures { IfOk result (IsConfirmed
+    ensures lists { IfOk result (IsConfirmed
         (IsHallSet problem.now persons.items objects.items)
         (Outcome.Hall (record { persons = persons.items; objects = objects.items }))) }
+    ensures proof { IfOk result (λ found. IfSome found (λ outcome. (sense : Sense)
+        → IsProof sense problem.now outcome)) }
 {
     let verdict = check_hall(alloc, problem, persons.as_slice(), objects.as_slice())?;
     if verdict != HallVerdict::Yes {

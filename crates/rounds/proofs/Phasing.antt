@@ -1,5 +1,5 @@
 -- Phases follow each other, and a round is one of the plain definition.
-use Rattle.std.proofs.Common.{◌≡◌, ℕ, pos, ◌+◌, ◌<◌, ◌&&◌, List, [], ◌∷◌, None, Some, option_map, Bool, true, false, not, cond, length, refl, ap, sym, ◌∙◌, arith}
+use Rattle.std.proofs.Common.{◌≡◌, ℕ, pos, ◌+◌, ◌<◌, ◌&&◌, List, [], ◌∷◌, None, Some, option_map, Bool, true, false, not, cond, length, refl, ap, sym, ◌∙◌, subst, arith}
 use Rattle.std.specs.Ordering.{int_eq}
 use Rattle.scaled_values.specs.Scaled.{ScaledProblem, fifth, next_eps}
 use Rattle.scaled_values.proofs.EpsList.{next_is}
@@ -8,9 +8,10 @@ use Rattle.auction_book.specs.Book.{BookData, ask_of, persons_of, prices_of}
 use Rattle.auction_book.specs.Changes.{phased}
 use Rattle.auction_book.specs.Free.{IsFree}
 use Rattle.auction_book.specs.Phases.{is_assigned, is_done, is_over, persons}
+use Rattle.auction_book.specs.Session.{next_if_over}
 use Rattle.auction_book.proofs.Opening.{length-persons}
 use Rattle.auction_book.proofs.Following.{over_is}
-use Rattle.rounds.specs.Books.{HaveOffered, IsAtRest, IsClaimed, phased_by, plain_of}
+use Rattle.rounds.specs.Books.{HaveOffered, IsAtRest, IsClaimed, plain_of}
 use Rattle.rounds.specs.Offers.{offers_of}
 use Rattle.rounds.specs.Plain.{Plain, all_turned, begun, ready, ready_by, round}
 use Rattle.rounds.proofs.Waiting.{assigned_empty, empty_assigned}
@@ -66,13 +67,24 @@ phase_ready b free over =
     let none = assigned_empty b free (both_left (is_assigned b) (not (int_eq b.eps (pos 1))) over) in
     ready_as b.base (plain_of b) [] none ∙ ap (option_map (begun b.base (prices_of b) (b.phase + 1))) (next_is b.eps is.more)
 
+-- a phase begins with nobody claimed where nobody was
+rest_next : (b : BookData) (t : Bool) → IsAtRest b → IsFree (cond t (phased b) b) → IsAtRest (cond t (phased b) b)
+rest_next b true rest free = record {
+  going = record { free = free; unrefuted = rest.going.unrefuted; unstopped = rest.going.unstopped; workers = rest.going.workers };
+  unclaimed = rest.unclaimed;
+}
+rest_next b false rest free = rest
+
+pub next_rests : (b mid : BookData) → IsAtRest b → mid ≡ next_if_over b → IsFree mid → IsAtRest mid
+next_rests b mid rest e free = subst IsAtRest (sym e) (rest_next b (is_over b) rest (subst IsFree e free))
+
 -- what follows a book at rest, once its next phase has begun where it does
-pub went_on : (b : BookData) (t : Bool) → IsAtRest b → is_over b ≡ t → 0 < length (phased_by t b).queue → ready b.base (plain_of b) ≡ Some (plain_of (phased_by t b))
+pub went_on : (b : BookData) (t : Bool) → IsAtRest b → is_over b ≡ t → 0 < length (cond t (phased b) b).queue → ready b.base (plain_of b) ≡ Some (plain_of (cond t (phased b) b))
 went_on b true rest over some = phase_ready b rest.going.free over
 went_on b false rest over some = some_ready b.base (plain_of b) some
 
 -- a phase that begins has waiting persons, so where nobody waits none has begun
-pub not_begun : (b : BookData) (t : Bool) → IsAtRest b → (phased_by t b).queue ≡ [] → t ≡ false
+pub not_begun : (b : BookData) (t : Bool) → IsAtRest b → (cond t (phased b) b).queue ≡ [] → t ≡ false
 not_begun b true rest none =
     let long = length-persons (persons_of b) in
     let some = rest.going.free.problem.size.some in

@@ -10,7 +10,7 @@ use Rattle.bidder.specs.declared.offers.Bid.{Bid}
 use Rattle.bidder.specs.declared.offers.Offer.{Offer}
 use Rattle.bidder.specs.Offers.{IsUnder, benefits_at}
 use Rattle.auction_book.specs.Book.{BookData, Holds, ask_of, prices_of}
-use Rattle.auction_book.specs.Changes.{accepted, phased, released}
+use Rattle.auction_book.specs.Changes.{accepted, released}
 use Rattle.auction_book.specs.Free.{IsFree}
 use Rattle.rounds.specs.declared.rounds.Round.{Round}
 use Rattle.rounds.specs.declared.rounds.Round.TheVariants as came
@@ -84,8 +84,3 @@ abbrev pub IsRound : BookData → Round → BookData → Type 0
 IsRound old came.Over new = (old.queue ≡ []) × (plain_of new ≡ plain_of old) × IsAtRest new
 IsRound old (came.Halted person) new = (0 < length old.queue) × (round old.base (plain_of old) ≡ Ends (Halted person (plain_of new))) × IsBelowFloor new person
 IsRound old came.More new = (0 < length old.queue) × (round old.base (plain_of old) ≡ Goes (plain_of new)) × IsAtRest new × (room (prices_of new) < room (prices_of old))
-
--- the next phase, if this one is over
-abbrev pub phased_by : Bool → BookData → BookData
-phased_by true b = phased b
-phased_by false b = b

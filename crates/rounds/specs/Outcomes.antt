@@ -2,9 +2,7 @@
 use Rattle.std.specs.Prelude.{◌≡◌, ◌↔◌, ℕ, ℤ, List, Option, Some, length}
 use Rattle.assign_core.specs.Numbered.{IsNumber, numbered}
 use Rattle.assign_core.specs.Matching.{owner_of}
-use Rattle.assign_core.specs.Assignment.{IsAssignment}
-use Rattle.assign_core.specs.Slackness.{IsCertificate}
-use Rattle.assign_core.specs.Hall.{IsHallSet}
+use Rattle.assign_core.specs.Outcomes as core
 use Rattle.assign_core.specs.declared.outcome.Outcome.{Outcome}
 use Rattle.assign_core.specs.declared.outcome.Outcome.TheVariants.{Best, Hall}
 use Rattle.scaled_values.specs.Scaled.{ScaledProblem}
@@ -27,12 +25,10 @@ IsOutcome s (Halted person b) (Best c) = ⊥
 abbrev pub IsOfRounds : ScaledProblem → List ℤ → Outcome → Type 0
 IsOfRounds s prices outcome = (m : ℕ) × (end : End) × (run s m (opening s prices) ≡ Ends end) × IsOutcome s end outcome
 
--- an assignment with prices that prove it best, or a set that proves that there is none
+-- the outcome is a proof of the problem under its sense
 abbrev pub IsProof : ScaledProblem → Outcome → Type 0
-IsProof s (Best c) = IsCertificate s.sense s.problem c.assignment c.prices
-IsProof s (Hall h) = IsHallSet s.problem h.persons h.objects
+IsProof s outcome = core.IsProof s.sense s.problem outcome
 
--- a best assignment where there is one, and a Hall set where there is none
+-- a best assignment where there is an assignment, and a Hall set where there is none
 abbrev pub IsDecided : ScaledProblem → Outcome → Type 0
-IsDecided s (Best c) = (xs : List ℕ) × IsAssignment s.problem xs
-IsDecided s (Hall h) = (xs : List ℕ) → IsAssignment s.problem xs → ⊥
+IsDecided s outcome = core.IsDecided s.problem outcome

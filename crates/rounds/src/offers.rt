@@ -7,13 +7,15 @@ ghost use Rattle.rounds.specs.Offers.{CanOffer, offers_of};
 use assign_core::{Person, Prices};
 use bidder::{Ask, BelowFloor, Offer, make_bid};
 use rayon::prelude::*;
-use scaled_values::{Row, Scaled};
+use scaled_values::Scaled;
 use std::alloc::AllocError;
 use std::thread::Threads;
 
-/// A piece of a round for a thread of its own has at least so many listed pairs, and a round of less
-/// than four such pieces is computed by the calling thread. A thread costs some 15 microseconds to
-/// start, which is what some 15,000 pairs cost.
+/// A round is cut into pieces of so many listed pairs or more, each for a thread of its own, where
+/// it has at least four times as many; a smaller one is computed by the calling thread. Pieces have
+/// equally many persons, so one whose persons list less than others do has fewer pairs, and the last
+/// one may be short. A thread costs some 15 microseconds to start, which is what some 15,000 pairs
+/// cost.
 pub const LEAST_PAIRS: usize = 1 << 16;
 
 // What stands in a buffer before it is filled.
@@ -81,23 +83,13 @@ fn fill_here(scaled: &Scaled, prices: &Prices, ask: Ask, persons: &[Person], off
     fill_from(scaled, prices, ask, persons, 0, offers);
 }
 
-// How many objects a person lists.
-fn listed_by(scaled: &Scaled, person: Person) -> usize
-    requires { IsNumber (length scaled.now.problem) person }
-{
-    match scaled.row(person) {
-        Row::Full(benefits) => benefits.len(),
-        Row::Pairs(pairs) => pairs.len(),
-    }
-}
-
 // How many pairs the persons list, or the greatest `usize` if they are more.
 fn pairs_of(scaled: &Scaled, persons: &[Person]) -> usize
     requires { All (IsNumber (length scaled.now.problem)) persons.now }
 {
     let mut pairs: usize = 0;
     for person in persons {
-        pairs = pairs.saturating_add(listed_by(scaled, *person));
+        pairs = pairs.saturating_add(scaled.problem().row(*person).len());
     }
     pairs
 }
@@ -115,8 +107,8 @@ fn piece_of(persons: usize, pairs: usize, least: usize) -> usize
 }
 
 /// The offers of the persons from one table, in their order, into a buffer that is reused. Threads
-/// are started where the persons list at least four times `least` pairs, one for a piece of at
-/// least some `least` pairs.
+/// are started where the persons list at least four times `least` pairs, one for a piece of some
+/// `least` pairs or more. Rounds keep no versions: the version of each bid is 0.
 pub fn make_offers(
     rt: &(impl Threads + Sync),
     least: usize,
@@ -145,4 +137,69 @@ pub fn make_offers(
         );
     }
     Ok(())
+}
+
+/// Who makes the offers of a round.
+pub trait Offering {
+    /// What lets it make them.
+    ghost ready: { Type 0 };
+
+    /// The offers of the persons from one table, in their order, into a buffer that is reused.
+    fn make(
+        &mut self,
+        scaled: &Scaled,
+        prices: &Prices,
+        ask: Ask,
+        persons: &[Person],
+        offers: &mut Vec<Offer>,
+    ) -> Result<(), AllocError>
+        requires ready { ready }
+        requires can { CanOffer scaled.now prices.now ask persons.now }
+        ensures { OnOk result
+            (offers.new.items ≡ offers_of scaled.now prices.now ask persons.now) };
+}
+
+/// The calling thread makes all offers.
+#[derive(Clone, Copy)]
+pub struct Alone;
+
+impl Offering for Alone {
+    ghost ready = { Unit };
+
+    fn make(
+        &mut self,
+        scaled: &Scaled,
+        prices: &Prices,
+        ask: Ask,
+        persons: &[Person],
+        offers: &mut Vec<Offer>,
+    ) -> Result<(), AllocError> {
+        offers.resize(persons.len(), NOTHING)?;
+        fill_here(scaled, prices, ask, persons, offers.as_mut_slice());
+        Ok(())
+    }
+}
+
+/// Threads make the offers, each those of a piece of some `least` listed pairs or more.
+#[derive(Clone, Copy)]
+pub struct InPieces<'a, R> {
+    pub rt: &'a R,
+    pub least: usize,
+}
+
+impl<R: Threads + Sync> Offering for InPieces<'_, R> {
+    ghost use Rattle.std.specs.Thread.{IsSync};
+
+    ghost ready = { IsSync R.row };
+
+    fn make(
+        &mut self,
+        scaled: &Scaled,
+        prices: &Prices,
+        ask: Ask,
+        persons: &[Person],
+        offers: &mut Vec<Offer>,
+    ) -> Result<(), AllocError> {
+        make_offers(self.rt, self.least, scaled, prices, ask, persons, offers)
+    }
 }

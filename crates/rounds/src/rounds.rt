@@ -10,12 +10,12 @@ ghost use Rattle.auction_book.specs.Free.{IsFree};
 ghost use Rattle.auction_book.specs.Phases.{is_over};
 ghost use Rattle.auction_book.specs.Submissions.{IsFitting};
 ghost use Rattle.rounds.specs.Plain.{Finished, Halted};
-ghost use Rattle.rounds.specs.Books.{plain_of, AreTurned, HaveOffered, IsAtRest, IsBelowFloor, IsClaimed, IsGoing, IsRound, book_turned, phased_by};
+ghost use Rattle.rounds.specs.Books.{plain_of, AreTurned, HaveOffered, IsAtRest, IsBelowFloor, IsClaimed, IsGoing, IsRound, book_turned};
 ghost use Rattle.rounds.specs.Outcomes.{IsDecided, IsOfRounds, IsOutcome, IsProof};
 
-use super::offers::{LEAST_PAIRS, make_offers};
+use super::offers::{Alone, InPieces, LEAST_PAIRS, Offering};
 use assign_core::{GREATEST_FIRST_PRICE, Outcome, Person, Prices, SolveFault};
-use auction_book::{Book, Claim, Refused};
+use auction_book::{Book, Claim, Refused, begin_next_if_over};
 use bidder::{Bid, Offer};
 use hall_refuter::{Search, refute};
 use scaled_values::Scaled;
@@ -107,14 +107,14 @@ fn submit_all(book: &mut Book, offers: &[Offer]) -> Result<Option<Person>, Alloc
 
 // One round: all who wait make their offers from one table, and these are submitted in turn. A
 // person that finds nothing worth the floor ends it at its turn.
-pub(super) fn run_round(
-    rt: &(impl Threads + Sync),
-    least: usize,
+pub(super) fn run_round<O: Offering>(
+    offering: &mut O,
     book: &mut Book,
     persons: &mut Vec<Person>,
     offers: &mut Vec<Offer>,
 ) -> Result<Round, AllocError>
-    requires { IsAtRest book.old }
+    requires ready { O.ready }
+    requires rest { IsAtRest book.old }
     ensures round { IfOk result (λ came. IsRound book.old came book.new) }
     ensures base { OnOk result (book.new.base ≡ book.old.base) }
 {
@@ -123,9 +123,7 @@ pub(super) fn run_round(
         return Ok(Round::Over);
     }
     let ask = book.ask();
-    make_offers(
-        rt,
-        least,
+    offering.make(
         book.scaled(),
         book.prices(),
         ask,
@@ -136,18 +134,6 @@ pub(super) fn run_round(
         Some(person) => Ok(Round::Halted(person)),
         None => Ok(Round::More),
     }
-}
-
-// The next phase begins, if this one is over.
-pub(super) fn go_on(alloc: Global, book: &mut Book) -> Result<(), AllocError>
-    requires { IsAtRest book.old }
-    ensures phased { OnOk result (book.new ≡ phased_by (is_over book.old) book.old) }
-    ensures rest { OnOk result (IsAtRest book.new) }
-{
-    if book.phase_over() {
-        book.next_phase(alloc)?;
-    }
-    Ok(())
 }
 
 // What everybody owns in the last phase.
@@ -177,14 +163,14 @@ fn halt(alloc: Global, book: &Book, person: Person) -> Result<Outcome, AllocErro
     }
 }
 
-// Rounds from these prices up to their end, in pieces of at least so many listed pairs.
-pub(super) fn run_rounds(
-    rt: &(impl Threads + Sync),
-    least: usize,
+// Rounds from these prices up to their end.
+pub(super) fn run_rounds<O: Offering>(
+    offering: &mut O,
     alloc: Global,
     scaled: Arc<Scaled>,
     prices: Prices,
 ) -> Result<Outcome, AllocError>
+    requires ready { O.ready }
     requires long { length prices ≡ length (arc_value scaled).problem }
     requires low { greatest_of prices ≤ℤ GREATEST_FIRST_PRICE }
     ensures rounds { IfOk result (IsOfRounds (arc_value scaled) prices) }
@@ -195,12 +181,37 @@ pub(super) fn run_rounds(
     let mut persons = Vec::new(alloc);
     let mut offers = Vec::new(alloc);
     'rounds: loop {
-        go_on(alloc, &mut book)?;
-        match run_round(rt, least, &mut book, &mut persons, &mut offers)? {
+        begin_next_if_over(alloc, &mut book)?;
+        match run_round(offering, &mut book, &mut persons, &mut offers)? {
             Round::Over => return finish(alloc, &book),
             Round::Halted(person) => return halt(alloc, &book, person),
             Round::More => {}
         }
+    }
+}
+
+/// Solves by rounds of offers as `solve_rounds_from` does, where `offering` makes the offers of each
+/// round. The outcome is that of plain rounds, whoever makes them.
+///
+/// # Errors
+/// Only where memory is refused.
+pub fn solve_rounds_by<O: Offering>(
+    offering: &mut O,
+    alloc: Global,
+    scaled: Arc<Scaled>,
+    prices: Prices,
+) -> Result<Outcome, SolveFault>
+    requires ready { O.ready }
+    requires long { length prices ≡ length (arc_value scaled).problem }
+    requires low { greatest_of prices ≤ℤ GREATEST_FIRST_PRICE }
+    ensures rounds { IfOk result (IsOfRounds (arc_value scaled) prices) }
+    ensures proof { IfOk result (IsProof (arc_value scaled)) }
+    ensures decided { IfOk result (IsDecided (arc_value scaled)) }
+    ensures memory { IfErr result (λ fault. fault ≡ SolveFault.Memory) }
+{
+    match run_rounds(offering, alloc, scaled, prices) {
+        Ok(outcome) => Ok(outcome),
+        Err(_) => Err(SolveFault::Memory),
     }
 }
 
@@ -229,10 +240,11 @@ pub fn solve_rounds_from(
     ensures decided { IfOk result (IsDecided (arc_value scaled)) }
     ensures memory { IfErr result (λ fault. fault ≡ SolveFault.Memory) }
 {
-    match run_rounds(rt, LEAST_PAIRS, alloc, scaled, prices) {
-        Ok(outcome) => Ok(outcome),
-        Err(_) => Err(SolveFault::Memory),
-    }
+    let mut pieces = InPieces {
+        rt,
+        least: LEAST_PAIRS,
+    };
+    solve_rounds_by(&mut pieces, alloc, scaled, prices)
 }
 
 /// Solves by rounds of offers as `solve_rounds_from` does, with all first prices 0.
@@ -252,6 +264,43 @@ pub fn solve_rounds(
 {
     match Prices::zeros(alloc, scaled.n()) {
         Ok(zeros) => solve_rounds_from(rt, alloc, scaled, zeros),
+        Err(_) => Err(SolveFault::Memory),
+    }
+}
+
+/// Solves by rounds of offers as `solve_rounds_from` does, in the calling thread alone, so that it
+/// needs no handle. The outcome is the same.
+///
+/// # Errors
+/// Only where memory is refused.
+pub fn solve_rounds_alone_from(
+    alloc: Global,
+    scaled: Arc<Scaled>,
+    prices: Prices,
+) -> Result<Outcome, SolveFault>
+    requires long { length prices ≡ length (arc_value scaled).problem }
+    requires low { greatest_of prices ≤ℤ GREATEST_FIRST_PRICE }
+    ensures rounds { IfOk result (IsOfRounds (arc_value scaled) prices) }
+    ensures proof { IfOk result (IsProof (arc_value scaled)) }
+    ensures decided { IfOk result (IsDecided (arc_value scaled)) }
+    ensures memory { IfErr result (λ fault. fault ≡ SolveFault.Memory) }
+{
+    solve_rounds_by(&mut Alone, alloc, scaled, prices)
+}
+
+/// Solves by rounds of offers in the calling thread alone, with all first prices 0.
+///
+/// # Errors
+/// Only where memory is refused.
+pub fn solve_rounds_alone(alloc: Global, scaled: Arc<Scaled>) -> Result<Outcome, SolveFault>
+    ensures rounds { IfOk result (λ outcome. let s = arc_value scaled in
+        IsOfRounds s (replicate (length s.problem) (pos 0)) outcome) }
+    ensures proof { IfOk result (IsProof (arc_value scaled)) }
+    ensures decided { IfOk result (IsDecided (arc_value scaled)) }
+    ensures memory { IfErr result (λ fault. fault ≡ SolveFault.Memory) }
+{
+    match Prices::zeros(alloc, scaled.n()) {
+        Ok(zeros) => solve_rounds_alone_from(alloc, scaled, zeros),
         Err(_) => Err(SolveFault::Memory),
     }
 }

@@ -12,7 +12,7 @@ mod round_by_round;
 mod transcription;
 mod worked;
 
-use super::offers::LEAST_PAIRS;
+use super::offers::{Alone, InPieces, LEAST_PAIRS};
 use super::rounds::run_rounds;
 use assign_core::{
     Cost, GREATEST_COST, GREATEST_FIRST_PRICE, MOST_PERSONS, Object, Outcome, Person, Price,
@@ -152,7 +152,7 @@ fn solved(
     let n = size(n);
     let scaled = scaled_of(alloc, n, pairs, sense)?;
     let prices = first_prices(alloc, n, first)?;
-    let outcome = run_rounds(rt, least, alloc, scaled, prices)?;
+    let outcome = run_rounds(&mut InPieces { rt, least }, alloc, scaled, prices)?;
     told(alloc, &outcome)
 }
 

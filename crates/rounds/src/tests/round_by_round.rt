@@ -3,8 +3,8 @@ ghost use Rattle.std.specs.Prelude.{◌≡◌, true, IfOk};
 ghost use Rattle.rounds.specs.Books.{IsAtRest};
 
 use super::*;
-use crate::rounds::{Round, go_on, run_round};
-use auction_book::Book;
+use crate::rounds::{Round, run_round};
+use auction_book::{Book, begin_next_if_over};
 use bidder::{Ask, Offer};
 use std::test::Fail;
 
@@ -64,20 +64,15 @@ fn tell_offers(
 }
 
 // A round told: what its phase asks, its table, and its offers in turn. Whether the run goes on.
-fn round_told(
-    rt: &(impl Threads + Sync),
-    alloc: Global,
-    book: &mut Book,
-    lines: &mut Vec<String>,
-) -> Result<bool, AllocError>
+fn round_told(alloc: Global, book: &mut Book, lines: &mut Vec<String>) -> Result<bool, AllocError>
     requires { IsAtRest book.old }
     ensures { IfOk result (λ more. more ≡ true → IsAtRest book.new) }
 {
-    go_on(alloc, book)?;
+    begin_next_if_over(alloc, book)?;
     let phase = phase_line(alloc, book.ask(), book.prices().as_slice())?;
     let before = counts_of(alloc, book)?;
     let mut offers = Vec::new(alloc);
-    let came = run_round(rt, LEAST_PAIRS, book, &mut Vec::new(alloc), &mut offers)?;
+    let came = run_round(&mut Alone, book, &mut Vec::new(alloc), &mut offers)?;
     lines.push(phase)?;
     let after = counts_of(alloc, book)?;
     tell_offers(
@@ -95,7 +90,6 @@ fn round_told(
 
 // The rounds of a run, at most a hundred.
 fn rounds_told(
-    rt: &(impl Threads + Sync),
     alloc: Global,
     n: u16,
     pairs: &[Pair],
@@ -107,7 +101,7 @@ fn rounds_told(
     let mut book = Book::open_from(alloc, scaled, prices, n)?;
     let mut lines = Vec::new(alloc);
     for _ in 0..100 {
-        if !round_told(rt, alloc, &mut book, &mut lines)? {
+        if !round_told(alloc, &mut book, &mut lines)? {
             break;
         }
     }
@@ -116,14 +110,13 @@ fn rounds_told(
 
 // The place of the first line of a run that is told otherwise.
 fn told_otherwise(
-    rt: &(impl Threads + Sync),
     alloc: Global,
     n: u16,
     pairs: &[Pair],
     first: &[Price],
     lines: &[&str],
 ) -> Result<Option<usize>, AllocError> {
-    let told = rounds_told(rt, alloc, n, pairs, first)?;
+    let told = rounds_told(alloc, n, pairs, first)?;
     for (i, line) in lines.iter().enumerate() {
         match told.get(i) {
             Some(told) if told.as_str() == *line => {}
@@ -149,7 +142,7 @@ fn two_persons_from_zeros(rt: HostRuntime) -> Result<(), Fail> {
         "phase 2, eps 1, floor -36, prices 14 12",
     ];
     assert_eq!(rt;
-        told_otherwise(&rt, rt.alloc(), 2, &TWO_PERSONS, &[], &lines)?,
+        told_otherwise(rt.alloc(), 2, &TWO_PERSONS, &[], &lines)?,
         None
     );
     Ok(())
@@ -171,7 +164,7 @@ fn two_persons_from_first_prices(rt: HostRuntime) -> Result<(), Fail> {
         "phase 2, eps 1, floor -48, prices 26 24",
     ];
     assert_eq!(rt;
-        told_otherwise(&rt, rt.alloc(), 2, &TWO_PERSONS, &[14, 12], &lines)?,
+        told_otherwise(rt.alloc(), 2, &TWO_PERSONS, &[14, 12], &lines)?,
         None
     );
     Ok(())
@@ -193,7 +186,7 @@ fn three_persons_who_are_alike(rt: HostRuntime) -> Result<(), Fail> {
         "phase 1, eps 1, floor -10, prices 1 1 2",
     ];
     assert_eq!(rt;
-        told_otherwise(&rt, rt.alloc(), 3, alike.as_slice(), &[], &lines)?,
+        told_otherwise(rt.alloc(), 3, alike.as_slice(), &[], &lines)?,
         None
     );
     Ok(())
@@ -210,7 +203,7 @@ fn three_persons_below_the_floor(rt: HostRuntime) -> Result<(), Fail> {
         "2 is below the floor",
     ];
     assert_eq!(rt;
-        told_otherwise(&rt, rt.alloc(), 3, &CONTESTED, &[], &lines)?,
+        told_otherwise(rt.alloc(), 3, &CONTESTED, &[], &lines)?,
         None
     );
     Ok(())
@@ -254,6 +247,6 @@ fn ten_phases_round_by_round(rt: HostRuntime) -> Result<(), Fail> {
     let end = format!(in alloc; "phase 10, eps 1, floor -64499999, prices 61499999 61499999")?;
     lines.push(end)?;
     let pairs = dense(alloc, 2, &[1_000_000, -1_000_000, -1_000_000, 1_000_000])?;
-    assert_eq!(rt; rounds_told(&rt, alloc, 2, pairs.as_slice(), &[])?, lines);
+    assert_eq!(rt; rounds_told(alloc, 2, pairs.as_slice(), &[])?, lines);
     Ok(())
 }

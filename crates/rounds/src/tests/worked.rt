@@ -1,7 +1,16 @@
 // Problems whose outcomes are known, solved in pieces of several lengths, and the public calls.
 use super::*;
-use crate::{solve_rounds, solve_rounds_from};
+use crate::{solve_rounds, solve_rounds_alone, solve_rounds_alone_from, solve_rounds_from};
+use assign_core::SolveFault;
 use std::test::Fail;
+
+// What came of a public call.
+fn settled(alloc: Global, came: Result<Outcome, SolveFault>) -> Result<Seen, AllocError> {
+    match came {
+        Ok(outcome) => told(alloc, &outcome),
+        Err(_) => Err(AllocError),
+    }
+}
 
 // What the public calls come to: from zeros, or from these first prices.
 fn publicly_solved(
@@ -17,10 +26,23 @@ fn publicly_solved(
         Some(first) => solve_rounds_from(rt, alloc, scaled, first_prices(alloc, n, first)?),
         None => solve_rounds(rt, alloc, scaled),
     };
-    match outcome {
-        Ok(outcome) => told(alloc, &outcome),
-        Err(_) => Err(AllocError),
-    }
+    settled(alloc, outcome)
+}
+
+// The same of the calls that need no handle.
+fn solved_alone(
+    alloc: Global,
+    n: u16,
+    pairs: &[Pair],
+    first: Option<&[Price]>,
+) -> Result<Seen, AllocError> {
+    let n = size(n);
+    let scaled = scaled_of(alloc, n, pairs, Sense::Min)?;
+    let outcome = match first {
+        Some(first) => solve_rounds_alone_from(alloc, scaled, first_prices(alloc, n, first)?),
+        None => solve_rounds_alone(alloc, scaled),
+    };
+    settled(alloc, outcome)
 }
 
 fn best(alloc: Global, objects: &[u16], prices: &[Price]) -> Result<Seen, AllocError> {
@@ -117,10 +139,12 @@ fn public_calls(rt: HostRuntime) -> Result<(), Fail> {
         (Some([].as_slice()), [14, 12]),
         (Some(&[14, 12]), [26, 24]),
     ] {
+        let wanted = best(alloc, &[2, 1], &prices)?;
         assert_eq!(rt;
             publicly_solved(&rt, alloc, 2, &TWO_PERSONS, first)?,
-            best(alloc, &[2, 1], &prices)?
+            wanted
         );
+        assert_eq!(rt; solved_alone(alloc, 2, &TWO_PERSONS, first)?, wanted);
     }
     Ok(())
 }

@@ -4,6 +4,7 @@ use Rattle.scaled_values.specs.Scaled.{ScaledProblem}
 use Rattle.rounds.specs.Books.{IsRound, plain_of}
 use Rattle.rounds.specs.Outcomes.{IsOfRounds, IsOutcome, IsProof}
 use Rattle.rounds.specs.Plain.{Finished, Halted}
+use Rattle.rounds.proofs.Phasing.{next_rests}
 use Rattle.rounds.proofs.Running.{if_ok, proof_of, running_first, running_halted, running_last, running_more, running_over, running_smaller}
 use Rattle.rounds.proofs.rounds.run_rounds.Goals as goal
 
@@ -15,42 +16,45 @@ rounds-init g c =
 
 pub finish-requires-clause-last : goal.finish-requires-clause-last
 finish-requires-clause-last g c =
-    let round = subst (λ r. IsRound c.go_on.new.book r c.run_round.new.book) c.in-Over.is c.in_ok-run_round.ensures.round in
-    running_last (arc_value c.args.scaled) c.args.prices c.rounds.book c.go_on.new.book c.run_round.new.book c.rounds.invariant c.in_ok-go_on.ensures.phased round c.in_ok-run_round.ensures.base
+    let round = subst (λ r. IsRound c.begin_next_if_over.new.book r c.run_round.new.book) c.in-Over.is c.in_ok-run_round.ensures.round in
+    running_last (arc_value c.args.scaled) c.args.prices c.rounds.book c.begin_next_if_over.new.book c.run_round.new.book c.rounds.invariant c.in_ok-begin_next_if_over.ensures.ok round c.in_ok-run_round.ensures.base
 
 pub returns-in-Over-clause-rounds : goal.returns-in-Over-clause-rounds
 returns-in-Over-clause-rounds g c =
     let s = arc_value c.args.scaled in
     let new = c.run_round.new.book in
-    let round = subst (λ r. IsRound c.go_on.new.book r new) c.in-Over.is c.in_ok-run_round.ensures.round in
-    if_ok c.finish.result (IsOutcome new.base (Finished (plain_of new))) (IsOfRounds s c.args.prices) c.finish.ensures.outcome (λ o h. running_over s c.args.prices c.rounds.book c.go_on.new.book new o c.rounds.invariant c.in_ok-go_on.ensures.phased round c.in_ok-run_round.ensures.base h)
+    let round = subst (λ r. IsRound c.begin_next_if_over.new.book r new) c.in-Over.is c.in_ok-run_round.ensures.round in
+    if_ok c.finish.result (IsOutcome new.base (Finished (plain_of new))) (IsOfRounds s c.args.prices) c.finish.ensures.outcome (λ o h. running_over s c.args.prices c.rounds.book c.begin_next_if_over.new.book new o c.rounds.invariant c.in_ok-begin_next_if_over.ensures.ok round c.in_ok-run_round.ensures.base h)
 
 pub returns-in-Over-clause-proof : goal.returns-in-Over-clause-proof
 returns-in-Over-clause-proof g c =
     let s = arc_value c.args.scaled in
     let new = c.run_round.new.book in
-    if_ok c.finish.result (IsProof new.base) (IsProof s) c.finish.ensures.proof (λ o h. proof_of s c.args.prices c.rounds.book c.go_on.new.book new o c.rounds.invariant c.in_ok-go_on.ensures.phased c.in_ok-run_round.ensures.base h)
+    if_ok c.finish.result (IsProof new.base) (IsProof s) c.finish.ensures.proof (λ o h. proof_of s c.args.prices c.rounds.book c.begin_next_if_over.new.book new o c.rounds.invariant c.in_ok-begin_next_if_over.ensures.ok c.in_ok-run_round.ensures.base h)
 
 pub returns-in-Halted-clause-rounds : goal.returns-in-Halted-clause-rounds
 returns-in-Halted-clause-rounds g c =
     let s = arc_value c.args.scaled in
     let new = c.run_round.new.book in
     let person = c.in-Halted.person in
-    let round = subst (λ r. IsRound c.go_on.new.book r new) c.in-Halted.is c.in_ok-run_round.ensures.round in
-    if_ok c.halt.result (IsOutcome new.base (Halted person (plain_of new))) (IsOfRounds s c.args.prices) c.halt.ensures.outcome (λ o h. running_halted s c.args.prices c.rounds.book c.go_on.new.book new person o c.rounds.invariant c.in_ok-go_on.ensures.phased round c.in_ok-run_round.ensures.base h)
+    let round = subst (λ r. IsRound c.begin_next_if_over.new.book r new) c.in-Halted.is c.in_ok-run_round.ensures.round in
+    if_ok c.halt.result (IsOutcome new.base (Halted person (plain_of new))) (IsOfRounds s c.args.prices) c.halt.ensures.outcome (λ o h. running_halted s c.args.prices c.rounds.book c.begin_next_if_over.new.book new person o c.rounds.invariant c.in_ok-begin_next_if_over.ensures.ok round c.in_ok-run_round.ensures.base h)
 
 pub returns-in-Halted-clause-proof : goal.returns-in-Halted-clause-proof
 returns-in-Halted-clause-proof g c =
     let s = arc_value c.args.scaled in
     let new = c.run_round.new.book in
-    if_ok c.halt.result (IsProof new.base) (IsProof s) c.halt.ensures.proof (λ o h. proof_of s c.args.prices c.rounds.book c.go_on.new.book new o c.rounds.invariant c.in_ok-go_on.ensures.phased c.in_ok-run_round.ensures.base h)
+    if_ok c.halt.result (IsProof new.base) (IsProof s) c.halt.ensures.proof (λ o h. proof_of s c.args.prices c.rounds.book c.begin_next_if_over.new.book new o c.rounds.invariant c.in_ok-begin_next_if_over.ensures.ok c.in_ok-run_round.ensures.base h)
 
 pub rounds-smaller : goal.rounds-smaller
 rounds-smaller g c =
-    let round = subst (λ r. IsRound c.go_on.new.book r c.run_round.new.book) c.in-More.is c.in_ok-run_round.ensures.round in
-    running_smaller c.rounds.book c.go_on.new.book c.run_round.new.book c.in_ok-go_on.ensures.phased round
+    let round = subst (λ r. IsRound c.begin_next_if_over.new.book r c.run_round.new.book) c.in-More.is c.in_ok-run_round.ensures.round in
+    running_smaller c.rounds.book c.begin_next_if_over.new.book c.run_round.new.book c.in_ok-begin_next_if_over.ensures.ok round
 
 pub rounds-preserved : goal.rounds-preserved
 rounds-preserved g c =
-    let round = subst (λ r. IsRound c.go_on.new.book r c.run_round.new.book) c.in-More.is c.in_ok-run_round.ensures.round in
-    running_more (arc_value c.args.scaled) c.args.prices c.rounds.book c.go_on.new.book c.run_round.new.book c.rounds.invariant c.in_ok-go_on.ensures.phased round c.in_ok-run_round.ensures.base
+    let round = subst (λ r. IsRound c.begin_next_if_over.new.book r c.run_round.new.book) c.in-More.is c.in_ok-run_round.ensures.round in
+    running_more (arc_value c.args.scaled) c.args.prices c.rounds.book c.begin_next_if_over.new.book c.run_round.new.book c.rounds.invariant c.in_ok-begin_next_if_over.ensures.ok round c.in_ok-run_round.ensures.base
+
+pub run_round-requires-clause-rest : goal.run_round-requires-clause-rest
+run_round-requires-clause-rest g c = next_rests c.rounds.book c.begin_next_if_over.new.book c.rounds.invariant.rest c.in_ok-begin_next_if_over.ensures.ok c.in_ok-begin_next_if_over.ensures.free

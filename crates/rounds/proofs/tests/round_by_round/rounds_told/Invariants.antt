@@ -2,4 +2,4 @@ use Rattle.rounds.specs.Books.{IsAtRest}
 use Rattle.rounds.proofs.tests.round_by_round.rounds_told.Given as goal
 
 abbrev pub invariant-loop : goal.invariant-loop
-invariant-loop g l = IsAtRest l.book
+invariant-loop l = IsAtRest l.book
