@@ -16,6 +16,8 @@ pub mod NumbersOf
 pub mod Zips
 pub mod BenefitRows
 pub mod RaisedPrices
+pub mod Orders
+pub mod Members
 pub mod LeastCosts
 pub mod SparseRows
 pub mod Gathering

@@ -10,10 +10,8 @@ use Rattle.std.proofs.lemmas.List.Sums.{prefix_len_passes}
 use lib.Lanes.{chunk, zip2, mask_l, top}
 use Rattle.assign_core.specs.Benefits.{IsBenefit}
 use Rattle.assign_core.specs.Prices.{IsNarrow}
+use Rattle.assign_core.proofs.Orders.{where_not_less}
 use Rattle.bidder.proofs.Skips.{difference_fits}
-
-not_above : (limit value : ℤ) → lt_z limit value ≡ false → value ≤ℤ limit
-not_above limit value h = grind (arith, ints, h)
 
 either : (b : Bool) → (b ≡ true) ⊎ (b ≡ false)
 either true = inl refl
@@ -23,7 +21,7 @@ either false = inr refl
 lane_clear : (limit value : ℤ) (lane : ℕ) → lane ≡ cond (lt_z limit value) (2 ^ 64 - 1) 0 → top 63 lane ≡ false → value ≤ℤ limit
 lane_clear limit value lane is clear = elim (either (lt_z limit value)) [
   | inl t ↦ absurd (both_ways _ clear (ap (top 63) (is ∙ ap (λ b. cond b 18446744073709551615 0) t)))
-  | inr f ↦ not_above limit value f
+  | inr f ↦ where_not_less limit value f
 ]
 
 -- the wrapping difference of the bits is the difference

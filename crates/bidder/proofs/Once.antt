@@ -1,23 +1,20 @@
 -- A row has one best two, and the recursion gives it.
-use Rattle.std.proofs.Common.{◌≡◌, ◌≢◌, ℕ, ℤ, ◌+ℤ◌, ◌-ℤ◌, ◌≤ℤ◌, ◌<ℤ◌, ◌<◌, ◌≤◌, suc, List, [], ◌∷◌, Option, None, Some, MatchOption, true, false, refl, ap, sym, ◌∙◌, subst, arith}
+use Rattle.std.proofs.Common.{◌≡◌, ◌≢◌, ℕ, ℤ, ◌+ℤ◌, ◌-ℤ◌, ◌≤ℤ◌, ◌<ℤ◌, ◌<◌, ◌≤◌, suc, List, [], ◌∷◌, Option, None, Some, MatchOption, refl, ap, sym, ◌∙◌, subst, arith}
 use Rattle.std.specs.List.{All}
 use Rattle.std.specs.Int.{int_max}
-use Rattle.std.specs.Int.Signed.{lt_z}
 use Rattle.std.proofs.lemmas.Int.{ints, clamps, by_lt_z}
 use Rattle.std.proofs.lemmas.Bool.{ne_eqb}
 use Rattle.std.proofs.lemmas.List.Elements.{All-cons}
 use Rattle.assign_core.specs.Rows.{Listing, IsRising}
 use Rattle.assign_core.specs.Prices.{price_of}
+use Rattle.assign_core.proofs.Orders.{le_antisymmetric, less, not_less}
 use Rattle.assign_core.proofs.Listed.{listed_first, listed_later, entry_found}
 use Rattle.bidder.specs.declared.scan.BestTwo.{BestTwo}
 use Rattle.bidder.specs.BestTwo.{IsValue, IsSecond, IsBestTwo, greater_of, joined, best_two}
-use Rattle.bidder.proofs.Scans.{alone}
+use Rattle.bidder.proofs.Scans.{alone, greater_is}
 
 same_value : (v w p : ℤ) → (w +ℤ p) ≤ℤ (v +ℤ p) → w ≤ℤ v
 same_value v w p le = omega (arith, ints)
-
-equal : (v w : ℤ) → v ≤ℤ w → w ≤ℤ v → v ≡ w
-equal v w le ge = omega (arith, ints)
 
 -- there is one second value
 second_once : (row : Listing) (q : List ℤ) (j : ℕ) (s t : Option ℤ) → IsSecond row q j s → IsSecond row q j t → s ≡ t
@@ -27,7 +24,7 @@ second_once row q j (Some v) None a b = absurd (a.2 (entry_found (λ e. e.0 ≡ 
 second_once row q j (Some v) (Some w) a b =
     let up = same_value v w (price_of q b.1) (entry_found (λ e. e.0 ≢ j → e.1 ≤ℤ (v +ℤ price_of q e.0)) row b.1 _ a.0 b.3 b.2) in
     let down = same_value w v (price_of q a.1) (entry_found (λ e. e.0 ≢ j → e.1 ≤ℤ (w +ℤ price_of q e.0)) row a.1 _ b.0 a.3 a.2) in
-    ap Some (equal v w down up)
+    ap Some (le_antisymmetric v w down up)
 
 same_two : (a b : BestTwo) → a.object ≡ b.object → a.best ≡ b.best → a.second ≡ b.second → a ≡ b
 same_two a b e f g =
@@ -40,7 +37,7 @@ pub best_two_once : (row : Listing) (q : List ℤ) (a b : BestTwo) → IsBestTwo
 best_two_once row q a b x y =
     let up = same_value a.best b.best (price_of q b.object) (entry_found (λ e. e.1 ≤ℤ (a.best +ℤ price_of q e.0)) row b.object _ x.greatest y.listed) in
     let down = same_value b.best a.best (price_of q a.object) (entry_found (λ e. e.1 ≤ℤ (b.best +ℤ price_of q e.0)) row a.object _ y.greatest x.listed) in
-    let value = equal a.best b.best down up in
+    let value = le_antisymmetric a.best b.best down up in
     let left = entry_found (λ e. e.1 ≡ (a.best +ℤ price_of q e.0) → a.object ≤ e.0) row b.object _ x.lowest y.listed (ap (λ v. v +ℤ price_of q b.object) (sym value)) in
     let right = entry_found (λ e. e.1 ≡ (b.best +ℤ price_of q e.0) → b.object ≤ e.0) row a.object _ y.lowest x.listed (ap (λ v. v +ℤ price_of q a.object) value) in
     let object : a.object ≡ b.object = omega arith in
@@ -70,13 +67,10 @@ second_before e row q best (Some w) v is other up worth =
     let reached : (k : ℕ) × (k ≢ best) × IsValue (e ∷ row) q k (int_max v w) =
     by_lt_z {P = (k : ℕ) × (k ≢ best) × IsValue (e ∷ row) q k (int_max v w)} w v
     (λ lt. (e.0, other, listed_first e row ∙ ap Some (taken v w e.1 (price_of q e.0) worth lt)))
-    (λ le. (is.1, is.2, listed_later e row is.1 (ne_eqb e.0 is.1 (λ same. absurd (omega arith))) ∙ is.3 ∙ ap (λ z. Some (z +ℤ price_of q is.1)) (kept v w le))) in
+    (λ le. (is.1, is.2, listed_later e row is.1 (ne_eqb e.0 is.1 (λ same. absurd (omega arith))) ∙ is.3 ∙ ap (λ z. Some (z +ℤ price_of q is.1)) (greater_is v w le))) in
     (All-cons (λ f. f.0 ≢ best → f.1 ≤ℤ (int_max v w +ℤ price_of q f.0)) e row (λ _. omega (arith, ints, clamps)) (λ k d lt ne. let h = is.0 k d lt ne in omega (arith, ints, clamps)), reached.0, reached.1, reached.2) where
       taken : (v w a p : ℤ) → a ≡ v +ℤ p → w <ℤ v → a ≡ int_max v w +ℤ p
       taken v w a p worth lt = omega (arith, ints, clamps)
-
-      kept : (v w : ℤ) → v ≤ℤ w → w ≡ int_max v w
-      kept v w le = omega (arith, ints, clamps)
 
 -- the first object isn't the best
 first_other : (e : ℕ × ℤ) (row : Listing) (q : List ℤ) (b : BestTwo) → All (λ f. e.0 < f.0) row → IsBestTwo row q b → (e.1 -ℤ price_of q e.0) <ℤ b.best → IsBestTwo (e ∷ row) q record { object = b.object; best = b.best; second = Some (greater_of (e.1 -ℤ price_of q e.0) b.second) }
@@ -93,12 +87,7 @@ joined_is : (e : ℕ × ℤ) (row : Listing) (q : List ℤ) (o : Option BestTwo)
 joined_is e row q None up is = subst (λ r. IsBestTwo (e ∷ r) q record { object = e.0; best = e.1 -ℤ price_of q e.0; second = None }) (sym is) (alone e.0 (e.1 -ℤ price_of q e.0) q e.1 (omega (arith, ints)))
 joined_is e row q (Some b) up is = by_lt_z {P = IsBestTwo (e ∷ row) q (joined e.0 (e.1 -ℤ price_of q e.0) (Some b))} (e.1 -ℤ price_of q e.0) b.best
     (λ lt. rw (less (e.1 -ℤ price_of q e.0) b.best lt) (first_other e row q b (above_first e row up) is lt))
-    (λ le. rw (not_less (e.1 -ℤ price_of q e.0) b.best le) (first_best e row q b (above_first e row up) is le)) where
-      less : (v w : ℤ) → v <ℤ w → lt_z v w ≡ true
-      less v w h = grind (arith, ints)
-
-      not_less : (v w : ℤ) → w ≤ℤ v → lt_z v w ≡ false
-      not_less v w h = grind (arith, ints)
+    (λ le. rw (not_less (e.1 -ℤ price_of q e.0) b.best le) (first_best e row q b (above_first e row up) is le))
 
 -- the recursion gives the best two
 pub best_two_is : (row : Listing) (q : List ℤ) → IsRising row → MatchOption (best_two row q) (row ≡ []) (IsBestTwo row q)

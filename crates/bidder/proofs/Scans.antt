@@ -51,6 +51,9 @@ new_best row q b j v a is up worth more =
       others = (All-push (λ e. e.0 ≢ j → e.1 ≤ℤ (b.best +ℤ price_of q e.0)) row (j, a) (λ k d lt _. is.greatest k d lt) (λ ne. absurd (ne refl)), b.object, other, listed_more row _ b.object _ is.listed);
     }
 
+pub greater_is : (v w : ℤ) → v ≤ℤ w → w ≡ int_max v w
+greater_is v w le = omega (arith, ints, clamps)
+
 -- the second value with one object more, which is worth v and isn't the best
 second_more : (row : Listing) (q : List ℤ) (best : ℕ) (s : Option ℤ) (j : ℕ) (v a : ℤ) → IsSecond row q best s → j ≢ best → All (λ e. e.0 < j) row → v +ℤ price_of q j ≡ a → IsSecond (row ++ (j, a) ∷ []) q best (Some (greater_of v s))
 second_more row q best None j v a is other up worth = (All-push (λ e. e.0 ≢ best → e.1 ≤ℤ (v +ℤ price_of q e.0)) row (j, a) (λ k d lt ne. absurd (ne (is k d lt))) (λ _. omega (arith, ints)), j, other, listed_last row j a up ∙ ap Some (sym worth))
@@ -58,13 +61,10 @@ second_more row q best (Some w) j v a is other up worth =
     let reached : (k : ℕ) × (k ≢ best) × IsValue (row ++ (j, a) ∷ []) q k (int_max v w) =
     by_lt_z {P = (k : ℕ) × (k ≢ best) × IsValue (row ++ (j, a) ∷ []) q k (int_max v w)} w v
     (λ lt. (j, other, listed_last row j a up ∙ ap Some (taken v w a (price_of q j) worth lt)))
-    (λ le. (is.1, is.2, listed_more row _ is.1 _ is.3 ∙ ap (λ z. Some (z +ℤ price_of q is.1)) (kept v w le))) in
+    (λ le. (is.1, is.2, listed_more row _ is.1 _ is.3 ∙ ap (λ z. Some (z +ℤ price_of q is.1)) (greater_is v w le))) in
     (All-push (λ e. e.0 ≢ best → e.1 ≤ℤ (int_max v w +ℤ price_of q e.0)) row (j, a) (λ k d lt ne. let h = is.0 k d lt ne in omega (arith, ints, clamps)) (λ _. omega (arith, ints, clamps)), reached.0, reached.1, reached.2) where
       taken : (v w a p : ℤ) → v +ℤ p ≡ a → w <ℤ v → a ≡ int_max v w +ℤ p
       taken v w a p worth lt = omega (arith, ints, clamps)
-
-      kept : (v w : ℤ) → v ≤ℤ w → w ≡ int_max v w
-      kept v w le = omega (arith, ints, clamps)
 
 -- it is worth less than the best, or as much
 pub new_second : (row : Listing) (q : List ℤ) (b : BestTwo) (j : ℕ) (v a : ℤ) → IsBestTwo row q b → All (λ e. e.0 < j) row → v +ℤ price_of q j ≡ a → v ≤ℤ b.best → IsBestTwo (row ++ (j, a) ∷ []) q record { object = b.object; best = b.best; second = Some (greater_of v b.second) }

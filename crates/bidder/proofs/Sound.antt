@@ -1,12 +1,12 @@
 -- Offers are sound for their tables, and there is one.
-use Rattle.std.proofs.Common.{◌≡◌, ◌≢◌, ℕ, ℤ, pos, suc, zero, ◌+ℤ◌, ◌-ℤ◌, ◌*ℤ◌, ◌≤ℤ◌, ◌<ℤ◌, ◌<◌, ◌-◌, List, [], length, get_or, Option, None, Some, IsSome, MatchOption, unwrap_or, true, false, refl, ap, sym, ◌∙◌, subst, arith}
+use Rattle.std.proofs.Common.{◌≡◌, ◌≢◌, ℕ, ℤ, pos, suc, zero, ◌+ℤ◌, ◌-ℤ◌, ◌*ℤ◌, ◌≤ℤ◌, ◌<ℤ◌, ◌<◌, ◌-◌, List, [], length, get_or, Option, None, Some, IsSome, MatchOption, unwrap_or, refl, ap, sym, ◌∙◌, subst, arith}
 use Rattle.std.specs.List.{All}
-use Rattle.std.specs.Int.Signed.{lt_z}
 use Rattle.std.proofs.lemmas.Int.{ints, clamps, by_lt_z}
 use Rattle.std.proofs.lemmas.List.Elements.{All-nil}
 use lib.IntN.{suc_ℤ-*ℤ}
 use Rattle.assign_core.specs.Rows.{Listing, IsRising, listed_in, listed_or_zero}
 use Rattle.assign_core.specs.Prices.{price_of, IsBelow}
+use Rattle.assign_core.proofs.Orders.{less, not_less}
 use Rattle.assign_core.proofs.Listed.{entry_found}
 use Rattle.scaled_values.specs.Scaled.{ScaledProblem, greatest_benefit, least_benefit, spread, floor_of, top_of}
 use Rattle.scaled_values.proofs.RowFacts.{benefits_between}
@@ -151,12 +151,7 @@ from_best : (s : ScaledProblem) (q : List ℤ) (version : ℕ) (ask : Ask) (i : 
 from_best s q version ask i None is = (refl, refl, subst (λ row. IsUnder row q ask.floor) (sym is) (All-nil (λ e. e.1 <ℤ (ask.floor +ℤ price_of q e.0))))
 from_best s q version ask i (Some b) is = by_lt_z {P = IsOffer s q version ask i (offer_from q version ask i (Some b))} b.best ask.floor
     (λ lt. rw (less b.best ask.floor lt) (refl, refl, under_all (benefits_at s i) q ask.floor b is lt))
-    (λ le. rw (not_less b.best ask.floor le) (refl, refl, refl, made_is s q version ask i b _ is le refl)) where
-      less : (v w : ℤ) → v <ℤ w → lt_z v w ≡ true
-      less v w h = grind (arith, ints)
-
-      not_less : (v w : ℤ) → w ≤ℤ v → lt_z v w ≡ false
-      not_less v w h = grind (arith, ints)
+    (λ le. rw (not_less b.best ask.floor le) (refl, refl, refl, made_is s q version ask i b _ is le refl))
 
 -- the offer that is computed is the person's
 pub offer_is : (s : ScaledProblem) (q : List ℤ) (version : ℕ) (ask : Ask) (i : ℕ) → IsRising (benefits_at s i) → IsOffer s q version ask i (offer_of s q version ask i)

@@ -248,8 +248,9 @@ fn rows_of_one_object_and_of_none(rt: HostRuntime) -> Result<(), Fail> {
         best: -14,
         second: None,
     };
+    let found = both_ways(rt.alloc(), &[-14], &[0])?;
+    assert_eq!(rt; found, Some(alone));
     let prices = Prices::zeros(rt.alloc(), 1)?;
-    assert_eq!(rt; best_two(&[(Object(1), -14)], &prices), Some(alone));
     assert_eq!(rt; best_two(&[], &prices), None);
     Ok(())
 }

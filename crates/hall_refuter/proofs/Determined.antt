@@ -1,5 +1,5 @@
 -- A person has one refutation.
-use Rattle.std.proofs.Common.{◌≡◌, ℕ, ◌<◌, ◌↔◌, zero, suc, List, [], ◌∷◌, Option, Less, ap, arith, refl, sym, subst, ◌∙◌, inl, inr, ◌⊎◌}
+use Rattle.std.proofs.Common.{◌≡◌, ℕ, ◌<◌, ◌↔◌, List, [], ◌∷◌, Option, Less, ap, arith, refl, sym, subst, ◌∙◌, inl, inr}
 use Rattle.std.specs.List.{Contains}
 use Rattle.std.specs.List.Sorted.{IsStrictlyIncreasing, IsStrictlySortedBy}
 use Rattle.std.specs.Ordering.{nat_cmp}
@@ -9,17 +9,8 @@ use Rattle.std.proofs.lemmas.Map.Keys.{sorted_from_strictly_increasing, sorted_t
 use Rattle.std.proofs.lemmas.Map.Views.{All-after_first}
 use Rattle.assign_core.specs.Rows.{Listing}
 use Rattle.assign_core.specs.Hall.{HallLists, IsNeighbour}
+use Rattle.assign_core.proofs.Members.{contains_first, contains_later, first_or_later}
 use Rattle.hall_refuter.specs.Search.{IsRefuted}
-
-first_or_later : (x : ℕ) (xs : List ℕ) (z : ℕ) → Contains (x ∷ xs) z → (x ≡ z) ⊎ Contains xs z
-first_or_later x xs z (zero, lt, e) = inl e
-first_or_later x xs z (suc k, lt, e) = inr (k, omega arith, e)
-
-itself : (x : ℕ) (xs : List ℕ) → Contains (x ∷ xs) x
-itself x xs = (0, omega arith, refl)
-
-later : (x : ℕ) (xs : List ℕ) (z : ℕ) → Contains xs z → Contains (x ∷ xs) z
-later x xs z (k, lt, e) = (suc k, omega arith, e)
 
 -- all that follow the first number are above it
 above_first : (x : ℕ) (xs : List ℕ) (z : ℕ) → IsStrictlySortedBy nat_cmp (x ∷ xs) → Contains xs z → x < z
@@ -29,9 +20,9 @@ above_first x xs z h c = below x z (All-contains (λ y. nat_cmp x y ≡ Less) xs
 
 -- rising lists of the same numbers begin with the same one
 same_first : (x y : ℕ) (xs ys : List ℕ) → IsStrictlySortedBy nat_cmp (x ∷ xs) → IsStrictlySortedBy nat_cmp (y ∷ ys) → ((z : ℕ) → Contains (x ∷ xs) z ↔ Contains (y ∷ ys) z) → x ≡ y
-same_first x y xs ys h k same = elim (first_or_later y ys x ((same x).0 (itself x xs))) [
+same_first x y xs ys h k same = elim (first_or_later y ys x ((same x).0 (contains_first x xs))) [
   | inl e ↦ sym e
-  | inr in_ys ↦ elim (first_or_later x xs y ((same y).1 (itself y ys))) [
+  | inr in_ys ↦ elim (first_or_later x xs y ((same y).1 (contains_first y ys))) [
     | inl e ↦ e
     | inr in_xs ↦
         let down = above_first y ys x k in_ys in
@@ -42,7 +33,7 @@ same_first x y xs ys h k same = elim (first_or_later y ys x ((same x).0 (itself 
 
 -- what stands behind the first of one list stands behind that of the other
 later_same : (x y : ℕ) (xs ys : List ℕ) (z : ℕ) → x ≡ y → IsStrictlySortedBy nat_cmp (x ∷ xs) → (Contains (x ∷ xs) z → Contains (y ∷ ys) z) → Contains xs z → Contains ys z
-later_same x y xs ys z e h to c = elim (first_or_later y ys z (to (later x xs z c))) [
+later_same x y xs ys z e h to c = elim (first_or_later y ys z (to (contains_later x xs z c))) [
   | inl same ↦ let up = above_first x xs z h c in absurd (omega arith)
   | inr there ↦ there
 ]
@@ -50,8 +41,8 @@ later_same x y xs ys z e h to c = elim (first_or_later y ys z (to (later x xs z 
 -- rising lists of the same numbers are the same
 same_rising : (xs ys : List ℕ) → IsStrictlySortedBy nat_cmp xs → IsStrictlySortedBy nat_cmp ys → ((z : ℕ) → Contains xs z ↔ Contains ys z) → xs ≡ ys
 same_rising [] [] h k same = refl
-same_rising [] (y ∷ ys) h k same = let none = ((same y).1 (itself y ys)).1 in absurd (omega arith)
-same_rising (x ∷ xs) [] h k same = let none = ((same x).0 (itself x xs)).1 in absurd (omega arith)
+same_rising [] (y ∷ ys) h k same = let none = ((same y).1 (contains_first y ys)).1 in absurd (omega arith)
+same_rising (x ∷ xs) [] h k same = let none = ((same x).0 (contains_first x xs)).1 in absurd (omega arith)
 same_rising (x ∷ xs) (y ∷ ys) h k same =
     let first = same_first x y xs ys h k same in
     let rest = same_rising xs ys (sorted_tail nat_cmp x xs h) (sorted_tail nat_cmp y ys k) (λ z. (later_same x y xs ys z first h (same z).0, later_same y x ys xs z (sym first) k (same z).1)) in

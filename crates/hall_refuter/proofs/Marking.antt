@@ -7,6 +7,7 @@ use Rattle.std.proofs.lemmas.Bool.{cases_eq}
 use Rattle.std.proofs.lemmas.Bool.Decides.{nat_tests}
 use Rattle.std.proofs.lemmas.Map.Keys.{IsStrictlyIncreasing-from_sorted}
 use Rattle.assign_core.specs.Numbered.{IsNumber, renumbered, IsMarked}
+use Rattle.assign_core.proofs.Members.{contains_later}
 use Rattle.assign_core.proofs.NumberedLemmas.{low_or_same, numbered-other, renumber-set}
 use Rattle.hall_refuter.specs.declared.reach.Found.{Found}
 use Rattle.hall_refuter.specs.Found.{person_at, IsAmongFirst, marked_from}
@@ -37,15 +38,12 @@ marked_more found marks n h i f e lt at within long before x =
     let w : IsNumber n f.person = subst (λ g. IsNumber n g.person) (sym at) (within h f lt) in
     rw (set_is marks i f.person e w.first) (one_marked found marks h f.person x (person_read found h f lt at) (subst (λ m. IsNumber m f.person) (sym long) w) (before x))
 
-contains_cons : (y : ℕ) (xs : List ℕ) (x : ℕ) → Contains xs x → Contains (y ∷ xs) x
-contains_cons y xs x h = (suc h.0, (let lt = h.1 in omega arith), h.2)
-
 -- a marked number stands in the list
 listed_mark : (j : ℕ) (marks : List Bool) (i x : ℕ) → j + i ≡ x → get_or marks i false ≡ true → Contains (marked_from j marks) x
 listed_mark j [] i x e m = absurd cc
 listed_mark j (true ∷ marks) zero x e m = let at : j ≡ x = omega arith in (0, omega arith, at)
 listed_mark j (false ∷ marks) zero x e m = absurd cc
-listed_mark j (true ∷ marks) (suc i) x e m = contains_cons j (marked_from (j + 1) marks) x (listed_mark (j + 1) marks i x (omega arith) m)
+listed_mark j (true ∷ marks) (suc i) x e m = contains_later j (marked_from (j + 1) marks) x (listed_mark (j + 1) marks i x (omega arith) m)
 listed_mark j (false ∷ marks) (suc i) x e m = listed_mark (j + 1) marks i x (omega arith) m
 
 -- a number of the list is marked

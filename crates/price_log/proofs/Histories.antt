@@ -1,12 +1,12 @@
 -- Logs, their tables and their trims.
-use Rattle.std.proofs.Common.{◌≡◌, ℕ, ℤ, pos, zero, suc, ◌+ℤ◌, ◌≤ℤ◌, ◌<ℤ◌, ◌+◌, ◌-◌, ◌*◌, ◌^◌, ◌<◌, ◌≤◌, List, [], ◌∷◌, ◌++◌, length, get_or, set, take, drop, nat_eq, refl, ap, arith, sym, ◌∙◌, subst, length-append, length-drop, inl, inr, ◌⊎◌, Result, Ok, Err, OnOk, IfOk}
+use Rattle.std.proofs.Common.{◌≡◌, ℕ, ℤ, pos, zero, suc, ◌+ℤ◌, ◌≤ℤ◌, ◌<ℤ◌, ◌+◌, ◌-◌, ◌*◌, ◌^◌, ◌<◌, ◌≤◌, List, [], ◌∷◌, ◌++◌, length, get_or, set, take, drop, nat_eq, refl, ap, arith, sym, ◌∙◌, subst, length-append, length-drop, inl, inr, Result, Ok, Err, OnOk, IfOk}
 use Rattle.std.specs.List.{All}
 use Rattle.std.proofs.lemmas.Int.{ints}
 use Rattle.std.proofs.lemmas.List.{take-append-le, take-append-drop, drop-take, take-take, take_all, take_more, length-take-le}
 use Rattle.std.proofs.Math.Seq.{drop-cons}
 use Rattle.std.proofs.lemmas.List.Elements.{All-head, All-tail, All-set}
 use Rattle.std.proofs.lemmas.Bool.{cond-true, cond-false}
-use Rattle.std.proofs.lemmas.Bool.Decides.{eqb_tells}
+use Rattle.std.proofs.lemmas.Bool.Decides.{eqb_tells, leb_tells}
 use Rattle.assign_core.specs.Numbered.{IsNumber, renumbered}
 use Rattle.assign_core.specs.declared.numbers.TheConstants.{MOST_PERSONS}
 use Rattle.assign_core.specs.Prices.{IsBelow, IsPrice, IsTable, price_of}
@@ -20,10 +20,6 @@ use Rattle.assign_core.proofs.NumberedLemmas.{numbered-same, numbered-other, len
 pub raised-append : (t : List ℤ) (xs ys : List Raise) → raised t (xs ++ ys) ≡ raised (raised t xs) ys
 raised-append t [] ys = refl
 raised-append t (x ∷ xs) ys = raised-append (renumbered t x.object x.level) xs ys
-
-pub length-raised : (t : List ℤ) (xs : List Raise) → length (raised t xs) ≡ length t
-length-raised t [] = refl
-length-raised t (x ∷ xs) = length-raised (renumbered t x.object x.level) xs ∙ length-renumbered t x.object x.level
 
 pub Rises-append : (t : List ℤ) (xs ys : List Raise) → Rises t xs → Rises (raised t xs) ys → Rises t (xs ++ ys)
 Rises-append t [] ys f g = g
@@ -315,12 +311,10 @@ earlier_stays old new table v is goes below early =
       was_below : (old : History) (table : List ℤ) (v : ℕ) → IsHistory old → IsEarlier old table v → IsBelow table (today old)
       was_below old table v is early =
           let reached = early.reached in
-          elim (le_or old.first_kept v) [
-            | inl l ↦ subst (λ t. IsBelow t (today old)) (sym (early.same l)) (subst (IsBelow (table_at old v)) (today-at old) (table_rises old v (last_version old) is reached))
-            | inr l ↦ early.below l
-          ] where
-            le_or : (a b : ℕ) → (a ≤ b) ⊎ (b < a)
-            le_or a b = grind arith
+          elim (leb_tells old.first_kept v) [
+            | inl l ↦ subst (λ t. IsBelow t (today old)) (sym (early.same l.1)) (subst (IsBelow (table_at old v)) (today-at old) (table_rises old v (last_version old) is reached))
+            | inr l ↦ early.below l.1
+          ]
 
 -- a raise lets no price fall
 pub after_raise_up : (l : History) (j : ℕ) (level : ℤ) → IsNumber (length (today l)) j → price_of (today l) j <ℤ level → IsPrice level → IsBelow (today l) (today (after_raise l j level))

@@ -2,11 +2,12 @@
 use Rattle.std.proofs.Common.{◌≡◌, ℕ, ℤ, pos, ◌≤ℤ◌, ◌⊎◌, inl, inr, List, [], ◌∷◌, length, map, refl, arith, sym, subst}
 use Rattle.std.specs.List.{All, Contains}
 use Rattle.std.proofs.lemmas.Int.{ints, fold-int_min_bounds, fold-int_min_reached, fold-int_max_bounds, fold-int_max_reached}
-use Rattle.std.proofs.lemmas.List.Elements.{All-nil, All-cons, All-head, All-tail, All-append, All-map, All-weaker, All-contains, Contains-append_right, Contains-get_or}
+use Rattle.std.proofs.lemmas.List.Elements.{All-nil, All-cons, All-head, All-tail, All-append, All-map, All-weaker, All-contains}
 use Rattle.assign_core.specs.declared.sense.Sense.{Sense}
 use Rattle.assign_core.specs.Rows.{Listing, IsCost, IsRow, IsSize, IsProblem, HasCosts}
 use Rattle.assign_core.specs.Benefits.{benefit, benefit_row, IsBenefit}
 use Rattle.assign_core.proofs.BenefitRows.{IsBenefit-benefit}
+use Rattle.assign_core.proofs.Members.{contains_first, contains_later}
 use Rattle.scaled_values.specs.Scaled.{ScaledProblem, benefits_of, values_in, least_of, greatest_of, least_benefit, greatest_benefit, spread, IsLeastOf, IsGreatestOf}
 use Rattle.scaled_values.specs.Limits.{most_spread}
 use Rattle.scaled_values.specs.declared.row.StoredRow.{StoredRow}
@@ -58,23 +59,17 @@ greatest_holds P (x ∷ xs) none h = elim (fold-int_max_reached x xs (greatest_o
   | inr k ↦ All-contains P xs (greatest_of (x ∷ xs)) (All-tail P x xs h) k
 ]
 
-contains_later : (x : ℤ) (xs : List ℤ) (a : ℤ) → Contains xs a → Contains (x ∷ xs) a
-contains_later x xs a h = Contains-append_right (x ∷ []) xs a h
-
-contains_first : (x : ℤ) (xs : List ℤ) (a : ℤ) → a ≡ x → Contains (x ∷ xs) a
-contains_first x xs a e = subst (Contains (x ∷ xs)) (sym e) (Contains-get_or (x ∷ xs) 0 x (omega arith))
-
 least_held : (xs : List ℤ) → Contains xs (least_of xs) ⊎ ((xs ≡ []) × (least_of xs ≡ pos 0))
 least_held [] = inr (refl, refl)
 least_held (x ∷ xs) = elim (fold-int_min_reached x xs (least_of (x ∷ xs)) refl) [
-  | inl e ↦ inl (contains_first x xs (least_of (x ∷ xs)) e)
+  | inl e ↦ inl (subst (Contains (x ∷ xs)) (sym e) (contains_first x xs))
   | inr k ↦ inl (contains_later x xs (least_of (x ∷ xs)) k)
 ]
 
 greatest_held : (xs : List ℤ) → Contains xs (greatest_of xs) ⊎ ((xs ≡ []) × (greatest_of xs ≡ pos 0))
 greatest_held [] = inr (refl, refl)
 greatest_held (x ∷ xs) = elim (fold-int_max_reached x xs (greatest_of (x ∷ xs)) refl) [
-  | inl e ↦ inl (contains_first x xs (greatest_of (x ∷ xs)) e)
+  | inl e ↦ inl (subst (Contains (x ∷ xs)) (sym e) (contains_first x xs))
   | inr k ↦ inl (contains_later x xs (greatest_of (x ∷ xs)) k)
 ]
 

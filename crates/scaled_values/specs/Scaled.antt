@@ -6,6 +6,7 @@ use Rattle.std.specs.Ordering.{int_eq}
 use Rattle.assign_core.specs.declared.sense.Sense.{Sense}
 use Rattle.assign_core.specs.Rows.{Listing, IsRising, IsWithin}
 use Rattle.assign_core.specs.Benefits.{benefit_rows, IsBenefit}
+use Rattle.scaled_values.specs.declared.phases.TheConstants.{EPS_DIVISOR}
 
 pub record ScaledProblem : Type 0 where
   pub problem : List Listing
@@ -39,9 +40,9 @@ greatest_benefit s = greatest_of (values_in (benefits_of s))
 abbrev pub spread : ScaledProblem → ℤ
 spread s = greatest_benefit s -ℤ least_benefit s
 
--- a fifth of a number of at least 0, and at least 1
+-- a fifth of a number of at least 0 (`eps_divisor` says that it is one), and at least 1
 abbrev pub fifth : ℤ → ℤ
-fifth z = int_max (pos 1) (int_div z (pos 5))
+fifth z = int_max (pos 1) (int_div z EPS_DIVISOR)
 
 -- the slackness of the first phase
 abbrev pub first_eps : ScaledProblem → ℤ

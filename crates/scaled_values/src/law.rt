@@ -4,6 +4,13 @@ ghost use Rattle.assign_core.specs.Rows.{IsProblem};
 ghost use Rattle.scaled_values.specs.Scaled.{ScaledProblem, first_eps, eps_after, IsEps};
 ghost use Rattle.scaled_values.specs.Scaled.{least_of, greatest_of, IsLeastOf, IsGreatestOf};
 
+use super::phases::EPS_DIVISOR;
+
+/// Which number the divisor of slacknesses is.
+pub fn eps_divisor()
+    ensures { EPS_DIVISOR ≡ pos 5 }
+{}
+
 /// There are at most 23 phases.
 pub fn few_phases()
     ensures { (s : ScaledProblem) (k : ℕ) (eps : ℤ) → IsProblem s.problem

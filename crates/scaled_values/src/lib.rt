@@ -10,7 +10,7 @@ mod scaled;
 #[cfg(test)]
 mod tests;
 
-pub use law::{eps_in_range, extremes_are_listed, few_phases, last_eps_is_one};
-pub use phases::next_eps;
+pub use law::{eps_divisor, eps_in_range, extremes_are_listed, few_phases, last_eps_is_one};
+pub use phases::{EPS_DIVISOR, next_eps};
 pub use row::Row;
 pub use scaled::{Scaled, scale};

@@ -5,11 +5,15 @@ ghost use Rattle.scaled_values.specs.Limits.{most_step};
 
 use assign_core::{MOST_PERSONS, Price};
 
+/// The slackness of the first phase is the spread divided by this, and that of each later phase
+/// the one before divided by this, both at least 1.
+pub const EPS_DIVISOR: i64 = 5;
+
 // A fifth, and at least 1.
 pub fn fifth(number: i64) -> i64
     ensures { result ≡ fifth number }
 {
-    (number / 5).max(1)
+    (number / EPS_DIVISOR).max(1)
 }
 
 /// The slackness of the phase after one with slackness `eps`: a fifth of it in whole division,

@@ -1,6 +1,7 @@
 use Rattle.std.proofs.Common.{◌≡◌, ℕ, ℤ, pos, ◌+◌, ◌<◌, ◌≤◌, ◌&&◌, List, [], ◌∷◌, ◌++◌, Option, Some, IsSome, Bool, true, false, cond, nat_eq, refl, arith, sym, subst, inl, inr, eq-eqb}
 use Rattle.std.specs.List.{All}
 use Rattle.std.proofs.lemmas.Int.{ints}
+use Rattle.std.proofs.lemmas.Bool.{and_from}
 use Rattle.std.proofs.lemmas.List.Elements.{All-push}
 use Rattle.assign_core.specs.declared.numbers.TheConstants.{MOST_PERSONS}
 use Rattle.assign_core.specs.Sparse.{Triple, IsTriple, least_given}
@@ -24,13 +25,9 @@ some_later : (b : Bool) (x : ℤ) (o : Option ℤ) → IsSome o → IsSome (cond
 some_later true x o h = refl
 some_later false x o h = h
 
-both : (a b : Bool) → a ≡ true → b ≡ true → (a && b) ≡ true
-both true b e f = f
-both false b e f = absurd cc
-
 -- the last triple gives its pair
 given_last : (ts : List Triple) (i j : ℕ) (c : ℤ) → IsSome (least_given (ts ++ (i, j, c) ∷ []) i j)
-given_last [] i j c = some_here (nat_eq i i && nat_eq j j) _ _ (both (nat_eq i i) (nat_eq j j) (eq-eqb i i refl) (eq-eqb j j refl))
+given_last [] i j c = some_here (nat_eq i i && nat_eq j j) _ _ (and_from (nat_eq i i) (nat_eq j j) (eq-eqb i i refl) (eq-eqb j j refl))
 given_last (u ∷ ts) i j c = some_later (nat_eq u.0 i && nat_eq u.1 j) _ _ (given_last ts i j c)
 
 -- two triples more
