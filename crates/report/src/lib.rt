@@ -33,8 +33,6 @@ mod lists;
 mod machine;
 mod numerals;
 mod pending;
-#[cfg(test)]
-mod plain;
 mod put;
 mod ranges;
 mod read;

@@ -1,6 +1,7 @@
 // Shared by all tests here: a report in both versions, and a reader that gives a text in pieces.
 mod fronts;
 mod long;
+mod plain;
 mod spoilt;
 mod starts;
 mod texts;

@@ -1,6 +1,6 @@
 // Reports and spoilt ones, read by the reader and by the plain grammar.
+use super::plain::{fault_of, text_of};
 use super::*;
-use crate::plain::{fault_of, text_of};
 use assign_core::{Object, Person, Sense};
 
 // Whether the reader and the plain grammar agree on a text.

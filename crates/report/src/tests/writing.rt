@@ -14,14 +14,14 @@ use std::io::Write;
 
 // Takes so many bytes, in pieces of at most so many, and then is interrupted, or takes none.
 #[derive(Drop)]
-struct Sheet {
+struct FailingWriter {
     taken: Vec<u8>,
     room: usize,
     most: usize,
     fails: bool,
 }
 
-impl Write for Sheet {
+impl Write for FailingWriter {
     fn write(&mut self, buf: &[u8]) -> io::Result<usize> {
         let count = self.room.min(self.most).min(buf.len());
         if count == 0 && self.fails {
@@ -53,7 +53,7 @@ fn outcome_written(rt: HostRuntime) -> Result<(), Fail> {
     let (problem, outcome) = two_persons(rt.alloc())?;
     for room in 0..SECOND.len() {
         for fails in [false, true] {
-            let mut sheet = Sheet {
+            let mut sheet = FailingWriter {
                 taken: Vec::new(rt.alloc()),
                 room,
                 most: 7,
@@ -65,7 +65,7 @@ fn outcome_written(rt: HostRuntime) -> Result<(), Fail> {
             assert_eq!(rt; sheet.taken.as_slice(), front);
         }
     }
-    let mut sheet = Sheet {
+    let mut sheet = FailingWriter {
         taken: Vec::new(rt.alloc()),
         room: 1000,
         most: 7,
@@ -90,7 +90,7 @@ fn hall_set_written(rt: HostRuntime) -> Result<(), Fail> {
     let persons = vec![in rt.alloc(); Person(1), Person(2)]?;
     let objects = vec![in rt.alloc(); Object(1)]?;
     let hall = HallSet::new(persons, objects);
-    let mut sheet = Sheet {
+    let mut sheet = FailingWriter {
         taken: Vec::new(rt.alloc()),
         room: 1000,
         most: 1000,

@@ -1,5 +1,5 @@
 // The grammar of reports, transcribed plainly: the tests compare the reader with it.
-use super::{Report, ReportFault};
+use crate::{Report, ReportFault};
 use assign_core::{Numbered, Object, Price, Sense};
 use std::alloc::{AllocError, Global};
 
