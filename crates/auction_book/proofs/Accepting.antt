@@ -19,6 +19,7 @@ use Rattle.scaled_values.proofs.EpsList.{range_of_eps}
 use Rattle.scaled_values.proofs.RowFacts.{benefit_row_is}
 use Rattle.bidder.specs.declared.offers.Bid.{Bid}
 use Rattle.bidder.specs.Offers.{IsSound, benefits_at}
+use Rattle.bidder.proofs.Accepted.{slack_raised}
 use Rattle.bidder.proofs.Sound.{sound_topped}
 use Rattle.auction_book.specs.Book.{BookData, Holds, ask_of, is_some, persons_of, prices_of, version_of}
 use Rattle.auction_book.specs.Changes.{accepted, released}
@@ -30,7 +31,6 @@ use Rattle.price_log.proofs.Histories.{after_raise_is, continues-kept_raise, con
 use Rattle.auction_book.proofs.Listings.{listed_problem}
 use Rattle.auction_book.proofs.Places.{accepted_places, released_places, unowned}
 use Rattle.auction_book.proofs.PhaseBounds.{top_fits}
-use Rattle.auction_book.proofs.Keeping.{slack_accepted}
 use Rattle.auction_book.proofs.Moving.{moved_free}
 
 first_low : (eps first now : ℤ) (o : Option ℕ) → pos 1 ≤ℤ eps → IsPriced eps first now o → first ≤ℤ now
@@ -125,7 +125,7 @@ accepted_free b worker bid free sound high held =
       owners_match = matching_more b.base.problem b.owners j bid.person (record { first = h; last = ino }) free.owners_match (λ k. unowned n b.owners b.queue b.claims worker bid.person k free.placed_once held) listed;
       owners_slack = subst (λ z. (i k : ℕ) → owner_of (renumbered b.owners j (Some bid.person)) k ≡ Some i → HasSlack b.eps z (benefits_at b.base i) k) (sym now)
           (owners_by (λ i k. HasSlack b.eps (renumbered p j bid.level) (benefits_at b.base i) k) b.owners j bid.person (record { first = h; last = ino })
-          (slack_accepted b.eps p (benefits_at b.base bid.person) j bid.level (omega (arith, ints)) row.rising h inp sound.near)
+          (slack_raised b.eps p (benefits_at b.base bid.person) j bid.level (omega (arith, ints)) row.rising (record { first = h; last = inp }) sound.near)
           (λ i k ne e. slack_rises b.eps p (renumbered p j bid.level) (benefits_at b.base i) k (rise p j bid.level up (record { first = h; last = inp })) (numbered-other p j k bid.level (pos 0) ne) (free.owners_slack i k e)));
       placed_once = λ i. accepted_places b.owners b.queue b.claims worker bid.person j i h ino held ∙ free.placed_once i;
       log_ascends = after_raise_is b.log j bid.level free.log_ascends (record { first = h; last = inp }) (omega (arith, ints)) (record { least = omega (arith, ints); below = omega (arith, ints) });
@@ -138,7 +138,6 @@ accepted_free b worker bid free sound high held =
           (subst (λ v. IsProgress b.eps b.start (renumbered p j bid.level) b.start_version v (renumbered b.owners j (Some bid.person))) (sym next)
           (progress_more b.eps bid.level b.start p b.start_version (version_of b) j bid.person b.owners h inp ino high free.progress));
       recorded = free.recorded;
-      taken_before = λ k. let t = free.taken_before k in omega arith;
     }
 
 pub released_free : (b : BookData) (worker person : ℕ) → IsFree b → Holds b worker person → IsFree (released b worker person)

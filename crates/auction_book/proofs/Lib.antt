@@ -1,6 +1,5 @@
 pub mod Places
 pub mod Listings
-pub mod Keeping
 pub mod PhaseBounds
 pub mod Moving
 pub mod Accepting

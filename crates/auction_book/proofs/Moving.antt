@@ -25,5 +25,4 @@ moved_free b queue claims refuted free long placed hall = record {
   counts_total = free.counts_total;
   progress = free.progress;
   recorded = hall;
-  taken_before = free.taken_before;
 }

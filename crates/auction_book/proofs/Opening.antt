@@ -106,7 +106,6 @@ opened_free s prices workers problem table long low =
       counts_total = sum_zeros workers;
       progress = record { begun = omega arith; owned = let o = none_counted is_some n refl in omega arith; risen = omega (arith, ints) };
       recorded = tt;
-      taken_before = λ k. let t = no_version workers k in omega arith;
     }
 
 pub phased_free : (b : BookData) → IsFree b → IsOver b → IsFree (phased b)
@@ -160,7 +159,6 @@ phased_free b free over =
         risen = subst (λ m. (sum_of (prices_of b) +ℤ (pos m *ℤ eps)) ≤ℤ sum_of (prices_of b)) (sym d) (omega (arith, ints));
       };
       recorded = free.recorded;
-      taken_before = free.taken_before;
     }
 
 -- the greatest first price of a phase is at least 0

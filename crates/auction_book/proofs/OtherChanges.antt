@@ -49,20 +49,6 @@ trimmed_to_is l v is le = trimmed_to-cases (IsTrimmed l) l v
     (λ h. record { is = trimmed_is l v is h le; prices = today-trim l v; version = trim_version l v h le; log = continues-trim l v h le })
     (record { is = is; prices = refl; version = refl; log = continues-refl l })
 
-taken_more : (taken : List ℕ) (w v : ℕ) → ((k : ℕ) → numbered taken k 0 ≤ v) → (k : ℕ) → numbered (renumbered taken w v) k 0 ≤ v
-taken_more taken w v h k = elim (eqb_tells k w) [
-  | inl t ↦ same taken w v k t.1 (h k)
-  | inr t ↦ let o = numbered-other taken w k v 0 t.1 in let p = h k in omega arith
-] where
-  same : (taken : List ℕ) (w v k : ℕ) → k ≡ w → numbered taken k 0 ≤ v → numbered (renumbered taken w v) k 0 ≤ v
-  same taken zero v k e p = p
-  same taken (suc w) v k e p = elim (le_or (suc w) (length taken)) [
-    | inl l ↦ let s : numbered (renumbered taken (suc w) v) k 0 ≡ v = ap (λ m. numbered (renumbered taken (suc w) v) m 0) e ∙ numbered-same taken (suc w) v 0 (omega arith) l in omega arith
-    | inr l ↦ let s : numbered (renumbered taken (suc w) v) k 0 ≡ 0 = ap (λ m. numbered (renumbered taken (suc w) v) m 0) e ∙ numbered-past (renumbered taken (suc w) v) (suc w) 0 (let r = length-renumbered taken (suc w) v in omega arith) in omega arith
-  ] where
-    le_or : (a b : ℕ) → (a ≤ b) ⊎ (b < a)
-    le_or a b = grind arith
-
 pub caught_up_free : (b : BookData) (worker : ℕ) → IsFree b → IsFree (caught_up b worker)
 caught_up_free b worker free =
     let taken = renumbered b.taken worker (version_of b) in
@@ -87,7 +73,6 @@ caught_up_free b worker free =
       counts_total = free.counts_total ∙ v;
       progress = rw (← p, ← v) free.progress;
       recorded = free.recorded;
-      taken_before = λ k. let t = taken_more b.taken worker (version_of b) free.taken_before k in let e = trim.version in omega arith;
     }
 
 pub caught_up_trimmed : (b : BookData) (worker : ℕ) → IsFree b → IsTrimmed b.log (caught_up b worker).log

@@ -116,7 +116,7 @@ noted_left w b new table version (Some (made.Below under)) told free below h s =
       ends = record { follows = recorded_follows b w under.person reach.0; none = over_claim b w under.person held; stopped = refl };
     })
 
-undone_left : (w : ℕ) (b new : BookData) (table : List ℤ) (version : ℕ) (offer : Option Offer) (told : Note) → IsFree b → IsBelow table (prices_of b) → IsPrepared b w table version offer → IsUndone b w offer new told → IsLeft w b new
+pub undone_left : (w : ℕ) (b new : BookData) (table : List ℤ) (version : ℕ) (offer : Option Offer) (told : Note) → IsFree b → IsBelow table (prices_of b) → IsPrepared b w table version offer → IsUndone b w offer new told → IsLeft w b new
 undone_left w b new table version None told free below h s = absurd s
 undone_left w b new table version (Some (made.Bid bid)) told free below h s = judged_left w h.0 b new table bid (Err Memory) free below h.1 h.2.0 h.2.1 h.2.3 s.0
 undone_left w b new table version (Some (made.Below under)) told free below h s = left_released w under.person b new free s.0 s.1

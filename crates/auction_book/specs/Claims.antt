@@ -1,11 +1,11 @@
 -- What a claim answers.
-use Rattle.std.specs.Prelude.{ℕ, List, [], ◌∷◌, length, cond}
+use Rattle.std.specs.Prelude.{◌≡◌, ℕ, List, [], ◌∷◌, length, cond}
 use Rattle.assign_core.specs.Numbered.{IsNumber}
 use Rattle.scaled_values.specs.Scaled.{ScaledProblem}
 use Rattle.bidder.specs.Offers.{IsAsk}
 use Rattle.auction_book.specs.declared.answers.Claim.{Claim}
 use Rattle.auction_book.specs.declared.answers.Claim.TheVariants as claim
-use Rattle.auction_book.specs.Book.{BookData, ask_of, is_refuted}
+use Rattle.auction_book.specs.Book.{BookData, Holds, ask_of, is_refuted}
 use Rattle.auction_book.specs.Phases.{is_done}
 use Rattle.auction_book.specs.Changes.{claimed}
 
@@ -25,6 +25,11 @@ after_claim b worker claim.Refuted = b
 after_claim b worker claim.Done = b
 after_claim b worker claim.Stopped = b
 after_claim b worker claim.Wait = b
+
+-- where a person was claimed: what is asked of its bid is what the book asks, and the worker holds its claim
+abbrev pub IsHeld : BookData → ℕ → Claim → Type 0
+IsHeld new worker (claim.Person person ask) = (ask ≡ ask_of new) × Holds new worker person
+IsHeld new worker answer = Unit {0}
 
 -- who was claimed is a person of the problem, and what is asked is slackness and floor of some phase
 abbrev pub IsAsked : ScaledProblem → Claim → Type 0

@@ -1,6 +1,5 @@
 -- What holds of every book between two calls: a free book.
 use Rattle.std.specs.Prelude.{◌≡◌, ℕ, ℤ, pos, ◌-◌, ◌*ℤ◌, ◌+ℤ◌, ◌≤ℤ◌, ◌<◌, ◌≤◌, List, Option, None, Some, MatchOption, count_by, length, sum}
-use Rattle.assign_core.specs.Numbered.{numbered}
 use Rattle.assign_core.specs.Rows.{IsProblem}
 use Rattle.assign_core.specs.Prices.{IsTable, price_of}
 use Rattle.assign_core.specs.Matching.{IsMatching, owner_of}
@@ -40,7 +39,7 @@ pub record IsProgress (eps : ℤ) (start prices : List ℤ) (first now : ℕ) (o
 
 -- owners are a matching with slackness at the book's prices; each person owns an object, waits or is claimed; the
 -- log ascends; prices are between those at the phase's start and its top; phase, slackness and floor belong together;
--- the workers' counts add up to the version; a recorded set is a Hall set; and no worker took a version yet to come
+-- the workers' counts add up to the version; and a recorded set is a Hall set
 pub record IsFree (b : BookData) : Type 0 where
   pub problem : IsProblem b.base.problem
   pub sizes : HasSizes (persons_of b) (prices_of b) b.start b.claims b.counts b.taken
@@ -54,4 +53,3 @@ pub record IsFree (b : BookData) : Type 0 where
   pub counts_total : sum b.counts ≡ version_of b
   pub progress : IsProgress b.eps b.start (prices_of b) b.start_version (version_of b) b.owners
   pub recorded : MatchOption b.refuted (Unit {0}) (λ h. IsHallSet b.base.problem h.persons h.objects)
-  pub taken_before : (worker : ℕ) → numbered b.taken worker 0 ≤ version_of b

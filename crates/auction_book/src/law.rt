@@ -1,16 +1,26 @@
 // Laws of books.
-ghost use Rattle.std.specs.Prelude.{◌≡◌, ◌≢◌, ℕ, ℤ, pos, ◌≤ℤ◌, ◌<◌, [], None, false, true, List, IsTrue, length};
+ghost use Rattle.std.specs.Prelude.{◌≡◌, ◌≢◌, ℕ, ℤ, pos, ◌≤ℤ◌, ◌<◌, [], None, Some, Option, Result, false, true, List, IsTrue, length};
 ghost use Rattle.assign_core.specs.Hall.{HallLists, IsHallSet};
+ghost use Rattle.assign_core.specs.Matching.{owner_of};
 ghost use Rattle.assign_core.specs.Numbered.{IsNumber, numbered};
 ghost use Rattle.assign_core.specs.Prices.{IsBelow};
 ghost use Rattle.assign_core.specs.Reach.{IsBlocked, IsPath};
+ghost use Rattle.bidder.specs.declared.offers.BelowFloor.{BelowFloor};
 ghost use Rattle.bidder.specs.declared.offers.Bid.{Bid};
+ghost use Rattle.bidder.specs.declared.offers.Offer.{Offer};
 ghost use Rattle.bidder.specs.Offers.{IsBid, IsSound, IsUnder, benefits_at};
-ghost use Rattle.auction_book.specs.Book.{BookData, Holds, ask_of, phase_accepted, phase_bound, prices_of};
+ghost use Rattle.price_log.specs.History.{IsEarlier};
+ghost use Rattle.auction_book.specs.declared.answers.Accepted.{Accepted};
+ghost use Rattle.auction_book.specs.declared.answers.Claim.{Claim};
+ghost use Rattle.auction_book.specs.declared.answers.Note.{Note};
+ghost use Rattle.auction_book.specs.declared.answers.Refused.{Refused};
+ghost use Rattle.auction_book.specs.Book.{BookData, Holds, ask_of, persons_of, phase_accepted, phase_bound, prices_of};
+ghost use Rattle.auction_book.specs.Claims.{after_claim};
 ghost use Rattle.auction_book.specs.Phases.{IsOver};
 ghost use Rattle.auction_book.specs.Changes.{accepted, caught_up, claimed, given_up, phased, released, recorded};
-ghost use Rattle.auction_book.specs.Submissions.{IsHigh};
-ghost use Rattle.auction_book.specs.Follows.{Follows};
+ghost use Rattle.auction_book.specs.Session.{EndsClaim, IsNoted, IsPrepared, IsUndone};
+ghost use Rattle.auction_book.specs.Submissions.{IsFitting, IsHigh, IsRecorded, IsSubmitted};
+ghost use Rattle.auction_book.specs.Follows.{Follows, GoesOn};
 ghost use Rattle.auction_book.specs.Free.{IsFree};
 
 /// Each change of a book by a worker leaves what other workers rely on: no price falls, the log
@@ -33,6 +43,35 @@ pub fn changes_follow()
     ensures phased { (b : BookData) (worker : ℕ) → IsFree b → IsOver b → Follows worker b (phased b) }
     ensures stopped { (b : BookData) (worker : ℕ) → Follows worker b (record b { stopped = true }) }
     ensures resumed { (b : BookData) (worker : ℕ) → Follows worker b (record b { stopped = false }) }
+{}
+
+/// Whatever comes of a submitted bid, of a Hall set that was brought or of a claim, the change
+/// follows. Whatever comes of a prepared offer, its worker has no claim afterwards. And where a book
+/// goes on, what a worker's table was to the old one it is to the new one: below its prices and, as
+/// far back as the log reaches, the log's at its version.
+pub fn submissions_follow()
+    ensures submitted { (b new : BookData) (worker : ℕ) (bid : Bid) (answer : Result Accepted Refused) → IsFree b
+        → IsFitting b bid → IsSubmitted b worker bid answer new → Follows worker b new }
+    ensures recorded { (b new : BookData) (worker : ℕ) (below : BelowFloor) (lists : HallLists)
+        (answer : Result (Unit {0}) Refused) → IsRecorded b worker below lists answer new → Follows worker b new }
+    ensures answered { (b : BookData) (worker : ℕ) (answer : Claim) → Follows worker b (after_claim b worker answer) }
+    ensures noted { (b new : BookData) (worker version : ℕ) (table : List ℤ) (offer : Option Offer) (told : Note)
+        → IsFree b → IsBelow table (prices_of b) → IsPrepared b worker table version offer
+        → IsNoted b worker offer new told → EndsClaim worker b new }
+    ensures undone { (b new : BookData) (worker version : ℕ) (table : List ℤ) (offer : Option Offer) (told : Note)
+        → IsFree b → IsBelow table (prices_of b) → IsPrepared b worker table version offer
+        → IsUndone b worker offer new told → EndsClaim worker b new }
+    ensures tables { (b new : BookData) (table : List ℤ) (version : ℕ) → IsFree b → GoesOn b new
+        → IsBelow table (prices_of b) → IsEarlier b.log table version
+        → IsBelow table (prices_of new) × IsEarlier new.log table version }
+{}
+
+/// Who was claimed is a person of the problem, and owns nothing.
+pub fn claimed_persons_own_nothing()
+    ensures person { (b : BookData) (worker person : ℕ) → IsFree b → Holds b worker person
+        → IsNumber (persons_of b) person }
+    ensures unowned { (b : BookData) (worker person object : ℕ) → IsFree b → Holds b worker person
+        → owner_of b.owners object ≡ Some person → ⊥ }
 {}
 
 /// A bid made from today's prices and phase is never too low.

@@ -14,7 +14,10 @@ mod session;
 
 pub use answers::{Accepted, Claim, Note, Refused, Submission};
 pub use book::Book;
-pub use law::{changes_follow, floor_is_exact, fresh_bids_are_high, phase_is_bounded};
+pub use law::{
+    changes_follow, claimed_persons_own_nothing, floor_is_exact, fresh_bids_are_high,
+    phase_is_bounded, submissions_follow,
+};
 pub use schedule::{
     Event, Seat, World, run_schedule, run_schedule_from, runs_are_fit, worlds_go_on,
 };

@@ -152,9 +152,10 @@ pub fn run_schedule(
 
 /// Runs a list of events from these prices, one for each object and each at most
 /// `GREATEST_FIRST_PRICE`, for at least one worker. In each event the worker submits its prepared
-/// offer, where there is none to a free object a search is recorded; it takes today's prices if the
-/// event says so; the next phase begins if this one is over; and the worker claims a person and
-/// prepares that person's offer from its own table, however old (Bertsekas and Castanon, Parallel
+/// offer, or, where its person is below the floor, searches what stops that person and records the
+/// Hall set; it takes today's prices if the event says so; the next phase begins if this one is
+/// over; and the worker claims a person and prepares that person's offer from its own table, however
+/// old (Bertsekas and Castanon, Parallel
 /// synchronous and asynchronous implementations of the auction algorithm, 1991).
 ///
 /// What `fit` says holds whatever the events, so it is so for any interleaving of the workers.

@@ -3,7 +3,7 @@ ghost use Rattle.std.specs.Prelude.{◌≡◌, ℕ, List, [], ◌∷◌, None, f
 ghost use Rattle.assign_core.specs.Numbered.{IsNumber, numbered};
 ghost use Rattle.auction_book.specs.Book.{is_refuted};
 ghost use Rattle.auction_book.specs.Changes.{claimed, given_up};
-ghost use Rattle.auction_book.specs.Claims.{IsAsked, after_claim, claim_of};
+ghost use Rattle.auction_book.specs.Claims.{IsAsked, IsHeld, after_claim, claim_of};
 ghost use Rattle.auction_book.specs.Free.{IsFree};
 
 use super::super::answers::Claim;
@@ -40,6 +40,7 @@ impl Book {
         requires none { numbered self.old.claims worker None ≡ None }
         ensures answer { result ≡ claim_of self.old }
         ensures asked { IsAsked self.old.base result }
+        ensures held { IsHeld self.new worker result }
         ensures book { self.new ≡ after_claim self.old worker result }
         ensures free { IsFree self.new }
     {
@@ -71,7 +72,7 @@ impl Book {
         }
     }
 
-    /// Nobody is claimed from now on.
+    /// Nobody is claimed from now on, until `resume`.
     pub fn stop(&mut self)
         ensures book { self.new ≡ record self.old { stopped = true } }
         ensures free { IsFree self.new }

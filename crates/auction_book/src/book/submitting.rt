@@ -1,5 +1,5 @@
 // Bids, and what is found below the floor.
-ghost use Rattle.std.specs.Prelude.{◌≡◌, ◌+◌, ◌+ℤ◌, ◌≤ℤ◌, ◌<ℤ◌, ℤ, List, None, cond, length, MatchBool, OnOk, OnErr};
+ghost use Rattle.std.specs.Prelude.{◌≡◌, ◌+◌, ◌+ℤ◌, ◌≤ℤ◌, ◌<ℤ◌, ℤ, List, None, cond, length, MatchBool, IfOk, OnErr};
 ghost use Rattle.assign_core.specs.Hall.{IsHallSet};
 ghost use Rattle.assign_core.specs.Matching.{owner_of};
 ghost use Rattle.assign_core.specs.Numbered.{IsNumber};
@@ -40,23 +40,16 @@ impl Book {
         self.log.price(object)
     }
 
-    // Who owns an object.
-    fn owner(&self, object: Object) -> Option<Person>
-        requires { IsNumber (length self.now.owners) object }
-        ensures { result ≡ owner_of self.now.owners object }
-    {
-        self.owners[object.place()]
-    }
-
-    // The bidder gets the object at its level. Whoever had it waits again.
-    fn accept(&mut self, worker: u16, bid: Bid) -> Result<(), AllocError>
+    // The bidder gets the object at its level. Whoever had it, who is told, waits again.
+    fn accept(&mut self, worker: u16, bid: Bid) -> Result<Option<Person>, AllocError>
         requires worker { IsNumber (length self.old.claims) worker }
         requires held { Holds self.old worker bid.person }
         requires object { IsNumber (length self.old.owners) bid.object }
         requires high { IsHigh self.old bid }
         requires sound { (q : List ℤ) × IsBelow q (prices_of self.old)
             × IsSound self.old.base (ask_of self.old) q bid }
-        ensures ok { OnOk result (self.new ≡ accepted self.old worker bid) }
+        ensures ok { IfOk result (λ evicted. (evicted ≡ owner_of self.old.owners bid.object)
+            × (self.new ≡ accepted self.old worker bid)) }
         ensures err { OnErr result (self.new ≡ self.old) }
         ensures free { IsFree self.new }
     {
@@ -74,7 +67,7 @@ impl Book {
         requeue(&mut self.queue, evicted);
         self.claims[worker as usize - 1] = None;
         self.counts[worker as usize - 1] += 1;
-        Ok(())
+        Ok(evicted)
     }
 
     /// A worker submits the bid of a person that it claimed. The bid is accepted exactly where the
@@ -109,9 +102,8 @@ impl Book {
             self.release(worker, person);
             return Err(Refused::TooLow(price));
         }
-        let evicted = self.owner(bid.object);
         match self.accept(worker, bid) {
-            Ok(()) => Ok(Accepted { evicted }),
+            Ok(evicted) => Ok(Accepted { evicted }),
             Err(_) => {
                 self.release(worker, person);
                 Err(Refused::Memory)

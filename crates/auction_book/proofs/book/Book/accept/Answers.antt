@@ -1,7 +1,8 @@
-use Rattle.std.proofs.Common.{◌≡◌, ◌<◌, ◌≤◌, ◌-◌, ◌+◌, length, None, Some, sym, ap, subst, arith, rules, get_or, SFits}
+use Rattle.std.proofs.Common.{◌≡◌, ◌<◌, ◌≤◌, ◌-◌, ◌+◌, ◌∙◌, length, None, Some, sym, ap, subst, arith, rules, get_or, SFits}
 use Rattle.std.specs.Int.{w128}
 use Rattle.std.proofs.lemmas.Int.{to_z-of_z}
 use Rattle.std.proofs.lemmas.List.{length-set, get_or_read}
+use Rattle.assign_core.specs.Matching.{owner_of}
 use Rattle.assign_core.specs.Numbered.{IsNumber, numbered}
 use Rattle.assign_core.proofs.NumberedLemmas.{numbered_read, renumber-set}
 use Rattle.bidder.proofs.Sound.{sound_above}
@@ -60,8 +61,10 @@ returns-clause-ok c =
     let more = numbered_read s.counts.items w c.index_mut-3.result.now 0 hw ln c.index_mut-3.ensures.value in
     let f : SFits w128 bid.level = search rules in
     let made : c.raise.new.self ≡ after_raise s.log bid.object bid.level = simp to_z-of_z at c.in_ok-raise.ensures.ok in
-    let out = numbered_read s.owners.items bid.object c.index.result.now None ho lo (subst (λ m. c.index.result.now ≡ get_or s.owners.items m c.index.result.now) at c.index.ensures) in
-    rw (at, more, sym (renumber-set s.owners.items bid.object (Some bid.person) ho), sym (renumber-set s.claims.items w None hw), sym (renumber-set s.counts.items w (numbered s.counts.items w 0 + 1) hw), c.requeue.ensures.queue, out, made) (ap (λ (x : BookData). accepted x w bid) is)
+    let out = numbered_read s.owners.items bid.object c.index.result.now None ho lo (subst (λ m. c.index.result.now ≡ get_or s.owners.items m c.index.result.now) at c.index.ensures) in (
+      out ∙ ap (λ (x : BookData). owner_of x.owners bid.object) is,
+      rw (at, more, sym (renumber-set s.owners.items bid.object (Some bid.person) ho), sym (renumber-set s.claims.items w None hw), sym (renumber-set s.counts.items w (numbered s.counts.items w 0 + 1) hw), c.requeue.ensures.queue, out, made) (ap (λ (x : BookData). accepted x w bid) is),
+    )
 
 pub invariant_of-self-2 : goal.invariant_of-self-2
 invariant_of-self-2 c =
@@ -79,7 +82,7 @@ invariant_of-self-2 c =
       rw (length-set, c.requeue.ensures.capacity) c.self.invariant.0,
       owned_more s.owners.items bid.object bid.person c.place-place.result s.owned c.newly_owned.result c.index.result.now at ho lo c.self.invariant.1 out c.newly_owned.ensures,
       rw length-set c.self.invariant.2,
-      subst IsFree (sym (returns-clause-ok c)) now,
+      subst IsFree (sym (returns-clause-ok c).1) now,
     )
 
 pub returns-clause-free : goal.returns-clause-free
