@@ -13,7 +13,7 @@ use Rattle.assign_core.specs.declared.sense.Sense.{Sense}
 use Rattle.assign_core.specs.declared.sense.Sense.TheVariants.{Min, Max}
 use Rattle.assign_core.specs.Rows.{Listing, listed_in, row_of}
 use Rattle.assign_core.specs.Assignment.{IsAssignment, IsBest, IsNoWorse, total}
-use Rattle.assign_core.specs.Plain.{IsFront, Begins, IsBestIn, IsBetterOf}
+use Rattle.assign_core.specs.inside.Plain.{IsFront, Begins, IsBestIn, IsBetterOf}
 use Rattle.assign_core.proofs.Listed.{entry_listed, place_of}
 use Rattle.assign_core.proofs.Zips.{zip_at}
 

@@ -7,7 +7,7 @@ pub mod Benefits
 pub mod Prices
 pub mod Slackness
 pub mod Matching
-pub mod Plain
 pub mod Reach
 pub mod Hall
 pub mod Outcomes
+pub mod inside

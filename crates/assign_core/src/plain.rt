@@ -2,7 +2,7 @@
 ghost use Rattle.std.specs.Prelude.{◌≡◌, ℕ, ◌↔◌, List, [], ◌∷◌, ◌++◌, IfOk, IfSome, IsTrue, MatchOption};
 ghost use Rattle.std.specs.List.{Contains};
 ghost use Rattle.assign_core.specs.Assignment.{IsAssignment, IsBest, IsNoWorse};
-ghost use Rattle.assign_core.specs.Plain.{Begins, IsBestIn, IsBetterOf, IsFront};
+ghost use Rattle.assign_core.specs.inside.Plain.{Begins, IsBestIn, IsBetterOf, IsFront};
 
 use super::assignment::Assignment;
 use super::numbers::{Cost, Object, Person};
@@ -100,56 +100,4 @@ pub fn plain_best(
         ((xs : List ℕ) → IsAssignment problem.now xs → ⊥) (IsBest sense problem.now)) }
 {
     best_after(alloc, problem, sense, &[])
-}
-
-#[cfg(test)]
-mod tests {
-    use super::*;
-    use std::test::Fail;
-
-    // What a best assignment of two persons gives to each, and its cost.
-    fn best_of_two(alloc: Global, sense: Sense) -> Result<Option<(Vec<Object>, Cost)>, AllocError> {
-        let problem = Problem::dense(alloc, 2, &[1, 2, 3, 5])?;
-        let Some(best) = plain_best(alloc, &problem, sense)? else {
-            return Ok(None);
-        };
-        let objects = best.objects().to_vec(alloc)?;
-        Ok(Some((objects, problem.total(&best))))
-    }
-
-    #[test]
-    fn two_persons(rt: HostRuntime) -> Result<(), Fail> {
-        for (sense, objects, total) in [
-            (Sense::Min, [Object(2), Object(1)], 5),
-            (Sense::Max, [Object(1), Object(2)], 6),
-        ] {
-            let Some((best, cost)) = best_of_two(rt.alloc(), sense)? else {
-                panic!(rt; "no assignment");
-            };
-            assert_eq!(rt; best.as_slice(), objects.as_slice());
-            assert_eq!(rt; cost, total);
-        }
-        Ok(())
-    }
-
-    #[test]
-    fn one_person(rt: HostRuntime) -> Result<(), Fail> {
-        let problem = Problem::dense(rt.alloc(), 1, &[-7])?;
-        let Some(best) = plain_best(rt.alloc(), &problem, Sense::Max)? else {
-            panic!(rt; "no assignment");
-        };
-        assert_eq!(rt; best.objects(), [Object(1)].as_slice());
-        assert_eq!(rt; problem.total(&best), -7);
-        Ok(())
-    }
-
-    #[test]
-    fn two_persons_and_one_listed_object(rt: HostRuntime) -> Result<(), Fail> {
-        let first = vec![in rt.alloc(); (Object(1), 4)]?;
-        let second = vec![in rt.alloc(); (Object(1), 6)]?;
-        let problem = Problem::from_rows(vec![in rt.alloc(); first, second]?);
-        let best = plain_best(rt.alloc(), &problem, Sense::Min)?;
-        assert!(rt; best.is_none());
-        Ok(())
-    }
 }

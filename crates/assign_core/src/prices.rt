@@ -83,8 +83,7 @@ impl Prices {
         self.values.as_slice()
     }
 
-    /// The prices of objects 1, 2, .. in 64 bits, none above its own price: a price of `NARROW_END`
-    /// or more is given as `NARROW_END`.
+    /// The prices of objects 1, 2, .. in 64 bits, from 0 to `NARROW_END`, none above its own price.
     pub fn narrow(&self) -> &[i64]
         ensures { IsNarrowed result.now self.now }
     {

@@ -171,3 +171,83 @@ fn numbers_of_persons_and_objects(rt: HostRuntime) {
     assert_eq!(rt; Person(3).place(), 2);
     assert_eq!(rt; Object(1).place(), 0);
 }
+
+#[test]
+fn a_pair_counts_once_at_its_least_cost(rt: HostRuntime) -> Result<(), Fail> {
+    let triples = [
+        (Person(2), Object(2), 5),
+        (Person(2), Object(2), 3),
+        (Person(2), Object(1), 9),
+        (Person(2), Object(2), 4),
+    ];
+    let problem = Problem::sparse(rt.alloc(), 2, &triples)?;
+    assert_eq!(rt; problem.n(), 2);
+    assert!(rt; problem.row(Person(1)).is_empty());
+    assert_eq!(rt;
+        problem.row(Person(2)),
+        [(Object(1), 9), (Object(2), 3)].as_slice()
+    );
+    Ok(())
+}
+
+#[test]
+fn all_pairs_in_falling_order(rt: HostRuntime) -> Result<(), Fail> {
+    let triples = [
+        (Person(2), Object(2), 5),
+        (Person(2), Object(1), 3),
+        (Person(1), Object(2), 2),
+        (Person(1), Object(1), 1),
+    ];
+    let problem = Problem::sparse(rt.alloc(), 2, &triples)?;
+    let dense = two_persons(rt.alloc())?;
+    for i in [1, 2] {
+        assert_eq!(rt; problem.row(Person(i)), dense.row(Person(i)));
+    }
+    Ok(())
+}
+
+// What a best assignment of two persons gives to each, and its cost.
+fn best_of_two(alloc: Global, sense: Sense) -> Result<Option<(Vec<Object>, Cost)>, AllocError> {
+    let problem = two_persons(alloc)?;
+    let Some(best) = plain_best(alloc, &problem, sense)? else {
+        return Ok(None);
+    };
+    let objects = best.objects().to_vec(alloc)?;
+    Ok(Some((objects, problem.total(&best))))
+}
+
+#[test]
+fn best_of_two_persons(rt: HostRuntime) -> Result<(), Fail> {
+    for (sense, objects, total) in [
+        (Sense::Min, [Object(2), Object(1)], 5),
+        (Sense::Max, [Object(1), Object(2)], 6),
+    ] {
+        let Some((best, cost)) = best_of_two(rt.alloc(), sense)? else {
+            panic!(rt; "no assignment");
+        };
+        assert_eq!(rt; best.as_slice(), objects.as_slice());
+        assert_eq!(rt; cost, total);
+    }
+    Ok(())
+}
+
+#[test]
+fn best_of_one_person(rt: HostRuntime) -> Result<(), Fail> {
+    let problem = Problem::dense(rt.alloc(), 1, &[-7])?;
+    let Some(best) = plain_best(rt.alloc(), &problem, Sense::Max)? else {
+        panic!(rt; "no assignment");
+    };
+    assert_eq!(rt; best.objects(), [Object(1)].as_slice());
+    assert_eq!(rt; problem.total(&best), -7);
+    Ok(())
+}
+
+#[test]
+fn two_persons_and_one_listed_object(rt: HostRuntime) -> Result<(), Fail> {
+    let first = vec![in rt.alloc(); (Object(1), 4)]?;
+    let second = vec![in rt.alloc(); (Object(1), 6)]?;
+    let problem = Problem::from_rows(vec![in rt.alloc(); first, second]?);
+    let best = plain_best(rt.alloc(), &problem, Sense::Min)?;
+    assert!(rt; best.is_none());
+    Ok(())
+}

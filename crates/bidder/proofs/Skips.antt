@@ -7,7 +7,8 @@ use Rattle.assign_core.specs.Dense.{row_from}
 use Rattle.assign_core.specs.Benefits.{IsBenefit}
 use Rattle.assign_core.specs.Prices.{IsNarrow, IsNarrowed, price_of}
 use Rattle.bidder.specs.declared.scan.BestTwo.{BestTwo}
-use Rattle.bidder.specs.BestTwo.{IsBestTwo, IsLimit}
+use Rattle.bidder.specs.BestTwo.{IsBestTwo}
+use Rattle.bidder.specs.inside.Limits.{IsLimit}
 use Rattle.bidder.proofs.Scans.{no_better, full_on, full_below}
 
 -- a benefit less a narrow price takes 64 bits

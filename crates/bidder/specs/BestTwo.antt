@@ -1,5 +1,5 @@
 -- The best object of a row under a table of prices, and the second value.
-use Rattle.std.specs.Prelude.{◌≡◌, ◌≢◌, ℕ, ℤ, ◌+ℤ◌, ◌-ℤ◌, pos, neg_ℤ, ◌≤ℤ◌, ◌<ℤ◌, ◌≤◌, ◌^◌, List, [], ◌∷◌, Option, None, Some, All, cond}
+use Rattle.std.specs.Prelude.{◌≡◌, ◌≢◌, ℕ, ℤ, ◌+ℤ◌, ◌-ℤ◌, ◌≤ℤ◌, ◌≤◌, List, [], ◌∷◌, Option, None, Some, All, cond}
 use Rattle.std.specs.Int.{int_max}
 use Rattle.std.specs.Int.Signed.{lt_z}
 use Rattle.assign_core.specs.Rows.{Listing, listed_in}
@@ -23,11 +23,6 @@ pub record IsBestTwo (row : Listing) (prices : List ℤ) (b : BestTwo) : Type 0 
   pub greatest : All (λ e. e.1 ≤ℤ (b.best +ℤ price_of prices e.0)) row
   pub lowest : All (λ e. e.1 ≡ (b.best +ℤ price_of prices e.0) → b.object ≤ e.0) row
   pub others : IsSecond row prices b.object b.second
-
--- a value above the least of 64 bits that isn't above the limit isn't above the second value either
-abbrev pub IsLimit : Option ℤ → ℤ → Type 0
-IsLimit second limit =
-    (v : ℤ) → neg_ℤ (pos (2 ^ 63)) <ℤ v → v ≤ℤ limit → (w : ℤ) × (second ≡ Some w) × (v ≤ℤ w)
 
 -- the greater of v and a value that may be absent
 abbrev pub greater_of : ℤ → Option ℤ → ℤ

@@ -1,2 +1,3 @@
 pub mod BestTwo
 pub mod Offers
+pub mod inside

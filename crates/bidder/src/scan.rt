@@ -8,7 +8,8 @@ ghost use Rattle.assign_core.specs.Benefits.{IsBenefit};
 ghost use Rattle.assign_core.specs.Prices.{IsNarrow, IsPrice, price_of};
 ghost use Rattle.scaled_values.specs.Scaled.{IsBenefitRow};
 ghost use Rattle.bidder.specs.declared.blocks.TheConstants.{LANES};
-ghost use Rattle.bidder.specs.BestTwo.{IsBestTwo, IsLimit, best_two, greater_of};
+ghost use Rattle.bidder.specs.BestTwo.{IsBestTwo, best_two, greater_of};
+ghost use Rattle.bidder.specs.inside.Limits.{IsLimit};
 
 use super::blocks::{LANES, none_above};
 use assign_core::{Benefit, Object, Price, Prices};

@@ -9,7 +9,7 @@ use Rattle.assign_core.specs.Matching.{owner_of}
 use Rattle.assign_core.specs.Reach.{Alternates, IsPath}
 use Rattle.hall_refuter.specs.declared.reach.Arrival.{Arrival}
 use Rattle.hall_refuter.specs.declared.reach.Found.{Found}
-use Rattle.hall_refuter.specs.Found.{beginner, person_at, arrival_at, arrival_object, object_at, IsArrived, IsReach, IsClimbable, Climbs}
+use Rattle.hall_refuter.specs.inside.Found.{beginner, person_at, arrival_at, arrival_object, object_at, IsArrived, IsReach, IsClimbable, Climbs}
 
 pub arrival_is : (found : List Found) (t : ℕ) (d : Found) (o : Option Arrival) → t < length found → (get_or found t d).arrival ≡ o → arrival_at found t ≡ o
 arrival_is found t d o lt e = ap (λ g. g.arrival) (get_or_default found t (beginner 0) d lt) ∙ e

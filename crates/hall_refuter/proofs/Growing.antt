@@ -9,7 +9,7 @@ use Rattle.assign_core.specs.Rows.{Listing, IsListed, listed_in, row_of}
 use Rattle.assign_core.specs.Matching.{owner_of}
 use Rattle.hall_refuter.specs.declared.reach.Arrival.{Arrival}
 use Rattle.hall_refuter.specs.declared.reach.Found.{Found}
-use Rattle.hall_refuter.specs.Found.{beginner, owner_through, person_at, arrival_at, arrival_object, object_at, IsArrived, IsReach, Grows}
+use Rattle.hall_refuter.specs.inside.Found.{beginner, owner_through, person_at, arrival_at, arrival_object, object_at, IsArrived, IsReach, Grows}
 use Rattle.hall_refuter.proofs.Marks.{marked_same, marked_kept, count_more}
 
 old_entry : (found : List Found) (e : Found) (t : ℕ) → t < length found → get_or (found ++ e ∷ []) t (beginner 0) ≡ get_or found t (beginner 0)

@@ -10,7 +10,7 @@ use Rattle.assign_core.specs.Numbered.{IsNumber, renumbered, IsMarked}
 use Rattle.assign_core.proofs.Members.{contains_later}
 use Rattle.assign_core.proofs.NumberedLemmas.{low_or_same, numbered-other, renumber-set}
 use Rattle.hall_refuter.specs.declared.reach.Found.{Found}
-use Rattle.hall_refuter.specs.Found.{person_at, IsAmongFirst, marked_from}
+use Rattle.hall_refuter.specs.inside.Found.{person_at, IsAmongFirst, marked_from}
 use Rattle.hall_refuter.proofs.Marks.{marked_same, marked_kept}
 use Rattle.hall_refuter.proofs.Growing.{person_read}
 

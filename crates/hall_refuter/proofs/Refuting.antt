@@ -16,7 +16,7 @@ use Rattle.assign_core.proofs.HallSets.{few_among}
 use Rattle.assign_core.proofs.HallReach.{reached_itself, reached_on, reached_within}
 use Rattle.hall_refuter.specs.declared.reach.Arrival.{Arrival}
 use Rattle.hall_refuter.specs.declared.reach.Found.{Found}
-use Rattle.hall_refuter.specs.Found.{person_at, arrival_at, arrival_object, object_at, IsAmongFirst, IsArrived, IsReach, IsWalked}
+use Rattle.hall_refuter.specs.inside.Found.{person_at, arrival_at, arrival_object, object_at, IsAmongFirst, IsArrived, IsReach, IsWalked}
 use Rattle.hall_refuter.specs.Search.{IsRefuted}
 use Rattle.hall_refuter.proofs.Climbing.{arrived_as}
 

@@ -11,7 +11,7 @@ use Rattle.assign_core.specs.Reach.{IsBlocked, IsPath}
 use Rattle.assign_core.proofs.NumberedLemmas.{low_or_same}
 use Rattle.assign_core.proofs.HallReach.{path_open}
 use Rattle.hall_refuter.specs.declared.reach.Found.{Found}
-use Rattle.hall_refuter.specs.Found.{beginner, person_at, arrival_object, IsArrived, IsReach, IsWalked, IsVisited, Grows, Climbs}
+use Rattle.hall_refuter.specs.inside.Found.{beginner, person_at, arrival_object, IsArrived, IsReach, IsWalked, IsVisited, Grows, Climbs}
 use Rattle.hall_refuter.specs.Search.{IsFound, IsHall, IsRefuted}
 use Rattle.hall_refuter.specs.declared.search.Search.{Search}
 use Rattle.hall_refuter.specs.declared.search.Search.TheVariants.{Hall, Path}

@@ -1,7 +1,7 @@
 // Marks, and the rising lists of what they mark.
 ghost use Rattle.std.specs.Prelude.{◌≡◌, ℕ, ◌≤◌, ◌↔◌, IfOk, length, map, All};
 ghost use Rattle.assign_core.specs.Numbered.{IsNumber, IsMarked};
-ghost use Rattle.hall_refuter.specs.Found.{IsAmongFirst, marked_from};
+ghost use Rattle.hall_refuter.specs.inside.Found.{IsAmongFirst, marked_from};
 
 use super::reach::Found;
 use assign_core::{MOST_PERSONS, Numbered};

@@ -1,6 +1,6 @@
 // An alternating path, read back from its end.
 ghost use Rattle.std.specs.Prelude.{◌≡◌, ℕ, ◌<◌, List, ◌∷◌, reverse, IfOk, length};
-ghost use Rattle.hall_refuter.specs.Found.{Climbs, IsClimbable};
+ghost use Rattle.hall_refuter.specs.inside.Found.{Climbs, IsClimbable};
 
 use super::reach::Found;
 use assign_core::Object;

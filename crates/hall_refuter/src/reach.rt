@@ -3,7 +3,7 @@ ghost use Rattle.std.specs.Prelude.{◌≡◌, ℕ, ◌<◌, List, [], ◌∷◌
 ghost use Rattle.assign_core.specs.Numbered.{IsNumber, renumbered};
 ghost use Rattle.assign_core.specs.Rows.{Listing, IsListed};
 ghost use Rattle.assign_core.specs.Matching.{IsMatching};
-ghost use Rattle.hall_refuter.specs.Found.{beginner, owner_through, person_at, IsReach, IsMet, IsVisited, Grows};
+ghost use Rattle.hall_refuter.specs.inside.Found.{beginner, owner_through, person_at, IsReach, IsMet, IsVisited, Grows};
 
 use assign_core::{Object, Person, Problem};
 use std::alloc::{AllocError, Global};

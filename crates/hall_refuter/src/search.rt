@@ -4,7 +4,7 @@ ghost use Rattle.std.specs.List.Sorted.{IsStrictlyIncreasing};
 ghost use Rattle.assign_core.specs.Numbered.{IsNumber, IsMarked};
 ghost use Rattle.assign_core.specs.Matching.{IsMatching, owner_of};
 ghost use Rattle.assign_core.specs.Reach.{IsBlocked};
-ghost use Rattle.hall_refuter.specs.Found.{IsAmongFirst};
+ghost use Rattle.hall_refuter.specs.inside.Found.{IsAmongFirst};
 ghost use Rattle.hall_refuter.specs.Search.{IsFound, IsHall};
 
 use super::lists::{marked, marks_of};

@@ -9,7 +9,7 @@ use Rattle.assign_core.specs.Sparse.{Triple, IsTriple, IsSparse}
 use Rattle.orlib_reader.specs.Wanted.{Wanted}
 use Rattle.orlib_reader.specs.Wanted as wanted
 use Rattle.orlib_reader.specs.Texts.{wanted_in, ended, Meets, triples_of}
-use Rattle.orlib_reader.specs.Gathered.{gathered, numbers_of, begun_numbers, sparse_numbers, AreWithin, IsGathered}
+use Rattle.orlib_reader.specs.inside.Gathered.{gathered, numbers_of, begun_numbers, sparse_numbers, AreWithin, IsGathered}
 use Rattle.orlib_reader.specs.declared.machine.TheConstants.{TEXT_LIMIT}
 use Rattle.orlib_reader.specs.declared.sparse.TheConstants.{PIECE_LENGTH}
 use Rattle.orlib_reader.specs.declared.sparse.Begun.{Begun}

@@ -9,7 +9,7 @@ use Rattle.orlib_reader.proofs.Numbers.{IsRead, IsBounded, read_begun, read_on, 
 use Rattle.orlib_reader.specs.Tokens.{Token, Piece, beyond, grown, closed, left_open, cut, is_space}
 use Rattle.orlib_reader.specs.Numbers.{is_digit, judged, judged_number, is_among}
 use Rattle.orlib_reader.specs.Texts.{wanted_in, ended, and_then, judged_open, numbers_from, numbers_in, dense_problem, dense_reading, sparse_list, sparse_reading, Answers, SparseAnswers, Meets}
-use Rattle.orlib_reader.specs.Steps.{State, begun, continued, begun_where, in_token, with_token, token_number, after, start, finished}
+use Rattle.orlib_reader.specs.inside.Steps.{State, begun, continued, begun_where, in_token, with_token, token_number, after, start, finished}
 use Rattle.orlib_reader.specs.declared.fault.InputFault.{InputFault}
 use Rattle.orlib_reader.specs.declared.fault.InputFault.TheVariants as faults
 use Rattle.orlib_reader.specs.declared.layout.Layout.{Layout}

@@ -14,7 +14,7 @@ use Rattle.orlib_reader.specs.Wanted as wanted
 use Rattle.orlib_reader.specs.declared.fault.InputFault.TheVariants as faults
 use Rattle.assign_core.specs.Rows.{Listing, IsCost}
 use Rattle.assign_core.specs.Dense.{row_from, rows_cut, dense_rows}
-use Rattle.orlib_reader.specs.Kept.{costs_of, kept_costs, kept_numbers, HasNoGap, IsFull, IsKept}
+use Rattle.orlib_reader.specs.inside.Kept.{costs_of, kept_costs, kept_numbers, HasNoGap, IsFull, IsKept}
 
 pub costs_of-push : (row : Listing) (j : ℕ) (c : ℤ) → costs_of (row ++ (j, c) ∷ []) ≡ costs_of row ++ c ∷ []
 costs_of-push row j c = map-append (λ e. e.1) row ((j, c) ∷ [])

@@ -4,7 +4,7 @@ use Rattle.std.proofs.lemmas.Bool.{cases_Bool, cond-true, cond-false, lt-leb, le
 use Rattle.assign_core.specs.declared.numbers.TheConstants.{MOST_PERSONS, GREATEST_COST}
 use Rattle.orlib_reader.specs.declared.token.TheConstants.{VALUE_LIMIT}
 use Rattle.orlib_reader.specs.Numbers.{is_digit, is_sign, is_negative, unsigned, digits_from, digits_value, signed, number_of, is_among, is_cost, in_range, judged_number}
-use Rattle.orlib_reader.specs.Steps.{saturated, begun, continued, token_number}
+use Rattle.orlib_reader.specs.inside.Steps.{saturated, begun, continued, token_number}
 use Rattle.orlib_reader.specs.Wanted.{Wanted}
 use Rattle.orlib_reader.specs.Wanted as wanted
 use Rattle.orlib_reader.specs.declared.token.OpenToken.{OpenToken}

@@ -6,7 +6,7 @@ use Rattle.orlib_reader.specs.declared.fault.InputFault.{InputFault}
 use Rattle.orlib_reader.specs.declared.fault.InputFault.TheVariants as faults
 use Rattle.orlib_reader.specs.declared.layout.Layout.{Layout}
 use Rattle.orlib_reader.specs.Texts.{Fails}
-use Rattle.orlib_reader.specs.Steps.{State, after, start, step, finished}
+use Rattle.orlib_reader.specs.inside.Steps.{State, after, start, step, finished}
 use Rattle.std.specs.Io.KnownBytes.{Consumes}
 
 pub after_err : (e : InputFault) (ys : List ℕ) → after (Err e) ys ≡ Err e

@@ -3,7 +3,7 @@ use Rattle.std.proofs.Common.{◌≡◌, ℤ, List, [], ◌∷◌, ◌++◌, Som
 use Rattle.orlib_reader.specs.Wanted.{Wanted}
 use Rattle.orlib_reader.specs.Numbers.{judged_number}
 use Rattle.orlib_reader.specs.Texts.{wanted_in, and_then, Fails}
-use Rattle.orlib_reader.specs.Steps.{with_token, token_number}
+use Rattle.orlib_reader.specs.inside.Steps.{with_token, token_number}
 use Rattle.orlib_reader.specs.declared.fault.InputFault.{InputFault}
 use Rattle.orlib_reader.specs.declared.fault.InputFault.TheVariants as faults
 use Rattle.orlib_reader.specs.declared.layout.Layout.{Layout}

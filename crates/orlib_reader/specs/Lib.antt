@@ -2,8 +2,5 @@ pub mod Tokens
 pub mod Wanted
 pub mod Numbers
 pub mod Texts
-pub mod Steps
-pub mod Kept
-pub mod Held
-pub mod Gathered
 pub mod FaultText
+pub mod inside

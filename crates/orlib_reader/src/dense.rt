@@ -2,9 +2,9 @@
 ghost use Rattle.std.specs.Prelude.{◌≡◌, ℤ, pos, ◌<◌, ◌≤◌, List, [], ◌∷◌, ◌++◌, Some, map, length, IfOk, OnOk, OnErr, if◌then◌else◌};
 ghost use Rattle.assign_core.specs.Rows.{IsCost, IsSize};
 ghost use Rattle.orlib_reader.specs.Texts.{wanted_in, ended, Gives, Meets};
-ghost use Rattle.orlib_reader.specs.Steps.{with_token};
+ghost use Rattle.orlib_reader.specs.inside.Steps.{with_token};
 ghost use Rattle.orlib_reader.specs.Wanted;
-ghost use Rattle.orlib_reader.specs.Kept.{IsKept, kept_costs, kept_numbers};
+ghost use Rattle.orlib_reader.specs.inside.Kept.{IsKept, kept_costs, kept_numbers};
 ghost use Rattle.orlib_reader.specs.declared.layout.Layout.TheVariants.{Dense};
 
 use super::fault::InputFault;

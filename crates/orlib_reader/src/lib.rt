@@ -5,8 +5,8 @@
 
 ghost use Rattle.std.specs.Prelude.{◌≡◌, ◌^◌, [], Ok, IfSome};
 ghost use Rattle.orlib_reader.specs.Texts.{Answers, Meets, SparseAnswers, dense_reading, sparse_reading};
-ghost use Rattle.orlib_reader.specs.Steps.{after, start, finished};
-ghost use Rattle.orlib_reader.specs.Held.{layout_in, found_in};
+ghost use Rattle.orlib_reader.specs.inside.Steps.{after, start, finished};
+ghost use Rattle.orlib_reader.specs.inside.Held.{layout_in, found_in};
 
 mod dense;
 mod fault;

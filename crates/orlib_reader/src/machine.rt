@@ -1,8 +1,8 @@
 // Takes a text byte by byte.
 ghost use Rattle.std.specs.Prelude.{◌≡◌, ◌≤◌, ◌+◌, [], Ok, OnOk, length};
 ghost use Rattle.orlib_reader.specs.Texts.{Gives, Meets};
-ghost use Rattle.orlib_reader.specs.Steps.{State, step, after, start, finished};
-ghost use Rattle.orlib_reader.specs.Held.{layout_in, found_in};
+ghost use Rattle.orlib_reader.specs.inside.Steps.{State, step, after, start, finished};
+ghost use Rattle.orlib_reader.specs.inside.Held.{layout_in, found_in};
 
 use super::fault::InputFault;
 use super::pairs::Pairs;
@@ -22,8 +22,8 @@ pub struct Machine {
 }
 
 impl Model for Machine {
-    ghost use Rattle.orlib_reader.specs.Steps.{State, IsUnderway};
-    ghost use Rattle.orlib_reader.specs.Held.{layout_in, found_in};
+    ghost use Rattle.orlib_reader.specs.inside.Steps.{State, IsUnderway};
+    ghost use Rattle.orlib_reader.specs.inside.Held.{layout_in, found_in};
 
     ghost Value = { State };
 

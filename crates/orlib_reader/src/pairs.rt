@@ -2,8 +2,8 @@
 ghost use Rattle.std.specs.Prelude.{◌≡◌, ◌≤◌, ◌↔◌, pos, Some, [], ◌∷◌, IfOk, IsTrue, OnOk, OnErr, length};
 ghost use Rattle.assign_core.specs.Rows.{IsSize};
 ghost use Rattle.orlib_reader.specs.Texts.{wanted_in, ended, Gives, Meets};
-ghost use Rattle.orlib_reader.specs.Steps.{with_token};
-ghost use Rattle.orlib_reader.specs.Held.{layout_in, found_in};
+ghost use Rattle.orlib_reader.specs.inside.Steps.{with_token};
+ghost use Rattle.orlib_reader.specs.inside.Held.{layout_in, found_in};
 ghost use Rattle.orlib_reader.specs.Wanted;
 
 use super::dense::DenseRows;

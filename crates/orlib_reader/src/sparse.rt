@@ -4,8 +4,8 @@ ghost use Rattle.std.specs.Prelude.{◌≡◌, ℤ, pos, ◌≤◌, List, [], �
 ghost use Rattle.assign_core.specs.Rows.{IsCost, IsSize};
 ghost use Rattle.assign_core.specs.Sparse.{IsTriple, IsSparse};
 ghost use Rattle.orlib_reader.specs.Texts.{ended, Gives, Meets};
-ghost use Rattle.orlib_reader.specs.Steps.{with_token};
-ghost use Rattle.orlib_reader.specs.Gathered.{gathered, sparse_numbers, IsGathered};
+ghost use Rattle.orlib_reader.specs.inside.Steps.{with_token};
+ghost use Rattle.orlib_reader.specs.inside.Gathered.{gathered, sparse_numbers, IsGathered};
 ghost use Rattle.orlib_reader.specs.declared.layout.Layout.TheVariants.{Sparse};
 
 use super::fault::InputFault;

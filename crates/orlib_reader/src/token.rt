@@ -6,7 +6,7 @@ ghost use Rattle.orlib_reader.specs.Tokens.{is_space};
 ghost use Rattle.orlib_reader.specs.Numbers.{Tells, is_among, judged_number};
 ghost use Rattle.orlib_reader.specs.Numbers;
 ghost use Rattle.orlib_reader.specs.Wanted;
-ghost use Rattle.orlib_reader.specs.Steps.{begun, continued, token_number};
+ghost use Rattle.orlib_reader.specs.inside.Steps.{begun, continued, token_number};
 
 use super::fault::InputFault;
 use assign_core::{Cost, GREATEST_COST, MOST_PERSONS};

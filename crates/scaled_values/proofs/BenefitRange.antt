@@ -11,7 +11,7 @@ use Rattle.assign_core.proofs.Members.{contains_first, contains_later}
 use Rattle.scaled_values.specs.Scaled.{ScaledProblem, benefits_of, values_in, least_of, greatest_of, least_benefit, greatest_benefit, spread, IsLeastOf, IsGreatestOf}
 use Rattle.scaled_values.specs.Limits.{most_spread}
 use Rattle.scaled_values.specs.declared.row.StoredRow.{StoredRow}
-use Rattle.scaled_values.specs.Stored.{IsStored}
+use Rattle.scaled_values.specs.inside.Stored.{IsStored}
 
 row_in_range : (sense : Sense) (n : ℕ) (row : Listing) → IsSize n → HasCosts row → All IsBenefit (map (λ e. e.1) (benefit_row sense n row))
 row_in_range sense n row size h =

@@ -11,8 +11,8 @@ use Rattle.assign_core.proofs.RowLemmas.{row_of-index}
 use Rattle.assign_core.specs.Dense.{row_from}
 use Rattle.scaled_values.specs.declared.range.Range.{Range}
 use Rattle.scaled_values.specs.declared.row.StoredRow.{StoredRow}
-use Rattle.scaled_values.specs.Held.{stored_entries}
-use Rattle.scaled_values.specs.Range.{widened, range_with}
+use Rattle.scaled_values.specs.inside.Stored.{stored_entries}
+use Rattle.scaled_values.specs.inside.Range.{widened, range_with}
 use Rattle.scaled_values.specs.Scaled.{values_in, least_of, greatest_of}
 
 -- what is left of the rows of benefits begins with the benefits of the next row

@@ -1,5 +1,4 @@
 pub mod Scaled
 pub mod Limits
-pub mod Range
 pub mod Held
-pub mod Stored
+pub mod inside

@@ -1,8 +1,8 @@
 // The least and the greatest benefit of a problem.
 ghost use Rattle.std.specs.Prelude.{◌≡◌, map};
 ghost use Rattle.scaled_values.specs.Scaled.{values_in};
-ghost use Rattle.scaled_values.specs.Held.{stored_entries};
-ghost use Rattle.scaled_values.specs.Range.{widened, range_with};
+ghost use Rattle.scaled_values.specs.inside.Stored.{stored_entries};
+ghost use Rattle.scaled_values.specs.inside.Range.{widened, range_with};
 
 use super::row::StoredRow;
 use assign_core::{Benefit, Object};

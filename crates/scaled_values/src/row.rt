@@ -2,7 +2,8 @@
 ghost use Rattle.std.specs.Prelude.{◌≡◌, ℕ, ◌≤◌, length, IfOk, map};
 ghost use Rattle.assign_core.specs.Rows.{IsSize, IsRow};
 ghost use Rattle.assign_core.specs.Benefits.{benefit, benefit_row};
-ghost use Rattle.scaled_values.specs.Held.{entries_of, HasForm, stored_entries, HasStoredForm};
+ghost use Rattle.scaled_values.specs.Held.{entries_of, HasForm};
+ghost use Rattle.scaled_values.specs.inside.Stored.{stored_entries, HasStoredForm};
 
 use assign_core::{Benefit, Cost, Object, Sense};
 use std::alloc::{AllocError, Global};

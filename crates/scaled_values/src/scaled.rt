@@ -7,8 +7,9 @@ ghost use Rattle.assign_core.specs.Prices.{IsPrice};
 ghost use Rattle.scaled_values.specs.Scaled.{ScaledProblem, benefits_of, least_benefit, greatest_benefit, spread};
 ghost use Rattle.scaled_values.specs.Scaled.{first_eps, IsEps, floor_of, top_of, IsBenefitRow, IsBetween};
 ghost use Rattle.scaled_values.specs.Limits.{most_spread, most_step};
-ghost use Rattle.scaled_values.specs.Held.{entries_of, HasForm, stored_entries, HasStoredForm};
-ghost use Rattle.scaled_values.specs.Stored.{IsStored};
+ghost use Rattle.scaled_values.specs.Held.{entries_of, HasForm};
+ghost use Rattle.scaled_values.specs.inside.Stored.{stored_entries, HasStoredForm};
+ghost use Rattle.scaled_values.specs.inside.Stored.{IsStored};
 
 use super::phases::{fifth, steps};
 use super::range::{Range, range_of};

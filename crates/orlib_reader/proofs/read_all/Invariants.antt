@@ -1,7 +1,7 @@
 use Rattle.std.proofs.Common.{◌≤◌, ◌≡◌}
 use Rattle.orlib_reader.proofs.Streams.{Follows}
 use Rattle.orlib_reader.specs.declared.machine.TheConstants.{TEXT_LIMIT}
-use Rattle.orlib_reader.specs.Held.{layout_in}
+use Rattle.orlib_reader.specs.inside.Held.{layout_in}
 use Rattle.orlib_reader.proofs.read_all.Given as goal
 
 abbrev pub invariant-loop : goal.invariant-loop

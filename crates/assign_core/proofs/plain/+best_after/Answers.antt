@@ -1,5 +1,5 @@
 use Rattle.std.proofs.Common.{rules, arith, ◌≡◌, ℕ, ◌<◌, ◌+◌, ◌++◌, ◌∷◌, [], length, ◌∙◌, ap, sym, subst, Some, Option, List, length-append}
-use Rattle.assign_core.specs.Plain.{IsFront, IsBestIn, Begins}
+use Rattle.assign_core.specs.inside.Plain.{IsFront, IsBestIn, Begins}
 use Rattle.assign_core.proofs.Tried.{IsBestSoFar, none_yet, step_taken, step_tried, all_tried, longer_front, object_at, whole_front, best_assigned}
 use Rattle.assign_core.proofs.plain.+best_after.Goals as goal
 use Rattle.assign_core.proofs.plain.+best_after.Goals.{then-not-is_among+in_ok-longer+in_ok-found, else-not-is_among}

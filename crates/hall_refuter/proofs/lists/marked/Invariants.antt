@@ -1,5 +1,5 @@
 use Rattle.std.proofs.Common.{◌≡◌, ◌+◌, ◌++◌, drop, map}
-use Rattle.hall_refuter.specs.Found.{marked_from}
+use Rattle.hall_refuter.specs.inside.Found.{marked_from}
 use Rattle.hall_refuter.proofs.lists.marked.Given as goal
 
 -- the numbers so far and those to come are all that are marked

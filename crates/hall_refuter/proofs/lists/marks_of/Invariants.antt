@@ -1,6 +1,6 @@
 use Rattle.std.proofs.Common.{◌≡◌, ℕ, ◌↔◌, length}
 use Rattle.assign_core.specs.Numbered.{IsMarked}
-use Rattle.hall_refuter.specs.Found.{IsAmongFirst}
+use Rattle.hall_refuter.specs.inside.Found.{IsAmongFirst}
 use Rattle.hall_refuter.proofs.lists.marks_of.Given as goal
 
 -- just the persons that were passed are marked

@@ -1,5 +1,5 @@
 use Rattle.std.proofs.Common.{◌≡◌, ℕ, ◌<◌, List, ◌∷◌, ◌++◌, length}
-use Rattle.hall_refuter.specs.Found.{Climbs}
+use Rattle.hall_refuter.specs.inside.Found.{Climbs}
 use Rattle.hall_refuter.proofs.path.path_to.Given as goal
 
 -- the objects so far, and those from here to the first person, are all

@@ -1,5 +1,5 @@
 use Rattle.std.proofs.Common.{subst}
-use Rattle.hall_refuter.specs.Found.{IsMet}
+use Rattle.hall_refuter.specs.inside.Found.{IsMet}
 use Rattle.hall_refuter.proofs.Growing.{grows_through, person_read, person_stays, listed_item, all_met, more_met}
 use Rattle.hall_refuter.proofs.reach.visit.Goals as goal
 

@@ -1,6 +1,6 @@
 use Rattle.std.proofs.Common.{ℕ, ℤ, ◌<◌, get_or}
 use Rattle.assign_core.specs.Numbered.{IsMarked}
-use Rattle.hall_refuter.specs.Found.{IsReach, Grows}
+use Rattle.hall_refuter.specs.inside.Found.{IsReach, Grows}
 use Rattle.hall_refuter.proofs.reach.visit.Given as goal
 
 -- the objects that were passed are met

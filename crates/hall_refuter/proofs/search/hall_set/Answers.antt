@@ -1,7 +1,7 @@
 use Rattle.std.proofs.Common.{ℕ, ◌↔◌, length, subst, ◌∙◌}
 use Rattle.assign_core.specs.Numbered.{IsMarked}
 use Rattle.std.proofs.lemmas.List.{map-id}
-use Rattle.hall_refuter.specs.Found.{IsAmongFirst}
+use Rattle.hall_refuter.specs.inside.Found.{IsAmongFirst}
 use Rattle.hall_refuter.proofs.Marking.{listed_as, rising_as}
 use Rattle.hall_refuter.proofs.search.hall_set.Goals as goal
 

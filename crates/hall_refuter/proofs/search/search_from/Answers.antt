@@ -1,5 +1,5 @@
 use Rattle.std.proofs.Common.{arith, ◌∙◌, ◌≡◌, ◌<◌, length, subst, ap}
-use Rattle.hall_refuter.specs.Found.{person_at, Climbs, IsVisited}
+use Rattle.hall_refuter.specs.inside.Found.{person_at, Climbs, IsVisited}
 use Rattle.hall_refuter.proofs.Searching.{begun_as, walked_more, person_within, all_within, hall_answer, path_answer}
 use Rattle.hall_refuter.proofs.search.search_from.Goals as goal
 

@@ -1,5 +1,5 @@
 use Rattle.std.proofs.Common.{◌≡◌, ◌≤◌, ◌+◌, ◌-◌, length}
-use Rattle.hall_refuter.specs.Found.{person_at, IsReach, IsWalked}
+use Rattle.hall_refuter.specs.inside.Found.{person_at, IsReach, IsWalked}
 use Rattle.hall_refuter.proofs.search.search_from.Given as goal
 
 -- what the persons before the next one list is met

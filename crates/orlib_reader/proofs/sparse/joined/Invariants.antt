@@ -1,6 +1,6 @@
 use Rattle.std.proofs.Common.{◌≡◌, ◌++◌, map}
 use Rattle.std.specs.VecDeque.{deque_len}
-use Rattle.orlib_reader.specs.Gathered.{gathered}
+use Rattle.orlib_reader.specs.inside.Gathered.{gathered}
 use Rattle.orlib_reader.proofs.sparse.joined.Given as goal
 
 abbrev pub invariant-loop-piece : goal.invariant-loop-piece

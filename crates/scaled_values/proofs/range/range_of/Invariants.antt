@@ -1,7 +1,7 @@
 use Rattle.std.proofs.Common.{◌≡◌, None, map, drop}
-use Rattle.scaled_values.specs.Held.{stored_entries}
+use Rattle.scaled_values.specs.inside.Stored.{stored_entries}
 use Rattle.scaled_values.specs.Scaled.{values_in}
-use Rattle.scaled_values.specs.Range.{range_with}
+use Rattle.scaled_values.specs.inside.Range.{range_with}
 use Rattle.scaled_values.proofs.range.range_of.Given as goal
 
 -- the range so far with the benefits of the rows to come is the whole range

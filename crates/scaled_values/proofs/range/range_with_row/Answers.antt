@@ -1,5 +1,5 @@
 use Rattle.std.proofs.Common.{ap, ◌∙◌, sym}
-use Rattle.scaled_values.specs.Range.{range_with}
+use Rattle.scaled_values.specs.inside.Range.{range_with}
 use Rattle.scaled_values.proofs.Ranges.{values-row_from}
 use Rattle.scaled_values.proofs.range.range_with_row.Goals as goal
 

@@ -4,8 +4,8 @@ use mir.Val.{SFits}
 use mir.Syntax.{w64}
 use Rattle.assign_core.specs.Benefits.{benefit_rows}
 use Rattle.scaled_values.specs.Scaled.{values_in}
-use Rattle.scaled_values.specs.Held.{stored_entries}
-use Rattle.scaled_values.specs.Range.{range_with}
+use Rattle.scaled_values.specs.inside.Stored.{stored_entries}
+use Rattle.scaled_values.specs.inside.Range.{range_with}
 use Rattle.scaled_values.proofs.Ranges.{range_is}
 use Rattle.scaled_values.proofs.scaled.scale.Goals as goal
 

@@ -3,7 +3,7 @@ use Rattle.std.proofs.lemmas.List.Elements.{All-push}
 use Rattle.assign_core.specs.Rows.{row_of}
 use Rattle.assign_core.specs.Benefits.{benefit_row, benefit_rows}
 use Rattle.assign_core.proofs.DenseRows.{rows_moved}
-use Rattle.scaled_values.specs.Held.{stored_entries, HasStoredForm}
+use Rattle.scaled_values.specs.inside.Stored.{stored_entries, HasStoredForm}
 use Rattle.scaled_values.proofs.Ranges.{rows_next}
 use Rattle.scaled_values.proofs.scaled.stored_rows.Goals as goal
 

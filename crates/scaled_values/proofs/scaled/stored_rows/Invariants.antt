@@ -1,7 +1,7 @@
 use Rattle.std.proofs.Common.{◌≡◌, ◌++◌, drop, map, length}
 use Rattle.std.specs.List.{All}
 use Rattle.assign_core.specs.Benefits.{benefit_rows}
-use Rattle.scaled_values.specs.Held.{stored_entries, HasStoredForm}
+use Rattle.scaled_values.specs.inside.Stored.{stored_entries, HasStoredForm}
 use Rattle.scaled_values.proofs.scaled.stored_rows.Given as goal
 
 -- the rows so far and those to come are all

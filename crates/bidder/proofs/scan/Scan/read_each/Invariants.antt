@@ -1,6 +1,7 @@
 use Rattle.std.proofs.Common.{take}
 use Rattle.assign_core.specs.Dense.{row_from}
-use Rattle.bidder.specs.BestTwo.{IsBestTwo, IsLimit}
+use Rattle.bidder.specs.BestTwo.{IsBestTwo}
+use Rattle.bidder.specs.inside.Limits.{IsLimit}
 use Rattle.bidder.proofs.scan.Scan.read_each.Given as goal
 
 abbrev pub invariant-loop-i : goal.invariant-loop-i

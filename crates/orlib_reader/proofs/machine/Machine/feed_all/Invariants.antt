@@ -1,6 +1,6 @@
 use Rattle.std.proofs.Common.{◌≡◌, ◌+◌, ◌≤◌, Ok, drop}
 use Rattle.orlib_reader.specs.declared.machine.TheConstants.{TEXT_LIMIT}
-use Rattle.orlib_reader.specs.Steps.{after}
+use Rattle.orlib_reader.specs.inside.Steps.{after}
 use Rattle.orlib_reader.proofs.machine.Machine.feed_all.Given as goal
 
 abbrev pub invariant-loop-b : goal.invariant-loop-b

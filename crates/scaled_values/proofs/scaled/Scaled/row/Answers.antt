@@ -3,7 +3,8 @@ use Rattle.std.proofs.lemmas.List.{length-map}
 use Rattle.assign_core.specs.Rows.{Listing, IsProblem}
 use Rattle.assign_core.proofs.RowLemmas.{row_of-mapped, length-mapped}
 use Rattle.scaled_values.specs.Scaled.{benefits_of}
-use Rattle.scaled_values.specs.Held.{entries_of, stored_entries, HasStoredForm}
+use Rattle.scaled_values.specs.Held.{entries_of}
+use Rattle.scaled_values.specs.inside.Stored.{stored_entries, HasStoredForm}
 use Rattle.scaled_values.proofs.RowFacts.{benefit_row_is, benefits_between}
 use Rattle.scaled_values.proofs.scaled.Scaled.row.Goals as goal
 
