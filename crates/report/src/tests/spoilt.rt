@@ -57,36 +57,33 @@ fn spoilt_otherwise(alloc: Global, text: &[u8]) -> Result<Option<usize>, AllocEr
     Ok(None)
 }
 
+// Whether they agree on a text, and on it spoilt at any one place.
+fn agree_throughout(alloc: Global, text: &[u8]) -> Result<bool, AllocError> {
+    Ok(agree(alloc, text)? && spoilt_otherwise(alloc, text)?.is_none())
+}
+
 #[test]
 fn spoilt_texts(rt: HostRuntime) -> Result<(), Fail> {
-    let hall: &[u8] = b"sense max\ninfeasible\npersons 3 2 4 10\nobjects 2 1 12\n";
-    for text in [FIRST, SECOND, hall] {
-        assert!(rt; agree(rt.alloc(), text)?);
-        assert_eq!(rt; spoilt_otherwise(rt.alloc(), text)?, None);
-    }
+    let hall = b"sense max\ninfeasible\npersons 3 2 4 10\nobjects 2 1 12\n";
+    assert!(rt; agree_throughout(rt.alloc(), FIRST)?);
+    assert!(rt; agree_throughout(rt.alloc(), SECOND)?);
+    assert!(rt; agree_throughout(rt.alloc(), hall)?);
     Ok(())
 }
 
-// The longest report on an assignment, with memory enough.
-#[test]
-fn longest_best(rt: HostRuntime) -> Result<(), Fail> {
-    let alloc = rt.alloc();
+// The longest report on an assignment.
+fn longest_best(alloc: Global) -> Result<String, AllocError> {
     let best = Report::Best {
         sense: Some(Sense::Max),
         cost: -8_192_000_000_000_000,
         rows: vec![in alloc; (Object(8192), -1_000_000_000_000); 8192]?,
         prices: Some(vec![in alloc; 9_999_999_999_999_999_999_999; 8192]?),
     };
-    let text = text_of(alloc, &best)?;
-    assert!(rt; text.len() > 530_000);
-    assert!(rt; agree(alloc, text.as_str().as_bytes())?);
-    Ok(())
+    text_of(alloc, &best)
 }
 
-// The longest report on a Hall set, with memory enough.
-#[test]
-fn longest_hall(rt: HostRuntime) -> Result<(), Fail> {
-    let alloc = rt.alloc();
+// The longest report on a Hall set.
+fn longest_hall(alloc: Global) -> Result<String, AllocError> {
     let mut persons = Vec::new(alloc);
     let mut objects = Vec::new(alloc);
     for number in 1..8192u16 {
@@ -99,8 +96,20 @@ fn longest_hall(rt: HostRuntime) -> Result<(), Fail> {
         persons,
         objects,
     };
-    let text = text_of(alloc, &hall)?;
-    assert!(rt; text.len() > 77_000);
-    assert!(rt; agree(alloc, text.as_str().as_bytes())?);
+    text_of(alloc, &hall)
+}
+
+// Whether a text has more bytes than this, and they agree on it.
+fn agree_on_long(alloc: Global, text: &str, most: usize) -> Result<bool, AllocError> {
+    Ok(text.len() > most && agree(alloc, text.as_bytes())?)
+}
+
+// The longest reports, with memory enough.
+#[test]
+fn longest_texts(rt: HostRuntime) -> Result<(), Fail> {
+    let best = longest_best(rt.alloc())?;
+    assert!(rt; agree_on_long(rt.alloc(), best.as_str(), 530_000)?);
+    let hall = longest_hall(rt.alloc())?;
+    assert!(rt; agree_on_long(rt.alloc(), hall.as_str(), 77_000)?);
     Ok(())
 }

@@ -19,55 +19,65 @@ fn other_text(alloc: Global, texts: &[&[u8]], answer: &str) -> Result<Option<usi
     Ok(None)
 }
 
+// None of these may be the first line.
+const BAD_FIRST_LINES: [&[u8]; 23] = [
+    b"cost 5",
+    b"\n",
+    b"\x00",
+    b"\xff\n",
+    b"sense best\n",
+    b"sense min \n",
+    b"sense  min\n",
+    b"cost 05\n",
+    b"cost 00\n",
+    b"cost +5\n",
+    b"cost -0\n",
+    b"cost -05\n",
+    b"cost --5\n",
+    b"cost -\n",
+    b"cost\n",
+    b"cost \n",
+    b" cost 5\n",
+    b"cost  5\n",
+    b"cost 5 \n",
+    b"cost\t5\n",
+    b"cost 5\r\n",
+    b"cost 8192000001\n",
+    b"cost 100000000000000000000000000000000000000000\n",
+];
+
 #[test]
 fn bad_first_lines(rt: HostRuntime) -> Result<(), Fail> {
-    let texts: [&[u8]; 23] = [
-        b"cost 5",
-        b"\n",
-        b"\x00",
-        b"\xff\n",
-        b"sense best\n",
-        b"sense min \n",
-        b"sense  min\n",
-        b"cost 05\n",
-        b"cost 00\n",
-        b"cost +5\n",
-        b"cost -0\n",
-        b"cost -05\n",
-        b"cost --5\n",
-        b"cost -\n",
-        b"cost\n",
-        b"cost \n",
-        b" cost 5\n",
-        b"cost  5\n",
-        b"cost 5 \n",
-        b"cost\t5\n",
-        b"cost 5\r\n",
-        b"cost 8192000001\n",
-        b"cost 100000000000000000000000000000000000000000\n",
-    ];
-    assert_eq!(rt; other_text(rt.alloc(), &texts, "report: bad line 1")?, None);
+    assert_eq!(rt;
+        other_text(rt.alloc(), &BAD_FIRST_LINES, "report: bad line 1")?,
+        None
+    );
     Ok(())
 }
 
+// The second line of each may not stand there.
+const BAD_SECOND_LINES: [&[u8]; 13] = [
+    b"sense min\nsense min\n",
+    b"cost 5\nsense min\n",
+    b"sense max\ncost -8192000000000001\n",
+    b"cost 5\nassign 2 1 5\n",
+    b"cost 5\nassign 01 1 5\n",
+    b"cost 5\nassign 1 1  5\n",
+    b"cost 5\nassign 1 1 1000001\n",
+    b"cost 5\nprice 1 5\n",
+    b"cost 5\nassign 1 0 5\n",
+    b"cost 5\nassign 1 8193 5\n",
+    b"infeasible\npersons 0\n",
+    b"infeasible\npersons 2 2 1\n",
+    b"infeasible\npersons 3 1 2\n",
+];
+
 #[test]
 fn bad_second_lines(rt: HostRuntime) -> Result<(), Fail> {
-    let texts: [&[u8]; 13] = [
-        b"sense min\nsense min\n",
-        b"cost 5\nsense min\n",
-        b"sense max\ncost -8192000000000001\n",
-        b"cost 5\nassign 2 1 5\n",
-        b"cost 5\nassign 01 1 5\n",
-        b"cost 5\nassign 1 1  5\n",
-        b"cost 5\nassign 1 1 1000001\n",
-        b"cost 5\nprice 1 5\n",
-        b"cost 5\nassign 1 0 5\n",
-        b"cost 5\nassign 1 8193 5\n",
-        b"infeasible\npersons 0\n",
-        b"infeasible\npersons 2 2 1\n",
-        b"infeasible\npersons 3 1 2\n",
-    ];
-    assert_eq!(rt; other_text(rt.alloc(), &texts, "report: bad line 2")?, None);
+    assert_eq!(rt;
+        other_text(rt.alloc(), &BAD_SECOND_LINES, "report: bad line 2")?,
+        None
+    );
     Ok(())
 }
 
@@ -81,69 +91,71 @@ fn other_answer(alloc: Global, table: &[(&[u8], &str)]) -> Result<Option<usize>,
     Ok(None)
 }
 
+// Texts, each with what is told of it.
+const TOLD_TEXTS: [(&[u8], &str); 19] = [
+    (
+        b"sense max\ncost 5\nassign 1 1 -1000000000001\n",
+        "report: bad line 3",
+    ),
+    (b"cost 5\nassign 1 1 5\n\n", "report: bad line 3"),
+    (b"cost 5\nassign 1 1 5\nprice 1 -1\n", "report: bad line 3"),
+    (
+        b"cost 5\nassign 1 1 5\nprice 1 10000000000000000\n",
+        "report: bad line 3",
+    ),
+    (
+        b"sense max\ncost 5\nassign 1 1 5\nprice 1 10000000000000000000000\n",
+        "report: bad line 4",
+    ),
+    (
+        b"infeasible\npersons 1 1\nobjects 0\ncost 5\n",
+        "report: bad line 4",
+    ),
+    (b"", "report: ends before line 1"),
+    (b"cost 5\n", "report: ends before line 2"),
+    (b"sense min\n", "report: ends before line 2"),
+    (b"cost 8192000000\n", "report: ends before line 2"),
+    (
+        b"sense max\ncost -8192000000000000\n",
+        "report: ends before line 3",
+    ),
+    (
+        b"cost 5\nassign 1 1 5\nassign 2 1 5\nprice 1 0\n",
+        "report: ends before line 5",
+    ),
+    (
+        b"cost 5\nassign 1 1 5\n",
+        "Best { sense: None, cost: 5, rows: [(Object(1), 5)], prices: None }",
+    ),
+    (
+        b"cost -5\nassign 1 8192 -1000000\n",
+        "Best { sense: None, cost: -5, rows: [(Object(8192), -1000000)], prices: None }",
+    ),
+    (
+        b"cost 5\nassign 1 1 5\nprice 1 0\n",
+        "Best { sense: None, cost: 5, rows: [(Object(1), 5)], prices: Some([0]) }",
+    ),
+    (
+        b"cost 5\nassign 1 1 5\nprice 1 9999999999999999\n",
+        "Best { sense: None, cost: 5, rows: [(Object(1), 5)], prices: Some([9999999999999999]) }",
+    ),
+    (
+        b"sense max\ncost 5\nassign 1 1 5\nprice 1 9999999999999999999999\n",
+        "Best { sense: Some(Max), cost: 5, rows: [(Object(1), 5)], prices: Some([9999999999999999999999]) }",
+    ),
+    (
+        b"infeasible\npersons 2 1 2\nobjects 1 1\n",
+        "Hall { sense: None, persons: [Person(1), Person(2)], objects: [Object(1)] }",
+    ),
+    (
+        b"sense min\ninfeasible\npersons 1 8192\nobjects 0\n",
+        "Hall { sense: Some(Min), persons: [Person(8192)], objects: [] }",
+    ),
+];
+
 #[test]
 fn other_texts(rt: HostRuntime) -> Result<(), Fail> {
-    let table: [(&[u8], &str); 19] = [
-        (
-            b"sense max\ncost 5\nassign 1 1 -1000000000001\n",
-            "report: bad line 3",
-        ),
-        (b"cost 5\nassign 1 1 5\n\n", "report: bad line 3"),
-        (b"cost 5\nassign 1 1 5\nprice 1 -1\n", "report: bad line 3"),
-        (
-            b"cost 5\nassign 1 1 5\nprice 1 10000000000000000\n",
-            "report: bad line 3",
-        ),
-        (
-            b"sense max\ncost 5\nassign 1 1 5\nprice 1 10000000000000000000000\n",
-            "report: bad line 4",
-        ),
-        (
-            b"infeasible\npersons 1 1\nobjects 0\ncost 5\n",
-            "report: bad line 4",
-        ),
-        (b"", "report: ends before line 1"),
-        (b"cost 5\n", "report: ends before line 2"),
-        (b"sense min\n", "report: ends before line 2"),
-        (b"cost 8192000000\n", "report: ends before line 2"),
-        (
-            b"sense max\ncost -8192000000000000\n",
-            "report: ends before line 3",
-        ),
-        (
-            b"cost 5\nassign 1 1 5\nassign 2 1 5\nprice 1 0\n",
-            "report: ends before line 5",
-        ),
-        (
-            b"cost 5\nassign 1 1 5\n",
-            "Best { sense: None, cost: 5, rows: [(Object(1), 5)], prices: None }",
-        ),
-        (
-            b"cost -5\nassign 1 8192 -1000000\n",
-            "Best { sense: None, cost: -5, rows: [(Object(8192), -1000000)], prices: None }",
-        ),
-        (
-            b"cost 5\nassign 1 1 5\nprice 1 0\n",
-            "Best { sense: None, cost: 5, rows: [(Object(1), 5)], prices: Some([0]) }",
-        ),
-        (
-            b"cost 5\nassign 1 1 5\nprice 1 9999999999999999\n",
-            "Best { sense: None, cost: 5, rows: [(Object(1), 5)], prices: Some([9999999999999999]) }",
-        ),
-        (
-            b"sense max\ncost 5\nassign 1 1 5\nprice 1 9999999999999999999999\n",
-            "Best { sense: Some(Max), cost: 5, rows: [(Object(1), 5)], prices: Some([9999999999999999999999]) }",
-        ),
-        (
-            b"infeasible\npersons 2 1 2\nobjects 1 1\n",
-            "Hall { sense: None, persons: [Person(1), Person(2)], objects: [Object(1)] }",
-        ),
-        (
-            b"sense min\ninfeasible\npersons 1 8192\nobjects 0\n",
-            "Hall { sense: Some(Min), persons: [Person(8192)], objects: [] }",
-        ),
-    ];
-    assert_eq!(rt; other_answer(rt.alloc(), &table)?, None);
+    assert_eq!(rt; other_answer(rt.alloc(), &TOLD_TEXTS)?, None);
     Ok(())
 }
 

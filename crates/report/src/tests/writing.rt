@@ -6,7 +6,7 @@ use super::*;
 use crate::pending::Pending;
 use crate::send::flush;
 use crate::write::put_hall;
-use crate::{WriteFault, write_report};
+use crate::write_report;
 use assign_core::{
     Assignment, Certificate, HallSet, Object, Outcome, Person, Prices, Problem, Sense,
 };
@@ -47,59 +47,79 @@ fn two_persons(alloc: Global) -> Result<(Problem, Outcome), AllocError>
     Ok((problem, Outcome::Best(Certificate { assignment, prices })))
 }
 
-// The writer takes all, and then each front where it fails behind it, or takes no more.
-#[test]
-fn outcome_written(rt: HostRuntime) -> Result<(), Fail> {
-    let (problem, outcome) = two_persons(rt.alloc())?;
-    for room in 0..SECOND.len() {
-        for fails in [false, true] {
-            let mut sheet = FailingWriter {
-                taken: Vec::new(rt.alloc()),
-                room,
-                most: 7,
-                fails,
-            };
-            let result = write_report(&mut sheet, &problem, Sense::Min, &outcome, true);
-            assert!(rt; matches!(result, Err(WriteFault::Write)));
-            let (front, _) = SECOND.split_at(room);
-            assert_eq!(rt; sheet.taken.as_slice(), front);
-        }
-    }
-    let mut sheet = FailingWriter {
-        taken: Vec::new(rt.alloc()),
-        room: 1000,
+// What a writer with so much room has then of the report on two persons, and whether it took all.
+fn written(
+    alloc: Global,
+    sense: Sense,
+    prices: bool,
+    room: usize,
+    fails: bool,
+) -> Result<(bool, Vec<u8>), AllocError> {
+    let (problem, outcome) = two_persons(alloc)?;
+    let mut writer = FailingWriter {
+        taken: Vec::new(alloc),
+        room,
         most: 7,
-        fails: true,
+        fails,
     };
-    assert!(rt; write_report(&mut sheet, &problem, Sense::Min, &outcome, true).is_ok());
-    assert_eq!(rt; sheet.taken.as_slice(), SECOND);
-    assert!(rt; write_report(&mut sheet, &problem, Sense::Max, &outcome, false).is_ok());
-    let (_, more) = sheet
-        .taken
-        .as_slice()
-        .split_at(SECOND.len().min(sheet.taken.len()));
-    assert_eq!(rt;
-        more,
-        b"sense max\ncost 5\nassign 1 2 2\nassign 2 1 3\n".as_slice()
-    );
-    Ok(())
+    let result = write_report(&mut writer, &problem, sense, &outcome, prices);
+    Ok((result.is_ok(), writer.taken))
+}
+
+// Whether a writer that fails behind so many bytes, or takes no more, has just these then.
+fn is_cut_off(alloc: Global, room: usize, fails: bool) -> Result<bool, AllocError> {
+    let (is_whole, taken) = written(alloc, Sense::Min, true, room, fails)?;
+    let (front, _) = SECOND.split_at(room.min(SECOND.len()));
+    Ok(!is_whole && taken.as_slice() == front)
 }
 
 #[test]
-fn hall_set_written(rt: HostRuntime) -> Result<(), Fail> {
-    let persons = vec![in rt.alloc(); Person(1), Person(2)]?;
-    let objects = vec![in rt.alloc(); Object(1)]?;
+fn outcome_cut_off(rt: HostRuntime) -> Result<(), Fail> {
+    for room in 0..SECOND.len() {
+        assert!(rt; is_cut_off(rt.alloc(), room, false)?);
+        assert!(rt; is_cut_off(rt.alloc(), room, true)?);
+    }
+    Ok(())
+}
+
+// Whether a writer with room enough has this then.
+fn is_written(alloc: Global, sense: Sense, prices: bool, text: &[u8]) -> Result<bool, AllocError> {
+    let (is_whole, taken) = written(alloc, sense, prices, 1000, true)?;
+    Ok(is_whole && taken.as_slice() == text)
+}
+
+#[test]
+fn outcome_written(rt: HostRuntime) -> Result<(), Fail> {
+    assert!(rt; is_written(rt.alloc(), Sense::Min, true, SECOND)?);
+    let bare = b"sense max\ncost 5\nassign 1 2 2\nassign 2 1 3\n";
+    assert!(rt; is_written(rt.alloc(), Sense::Max, false, bare)?);
+    Ok(())
+}
+
+// What is written of a Hall set, if all of it is.
+fn hall_written(alloc: Global) -> Result<Option<Vec<u8>>, AllocError> {
+    let persons = vec![in alloc; Person(1), Person(2)]?;
+    let objects = vec![in alloc; Object(1)]?;
     let hall = HallSet::new(persons, objects);
-    let mut sheet = FailingWriter {
-        taken: Vec::new(rt.alloc()),
+    let mut writer = FailingWriter {
+        taken: Vec::new(alloc),
         room: 1000,
         most: 1000,
         fails: true,
     };
     let mut pending = Pending::new();
-    assert!(rt; put_hall(&mut sheet, &mut pending, Sense::Max, &hall).is_ok());
-    assert!(rt; flush(&mut sheet, &mut pending).is_ok());
+    if put_hall(&mut writer, &mut pending, Sense::Max, &hall).is_err()
+        || flush(&mut writer, &mut pending).is_err()
+    {
+        return Ok(None);
+    }
+    Ok(Some(writer.taken))
+}
+
+#[test]
+fn hall_set_written(rt: HostRuntime) -> Result<(), Fail> {
+    let text = hall_written(rt.alloc())?.ok_or("not written")?;
     let wanted: &[u8] = b"sense max\ninfeasible\npersons 2 1 2\nobjects 1 1\n";
-    assert_eq!(rt; sheet.taken.as_slice(), wanted);
+    assert_eq!(rt; text.as_slice(), wanted);
     Ok(())
 }
