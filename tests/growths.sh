@@ -2,15 +2,15 @@
 # Refuses each growth of small runs of a log, a book and desks in turn. Each call that meets the refusal has
 # to leave things as its contract says, and the run has to go on to the answer that ample memory gives;
 # a run whose problem, log, book or place can't be made writes nothing. The crates are copied, with a small
-# program over them (growths/main.rt.txt and its proofs), which is proved and built there.
+# program over them (programs/growths), which is proved and built there.
 # Wants cc: tests/growths.sh [FOLDER]
 set -euo pipefail
 top=$(cd "$(dirname "$0")/.." && pwd)
 work=${1:-$(mktemp -d)}
 [ $# -gt 0 ] || trap 'rm -rf "$work"' EXIT
 crate=$work/crates/growths
-. "$top/tests/over_crates.sh"
-over_crates "$top" "$work" growths "$top/tests/growths" 'assign_core scaled_values bidder price_log auction_book async_workers' \
+. "$top/programs/over_crates.sh"
+over_crates "$top" "$work" growths 'assign_core scaled_values bidder price_log auction_book async_workers' \
     assign_core price_log scaled_values bidder hall_refuter auction_book async_workers
 (cd "$crate" && rt run -- turns > "$work/log" 2>&1) || { tail -20 "$work/log"; exit 1; }
 program=$crate/out/growths

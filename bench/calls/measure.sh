@@ -2,7 +2,7 @@
 # Calls of the crates alone, beside the same steps in plain Rust, on one input in one run: sessions
 # with a book and events of several workers, memory of a book after few and many bids, reports
 # written and read; and the offers of a round by one thread and several. The proved crates are
-# copied, with a small program over them (main.rt.txt and its proofs), which is proved, built and
+# copied, with a small program over them (programs/calls), which is proved, built and
 # run there.
 set -euo pipefail
 here=$(cd "$(dirname "$0")" && pwd)
@@ -10,8 +10,8 @@ top=$(cd "$here/../.." && pwd)
 work=${1:-$(mktemp -d)}
 [ $# -gt 0 ] || trap 'rm -rf "$work"' EXIT
 crate=$work/crates/calls
-. "$top/tests/over_crates.sh"
-over_crates "$top" "$work" calls "$here" 'assign_core orlib_reader scaled_values bidder auction_book rounds report' \
+. "$top/programs/over_crates.sh"
+over_crates "$top" "$work" calls 'assign_core orlib_reader scaled_values bidder auction_book rounds report' \
     assign_core orlib_reader price_log scaled_values bidder hall_refuter report auction_book rounds
 for name in events report; do
     rustc --edition 2024 -O -C target-cpu=x86-64-v2 -o "$work/plain_$name" "$here/../plain/$name.rs"

@@ -1,15 +1,15 @@
 #!/usr/bin/env bash
 # Workers on a place: whole runs by 1, 2 and 4 threads, and the sessions of one worker beside the same sessions
 # with a book that lies in no place, on one input in one run. The proved crates are copied, with a small
-# program over them (main.rt.txt), which is proved, built and run there. bench/place/measure.sh [FOLDER]
+# program over them (programs/place), which is proved, built and run there. bench/place/measure.sh [FOLDER]
 set -euo pipefail
 here=$(cd "$(dirname "$0")" && pwd)
 top=$(cd "$here/../.." && pwd)
 work=${1:-$(mktemp -d)}
 [ $# -gt 0 ] || trap 'rm -rf "$work"' EXIT
 crate=$work/crates/place
-. "$top/tests/over_crates.sh"
-over_crates "$top" "$work" place "$here" 'assign_core orlib_reader scaled_values auction_book async_workers' \
+. "$top/programs/over_crates.sh"
+over_crates "$top" "$work" place 'assign_core orlib_reader scaled_values auction_book async_workers' \
     assign_core orlib_reader price_log scaled_values bidder hall_refuter auction_book async_workers
 python3 "$top/examples/make_sparse_problem.py" 1000 8 1 1000 7 > "$work/sparse_1000"
 "$top/bench/crowded.sh" 1000 600 > "$work/crowded_1000"

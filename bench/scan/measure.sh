@@ -2,7 +2,7 @@
 # Scans of rows: best_two_full and best_two beside the same loops in plain Rust, on the same inputs
 # in one run. Four rows of 8192 and of 1000 objects in turn, which stay in the cache, and the 4000
 # rows of a problem that doesn't fit. The proved crates are copied, with a small program over them
-# (main.rt.txt and the answer for its one open goal), which is proved, built and run there.
+# (programs/scan), which is proved, built and run there.
 # With the name of another tree of this project, its scans are measured beside.
 set -euo pipefail
 here=$(cd "$(dirname "$0")" && pwd)
@@ -10,12 +10,12 @@ top=$(cd "$here/../.." && pwd)
 work=$(mktemp -d)
 trap 'rm -rf "$work"' EXIT
 
-. "$top/tests/over_crates.sh"
+. "$top/programs/over_crates.sh"
 
 # A program over the crates of a tree.
 build() {
     local tree=$1 place=$2 uses='assign_core orlib_reader scaled_values bidder'
-    over_crates "$tree" "$place" scan "$here" "$uses" $uses
+    over_crates "$tree" "$place" scan "$uses" $uses
     (cd "$place/crates/scan" && rt run < /dev/null > "$place/log" 2>&1) || { tail -5 "$place/log"; exit 1; }
 }
 
