@@ -98,6 +98,41 @@ for option in --sparse '<REPORT>'; do
     "$program" verify --help | grep -q -- "$option  *[A-Z]" || { echo "help of verify is silent on $option"; failed=$((failed + 1)); }
 done
 
+# closed STREAM STATUS OUT ERR WORD..: with a problem on standard input, and one of the three streams closed (0, 1 or 2).
+closed() {
+    local stream=$1 wanted=$2 out=$3 err=$4 status=0
+    shift 4
+    : > "$work/out"
+    : > "$work/err"
+    case $stream in
+        0) "$program" "$@" <&- > "$work/out" 2> "$work/err" || status=$? ;;
+        1) "$program" "$@" < "$work/problem" >&- 2> "$work/err" || status=$? ;;
+        2) "$program" "$@" < "$work/problem" > "$work/out" 2>&- || status=$? ;;
+    esac
+    compare "stream $stream closed, $*" "$wanted|$(printf "$out")|$err" "$status|$(cat "$work/out")|$(cat "$work/err")"
+}
+
+# The report is a problem too, so that one that is read in place of standard input is told otherwise.
+printf '2 1 2 3 5' > "$work/problem"
+for words in 'solve' "verify $work/report" "solve --start $work/report" "verify $work/problem" "solve --start $work/problem"; do
+    closed 0 4 '' 'device: read failed' $words
+done
+closed 0 4 '' 'device: cannot open the report' verify "$work/none"
+closed 0 4 '' 'device: cannot open the report' solve --start "$work/none"
+closed 0 2 '' 'usage: mode is rounds or workers' solve --mode none --start "$work/report"
+closed 1 4 '' 'device: write failed' solve
+closed 1 4 '' 'device: write failed' solve --start "$work/report"
+closed 1 4 '' 'device: write failed' verify "$work/report"
+closed 1 4 '' 'device: write failed' --help
+closed 2 0 'sense min\ncost 5\nassign 1 2 2\nassign 2 1 3\n' '' solve --start "$work/report"
+closed 2 0 'verified cost 5\n' '' verify "$work/report"
+closed 2 3 '' '' solve --start "$work/bad"
+closed 2 4 '' '' verify "$work/none"
+closed 2 2 '' '' solve --greatest
+cp "$work/report" "$work/kept"
+closed 1 4 '' 'device: write failed' verify "$work/report"
+compare 'a report behind closed output' "$(cat "$work/kept")" "$(cat "$work/report")"
+
 status=0
 printf '2 1 2 3 5' | "$program" solve > /dev/full 2> "$work/err" || status=$?
 compare 'a full device' '4|device: write failed' "$status|$(cat "$work/err")"

@@ -4,7 +4,8 @@ use Rattle.std.specs.Prelude.{Result, Ok, Err, IfOk, IfErr, IfSome}
 use Rattle.std.specs.Option.{ok_or}
 use Rattle.std.specs.Str.Parse.{ParsesUnsigned, digits_value, without_leading_plus}
 use Rattle.clap.specs.Words.{IsUnsignedIn, ReadsOne, Row, Text, fault_of, first_of, subcommand_of}
-use Rattle.auction_cli.specs.Words.{Chooses, IsChoiceFault, IsTaken, NamesMode, NamesNoMode, Solves, Verifies, WordsOutcome, mode_name, program}
+use Rattle.auction_cli.specs.Words.{Chooses, IsTaken, NamesMode, NamesNoMode, Solves, Verifies, WordsOutcome, mode_name, program}
+use Rattle.auction_cli.specs.inside.Words.{IsChoiceFault}
 use Rattle.auction_cli.specs.declared.words.Mode.{Mode}
 use Rattle.auction_cli.specs.declared.words.SolveOpts.{SolveOpts}
 use Rattle.auction_cli.specs.declared.words.Words.{Words}

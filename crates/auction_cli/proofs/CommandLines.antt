@@ -11,7 +11,8 @@ use Rattle.clap.proofs.OnLiterals.{clap_on_literals}
 use Rattle.std.specs.Str.Parse.{digits_value, without_leading_plus}
 use Rattle.assign_core.specs.declared.sense.Sense.{Sense}
 use Rattle.assign_core.specs.declared.sense.Sense.TheVariants.{Min, Max}
-use Rattle.auction_cli.specs.Words.{Chooses, ChoosesSolving, IsFaultOf, IsFlag, IsInRanges, IsNumberFor, NamesNoMode, Solves, Verifies, full_line, full_options, is_max, mode_name, program, usual_options}
+use Rattle.auction_cli.specs.Words.{Chooses, ChoosesSolving, IsFlag, IsInRanges, IsNumberFor, NamesNoMode, Solves, Verifies, full_line, full_options, is_max, mode_name, program, usual_options}
+use Rattle.auction_cli.specs.inside.Words.{IsFaultOf}
 use Rattle.auction_cli.specs.declared.words.Mode.{Mode}
 use Rattle.auction_cli.specs.declared.words.Mode.TheVariants.{Rounds, Workers}
 use Rattle.auction_cli.specs.declared.words.SolveOpts.{SolveOpts}

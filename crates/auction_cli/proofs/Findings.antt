@@ -18,9 +18,9 @@ use Rattle.dual_checker.proofs.Differences.{differ}
 use Rattle.dual_checker.proofs.HallDifferences.{halls_differ}
 use Rattle.report.specs.Reports.{Report, best, hall}
 use Rattle.auction_cli.specs.declared.finding.Finding.{Finding}
-use Rattle.auction_cli.specs.declared.finding.Finding.TheVariants.{OtherCost}
+use Rattle.auction_cli.specs.declared.finding.Finding.TheVariants.{Hall, OtherCost}
 use Rattle.auction_cli.specs.declared.verify.Verified.TheVariants.{Yes, No}
-use Rattle.auction_cli.specs.Findings.{HaveOneFinding, Follows, HasCost, HasOtherCost, HaveCosts, IsFoundInReport, IsFoundInCosts, IsSo, hall_finding, objects_of, sense_of, verdict_of}
+use Rattle.auction_cli.specs.Findings.{HaveOneFinding, Follows, HasCost, HasOtherCost, HaveCosts, IsFoundInReport, IsFoundInCosts, IsSo, objects_of, sense_of, verdict_of}
 
 no_is_yes : No ≡ Yes → ⊥
 no_is_yes e = cc
@@ -44,12 +44,8 @@ costs_differ sense rows cost pairs first second (inr (inr a)) (inr (inr b)) = a.
 -- what follows of one verdict is one finding, where what is found beyond is one
 one_follows : (IsBeyond : Finding → Type 0) (v : Verdict) (first second : Finding) → ((f s : Finding) → IsBeyond f → IsBeyond s → f ≡ s) →
     Follows IsBeyond v first → Follows IsBeyond v second → first ≡ second
-one_follows IsBeyond verdicts.Length first second one a b = a ∙ sym b
-one_follows IsBeyond (verdicts.Unlisted i) first second one a b = a ∙ sym b
-one_follows IsBeyond (verdicts.Twice i) first second one a b = a ∙ sym b
-one_follows IsBeyond (verdicts.PriceRange i) first second one a b = a ∙ sym b
-one_follows IsBeyond (verdicts.Slack i k) first second one a b = a ∙ sym b
 one_follows IsBeyond verdicts.Yes first second one a b = one first second a b
+one_follows IsBeyond fault first second one a b = a ∙ sym b
 
 pub findings_differ : HaveOneFinding
 findings_differ rows (best sense cost pairs None) first second problem a b = a ∙ sym b
@@ -68,20 +64,12 @@ costs_are_so sense rows cost pairs finding (inr (inr a)) y = (a.0, a.1)
 
 -- a fault of the checker isn't that nothing is wrong
 follows_yes : (IsBeyond : Finding → Type 0) (v : Verdict) (finding : Finding) → Follows IsBeyond v finding → verdict_of finding ≡ Yes → (v ≡ verdicts.Yes) × IsBeyond finding
-follows_yes IsBeyond verdicts.Length finding f y = absurd (no_is_yes (sym (ap verdict_of f) ∙ y))
-follows_yes IsBeyond (verdicts.Unlisted i) finding f y = absurd (no_is_yes (sym (ap verdict_of f) ∙ y))
-follows_yes IsBeyond (verdicts.Twice i) finding f y = absurd (no_is_yes (sym (ap verdict_of f) ∙ y))
-follows_yes IsBeyond (verdicts.PriceRange i) finding f y = absurd (no_is_yes (sym (ap verdict_of f) ∙ y))
-follows_yes IsBeyond (verdicts.Slack i k) finding f y = absurd (no_is_yes (sym (ap verdict_of f) ∙ y))
 follows_yes IsBeyond verdicts.Yes finding f y = (refl, f)
+follows_yes IsBeyond fault finding f y = absurd (no_is_yes (sym (ap verdict_of f) ∙ y))
 
-hall_yes : (v : HallVerdict) → verdict_of (hall_finding v) ≡ Yes → v ≡ halls.Yes
-hall_yes halls.Range y = absurd (no_is_yes y)
-hall_yes halls.Order y = absurd (no_is_yes y)
-hall_yes (halls.Missing i j) y = absurd (no_is_yes y)
-hall_yes (halls.Extra j) y = absurd (no_is_yes y)
-hall_yes halls.Count y = absurd (no_is_yes y)
+hall_yes : (v : HallVerdict) → verdict_of (Hall v) ≡ Yes → v ≡ halls.Yes
 hall_yes halls.Yes y = refl
+hall_yes fault y = absurd (no_is_yes y)
 
 -- where nothing is wrong, what the report says is so
 pub found_is_so : (rows : List Listing) (report : Report) (finding : Finding) → IsProblem rows → IsFoundInReport rows report finding → verdict_of finding ≡ Yes → IsSo rows report

@@ -2,7 +2,9 @@
 use Rattle.std.proofs.Common.{◌≡◌, ap, sym, refl, subst, codes, Bool, true, false, true≢false, List, [], ◌∷◌, Option, None, Some}
 use Rattle.std.specs.Prelude.{find, if◌then◌else◌, option_map}
 use Rattle.std.specs.Option.{option_map_or}
-use Rattle.auction_cli.specs.Words.{HasNumbers, HasNumbersIfSolving, program, solve_app, verify_app}
+use Rattle.auction_cli.specs.Words.{program, solve_app, verify_app}
+use Rattle.auction_cli.specs.inside.Words.{HasNumbers, HasNumbersIfSolving}
+use Rattle.auction_cli.specs.declared.words.TheConstants.{MOST_WORKERS, MOST_REFRESH}
 use Rattle.auction_cli.proofs.CommandLines.{other_command, some_is}
 use Rattle.auction_cli.proofs.Rows.{AllKnown, number_there}
 use Rattle.auction_cli.proofs.Subcommands.{first_none, then_none}
@@ -20,10 +22,10 @@ solve_shape = built_sub solve_app.top
 never : {A : Type 0} → false ≡ true → A
 never e = absurd (true≢false (sym e))
 
-knows_workers : AllKnown (codes "workers") (codes "4") 1 64 solve_shape.rules
+knows_workers : AllKnown (codes "workers") (codes "4") 1 MOST_WORKERS solve_shape.rules
 knows_workers = (never, (never, (never, (never, (never, ((λ e. refl), (never, (never, tt))))))))
 
-knows_refresh : AllKnown (codes "refresh") (codes "1") 0 1000000 solve_shape.rules
+knows_refresh : AllKnown (codes "refresh") (codes "1") 0 MOST_REFRESH solve_shape.rules
 knows_refresh = (never, (never, (never, (never, (never, (never, ((λ e. refl), (never, tt))))))))
 
 help_is_other : codes "help" ≡ codes "solve" → ⊥
@@ -31,8 +33,8 @@ help_is_other e = cc
 
 solve_numbers : (words : List Text) → level_fault solve_shape [] nothing_held words false [] ≡ [] → HasNumbers (rows_after solve_shape.rules [] words)
 solve_numbers words e = record {
-  workers = number_there (codes "workers") (codes "4") 1 64 solve_shape words knows_workers refl e;
-  refresh = number_there (codes "refresh") (codes "1") 0 1000000 solve_shape words knows_refresh refl e;
+  workers = number_there (codes "workers") (codes "4") 1 MOST_WORKERS solve_shape words knows_workers refl e;
+  refresh = number_there (codes "refresh") (codes "1") 0 MOST_REFRESH solve_shape words knows_refresh refl e;
 }
 
 find_numbers : (p : Text × List Text) (solve verify help : Shape) → ((words : List Text) → level_fault solve [] nothing_held words false [] ≡ [] → HasNumbers (rows_after solve.rules [] words)) →

@@ -7,7 +7,8 @@ use Rattle.assign_core.specs.Rows.{Listing}
 use Rattle.scaled_values.proofs.BenefitRange.{greatest_holds}
 use Rattle.scaled_values.specs.Scaled.{greatest_of}
 use Rattle.report.specs.Starts.{IsFirstPrice}
-use Rattle.auction_cli.specs.Solve.{BeginsAt, Reads, Reports, SolveOutcome}
+use Rattle.auction_cli.specs.Solve.{BeginsAt, Reads, SolveOutcome}
+use Rattle.auction_cli.specs.inside.Solve.{Reports}
 use Rattle.auction_cli.specs.declared.words.SolveOpts.{SolveOpts}
 use Rattle.auction_cli.specs.declared.run.Ended.{Ended}
 use Rattle.auction_cli.specs.declared.run.CliFault.{CliFault}

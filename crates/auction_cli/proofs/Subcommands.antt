@@ -3,7 +3,8 @@ use Rattle.std.proofs.Common.{◌≡◌, ap, sym, refl, subst, inl, inr, codes, 
 use Rattle.std.specs.Prelude.{⊤, ◌||◌, ◌&&◌, find, fold, option_map, if◌then◌else◌}
 use Rattle.std.specs.Str.{bytes_eq}
 use Rattle.std.proofs.lemmas.Slice.Eq.{bytes_eq-Decides}
-use Rattle.auction_cli.specs.Words.{NamesCommand, program}
+use Rattle.auction_cli.specs.Words.{program}
+use Rattle.auction_cli.specs.inside.Words.{NamesCommand}
 use Rattle.clap.specs.Kinds.{Kinds, or_else}
 use Rattle.clap.specs.Walk.{Held, Names, Outcome, Rule, Row, Step, Text, Waiting, Walk, walk, walk_from, walked, walked_from, after_step, to_positional, arg_by_index, word_met, subcommand_or_other, subcommand_met, long_or_other, short_or_plain, after_flag, plain_word, next, trailing, subcommand, value, idle, option, positional, done, waits, plain, refused, answers_to, nothing_held, stop_after, long_met, arg_by_long, bundle, finished}
 use Rattle.clap.specs.Lexer.{long_of, short_of}

@@ -17,7 +17,7 @@ use Rattle.dual_checker.specs.declared.hall_verdict.HallVerdict.{HallVerdict}
 use Rattle.dual_checker.specs.declared.hall_verdict.HallVerdict.TheVariants as halls
 use Rattle.report.specs.Reports.{Report, best, hall}
 use Rattle.auction_cli.specs.declared.finding.Finding.{Finding}
-use Rattle.auction_cli.specs.declared.finding.Finding.TheVariants.{NoPrices, Length, Unlisted, Twice, PriceRange, Slack, OtherCost, OtherTotal, Best, Range, Order, Missing, Extra, Count, Infeasible}
+use Rattle.auction_cli.specs.declared.finding.Finding.TheVariants.{NoPrices, Unproved, OtherCost, OtherTotal, Best, Hall}
 use Rattle.auction_cli.specs.declared.verify.Verified.{Verified}
 use Rattle.auction_cli.specs.declared.verify.Verified.TheVariants.{Yes, No}
 
@@ -64,12 +64,8 @@ IsFoundInCosts sense rows cost pairs finding =
 
 -- the checker's fault, or what is found beyond where it has none
 abbrev pub Follows : (Finding → Type 0) → Verdict → Finding → Type 0
-Follows IsBeyond verdicts.Length finding = finding ≡ Length
-Follows IsBeyond (verdicts.Unlisted i) finding = finding ≡ Unlisted i
-Follows IsBeyond (verdicts.Twice j) finding = finding ≡ Twice j
-Follows IsBeyond (verdicts.PriceRange j) finding = finding ≡ PriceRange j
-Follows IsBeyond (verdicts.Slack i k) finding = finding ≡ Slack i k
 Follows IsBeyond verdicts.Yes finding = IsBeyond finding
+Follows IsBeyond fault finding = finding ≡ Unproved fault
 
 -- what is found in a report on an assignment with prices
 abbrev pub IsFoundInBest : Sense → List Listing → ℤ → List (ℕ × ℤ) → List ℤ → Finding → Type 0
@@ -77,19 +73,10 @@ IsFoundInBest sense rows cost pairs prices finding =
     (v : Verdict) × IsVerdict sense rows (objects_of pairs) prices v
     × Follows (IsFoundInCosts sense rows cost pairs) v finding
 
--- the checker's fault of a Hall set, or that it is one
-abbrev pub hall_finding : HallVerdict → Finding
-hall_finding halls.Range = Range
-hall_finding halls.Order = Order
-hall_finding (halls.Missing i j) = Missing i j
-hall_finding (halls.Extra j) = Extra j
-hall_finding halls.Count = Count
-hall_finding halls.Yes = Infeasible
-
 -- what is found in a report on a Hall set
 abbrev pub IsFoundInHall : List Listing → List ℕ → List ℕ → Finding → Type 0
 IsFoundInHall rows persons objects finding =
-    (v : HallVerdict) × IsHallVerdict rows persons objects v × (finding ≡ hall_finding v)
+    (v : HallVerdict) × IsHallVerdict rows persons objects v × (finding ≡ Hall v)
 
 -- what is found in a report that is held against a problem
 abbrev pub IsFoundInReport : List Listing → Report → Finding → Type 0
@@ -106,7 +93,7 @@ HaveOneFinding = (rows : List Listing) (report : Report) (first second : Finding
 -- whether nothing is wrong
 abbrev pub verdict_of : Finding → Verified
 verdict_of (Best sense cost) = Yes
-verdict_of Infeasible = Yes
+verdict_of (Hall halls.Yes) = Yes
 verdict_of finding = No
 
 -- what the report says is so: a best assignment with its costs and their sum, or a Hall set, which
@@ -121,21 +108,22 @@ IsSo rows (hall sense persons objects) =
 -- what is told of a finding, without the line feed
 abbrev pub finding_line : Finding → List ℕ
 finding_line NoPrices = codes "not verified: no prices"
-finding_line Length = codes "not verified: length"
-finding_line (Unlisted i) = codes "not verified: person " ++ decimal i ++ codes " unlisted"
-finding_line (Twice j) = codes "not verified: object " ++ decimal j ++ codes " twice"
-finding_line (PriceRange j) =
+finding_line (Unproved verdicts.Length) = codes "not verified: length"
+finding_line (Unproved (verdicts.Unlisted i)) = codes "not verified: person " ++ decimal i ++ codes " unlisted"
+finding_line (Unproved (verdicts.Twice j)) = codes "not verified: object " ++ decimal j ++ codes " twice"
+finding_line (Unproved (verdicts.PriceRange j)) =
     codes "not verified: price of object " ++ decimal j ++ codes " out of range"
-finding_line (Slack i k) =
+finding_line (Unproved (verdicts.Slack i k)) =
     codes "not verified: slack of person " ++ decimal i ++ codes " at object " ++ decimal k
+finding_line (Unproved verdicts.Yes) = codes "not verified"
 finding_line (OtherCost i) = codes "not verified: cost of person " ++ decimal i
 finding_line OtherTotal = codes "not verified: total"
 finding_line (Best Min cost) = codes "verified cost " ++ signed_decimal cost
 finding_line (Best Max cost) = codes "verified max cost " ++ signed_decimal cost
-finding_line Range = codes "not verified: number out of range"
-finding_line Order = codes "not verified: order"
-finding_line (Missing i j) =
+finding_line (Hall halls.Range) = codes "not verified: number out of range"
+finding_line (Hall halls.Order) = codes "not verified: order"
+finding_line (Hall (halls.Missing i j)) =
     codes "not verified: object " ++ decimal j ++ codes " missing for person " ++ decimal i
-finding_line (Extra j) = codes "not verified: object " ++ decimal j ++ codes " extra"
-finding_line Count = codes "not verified: not fewer"
-finding_line Infeasible = codes "verified infeasible"
+finding_line (Hall (halls.Extra j)) = codes "not verified: object " ++ decimal j ++ codes " extra"
+finding_line (Hall halls.Count) = codes "not verified: not fewer"
+finding_line (Hall halls.Yes) = codes "verified infeasible"

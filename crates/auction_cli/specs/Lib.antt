@@ -3,3 +3,4 @@ pub mod Findings
 pub mod Verify
 pub mod Words
 pub mod Program
+pub mod inside

@@ -1,15 +1,16 @@
 -- What the program has written on each stream, and its status, by its words and how it ended.
-use Rattle.std.specs.Prelude.{◌≡◌, ◌≢◌, ◌⊎◌, ℕ, List, ◌++◌, Option, Result, Ok, Err, codes, IsSome, ⊤}
+use Rattle.std.specs.Prelude.{◌≡◌, ◌≢◌, ◌⊎◌, ℕ, Bool, List, ◌++◌, Option, None, Some, Result, Ok, Err, codes, ⊤}
 use Rattle.std.specs.Io.KnownBytes.{Appends, Keeps}
 use Rattle.clap.specs.Words.{fault_of, IsAmong, Text}
 use Rattle.clap.specs.declared.error.kind.ErrorKind.{ErrorKind}
 use Rattle.clap.specs.declared.error.kind.ErrorKind.TheVariants.{DisplayHelp, DisplayVersion, OutOfMemory}
-use Rattle.std.specs.Option.{option_map}
+use Rattle.std.specs.Option.{IsSomeAnd, option_map}
 use Rattle.std.specs.String.{string_bytes}
 use Rattle.report.specs.Writing.{IsCutOff}
 use Rattle.auction_cli.specs.Solve.{SolveOutcome, end_status, fault_line, status}
 use Rattle.auction_cli.specs.Verify.{VerifyOutcome}
 use Rattle.auction_cli.specs.Words.{AskFor, AskForNoMode, program}
+use Rattle.auction_cli.specs.declared.words.SolveOpts.{SolveOpts}
 use Rattle.auction_cli.specs.declared.words.Words.{Words}
 use Rattle.auction_cli.specs.declared.words.Words.TheVariants.{Solve, Verify}
 use Rattle.auction_cli.specs.declared.verify.Verified.{Verified}
@@ -18,7 +19,9 @@ use Rattle.auction_cli.specs.declared.run.Ended.{Ended}
 use Rattle.auction_cli.specs.declared.run.CliFault.{CliFault}
 use Rattle.auction_cli.specs.declared.run.CliFault.TheVariants.{Write, Memory}
 use Rattle.auction_cli.specs.declared.program.NoWords.{NoWords}
-use Rattle.auction_cli.specs.declared.program.NoWords.TheVariants as absent
+use Rattle.auction_cli.specs.declared.program.NoWords.TheVariants as no_words
+use Rattle.auction_cli.specs.declared.program.NoReport.{NoReport}
+use Rattle.auction_cli.specs.declared.program.NoReport.TheVariants as no_report
 use Rattle.auction_cli.specs.declared.program.Told.{Told}
 use Rattle.auction_cli.specs.declared.program.Told.TheVariants.{Whole, Part}
 use Rattle.auction_cli.specs.declared.program.ProgramEnd.{ProgramEnd}
@@ -55,76 +58,82 @@ AreMistaken words =
 -- clap finds a mistake in the words, they name no mode, or one of them is no text
 abbrev pub AreRefused : Given → Type 0
 AreRefused (Ok words) = AreMistaken words ⊎ AskForNoMode words
-AreRefused (Err none) = none ≡ absent.NoText
+AreRefused (Err none) = none ≡ no_words.NoText
 
--- what is known of the bytes of the reports, by their names
-abbrev pub Known : Type 0
-Known = Text → Option (List ℕ)
+-- what opening a report comes to: the bytes that are then left to be read, where the reader tells them, or why it can't be read
+abbrev pub Opening : Type 0
+Opening = Result (Option (List ℕ)) NoReport
 
--- a problem was to be solved, and so it was
-abbrev pub Solves : Words → Option (List ℕ) → Known → Option (List ℕ) → Option (List ℕ) →
-    Result Ended CliFault → Type 0
-Solves (Solve options start) input reports old new result =
-    SolveOutcome options input (option_map (λ name. reports (string_bytes name)) start) old new result
-Solves (Verify sparse name) input reports old new result = ⊥
+abbrev pub opening_of : {R : Type 0} → (R → Option (List ℕ)) → Result R NoReport → Opening
+opening_of remaining (Ok report) = Ok (remaining report)
+opening_of remaining (Err absent) = Err absent
 
--- a run of `solve` that the words ask for
-abbrev pub SolveRun : Given → Option (List ℕ) → Known → Option (List ℕ) → Option (List ℕ) →
-    Result Ended CliFault → Type 0
-SolveRun given input reports old new result =
-    (asked : Words) × Asks given asked × Solves asked input reports old new result
+-- what opening may come to, by the report's name
+abbrev pub Openings : Type 1
+Openings = Text → Opening → Type 0
 
--- a report was to be checked, and so it was
-abbrev pub Checks : Words → Option (List ℕ) → Known → Option (List ℕ) → Option (List ℕ) →
-    Result Verified CliFault → Type 0
-Checks (Solve options start) input reports old new result = ⊥
-Checks (Verify sparse name) input reports old new result =
-    VerifyOutcome sparse input (reports (string_bytes name)) old new result
+-- the report that is to be checked, or to be begun at
+abbrev pub report_name : Words → Option Text
+report_name (Solve options start) = option_map string_bytes start
+report_name (Verify sparse name) = Some (string_bytes name)
 
--- a run of `verify` that the words ask for
-abbrev pub VerifyRun : Given → Option (List ℕ) → Known → Option (List ℕ) → Option (List ℕ) →
-    Result Verified CliFault → Type 0
-VerifyRun given input reports old new result =
-    (asked : Words) × Asks given asked × Checks asked input reports old new result
+-- opening came to these bytes, where a report is named, and none was opened where none is
+abbrev pub Opens : Openings → Option Text → Option (Option (List ℕ)) → Type 0
+Opens reports (Some name) (Some text) = reports name (Ok text)
+Opens reports None None = ⊤
+Opens reports name text = ⊥
 
-abbrev pub NamesReport : Words → Type 0
-NamesReport (Solve options start) = IsSome start
-NamesReport (Verify sparse name) = ⊤
+-- a report is named, and opening it came to this
+abbrev pub FailsToOpen : Openings → Option Text → NoReport → Type 0
+FailsToOpen reports name absent = IsSomeAnd name (λ n. reports n (Err absent))
 
--- the words name a report, to check it or to begin at its prices
-abbrev pub AsksForReport : Given → Type 0
-AsksForReport given = (asked : Words) × Asks given asked × NamesReport asked
+-- how a run of `solve` ends the program
+abbrev pub SolveEnd : SolveOpts → Option (List ℕ) → Option (Option (List ℕ)) → Option (List ℕ) →
+    Option (List ℕ) → ProgramEnd → Type 0
+SolveEnd options input start old new (Reported ended) = SolveOutcome options input start old new (Ok ended)
+SolveEnd options input start old new (Failed fault told) = SolveOutcome options input start old new (Err fault)
+SolveEnd options input start old new end = ⊥
 
--- help that the words ask for, and of which a beginning went out
-abbrev pub HelpFails : Given → Option (List ℕ) → Option (List ℕ) → Type 0
-HelpFails given old new = AsksForHelp given × (text : List ℕ) × IsCutOff old new text
+-- and one of `verify`
+abbrev pub VerifyEnd : Bool → Option (List ℕ) → Option (List ℕ) → Option (List ℕ) → Option (List ℕ) →
+    ProgramEnd → Type 0
+VerifyEnd sparse input text old new (Checked verified) = VerifyOutcome sparse input text old new (Ok verified)
+VerifyEnd sparse input text old new (Failed fault told) = VerifyOutcome sparse input text old new (Err fault)
+VerifyEnd sparse input text old new end = ⊥
 
--- a run that the words ask for, and that failed so
-abbrev pub FailedRun : Given → Option (List ℕ) → Known → Option (List ℕ) → Option (List ℕ) →
-    CliFault → Type 0
-FailedRun given input reports old new fault =
-    SolveRun given input reports old new (Err fault) ⊎ VerifyRun given input reports old new (Err fault)
+-- what is asked for was done, with the report opened that it names, and the program ended so: nothing went out where the
+-- report can't be opened or memory is refused
+abbrev pub Does : Words → Option (List ℕ) → Openings → Option (List ℕ) → Option (List ℕ) → ProgramEnd → Type 0
+Does asked input reports old new (Unopened told) =
+    FailsToOpen reports (report_name asked) no_report.Unopened × Keeps old new
+Does asked input reports old new (Failed Memory told) = Keeps old new
+Does (Solve options start) input reports old new end =
+    (text : Option (Option (List ℕ))) × Opens reports (option_map string_bytes start) text
+    × SolveEnd options input text old new end
+Does (Verify sparse name) input reports old new end =
+    (text : Option (List ℕ)) × reports (string_bytes name) (Ok text) × VerifyEnd sparse input text old new end
 
--- nothing went out, but for a beginning of what was to be written where the output fails
-abbrev pub FaultOutcome : Given → Option (List ℕ) → Known → Option (List ℕ) → Option (List ℕ) →
-    CliFault → Type 0
-FaultOutcome given input reports old new Memory = Keeps old new
-FaultOutcome given input reports old new Write =
-    FailedRun given input reports old new Write ⊎ HelpFails given old new
-FaultOutcome given input reports old new fault = FailedRun given input reports old new fault
+-- the words are refused or ask for help, of which a beginning went out where writing fails, or memory is refused
+abbrev pub EndsAtWords : Given → Option (List ℕ) → Option (List ℕ) → ProgramEnd → Type 0
+EndsAtWords given old new Helped = AsksForHelp given × (text : List ℕ) × Appends old new text
+EndsAtWords given old new (Refused told) = AreRefused given × Keeps old new
+EndsAtWords given old new (Failed Write told) = AsksForHelp given × (text : List ℕ) × IsCutOff old new text
+EndsAtWords given old new (Failed Memory told) = Keeps old new
+EndsAtWords given old new end = ⊥
 
 -- what standard input and the report held, and what went to standard output
-abbrev pub ProgramOutcome : Given → Option (List ℕ) → Known → Option (List ℕ) → Option (List ℕ) →
+abbrev pub ProgramOutcome : Given → Option (List ℕ) → Openings → Option (List ℕ) → Option (List ℕ) →
     ProgramEnd → Type 0
-ProgramOutcome given input reports old new (Reported ended) = SolveRun given input reports old new (Ok ended)
-ProgramOutcome given input reports old new (Checked verified) =
-    VerifyRun given input reports old new (Ok verified)
-ProgramOutcome given input reports old new Helped =
-    AsksForHelp given × (text : List ℕ) × Appends old new text
-ProgramOutcome given input reports old new (Refused told) = AreRefused given × Keeps old new
-ProgramOutcome given input reports old new (Unopened told) = AsksForReport given × Keeps old new
-ProgramOutcome given input reports old new (Failed fault told) =
-    FaultOutcome given input reports old new fault
+ProgramOutcome given input reports old new end =
+    EndsAtWords given old new end
+    ⊎ ((asked : Words) × Asks given asked × Does asked input reports old new end)
+
+-- nothing of the problem is read where the words are refused, ask for help or name a report that can't be opened
+abbrev pub InputOutcome : Option (List ℕ) → Option (List ℕ) → ProgramEnd → Type 0
+InputOutcome old new Helped = new ≡ old
+InputOutcome old new (Refused told) = new ≡ old
+InputOutcome old new (Unopened told) = new ≡ old
+InputOutcome old new end = ⊤
 
 -- a text went to a stream, or a beginning of it
 abbrev pub Tells : Option (List ℕ) → Option (List ℕ) → List ℕ → Told → Type 0
@@ -139,11 +148,6 @@ IsRefusal (Err none) text = text ≡ codes "error: the words are no text\n"
 -- a fault's line, with its line feed
 abbrev pub line_of : CliFault → List ℕ
 line_of fault = fault_line fault ++ codes "\n"
-
--- a run that failed so, and what went to standard error
-abbrev pub EndsFailed : CliFault → Option (List ℕ) → Option (List ℕ) → ProgramEnd → Type 0
-EndsFailed fault old new end =
-    (told : Told) × (end ≡ Failed fault told) × Tells old new (line_of fault) told
 
 -- what went to standard error
 abbrev pub ErrorOutcome : Given → Option (List ℕ) → Option (List ℕ) → ProgramEnd → Type 0

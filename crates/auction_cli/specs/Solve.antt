@@ -1,5 +1,5 @@
 -- What a run of `solve` reads and writes, and how it ends.
-use Rattle.std.specs.Prelude.{◌≡◌, ℕ, ℤ, Bool, true, false, List, ◌++◌, Option, None, Some, Result, Ok, Err, IfSome, ⊤, codes, decimal, pos, replicate, length}
+use Rattle.std.specs.Prelude.{◌≡◌, ℕ, ℤ, Bool, true, false, List, ◌++◌, Option, None, Some, Result, Ok, Err, IfSome, codes, decimal, pos, replicate, length}
 use Rattle.std.specs.Option.{IsSomeAnd}
 use Rattle.std.specs.Io.KnownBytes.{Appends, Keeps}
 use Rattle.assign_core.specs.declared.sense.Sense.{Sense}
@@ -69,16 +69,6 @@ pub record IsReportOn (options : SolveOpts) (rows : List Listing) (prices : List
   pub end : ended ≡ end_of outcome
   pub told : text ≡ report_text (outcome_report rows options.sense outcome options.prices)
 
--- by how a run over a problem and first prices ended: the report went out, or a beginning of it, or nothing
-abbrev pub Reports : SolveOpts → List Listing → List ℤ → Option (List ℕ) → Option (List ℕ) →
-    Result Ended CliFault → Type 0
-Reports options rows prices old new (Ok ended) =
-    (text : List ℕ) × IsReportOn options rows prices ended text × Appends old new text
-Reports options rows prices old new (Err Write) =
-    (ended : Ended) × (text : List ℕ) × IsReportOn options rows prices ended text × IsCutOff old new text
-Reports options rows prices old new (Err Memory) = Keeps old new
-Reports options rows prices old new (Err fault) = ⊥
-
 -- the first prices: all 0 where no report is named, and else those of the report that its bytes are, where they are known
 abbrev pub BeginsAt : Option (Option (List ℕ)) → List Listing → List ℤ → Type 0
 BeginsAt None rows prices = prices ≡ replicate (length rows) (pos 0)
@@ -127,12 +117,6 @@ SolveOutcome options input start old new (Err (Start fault)) =
     IsSomeAnd start (λ text. IsRefusedStart options.sparse input text old new fault)
 SolveOutcome options input start old new (Err Memory) = Keeps old new
 SolveOutcome options input start old new (Err (Stuck person)) = ⊥
-
--- why no run with n objects begins at the prices of a report
-abbrev pub HasNoStart : reports.Report → ℕ → CliFault → Type 0
-HasNoStart report n (Start fault) = HasStartFault report n fault
-HasNoStart report n Memory = ⊤
-HasNoStart report n fault = ⊥
 
 -- 4 where the device failed or memory was refused, and 3 for a text that is refused
 abbrev pub input_status : InputFault → ℕ

@@ -1,15 +1,15 @@
 -- Which command lines are taken, and what they choose.
-use Rattle.std.specs.Prelude.{◌≡◌, ◌≢◌, ◌⊎◌, ◌≤◌, ℕ, List, [], ◌∷◌, Bool, true, false, Option, Some, None, Result, Ok, Err, codes, unwrap_or, ⊤}
+use Rattle.std.specs.Prelude.{◌≡◌, ◌≢◌, ◌≤◌, ℕ, List, [], ◌∷◌, Bool, true, false, Option, Some, None, Result, Ok, Err, codes, unwrap_or, ⊤}
 use Rattle.std.specs.Option.{option_map}
 use Rattle.std.specs.String.{string_bytes}
 use Rattle.std.specs.Str.Parse.{digits_value, without_leading_plus}
 use Rattle.clap.specs.Words.{App, IsUnsignedIn, Row, Rule, Text, fault_of, first_of, IsAmong, kind_of, new_app, new_rule, one_of, subcommand_of, with_rule, with_subcommand}
 use Rattle.clap.specs.declared.builder.action.ArgAction.TheVariants.{SetTrue}
 use Rattle.clap.specs.declared.builder.value_parser.ValueParser.TheVariants.{Unsigned}
-use Rattle.clap.specs.declared.error.Error.{Error}
 use Rattle.clap.specs.declared.error.kind.ErrorKind.TheVariants.{OutOfMemory}
 use Rattle.assign_core.specs.declared.sense.Sense.{Sense}
 use Rattle.assign_core.specs.declared.sense.Sense.TheVariants.{Min, Max}
+use Rattle.auction_cli.specs.declared.words.TheConstants.{MOST_WORKERS, MOST_REFRESH}
 use Rattle.auction_cli.specs.declared.words.SolveOpts.{SolveOpts}
 use Rattle.auction_cli.specs.declared.words.Words.{Words}
 use Rattle.auction_cli.specs.declared.words.Words.TheVariants.{Solve, Verify}
@@ -35,19 +35,12 @@ valued_rule name usual = record (new_rule name) { long = Some name; value_names 
 abbrev pub numbered_rule : Text → Text → ℕ → ℕ → Rule
 numbered_rule name usual least most = record (valued_rule name usual) { parser = Some (Unsigned least most) }
 
--- the most workers, and the most turns between two looks at the newest prices
-abbrev pub most_workers : ℕ
-most_workers = 64
-
-abbrev pub most_refresh : ℕ
-most_refresh = 1000000
-
 -- `solve`, but for the options on its mode
 abbrev pub plain_solve_app : App
 plain_solve_app = with_rule (with_rule (with_rule (with_rule (new_app (codes "solve")) (flag_rule (codes "sparse"))) (flag_rule (codes "max"))) (flag_rule (codes "prices"))) start_rule
 
 abbrev pub solve_app : App
-solve_app = with_rule (with_rule (with_rule plain_solve_app (valued_rule (codes "mode") (codes "rounds"))) (numbered_rule (codes "workers") (codes "4") 1 most_workers)) (numbered_rule (codes "refresh") (codes "1") 0 most_refresh)
+solve_app = with_rule (with_rule (with_rule plain_solve_app (valued_rule (codes "mode") (codes "rounds"))) (numbered_rule (codes "workers") (codes "4") 1 MOST_WORKERS)) (numbered_rule (codes "refresh") (codes "1") 0 MOST_REFRESH)
 
 -- the name of a file, which must be given
 abbrev pub report_rule : Rule
@@ -89,21 +82,12 @@ pub record IsNumberFor (text : Option Text) (least most number : ℕ) : Type 0 w
   pub in_range : IsUnsignedIn least most digits
   pub value : number ≡ digits_value 10 (without_leading_plus digits)
 
--- the text is a number in range
-abbrev pub IsNumberIn : Option Text → ℕ → ℕ → Type 0
-IsNumberIn text least most = (number : ℕ) × IsNumberFor text least most number
-
--- both options of `solve` that take a number have one in range
-pub record HasNumbers (rows : List Row) : Type 0 where
-  pub workers : IsNumberIn (one_of (codes "workers") rows) 1 most_workers
-  pub refresh : IsNumberIn (one_of (codes "refresh") rows) 0 most_refresh
-
 -- the options of `solve`, by what clap finds behind it
 pub record ChoosesSolving (rows : List Row) (options : SolveOpts) : Type 0 where
   pub sparse : IsFlag (one_of (codes "sparse") rows) options.sparse
   pub mode : NamesMode rows options.mode
-  pub workers : IsNumberFor (one_of (codes "workers") rows) 1 most_workers options.workers
-  pub refresh : IsNumberFor (one_of (codes "refresh") rows) 0 most_refresh options.refresh
+  pub workers : IsNumberFor (one_of (codes "workers") rows) 1 MOST_WORKERS options.workers
+  pub refresh : IsNumberFor (one_of (codes "refresh") rows) 0 MOST_REFRESH options.refresh
   pub prices : IsFlag (one_of (codes "prices") rows) options.prices
   pub sense : IsFlag (one_of (codes "max") rows) (is_max options.sense)
 
@@ -119,32 +103,9 @@ Chooses found (Solve options start) =
     × (option_map string_bytes start ≡ first_of (codes "start") rows)
 Chooses found (Verify sparse report) = (rows : List Row) × (found ≡ Some (codes "verify", rows)) × ChoosesFile rows sparse (string_bytes report)
 
-abbrev pub ChoosesVerifying : List Row → Words → Type 0
-ChoosesVerifying rows words = Chooses (Some (codes "verify", rows)) words
-
 -- `solve` is to be done, in a mode that has no such name
 abbrev pub NamesNoMode : Option (Text × List Row) → Type 0
 NamesNoMode found = (rows : List Row) × (found ≡ Some (codes "solve", rows)) × ((mode : Mode) → NamesMode rows mode → ⊥)
-
--- why nothing is chosen by a subcommand and what clap finds behind it
-abbrev pub IsChoiceFault : Option (Text × List Row) → WordsFault → Type 0
-IsChoiceFault found wrong.Mode = NamesNoMode found
-IsChoiceFault found Memory = ⊤
-IsChoiceFault found (Clap error) = ⊥
-
--- one of the two subcommands
-abbrev pub NamesCommand : Option (Text × List Row) → Type 0
-NamesCommand found = (rows : List Row) × ((found ≡ Some (codes "solve", rows)) ⊎ (found ≡ Some (codes "verify", rows)))
-
--- want of memory apart, an error of clap's is told as it is
-abbrev pub IsFaultOf : Error → WordsFault → Type 0
-IsFaultOf error Memory = kind_of error ≡ OutOfMemory
-IsFaultOf error (Clap told) = (told ≡ error) × (kind_of error ≢ OutOfMemory)
-IsFaultOf error wrong.Mode = ⊥
-
--- behind `solve` both numbers are in range
-abbrev pub HasNumbersIfSolving : Option (Text × List Row) → Type 0
-HasNumbersIfSolving found = (rows : List Row) → found ≡ Some (codes "solve", rows) → HasNumbers rows
 
 -- clap finds no fault in the words, and this is what they choose
 abbrev pub AskFor : List Text → Words → Type 0
@@ -164,8 +125,8 @@ WordsOutcome words (Err Memory) = ⊤
 -- at least one worker, and no more workers or turns than there may be
 pub record HasRanges (options : SolveOpts) : Type 0 where
   pub some_workers : 1 ≤ options.workers
-  pub few_workers : options.workers ≤ most_workers
-  pub few_turns : options.refresh ≤ most_refresh
+  pub few_workers : options.workers ≤ MOST_WORKERS
+  pub few_turns : options.refresh ≤ MOST_REFRESH
 
 abbrev pub IsInRanges : Words → Type 0
 IsInRanges (Solve options start) = HasRanges options

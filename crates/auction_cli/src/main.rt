@@ -1,36 +1,30 @@
 //! Solves assignment problems from the command line.
 #![tactic(auto)]
 
-#[cfg(test)]
-mod command_tests;
-#[cfg(test)]
-mod fault_tests;
 mod finding;
-#[cfg(test)]
-mod mode_tests;
 mod program;
-#[cfg(test)]
-mod report_tests;
 mod run;
 #[cfg(test)]
-mod schedule_tests;
-#[cfg(test)]
-mod start_tests;
-#[cfg(test)]
-mod streams;
+mod tests;
 mod verify;
-#[cfg(test)]
-mod verify_drawn_tests;
-#[cfg(test)]
-mod verify_tests;
-#[cfg(test)]
-mod watched;
 mod words;
 
 use program::{NoReport, NoWords, Reports, run_program};
 use std::fs::File;
+use std::os::fd::AsRawFd;
 use std::process::ExitCode;
 use std::{env, fs, io};
+
+// Opens a file, and leaves standard input's number free. Where standard input is closed the file would get that
+// number, and be read as the problem; so it is moved, and reading the problem fails.
+fn opened_beside_input(rt: &HostRuntime, name: &str) -> io::Result<File> {
+    let file = fs::open(rt, name)?;
+    if file.as_raw_fd() == rt.stdin().as_raw_fd() {
+        file.try_clone()
+    } else {
+        Ok(file)
+    }
+}
 
 // The files of the machine.
 #[derive(Drop)]
@@ -41,12 +35,12 @@ struct Disk<'a> {
 impl Reports for Disk<'_> {
     type Report = File;
 
-    ghost use Rattle.std.specs.Prelude.{None};
+    ghost use Rattle.std.specs.Prelude.{⊤};
 
-    ghost bytes_of = { λ _ _. None };
+    ghost may_open = { λ _ _ _. ⊤ };
 
     fn open(&self, name: &str) -> Result<File, NoReport> {
-        match fs::open(self.rt, name) {
+        match opened_beside_input(self.rt, name) {
             Ok(file) => Ok(file),
             Err(error) if error.kind() == io::ErrorKind::OutOfMemory => Err(NoReport::Memory),
             Err(_) => Err(NoReport::Unopened),

@@ -1,10 +1,13 @@
 // The whole program: from words and streams to an end with its status.
-ghost use Rattle.std.specs.Prelude.{◌≡◌, ◌<◌, ℕ, List, None, Some, Ok, Err, IfOk, Option, map};
+ghost use Rattle.std.specs.Prelude.{◌≡◌, ◌<◌, ℕ, List, Ok, Err, IfOk, IfErr, map};
+ghost use Rattle.std.specs.Option.{option_map};
+ghost use Rattle.std.specs.String.{string_bytes};
 ghost use Rattle.clap.specs.Words.{Text};
-ghost use Rattle.auction_cli.specs.Program.{Asks, AsksForReport, Given, Known, given_by};
-ghost use Rattle.auction_cli.specs.Program.{EndsFailed, ErrorOutcome, ProgramOutcome, Tells, exit_status};
-ghost use Rattle.auction_cli.specs.Words.{WordsOutcome};
-ghost use Rattle.auction_cli.specs.declared.words.Words.TheVariants.{Solve, Verify};
+ghost use Rattle.auction_cli.specs.Program.{Does, EndsAtWords, SolveEnd, VerifyEnd};
+ghost use Rattle.auction_cli.specs.inside.Program.{EndsAbsent, EndsFailed};
+ghost use Rattle.auction_cli.specs.Program.{FailsToOpen, Given, Opening, Opens, given_by, opening_of};
+ghost use Rattle.auction_cli.specs.Program.{ErrorOutcome, InputOutcome, ProgramOutcome, Tells, exit_status};
+ghost use Rattle.auction_cli.specs.Words.{IsInRanges, WordsOutcome};
 ghost use Rattle.auction_cli.specs.declared.words.WordsFault.TheVariants.{Clap};
 
 use crate::run::{CliFault, Ended, end_status_of, run_solve, run_solve_from, status_of};
@@ -44,12 +47,14 @@ pub trait Reports {
     /// An opened report.
     type Report: Read + Drop;
 
-    ghost bytes_of: { Self → List ℕ → Option (List ℕ) };
+    ghost may_open: { Self → List ℕ → Opening → Type 0 };
 
     /// Opens the report of this name.
+    ///
+    /// # Errors
+    /// Why it can't be read.
     fn open(&self, name: &str) -> Result<Self::Report, NoReport>
-        ensures { IfOk result (λ report.
-            Self.Report.remaining report ≡ bytes_of self.now name.now) };
+        ensures { may_open self.now name.now (opening_of Self.Report.remaining result) };
 }
 
 /// How much of a line or a text standard error took.
@@ -123,9 +128,8 @@ fn fail<E: Write>(e: &mut E, fault: CliFault) -> ProgramEnd
 
 // Prints what clap has to say: help that was asked for, or why the words are refused.
 fn refuse<W: Write, E: Write>(alloc: Global, error: Error, w: &mut W, e: &mut E) -> ProgramEnd
-    ensures output { (words : List Text) → (input : Option (List ℕ)) → (reports : Known)
-        → WordsOutcome words (Err (Clap error))
-        → ProgramOutcome (Ok words) input reports (W.contents w.old) (W.contents w.new) result }
+    ensures output { (words : List Text) → WordsOutcome words (Err (Clap error))
+        → EndsAtWords (Ok words) (W.contents w.old) (W.contents w.new) result }
     ensures errors { (words : List Text) → WordsOutcome words (Err (Clap error))
         → ErrorOutcome (Ok words) (E.contents e.old) (E.contents e.new) result }
 {
@@ -142,33 +146,71 @@ fn refuse<W: Write, E: Write>(alloc: Global, error: Error, w: &mut W, e: &mut E)
     }
 }
 
-// Solves from one stream to the other, from prices of 0.
-fn solve_from_zeros<R: Read, W: Write, E: Write>(
+// Solves from one stream to the other, from the prices of a report where there is one.
+fn solve<Q: Read + Drop, R: Read, W: Write, E: Write>(
     rt: &(impl Threads + Wait + Sync),
     alloc: Global,
     options: SolveOpts,
+    start: Option<Q>,
     r: &mut R,
     w: &mut W,
     e: &mut E,
 ) -> ProgramEnd
     requires { 0 < options.workers }
-    ensures output { (given : Given) → (reports : Known) → Asks given (Solve options None)
-        → ProgramOutcome given (R.remaining r.old) reports
+    ensures output { SolveEnd options (R.remaining r.old) (option_map Q.remaining start)
         (W.contents w.old) (W.contents w.new) result }
     ensures errors { (given : Given)
         → ErrorOutcome given (E.contents e.old) (E.contents e.new) result }
 {
-    match run_solve(rt, alloc, r, w, options, &OpenGate) {
+    let ended = match start {
+        None => run_solve(rt, alloc, r, w, options, &OpenGate),
+        Some(mut report) => run_solve_from(rt, alloc, r, &mut report, w, options, &OpenGate),
+    };
+    match ended {
         Ok(ended) => ProgramEnd::Reported(ended),
         Err(fault) => fail(e, fault),
     }
 }
 
+// Checks a report.
+fn verify<Q: Read + Drop, R: Read, W: Write, E: Write>(
+    alloc: Global,
+    sparse: bool,
+    mut report: Q,
+    r: &mut R,
+    w: &mut W,
+    e: &mut E,
+) -> ProgramEnd
+    ensures output { VerifyEnd sparse (R.remaining r.old) (Q.remaining report)
+        (W.contents w.old) (W.contents w.new) result }
+    ensures errors { (given : Given)
+        → ErrorOutcome given (E.contents e.old) (E.contents e.new) result }
+{
+    match run_verify(alloc, r, &mut report, sparse, w) {
+        Ok(verified) => ProgramEnd::Checked(verified),
+        Err(fault) => fail(e, fault),
+    }
+}
+
+// Opens the report of this name, if there is one.
+fn open_start<F: Reports>(reports: &F, name: Option<String>) -> Result<Option<F::Report>, NoReport>
+    ensures ok { IfOk result (λ start. Opens (F.may_open reports.now)
+        (option_map string_bytes name) (option_map F.Report.remaining start)) }
+    ensures err { IfErr result
+        (FailsToOpen (F.may_open reports.now) (option_map string_bytes name)) }
+{
+    match name {
+        None => Ok(None),
+        Some(name) => match reports.open(name.as_str()) {
+            Ok(report) => Ok(Some(report)),
+            Err(absent) => Err(absent),
+        },
+    }
+}
+
 // Tells why a report can't be read.
 fn tell_absent<E: Write>(absent: NoReport, e: &mut E) -> ProgramEnd
-    ensures output { (given : Given) → (input : Option (List ℕ)) → (reports : Known)
-        → (old : Option (List ℕ)) → AsksForReport given
-        → ProgramOutcome given input reports old old result }
+    ensures end { EndsAbsent absent result }
     ensures errors { (given : Given)
         → ErrorOutcome given (E.contents e.old) (E.contents e.new) result }
 {
@@ -178,79 +220,32 @@ fn tell_absent<E: Write>(absent: NoReport, e: &mut E) -> ProgramEnd
     }
 }
 
-// Opens a report, and solves from its prices.
-fn solve_from<F: Reports, R: Read, W: Write, E: Write>(
+// Does what is asked for. The report is opened first that it names.
+fn run_asked<F: Reports, R: Read, W: Write, E: Write>(
     rt: &(impl Threads + Wait + Sync),
     alloc: Global,
-    options: SolveOpts,
-    start: String,
+    asked: Words,
     reports: &F,
     r: &mut R,
     w: &mut W,
     e: &mut E,
 ) -> ProgramEnd
-    requires { 0 < options.workers }
-    ensures output { (given : Given) → Asks given (Solve options (Some start))
-        → ProgramOutcome given (R.remaining r.old) (F.bytes_of reports.now)
+    requires { IsInRanges asked }
+    ensures output { Does asked (R.remaining r.old) (F.may_open reports.now)
         (W.contents w.old) (W.contents w.new) result }
     ensures errors { (given : Given)
         → ErrorOutcome given (E.contents e.old) (E.contents e.new) result }
+    ensures unread { InputOutcome (R.remaining r.old) (R.remaining r.new) result }
 {
-    match reports.open(start.as_str()) {
-        Ok(mut report) => match run_solve_from(rt, alloc, r, &mut report, w, options, &OpenGate) {
-            Ok(ended) => ProgramEnd::Reported(ended),
-            Err(fault) => fail(e, fault),
+    match asked {
+        Words::Solve { options, start } => match open_start(reports, start) {
+            Ok(start) => solve(rt, alloc, options, start, r, w, e),
+            Err(absent) => tell_absent(absent, e),
         },
-        Err(absent) => tell_absent(absent, e),
-    }
-}
-
-// Solves, from the prices of a report where one is named.
-fn solve<F: Reports, R: Read, W: Write, E: Write>(
-    rt: &(impl Threads + Wait + Sync),
-    alloc: Global,
-    options: SolveOpts,
-    start: Option<String>,
-    reports: &F,
-    r: &mut R,
-    w: &mut W,
-    e: &mut E,
-) -> ProgramEnd
-    requires { 0 < options.workers }
-    ensures output { (given : Given) → Asks given (Solve options start)
-        → ProgramOutcome given (R.remaining r.old) (F.bytes_of reports.now)
-        (W.contents w.old) (W.contents w.new) result }
-    ensures errors { (given : Given)
-        → ErrorOutcome given (E.contents e.old) (E.contents e.new) result }
-{
-    match start {
-        None => solve_from_zeros(rt, alloc, options, r, w, e),
-        Some(name) => solve_from(rt, alloc, options, name, reports, r, w, e),
-    }
-}
-
-// Opens a report, and checks it.
-fn verify<F: Reports, R: Read, W: Write, E: Write>(
-    alloc: Global,
-    sparse: bool,
-    name: String,
-    reports: &F,
-    r: &mut R,
-    w: &mut W,
-    e: &mut E,
-) -> ProgramEnd
-    ensures output { (given : Given) → Asks given (Verify sparse name)
-        → ProgramOutcome given (R.remaining r.old) (F.bytes_of reports.now)
-        (W.contents w.old) (W.contents w.new) result }
-    ensures errors { (given : Given)
-        → ErrorOutcome given (E.contents e.old) (E.contents e.new) result }
-{
-    match reports.open(name.as_str()) {
-        Ok(mut report) => match run_verify(alloc, r, &mut report, sparse, w) {
-            Ok(verified) => ProgramEnd::Checked(verified),
-            Err(fault) => fail(e, fault),
+        Words::Verify { sparse, report } => match reports.open(report.as_str()) {
+            Ok(report) => verify(alloc, sparse, report, r, w, e),
+            Err(absent) => tell_absent(absent, e),
         },
-        Err(absent) => tell_absent(absent, e),
     }
 }
 
@@ -265,15 +260,13 @@ fn run_words<S: AsStr, F: Reports, R: Read, W: Write, E: Write>(
     e: &mut E,
 ) -> ProgramEnd
     ensures output { ProgramOutcome (Ok (map S.text words.entry.now)) (R.remaining r.old)
-        (F.bytes_of reports.now) (W.contents w.old) (W.contents w.new) result }
+        (F.may_open reports.now) (W.contents w.old) (W.contents w.new) result }
     ensures errors { ErrorOutcome (Ok (map S.text words.entry.now))
         (E.contents e.old) (E.contents e.new) result }
+    ensures unread { InputOutcome (R.remaining r.old) (R.remaining r.new) result }
 {
     match read_words(alloc, words) {
-        Ok(Words::Solve { options, start }) => {
-            solve(rt, alloc, options, start, reports, r, w, e)
-        }
-        Ok(Words::Verify { sparse, report }) => verify(alloc, sparse, report, reports, r, w, e),
+        Ok(asked) => run_asked(rt, alloc, asked, reports, r, w, e),
         Err(WordsFault::Mode) => {
             ProgramEnd::Refused(tell(e, b"usage: mode is rounds or workers\n"))
         }
@@ -287,7 +280,8 @@ fn run_words<S: AsStr, F: Reports, R: Read, W: Write, E: Write>(
 /// writes the report, what a report was found to be, or help to `w`; and tells `e` what is wrong.
 ///
 /// Nothing is written to `e` where the program ends with what was asked for on `w`, and nothing to
-/// `w` where it fails, but for a beginning of what was to be written where `w` itself fails.
+/// `w` where it fails, but for a beginning of what was to be written where `w` itself fails. Nothing
+/// is read from `r` where the words are refused, ask for help or name a report that can't be opened.
 pub fn run_program<S: AsStr + Drop, F: Reports, R: Read, W: Write, E: Write>(
     rt: &(impl Threads + Wait + Sync),
     alloc: Global,
@@ -298,9 +292,10 @@ pub fn run_program<S: AsStr + Drop, F: Reports, R: Read, W: Write, E: Write>(
     e: &mut E,
 ) -> ProgramEnd
     ensures output { ProgramOutcome (given_by (λ v. map S.text v.items) words) (R.remaining r.old)
-        (F.bytes_of reports.now) (W.contents w.old) (W.contents w.new) result }
+        (F.may_open reports.now) (W.contents w.old) (W.contents w.new) result }
     ensures errors { ErrorOutcome (given_by (λ v. map S.text v.items) words)
         (E.contents e.old) (E.contents e.new) result }
+    ensures unread { InputOutcome (R.remaining r.old) (R.remaining r.new) result }
 {
     match words {
         Ok(words) => run_words(rt, alloc, words.as_slice(), reports, r, w, e),

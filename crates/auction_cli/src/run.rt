@@ -8,8 +8,10 @@ ghost use Rattle.rounds.specs.Outcomes.{IsProof};
 ghost use Rattle.report.specs.Reports.{IsReport};
 ghost use Rattle.report.specs.SeenReports.{seen_report};
 ghost use Rattle.report.specs.Starts.{IsFirstPrice, IsStart};
-ghost use Rattle.auction_cli.specs.Solve.{HasNoStart, IsOutcomeIn, IsSettled, IsSolution, problem_under};
-ghost use Rattle.auction_cli.specs.Solve.{Reads, Reports, SolveOutcome, end_of, end_status, status};
+ghost use Rattle.auction_cli.specs.Solve.{IsOutcomeIn, IsSettled, IsSolution, problem_under};
+ghost use Rattle.auction_cli.specs.inside.Solve.{HasNoStart};
+ghost use Rattle.auction_cli.specs.Solve.{Reads, SolveOutcome, end_of, end_status, status};
+ghost use Rattle.auction_cli.specs.inside.Solve.{Reports};
 
 use crate::words::{Mode, SolveOpts};
 use assign_core::{

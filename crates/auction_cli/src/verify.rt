@@ -4,13 +4,13 @@ ghost use Rattle.assign_core.specs.Rows.{listed_in, row_of};
 ghost use Rattle.assign_core.specs.Assignment.{total};
 ghost use Rattle.dual_checker.specs.Faults.{IsFirst};
 ghost use Rattle.report.specs.SeenReports.{seen_report};
-ghost use Rattle.auction_cli.specs.Findings.{HasOtherCost, HaveCosts, IsFoundInReport, IsFoundInBest, IsFoundInCosts, IsFoundInHall, objects_of};
+ghost use Rattle.auction_cli.specs.Findings.{HasOtherCost, HaveCosts, IsFoundInReport, IsFoundInBest, IsFoundInCosts, objects_of};
 ghost use Rattle.auction_cli.specs.Verify.{VerifyOutcome};
 
 use crate::finding::Finding;
 use crate::run::{CliFault, read_problem};
 use assign_core::{Cost, Object, Person, Price, Problem, Sense};
-use dual_checker::{HallVerdict, Verdict, check, check_hall};
+use dual_checker::{Verdict, check, check_hall};
 use report::{Report, read_report, write_text};
 use std::alloc::{AllocError, Global};
 use std::io::{Read, Write};
@@ -101,36 +101,11 @@ fn found_in_priced(
         IsFoundInBest sense problem.now cost pairs.now prices.now finding) }
 {
     let objects = objects_in(alloc, pairs)?;
-    let finding = match check(alloc, problem, sense, objects.as_slice(), prices)? {
-        Verdict::Length => Finding::Length,
-        Verdict::Unlisted(person) => Finding::Unlisted(person),
-        Verdict::Twice(object) => Finding::Twice(object),
-        Verdict::PriceRange(object) => Finding::PriceRange(object),
-        Verdict::Slack(person, object) => Finding::Slack(person, object),
-        Verdict::Yes => found_in_costs(problem, sense, cost, pairs),
-    };
-    Ok(finding)
-}
-
-// What is found in a report on a Hall set.
-fn found_in_hall(
-    alloc: Global,
-    problem: &Problem,
-    persons: &[Person],
-    objects: &[Object],
-) -> Result<Finding, AllocError>
-    ensures { IfOk result (λ finding.
-        IsFoundInHall problem.now persons.now objects.now finding) }
-{
-    let finding = match check_hall(alloc, problem, persons, objects)? {
-        HallVerdict::Range => Finding::Range,
-        HallVerdict::Order => Finding::Order,
-        HallVerdict::Missing(person, object) => Finding::Missing(person, object),
-        HallVerdict::Extra(object) => Finding::Extra(object),
-        HallVerdict::Count => Finding::Count,
-        HallVerdict::Yes => Finding::Infeasible,
-    };
-    Ok(finding)
+    let verdict = check(alloc, problem, sense, objects.as_slice(), prices)?;
+    match verdict {
+        Verdict::Yes => Ok(found_in_costs(problem, sense, cost, pairs)),
+        fault => Ok(Finding::Unproved(fault)),
+    }
 }
 
 // What is found in a report.
@@ -161,7 +136,10 @@ fn found_in(alloc: Global, problem: &Problem, report: &Report) -> Result<Finding
             persons,
             objects,
             ..
-        } => found_in_hall(alloc, problem, persons.as_slice(), objects.as_slice()),
+        } => {
+            let verdict = check_hall(alloc, problem, persons.as_slice(), objects.as_slice())?;
+            Ok(Finding::Hall(verdict))
+        }
     }
 }
 

@@ -1,12 +1,15 @@
 // The command line.
-ghost use Rattle.std.specs.Prelude.{◌≡◌, ℕ, [], ◌∷◌, codes, map, true, false, None, Some, IfErr, IfOk, IfSome, IsErr};
+ghost use Rattle.std.specs.Prelude.{◌≡◌, ◌^◌, ℕ, [], ◌∷◌, codes, map, true, false, None, Some, IfErr, IfOk, IfSome, IsErr};
 ghost use Rattle.std.specs.Option.{option_map};
 ghost use Rattle.std.specs.String.{string_bytes};
 ghost use Rattle.assign_core.specs.declared.sense.Sense.TheVariants.{Max, Min};
 ghost use Rattle.clap.specs.Words.{app_of, first_of, found_of, one_of, rows_of, rule_of, subcommand_rows_of, Text};
-ghost use Rattle.auction_cli.specs.Words.{Chooses, ChoosesSolving, ChoosesVerifying, IsChoiceFault, NamesCommand, NamesMode};
-ghost use Rattle.auction_cli.specs.Words.{HasNumbers, HasNumbersIfSolving, IsNumberFor, IsNumberIn};
-ghost use Rattle.auction_cli.specs.Words.{IsFaultOf, IsInRanges, IsTaken, Solves, Verifies, WordsOutcome};
+ghost use Rattle.auction_cli.specs.Words.{Chooses, ChoosesSolving, NamesMode};
+ghost use Rattle.auction_cli.specs.inside.Words.{ChoosesVerifying, IsChoiceFault, NamesCommand};
+ghost use Rattle.auction_cli.specs.Words.{IsNumberFor};
+ghost use Rattle.auction_cli.specs.inside.Words.{HasNumbers, HasNumbersIfSolving, IsNumberIn};
+ghost use Rattle.auction_cli.specs.Words.{IsInRanges, IsTaken, Solves, Verifies, WordsOutcome};
+ghost use Rattle.auction_cli.specs.inside.Words.{IsFaultOf};
 ghost use Rattle.auction_cli.specs.Words.{flag_rule, numbered_rule, plain_solve_app, program, solve_app, valued_rule, verify_app};
 ghost use Rattle.auction_cli.specs.Words.{full_line, full_options, is_max, mode_name, usual_options};
 
@@ -17,10 +20,17 @@ use clap::{Arg, ArgAction, ArgMatches, Command, Error};
 use std::alloc::{AllocError, Global};
 use std::convert::AsStr;
 
-// The most workers, and the most sessions between two looks at today's prices.
-const MOST_WORKERS: u64 = 64;
+/// The most workers.
+pub const MOST_WORKERS: u64 = 64;
 
-const MOST_REFRESH: u64 = 1_000_000;
+/// The most turns behind which a worker takes today's prices.
+pub const MOST_REFRESH: u64 = 1_000_000;
+
+/// Which number each limit is.
+pub fn word_limits()
+    ensures workers { MOST_WORKERS ≡ 64 }
+    ensures refresh { MOST_REFRESH ≡ 10 ^ 6 }
+{}
 
 /// Who bids when.
 #[derive(Clone, Copy, Debug, PartialEq, Eq)]

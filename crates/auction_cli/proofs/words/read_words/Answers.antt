@@ -1,6 +1,7 @@
 use Rattle.std.proofs.Common.{◌∙◌, List, ap, ap₂, codes, map, refl, subst, sym}
 use Rattle.clap.specs.Words.{Text, subcommand_of, takes}
-use Rattle.auction_cli.specs.Words.{HasNumbersIfSolving, NamesCommand, full_options, program, usual_options}
+use Rattle.auction_cli.specs.Words.{full_options, program, usual_options}
+use Rattle.auction_cli.specs.inside.Words.{HasNumbersIfSolving, NamesCommand}
 use Rattle.auction_cli.proofs.Choices.{chosen_outcome, solve_taken, verify_taken}
 use Rattle.auction_cli.proofs.CommandLines.{file_is_taken, file_of, file_words, flags_of, full_flags, full_is_taken, in_ranges, is_memory, plain_flags, plain_is_taken, taken_words}
 use Rattle.auction_cli.proofs.Numbers.{has_numbers}

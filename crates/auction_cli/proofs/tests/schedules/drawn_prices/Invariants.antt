@@ -2,7 +2,7 @@ use Rattle.std.proofs.Common.{◌≡◌, length}
 use Rattle.std.specs.List.{All}
 use Rattle.assign_core.specs.Prices.{IsPrice}
 use Rattle.report.specs.Starts.{IsFirstPrice}
-use Rattle.auction_cli.proofs.schedule_tests.drawn_prices.Given as goal
+use Rattle.auction_cli.proofs.tests.schedules.drawn_prices.Given as goal
 
 abbrev pub invariant-loop-i : goal.invariant-loop-i
 invariant-loop-i l = record {

@@ -1,0 +1,103 @@
+// Command lines, with the statuses and the first lines that they give.
+use crate::tests::watched::{Seen, first_line, run_with, watched_run, whole_scene};
+use std::process::Abort;
+use std::test::Fail;
+
+// Valid in both layouts.
+const TEXT: &[u8] = b"3 1 1 3 2 2 3 3 3 3";
+
+const REPORT: &[u8] =
+    b"sense max\ncost 9\nassign 1 1 3\nassign 2 2 3\nassign 3 3 3\nprice 1 0\nprice 2 0\nprice 3 0\n";
+
+const HELP: &str =
+    "Solve assignment problems and check reports; the problem comes on standard input";
+
+const SOLVE_HELP: &str =
+    "Read a problem from standard input, and write a best assignment or why there is none";
+
+const VERIFY_HELP: &str = "Read a problem from standard input, and check a report on it";
+
+// The first lines of a run on each stream, and its status.
+fn assert_begins(rt: &impl Abort, seen: &Seen, status: u8, out: &str, errors: &str) {
+    assert_eq!(rt; first_line(seen.out.as_slice()), out.as_bytes());
+    assert_eq!(rt; first_line(seen.errors.as_slice()), errors.as_bytes());
+    assert_eq!(rt; seen.status, status);
+    assert!(rt; seen.whole);
+}
+
+// None of these are answered as refused memory, which no clause rules out.
+#[test]
+fn lines_that_are_taken(rt: HostRuntime) -> Result<(), Fail> {
+    let slack = "not verified: slack of person 1 at object 3";
+    let table = [
+        ("solve", 0, "sense min"),
+        ("solve --sparse", 0, "sense min"),
+        ("solve --prices --max", 0, "sense max"),
+        ("solve --start report", 0, "sense min"),
+        ("solve --start=report --max", 0, "sense max"),
+        ("verify report", 5, slack),
+        ("verify --sparse report", 0, "verified max cost 9"),
+        ("verify report --sparse", 0, "verified max cost 9"),
+        ("verify -- report", 5, slack),
+        ("--help", 0, HELP),
+        ("solve --help", 0, SOLVE_HELP),
+        ("verify --help", 0, VERIFY_HELP),
+        ("help verify", 0, VERIFY_HELP),
+    ];
+    for (line, status, out) in table {
+        let seen = run_with(&rt, rt.alloc(), line, TEXT, REPORT, 100)?;
+        assert_begins(&rt, &seen, status, out, "");
+    }
+    Ok(())
+}
+
+#[test]
+fn lines_that_are_refused(rt: HostRuntime) -> Result<(), Fail> {
+    let table = [
+        (
+            "solve --start",
+            "error: a value is required for '--start <REPORT>' but none was supplied",
+        ),
+        (
+            "solve --start a --start b",
+            "error: the argument '--start <REPORT>' cannot be used multiple times",
+        ),
+        (
+            "solve --sparse=yes",
+            "error: unexpected value 'yes' for '--sparse' found; no more were expected",
+        ),
+        (
+            "",
+            "error: 'auction_cli' requires a subcommand but one was not provided",
+        ),
+        (
+            "verify",
+            "error: the following required arguments were not provided:",
+        ),
+        (
+            "verify report report",
+            "error: unexpected argument 'report' found",
+        ),
+        (
+            "verify --max report",
+            "error: unexpected argument '--max' found",
+        ),
+        ("solve --fast", "error: unexpected argument '--fast' found"),
+        ("--fast solve", "error: unexpected argument '--fast' found"),
+    ];
+    for (line, errors) in table {
+        let seen = run_with(&rt, rt.alloc(), line, TEXT, REPORT, 100)?;
+        assert_begins(&rt, &seen, 2, "", errors);
+    }
+    Ok(())
+}
+
+// The program's own name may be any text.
+#[test]
+fn no_name(rt: HostRuntime) -> Result<(), Fail> {
+    let words = Vec::from_slice(rt.alloc(), &["", "solve", "--sparse", "--max"])?;
+    let scene = whole_scene(rt.alloc(), TEXT, REPORT, 100);
+    let seen = watched_run(&rt, rt.alloc(), Ok(words), scene);
+    assert_begins(&rt, &seen, 0, "sense max", "");
+    Ok(())
+}

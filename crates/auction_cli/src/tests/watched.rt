@@ -1,0 +1,141 @@
+// Runs of the whole program whose streams are watched, for tests.
+use crate::program::{NoReport, NoWords, ProgramEnd, Reports, Told, run_program};
+use crate::tests::streams::{Pieces, Sheet, blank_sheet, whole_text};
+use std::alloc::{AllocError, Global};
+use std::process::Abort;
+use std::sync::Wait;
+use std::thread::Threads;
+
+// One report under the name `report`, and one that memory is refused for under `refused`.
+#[derive(Drop)]
+struct Shelf<'a> {
+    report: Pieces<'a>,
+}
+
+impl<'a> Reports for Shelf<'a> {
+    type Report = Pieces<'a>;
+
+    ghost use Rattle.std.specs.Prelude.{⊤};
+
+    ghost may_open = { λ _ _ _. ⊤ };
+
+    fn open(&self, name: &str) -> Result<Pieces<'a>, NoReport> {
+        match name {
+            "report" => Ok(self.report),
+            "refused" => Err(NoReport::Memory),
+            _ => Err(NoReport::Unopened),
+        }
+    }
+}
+
+/// What a run reads, and what it may write on.
+#[derive(Drop)]
+pub struct Scene<'a> {
+    pub text: Pieces<'a>,
+    pub report: Pieces<'a>,
+    pub out: Sheet,
+    pub errors: Sheet,
+}
+
+/// A text, a report and ample room, all in pieces of at most so many bytes.
+pub fn whole_scene<'a>(alloc: Global, text: &'a [u8], report: &'a [u8], most: usize) -> Scene<'a> {
+    Scene {
+        text: whole_text(text, most),
+        report: whole_text(report, most),
+        out: blank_sheet(alloc, 1 << 20, most, true),
+        errors: blank_sheet(alloc, 1 << 20, most, true),
+    }
+}
+
+/// The status of a run, what it wrote on each stream, and whether that was all it had to say.
+#[derive(Drop)]
+pub struct Seen {
+    pub status: u8,
+    pub out: Vec<u8>,
+    pub errors: Vec<u8>,
+    pub whole: bool,
+}
+
+// Whether standard error took all that it was told.
+fn is_whole(end: &ProgramEnd) -> bool {
+    !matches!(
+        end,
+        ProgramEnd::Refused(Told::Part)
+            | ProgramEnd::Unopened(Told::Part)
+            | ProgramEnd::Failed(_, Told::Part)
+    )
+}
+
+/// A run with these words.
+pub fn watched_run(
+    rt: &(impl Threads + Wait + Sync),
+    alloc: Global,
+    words: Result<Vec<&str>, NoWords>,
+    scene: Scene<'_>,
+) -> Seen {
+    let shelf = Shelf {
+        report: scene.report,
+    };
+    let (mut text, mut out, mut errors) = (scene.text, scene.out, scene.errors);
+    let end = run_program(rt, alloc, words, &shelf, &mut text, &mut out, &mut errors);
+    Seen {
+        status: end.status(),
+        out: out.taken,
+        errors: errors.taken,
+        whole: is_whole(&end),
+    }
+}
+
+/// The words of a line, parted by single blanks, behind the program's own name; an empty line has
+/// none.
+pub fn words_of(alloc: Global, line: &str) -> Result<Vec<&str>, AllocError> {
+    let mut words: Vec<&str> = Vec::new(alloc);
+    words.push("auction_cli")?;
+    if line.is_empty() {
+        return Ok(words);
+    }
+    for word in line.split(' ') {
+        words.push(word)?;
+    }
+    Ok(words)
+}
+
+/// A run with the words of a line on a text and a report in pieces of at most so many bytes, written
+/// in such pieces too.
+pub fn run_with(
+    rt: &(impl Threads + Wait + Sync),
+    alloc: Global,
+    line: &str,
+    text: &[u8],
+    report: &[u8],
+    most: usize,
+) -> Result<Seen, AllocError> {
+    let words = words_of(alloc, line)?;
+    let scene = whole_scene(alloc, text, report, most);
+    Ok(watched_run(rt, alloc, Ok(words), scene))
+}
+
+/// The bytes up to the first line feed.
+pub fn first_line(text: &[u8]) -> &[u8] {
+    let end = text
+        .iter()
+        .position(|byte| *byte == b'\n')
+        .unwrap_or(text.len());
+    let (line, _) = text.split_at(end);
+    line
+}
+
+/// The run wrote this text, told nothing, and ended with this status.
+pub fn assert_reported(rt: &impl Abort, seen: &Seen, status: u8, text: &str) {
+    assert_eq!(rt; seen.out.as_slice(), text.as_bytes());
+    assert_eq!(rt; seen.errors.len(), 0);
+    assert_eq!(rt; seen.status, status);
+}
+
+/// The run told this line, and all of it, wrote nothing, and ended with this status.
+pub fn assert_told(rt: &impl Abort, seen: &Seen, status: u8, line: &str) {
+    assert_eq!(rt; seen.errors.as_slice(), line.as_bytes());
+    assert!(rt; seen.whole);
+    assert_eq!(rt; seen.status, status);
+    assert_eq!(rt; seen.out.len(), 0);
+}
