@@ -1,0 +1,12 @@
+use Rattle.std.proofs.Common.{rules}
+use Rattle.std.specs.Arc.{arc_value}
+use Rattle.scaled_values.specs.Scaled.{ScaledProblem}
+use Rattle.assign_core.proofs.HallSets.{decides}
+use Rattle.rounds.specs.Outcomes.{IsProof}
+use Rattle.shortest_paths.proofs.solve.settled.Goals as goal
+
+pub returns-in-Ok-Some-clause-decided : goal.returns-in-Ok-Some-clause-decided
+returns-in-Ok-Some-clause-decided c =
+    let s : ScaledProblem = arc_value c.args.scaled in
+    let p : IsProof s c.in-Ok-Some.outcome = search rules in
+    decides s.sense s.problem c.in-Ok-Some.outcome p

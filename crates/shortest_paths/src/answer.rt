@@ -1,0 +1,93 @@
+// What was found, where the checkers take it.
+ghost use Rattle.std.specs.Prelude.{◌≤◌, IfOk, IfSome};
+ghost use Rattle.rounds.specs.Outcomes.{IsProof};
+
+use super::market::Market;
+use super::search::Search;
+use assign_core::{MOST_PERSONS, Numbered, Object, Outcome, Person, Price};
+use dual_checker::{confirm_best, confirm_hall};
+use scaled_values::Scaled;
+use std::alloc::{AllocError, Global};
+
+// The objects of persons 1, 2, ..; where a person has none, one that there isn't.
+fn objects_of(alloc: Global, market: &Market) -> Result<Vec<Object>, AllocError> {
+    let mut objects = Vec::with_capacity(alloc, market.objects.len())?;
+    for place in &market.objects {
+        let place = place
+            .unwrap_or(MOST_PERSONS as usize)
+            .min(MOST_PERSONS as usize);
+        objects.push(Object(place as u16 + 1))?;
+    }
+    Ok(objects)
+}
+
+fn prices_of(alloc: Global, market: &Market) -> Result<Vec<Price>, AllocError> {
+    let mut prices = Vec::with_capacity(alloc, market.prices.len())?;
+    for price in &market.prices {
+        prices.push(Price::from(*price))?;
+    }
+    Ok(prices)
+}
+
+// The objects of all persons with the prices.
+pub fn best_of(
+    alloc: Global,
+    scaled: &Scaled,
+    market: &Market,
+) -> Result<Option<Outcome>, AllocError>
+    ensures { IfOk result (λ found. IfSome found (IsProof scaled.now)) }
+{
+    let objects = objects_of(alloc, market)?;
+    let prices = prices_of(alloc, market)?;
+    confirm_best(alloc, scaled.problem(), scaled.sense(), objects, prices)
+}
+
+// Which of n places are named.
+fn marks_of(alloc: Global, n: u16, places: &[usize]) -> Result<Vec<bool>, AllocError> {
+    let mut marks = vec![in alloc; false; n as usize]?;
+    for place in places {
+        if *place < marks.len() {
+            marks[*place] = true;
+        }
+    }
+    Ok(marks)
+}
+
+// The numbers of these places, rising.
+fn rising<T: Numbered + Drop>(alloc: Global, n: u16, places: &[usize]) -> Result<Vec<T>, AllocError>
+    requires { n ≤ MOST_PERSONS }
+{
+    let marks = marks_of(alloc, n, places)?;
+    let mut numbers = Vec::new(alloc);
+    for i in 0..n {
+        if marks.get(i as usize) == Some(&true) {
+            numbers.push(T::with_number(i + 1))?;
+        }
+    }
+    Ok(numbers)
+}
+
+// The persons that a search scanned.
+fn persons_of(alloc: Global, n: u16, search: &Search) -> Result<Vec<Person>, AllocError>
+    requires { n ≤ MOST_PERSONS }
+{
+    let mut places = Vec::with_capacity(alloc, search.scanned.len())?;
+    for one in &search.scanned {
+        places.push(one.person)?;
+    }
+    rising(alloc, n, places.as_slice())
+}
+
+// The persons that a search scanned with the objects that it passed.
+pub fn hall_of(
+    alloc: Global,
+    scaled: &Scaled,
+    search: &Search,
+) -> Result<Option<Outcome>, AllocError>
+    ensures { IfOk result (λ found. IfSome found (IsProof scaled.now)) }
+{
+    let n = scaled.n();
+    let persons = persons_of(alloc, n, search)?;
+    let objects: Vec<Object> = rising(alloc, n, search.passed.as_slice())?;
+    confirm_hall(alloc, scaled.problem(), persons, objects)
+}

@@ -1,0 +1,17 @@
+//! Shortest augmenting paths: a search that is trusted with nothing, whose answer passes the
+//! checkers, and rounds of offers where they refuse it.
+#![tactic(auto)]
+
+mod answer;
+mod bids;
+mod market;
+mod path;
+mod prices;
+mod reach;
+mod rows;
+mod search;
+mod solve;
+#[cfg(test)]
+mod tests;
+
+pub use solve::{solve_paths, solve_paths_from, try_paths, try_paths_from};

@@ -1,0 +1,133 @@
+// Which objects a person reaches, and the nearest of all that were reached. The distance of an
+// object is its cost, at which it is reached, and its key.
+ghost use Rattle.std.specs.Prelude.{◌≡◌, ◌<◌, length, IfSome};
+
+use super::rows::place_of;
+use assign_core::{Benefit, Object};
+use std::alloc::AllocError;
+use std::collections::BinaryHeap;
+
+// The cost of an object that isn't reached, and the key of one that was passed.
+pub const FAR: i64 = 1 << 61;
+
+// No object is reached at this distance.
+const END: i64 = 1 << 60;
+
+// A full row: the costs afterwards, and the least distance.
+pub fn reach_full(benefits: &[Benefit], base: i64, costs: &mut [i64], keys: &[i64]) -> i64
+    requires benefits { length benefits.now ≡ length costs.old }
+    requires keys { length keys.now ≡ length costs.old }
+{
+    let mut least = i64::MAX;
+    for k in 0..benefits.len() {
+        let cost = costs[k].min(base.wrapping_sub(benefits[k]));
+        costs[k] = cost;
+        least = least.min(cost.wrapping_add(keys[k]));
+    }
+    least
+}
+
+pub fn reach_pairs(pairs: &[(Object, Benefit)], base: i64, costs: &mut [i64]) {
+    for (object, benefit) in pairs {
+        let place = place_of(*object);
+        if place < costs.len() {
+            costs[place] = costs[place].min(base.wrapping_sub(*benefit));
+        }
+    }
+}
+
+// The least distance.
+pub fn least_of(costs: &[i64], keys: &[i64]) -> i64
+    requires { length keys.now ≡ length costs.now }
+{
+    let mut least = i64::MAX;
+    for k in 0..costs.len() {
+        least = least.min(costs[k].wrapping_add(keys[k]));
+    }
+    least
+}
+
+// The first object at this distance.
+pub fn object_at(costs: &[i64], keys: &[i64], least: i64) -> Option<usize>
+    requires { length keys.now ≡ length costs.now }
+    ensures { IfSome result (λ k. k < length costs.now) }
+{
+    if least >= END {
+        return None;
+    }
+    for k in 0..costs.len() {
+        if costs[k].wrapping_add(keys[k]) == least {
+            return Some(k);
+        }
+    }
+    None
+}
+
+// Objects with their distances negated, the nearest first. One that got nearer stands there again.
+pub type Heap = BinaryHeap<(i64, usize)>;
+
+// One object of a short row.
+fn push(
+    heap: &mut Heap,
+    place: usize,
+    cost: i64,
+    costs: &mut [i64],
+    keys: &[i64],
+) -> Result<(), AllocError>
+    requires { length keys.now ≡ length costs.old }
+{
+    if place < costs.len() && cost < costs[place] {
+        costs[place] = cost;
+        let distance = cost.wrapping_add(keys[place]);
+        heap.push((0i64.wrapping_sub(distance), place))?;
+    }
+    Ok(())
+}
+
+pub fn push_full(
+    heap: &mut Heap,
+    benefits: &[Benefit],
+    base: i64,
+    costs: &mut [i64],
+    keys: &[i64],
+) -> Result<(), AllocError>
+    requires { length keys.now ≡ length costs.old }
+{
+    for k in 0..benefits.len() {
+        push(heap, k, base.wrapping_sub(benefits[k]), costs, keys)?;
+    }
+    Ok(())
+}
+
+pub fn push_pairs(
+    heap: &mut Heap,
+    pairs: &[(Object, Benefit)],
+    base: i64,
+    costs: &mut [i64],
+    keys: &[i64],
+) -> Result<(), AllocError>
+    requires { length keys.now ≡ length costs.old }
+{
+    for (object, benefit) in pairs {
+        let cost = base.wrapping_sub(*benefit);
+        push(heap, place_of(*object), cost, costs, keys)?;
+    }
+    Ok(())
+}
+
+// The nearest object that wasn't passed.
+pub fn pop(heap: &mut Heap, costs: &[i64], keys: &[i64]) -> Option<usize>
+    requires { length keys.now ≡ length costs.now }
+    ensures { IfSome result (λ k. k < length costs.now) }
+{
+    for _ in 0..heap.len() {
+        let (negated, place) = heap.pop()?;
+        if place < costs.len() {
+            let distance = costs[place].wrapping_add(keys[place]);
+            if 0i64.wrapping_sub(distance) == negated {
+                return Some(place);
+            }
+        }
+    }
+    None
+}

@@ -1,0 +1,178 @@
+// The solver.
+ghost use Rattle.std.specs.Prelude.{◌≡◌, length, IfOk, IfSome, IfErr};
+ghost use Rattle.std.specs.Arc.{arc_value};
+ghost use Rattle.rounds.specs.Outcomes.{IsDecided, IsProof};
+
+use super::answer::{best_of, hall_of};
+use super::bids::bid_all;
+use super::market::Market;
+use super::path::{raise, walk_back};
+use super::prices::{given_prices, usual_prices};
+use super::search::{End, Search};
+use assign_core::{Outcome, Person, Prices, SolveFault};
+use rounds::solve_rounds_alone;
+use scaled_values::Scaled;
+use std::alloc::{AllocError, Global};
+use std::sync::Arc;
+
+// A search looks for the nearest object in a heap where fewer than one in so many pairs are listed.
+const HEAP_BELOW: usize = 8;
+
+// Whether so few pairs are listed.
+fn is_sparse(scaled: &Scaled) -> bool {
+    let n = scaled.n();
+    let mut pairs = 0usize;
+    for i in 0..n {
+        pairs = pairs.saturating_add(scaled.problem().row(Person(i + 1)).len());
+    }
+    pairs < n as usize * n as usize / HEAP_BELOW
+}
+
+// One person more gets an object, if it reaches one that nobody owns.
+fn augment(
+    scaled: &Scaled,
+    market: &mut Market,
+    search: &mut Search,
+    person: usize,
+) -> Result<End, AllocError>
+    requires costs { length search.old.costs.items ≡ length scaled.now.problem }
+    requires keys { length search.old.keys.items ≡ length scaled.now.problem }
+    ensures costs { length search.new.costs.items ≡ length scaled.now.problem }
+    ensures keys { length search.new.keys.items ≡ length scaled.now.problem }
+{
+    let end = search.run(scaled, market, person)?;
+    if let End::Free(object) = end {
+        let cost = search.costs.get(object).copied().unwrap_or(0);
+        let level = cost.wrapping_add(market.price(object));
+        raise(market, search, level);
+        if !walk_back(scaled, market, search, object) {
+            return Ok(End::Lost);
+        }
+    }
+    Ok(end)
+}
+
+// Each person that owns nothing gets an object, up to one that reaches none. How the search of that
+// one ended.
+fn augment_all(
+    scaled: &Scaled,
+    market: &mut Market,
+    search: &mut Search,
+) -> Result<Option<End>, AllocError>
+    requires costs { length search.old.costs.items ≡ length scaled.now.problem }
+    requires keys { length search.old.keys.items ≡ length scaled.now.problem }
+{
+    for person in 0..scaled.n() as usize {
+        if market.object(person).is_none() {
+            match augment(scaled, market, search, person)? {
+                End::Free(_) => {}
+                end => return Ok(Some(end)),
+            }
+        }
+    }
+    Ok(None)
+}
+
+// Paths from these prices.
+fn paths_from(
+    alloc: Global,
+    scaled: &Scaled,
+    prices: Vec<i64>,
+) -> Result<Option<Outcome>, AllocError>
+    requires { length prices.items ≡ length scaled.now.problem }
+    ensures { IfOk result (λ found. IfSome found (IsProof scaled.now)) }
+{
+    let mut market = Market::new(alloc, prices)?;
+    bid_all(scaled, &mut market);
+    let mut search = Search::new(alloc, scaled.n() as usize, is_sparse(scaled))?;
+    match augment_all(scaled, &mut market, &mut search)? {
+        None => best_of(alloc, scaled, &market),
+        Some(End::Blocked) => hall_of(alloc, scaled, &search),
+        Some(_) => Ok(None),
+    }
+}
+
+/// Looks for a proof by shortest augmenting paths: a best assignment with prices that prove it, or a
+/// Hall set. `None` where what was found is no proof, which is not known to happen but where sums
+/// leave 64 bits: with costs near `GREATEST_COST`.
+///
+/// The prices of a best assignment are multiples of `n + 1` under which each person has slackness 0.
+/// The time is at most that of `n` searches over all listed pairs, and mostly far less. None of this
+/// is proved.
+///
+/// # Errors
+/// Only where memory is refused.
+pub fn try_paths(alloc: Global, scaled: &Scaled) -> Result<Option<Outcome>, AllocError>
+    ensures { IfOk result (λ found. IfSome found (IsProof scaled.now)) }
+{
+    paths_from(alloc, scaled, usual_prices(alloc, scaled)?)
+}
+
+/// Looks for a proof as `try_paths` does, beginning at these prices, one for each object. Prices of
+/// a neighbour of the problem save most of the work. They may be any: their differences are cut to
+/// what fits and rounded to multiples of `n + 1`.
+///
+/// # Errors
+/// Only where memory is refused.
+pub fn try_paths_from(
+    alloc: Global,
+    scaled: &Scaled,
+    prices: &Prices,
+) -> Result<Option<Outcome>, AllocError>
+    requires { length prices.now ≡ length scaled.now.problem }
+    ensures { IfOk result (λ found. IfSome found (IsProof scaled.now)) }
+{
+    paths_from(alloc, scaled, given_prices(alloc, scaled, prices)?)
+}
+
+// What was found, and where nothing was found what rounds come to.
+fn settled(
+    alloc: Global,
+    scaled: Arc<Scaled>,
+    found: Result<Option<Outcome>, AllocError>,
+) -> Result<Outcome, SolveFault>
+    requires { IfOk found (λ found. IfSome found (IsProof (arc_value scaled))) }
+    ensures proof { IfOk result (IsProof (arc_value scaled)) }
+    ensures decided { IfOk result (IsDecided (arc_value scaled)) }
+    ensures memory { IfErr result (λ fault. fault ≡ SolveFault.Memory) }
+{
+    match found {
+        Ok(Some(outcome)) => Ok(outcome),
+        Ok(None) => solve_rounds_alone(alloc, scaled),
+        Err(_) => Err(SolveFault::Memory),
+    }
+}
+
+/// Solves by shortest augmenting paths, and where these find no proof by rounds of offers in the
+/// calling thread: a best assignment with prices that prove it where there is an assignment, and a
+/// Hall set where there is none.
+///
+/// # Errors
+/// Only where memory is refused.
+pub fn solve_paths(alloc: Global, scaled: Arc<Scaled>) -> Result<Outcome, SolveFault>
+    ensures proof { IfOk result (IsProof (arc_value scaled)) }
+    ensures decided { IfOk result (IsDecided (arc_value scaled)) }
+    ensures memory { IfErr result (λ fault. fault ≡ SolveFault.Memory) }
+{
+    let found = try_paths(alloc, &scaled);
+    settled(alloc, scaled, found)
+}
+
+/// Solves as `solve_paths` does, beginning at these prices, one for each object; rounds, where they
+/// are wanted, begin at prices of 0.
+///
+/// # Errors
+/// Only where memory is refused.
+pub fn solve_paths_from(
+    alloc: Global,
+    scaled: Arc<Scaled>,
+    prices: Prices,
+) -> Result<Outcome, SolveFault>
+    requires { length prices ≡ length (arc_value scaled).problem }
+    ensures proof { IfOk result (IsProof (arc_value scaled)) }
+    ensures decided { IfOk result (IsDecided (arc_value scaled)) }
+    ensures memory { IfErr result (λ fault. fault ≡ SolveFault.Memory) }
+{
+    let found = try_paths_from(alloc, &scaled, &prices);
+    settled(alloc, scaled, found)
+}

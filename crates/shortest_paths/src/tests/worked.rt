@@ -1,0 +1,133 @@
+// Problems whose outcomes are known, and the public calls.
+use super::*;
+use std::test::Fail;
+
+#[test]
+fn small_problems(rt: HostRuntime) -> Result<(), Fail> {
+    let most = GREATEST_COST;
+    for (n, pairs, sense, wanted) in [
+        (1, [(1, 1, 7)].as_slice(), Sense::Min, Finding::Best(7)),
+        (1, &[], Sense::Min, Finding::Hall),
+        (
+            2,
+            &[(1, 1, 1), (1, 2, 2), (2, 1, 3), (2, 2, 5)],
+            Sense::Min,
+            Finding::Best(5),
+        ),
+        (
+            2,
+            &[(1, 1, most), (1, 2, -most), (2, 1, -most), (2, 2, most)],
+            Sense::Max,
+            Finding::Best(2 * most),
+        ),
+        (
+            3,
+            &[(1, 1, 4), (2, 1, 6), (3, 2, 1), (3, 3, 2)],
+            Sense::Min,
+            Finding::Hall,
+        ),
+        (
+            3,
+            &[(1, 1, 0), (2, 1, 0), (2, 2, 7), (3, 2, 0), (3, 3, 9)],
+            Sense::Min,
+            Finding::Best(16),
+        ),
+    ] {
+        assert_eq!(rt; found(rt.alloc(), n, pairs, sense, None)?, wanted);
+    }
+    Ok(())
+}
+
+// A war of prices for an auction, which here is one search; and prices between multiples of n + 1.
+#[test]
+fn first_prices_of_any_size(rt: HostRuntime) -> Result<(), Fail> {
+    let mut pairs = [(1, 1, 2); 9];
+    for (k, pair) in pairs.iter_mut().enumerate() {
+        *pair = (k as u16 / 3 + 1, k as u16 % 3 + 1, 2);
+    }
+    for first in [[0, 0, GREATEST_FIRST_PRICE], [1, 5, 7]] {
+        let seen = found(rt.alloc(), 3, &pairs, Sense::Min, Some(&first))?;
+        assert_eq!(rt; seen, Finding::Best(6));
+    }
+    Ok(())
+}
+
+// Each person lists the object of its own number at one cost and the one before at another.
+fn chain(alloc: Global, n: u16, own: Cost, other: Cost) -> Result<Vec<Pair>, AllocError> {
+    let mut pairs = Vec::new(alloc);
+    for i in 0..n {
+        pairs.push((i + 1, i + 1, own))?;
+        if i > 0 {
+            pairs.push((i + 1, i, other))?;
+        }
+    }
+    Ok(pairs)
+}
+
+#[test]
+fn as_many_persons_as_there_may_be(rt: HostRuntime) -> Result<(), Fail> {
+    let pairs = chain(rt.alloc(), MOST_PERSONS, 3, 1)?;
+    let seen = found(rt.alloc(), MOST_PERSONS, pairs.as_slice(), Sense::Min, None)?;
+    assert_eq!(rt; seen, Finding::Best(3 * Cost::from(MOST_PERSONS)));
+    Ok(())
+}
+
+// What a public call comes to: the cost, and none where there is no assignment.
+fn settled(came: Result<Outcome, SolveFault>, scaled: &Scaled) -> Result<Option<Cost>, AllocError> {
+    match came {
+        Ok(Outcome::Best(best)) => Ok(Some(cost_by(scaled, best.assignment.objects()))),
+        Ok(Outcome::Hall(_)) => Ok(None),
+        Err(_) => Err(AllocError),
+    }
+}
+
+// The sum of the costs of these objects of persons 1, 2, ..
+fn cost_by(scaled: &Scaled, objects: &[Object]) -> Cost {
+    let mut sum: Cost = 0;
+    for i in 0..scaled.n() {
+        if let Some(object) = objects.get(i as usize) {
+            let cost = scaled.problem().cost_of(Person(i + 1), *object);
+            sum = sum.wrapping_add(cost.unwrap_or(0));
+        }
+    }
+    sum
+}
+
+// What the public calls come to, from first prices where they are given.
+fn solved(
+    alloc: Global,
+    n: u16,
+    pairs: &[Pair],
+    first: Option<&[Price]>,
+) -> Result<Option<Cost>, AllocError> {
+    let n = size(n);
+    let problem = problem_of(alloc, n, pairs)?;
+    let scaled = Arc::new(alloc, scale(alloc, problem, Sense::Min)?)?;
+    let again = scaled.clone()?;
+    let came = match first {
+        Some(first) => solve_paths_from(alloc, scaled, first_prices(alloc, n, first)?),
+        None => solve_paths(alloc, scaled),
+    };
+    settled(came, &again)
+}
+
+#[test]
+fn public_calls(rt: HostRuntime) -> Result<(), Fail> {
+    let pairs = [(1, 1, 1), (1, 2, 2), (2, 1, 3), (2, 2, 5)];
+    for first in [None, Some([14, 12].as_slice())] {
+        assert_eq!(rt; solved(rt.alloc(), 2, &pairs, first)?, Some(5));
+    }
+    Ok(())
+}
+
+// Distances climb out of 64 bits: a search finds nothing, and rounds answer.
+#[test]
+fn costs_too_great_for_a_search(rt: HostRuntime) -> Result<(), Fail> {
+    let pairs = chain(rt.alloc(), 1500, GREATEST_COST, -GREATEST_COST)?;
+    let pairs = pairs.as_slice();
+    let seen = found(rt.alloc(), 1500, pairs, Sense::Min, None)?;
+    assert_eq!(rt; seen, Finding::Nothing);
+    let cost = 1500 * GREATEST_COST;
+    assert_eq!(rt; solved(rt.alloc(), 1500, pairs, None)?, Some(cost));
+    Ok(())
+}
