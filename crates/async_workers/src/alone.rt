@@ -19,8 +19,7 @@ pub fn outcome_of(alloc: Global, book: &Book) -> Result<Option<Outcome>, AllocEr
     ensures answers { IfOk result (λ found. IfSome found (IsAnsweredBy book.now)) }
     ensures free { IsFree book.now }
 {
-    // For the proof alone: the book is free.
-    let _workers = book.workers();
+    book.invariant();
     if let Some(hall) = book.refuted() {
         return Ok(Some(Outcome::Hall(hall.copy(alloc)?)));
     }
@@ -36,6 +35,7 @@ fn give_up_all(book: &mut Book)
     ensures none { 0 < length book.old.claims → numbered book.new.claims 1 None ≡ None }
     ensures free { IsFree book.new }
 {
+    book.invariant();
     for before in 0..book.workers() {
         book.give_up(before + 1);
     }
@@ -49,8 +49,7 @@ fn offer_alone(alloc: Global, book: &mut Book) -> Result<(), AllocError>
     ensures none { numbered book.new.claims 1 None ≡ None }
     ensures free { IsFree book.new }
 {
-    // For the proof alone: the book is free.
-    let _workers = book.workers();
+    book.invariant();
     let claim = book.claim(1);
     let offer = prepare(book.scaled(), book.prices(), book.version(), claim);
     submit_offer(alloc, book, 1, offer).outcome

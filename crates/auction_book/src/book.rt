@@ -91,7 +91,6 @@ impl Book {
     fn holds(&self, worker: u16, person: Person) -> bool
         requires { IsNumber (length self.now.claims) worker }
         ensures holds { IsTrue result ↔ Holds self.now worker person }
-        ensures free { IsFree self.now }
     {
         match self.claims[worker as usize - 1] {
             Some(held) => held == person,
@@ -120,7 +119,6 @@ impl Book {
     // Whether everybody is assigned in the last phase.
     fn is_done(&self) -> bool
         ensures done { result ≡ is_done self.now }
-        ensures free { IsFree self.now }
     {
         self.is_assigned() && self.eps == 1
     }

@@ -76,8 +76,7 @@ fn attend(alloc: Global, book: &mut Book, seat: &mut Seat, event: Event) -> Resu
         × (seat.new ≡ seat_next event b seat.old)) }
 {
     let worker = event.worker;
-    // For the proof alone: the book is free.
-    let _claim = book.claimed_by(worker);
+    book.invariant();
     let offer = seat.offer.take();
     submit_offer(alloc, book, worker, offer).outcome?;
     seat.accepted = book.accepted_by(worker);

@@ -41,6 +41,7 @@ pub fn record_below(
     ensures err { OnErr result (book.new ≡ book.old) }
     ensures free { IsFree book.new }
 {
+    book.invariant();
     let person = below.person;
     match refute(alloc, book.scaled(), book.owners(), person)? {
         Search::Hall(hall) => {
@@ -107,8 +108,7 @@ pub fn submit_offer(alloc: Global, book: &mut Book, worker: u16, offer: Option<O
     ensures ends { EndsClaim worker book.old book.new }
     ensures free { IsFree book.new }
 {
-    // For the proof alone: the book is free.
-    let _claim = book.claimed_by(worker);
+    book.invariant();
     match offer {
         None => Submission {
             note: Note::Nothing,
@@ -134,8 +134,7 @@ pub fn take_prices(
     ensures version { version.new ≡ version_taken catch_up book.old version.old }
     ensures free { IsFree book.new }
 {
-    // For the proof alone: the book is free.
-    let _claim = book.claimed_by(worker);
+    book.invariant();
     if catch_up {
         book.catch_up(worker, table, version);
     }
@@ -150,6 +149,7 @@ pub fn begin_next_if_over(alloc: Global, book: &mut Book) -> Result<(), AllocErr
     ensures err { OnErr result ((book.new ≡ book.old) × (is_over book.old ≡ true)) }
     ensures free { IsFree book.new }
 {
+    book.invariant();
     if book.phase_over() {
         book.next_phase(alloc)?;
     }

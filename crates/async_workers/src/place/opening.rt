@@ -40,8 +40,7 @@ fn open_with<O: Opening, R: Wait>(
     requires untouched { IsUntouched book }
     ensures { IfOk result (λ opened. opened.1.items ≡ new_desks opened.0 book (length book.claims)) }
 {
-    // For the proof alone: the book is free.
-    let _workers = book.workers();
+    book.invariant();
     let (queue, mut pass) = Queue::ruled(alloc, 1)?;
     let desks = seat_desks::<O>(alloc, &queue, &mut pass, &book)?;
     let boxed = BoxedBook::new(alloc, book)?;
@@ -67,6 +66,7 @@ fn seat_desks<O: Opening>(
     ensures opener { IfOk result (λ _. view pass.new ≡ opener_at book.now (length book.now.claims)) }
     ensures desks { IfOk result (λ v. v.items ≡ new_desks queue.now.table.shared.table_id book.now (length book.now.claims)) }
 {
+    book.invariant();
     let workers = book.workers();
     let mut desks = Vec::new(alloc);
     for made in 0..workers {

@@ -75,6 +75,7 @@ fn offered(book: &Book, plain: &Plain) -> Option<Offer>
     if !is_at(book, plain) || !is_below(&plain.table, book.prices()) {
         return None;
     }
+    book.invariant();
     let person = book.claimed_by(plain.number)?;
     Some(make_bid(
         book.scaled(),

@@ -35,8 +35,8 @@ impl Book {
     /// Only where memory is refused.
     pub fn answer(&self, alloc: Global) -> Result<Option<Certificate>, AllocError>
         ensures answer { IfOk result (λ answer. IsAnswered self.now answer) }
-        ensures free { IsFree self.now }
     {
+        self.invariant();
         if !self.is_done() {
             return Ok(None);
         }

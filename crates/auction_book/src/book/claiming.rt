@@ -13,7 +13,6 @@ use assign_core::Person;
 impl Book {
     fn is_refuted(&self) -> bool
         ensures refuted { result ≡ is_refuted self.now.refuted }
-        ensures free { IsFree self.now }
     {
         self.refuted.is_some()
     }
@@ -44,6 +43,7 @@ impl Book {
         ensures book { self.new ≡ after_claim self.old worker result }
         ensures free { IsFree self.new }
     {
+        self.invariant();
         if self.is_refuted() {
             return Claim::Refuted;
         }
@@ -67,6 +67,7 @@ impl Book {
         ensures book { self.new ≡ given_up self.old worker (numbered self.old.claims worker None) }
         ensures free { IsFree self.new }
     {
+        self.invariant();
         if let Some(person) = self.claimed_by(worker) {
             self.release(worker, person);
         }

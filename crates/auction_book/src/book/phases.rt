@@ -56,7 +56,6 @@ impl Book {
     /// Whether everybody is assigned and another phase follows.
     pub fn phase_over(&self) -> bool
         ensures over { result ≡ is_over self.now }
-        ensures free { IsFree self.now }
     {
         self.is_assigned() && self.eps != 1
     }
@@ -103,7 +102,6 @@ impl Book {
     /// and none goes above the phase's top. The cost is n.
     pub fn phase_bound(&self) -> u128
         ensures bound { pos result ≡ phase_bound self.now }
-        ensures free { IsFree self.now }
     {
         let start = self.start.as_slice();
         let top = self.scaled.top(greatest(start), self.eps);

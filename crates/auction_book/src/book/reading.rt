@@ -12,10 +12,18 @@ use scaled_values::Scaled;
 use std::sync::Arc;
 
 impl Book {
+    /// The book is free, as it is between any two calls: a fact for the proof of a caller. Does
+    /// nothing.
+    pub fn invariant(&self)
+        ensures { IsFree self.now }
+    {
+        // A use of a field opens the model.
+        let _opened = &self.claims;
+    }
+
     /// The problem with its benefits.
     pub fn scaled(&self) -> &Arc<Scaled>
         ensures scaled { arc_value result.now ≡ self.now.base }
-        ensures free { IsFree self.now }
     {
         &self.scaled
     }
@@ -23,7 +31,6 @@ impl Book {
     /// How many workers there are.
     pub fn workers(&self) -> u16
         ensures workers { result ≡ length self.now.claims }
-        ensures free { IsFree self.now }
     {
         self.workers
     }
@@ -31,7 +38,6 @@ impl Book {
     /// Today's prices.
     pub fn prices(&self) -> &Prices
         ensures prices { result.now ≡ prices_of self.now }
-        ensures free { IsFree self.now }
     {
         self.log.prices()
     }
@@ -39,7 +45,6 @@ impl Book {
     /// How many bids were accepted since the opening, each one a version of the prices.
     pub fn version(&self) -> u128
         ensures version { result ≡ version_of self.now }
-        ensures free { IsFree self.now }
     {
         self.log.version()
     }
@@ -54,7 +59,6 @@ impl Book {
     /// Who owns objects 1, 2, ..
     pub fn owners(&self) -> &[Option<Person>]
         ensures owners { result.now ≡ self.now.owners }
-        ensures free { IsFree self.now }
     {
         self.owners.as_slice()
     }
@@ -84,7 +88,6 @@ impl Book {
     pub fn claimed_by(&self, worker: u16) -> Option<Person>
         requires { IsNumber (length self.now.claims) worker }
         ensures claim { result ≡ numbered self.now.claims worker None }
-        ensures free { IsFree self.now }
     {
         self.claims[worker as usize - 1]
     }

@@ -89,6 +89,7 @@ impl Book {
         ensures submitted { IsSubmitted self.old worker bid result self.new }
         ensures free { IsFree self.new }
     {
+        self.invariant();
         let person = bid.person;
         if !self.holds(worker, person) {
             return Err(Refused::NotClaimed);
@@ -132,6 +133,7 @@ impl Book {
         ensures recorded { IsRecorded self.old worker below hall result self.new }
         ensures free { IsFree self.new }
     {
+        self.invariant();
         let person = below.person;
         if !self.holds(worker, person) {
             return Err(Refused::NotClaimed);

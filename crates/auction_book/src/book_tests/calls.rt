@@ -136,6 +136,7 @@ fn spoken_for(book: &Book, worker: u16, slip: Slip) -> Person
     ensures person { IsNumber (persons_of book.now) result }
     ensures long { length (prices_of book.now) ≡ persons_of book.now }
 {
+    book.invariant();
     let n = book.scaled().n();
     let person = match book.claimed_by(worker) {
         Some(person) => person.0,
@@ -165,6 +166,7 @@ pub(crate) fn offered(book: &Book, desk: &Desk, person: Person) -> Offer
     requires table { length desk.now.table ≡ persons_of book.now }
     ensures { IsSoundOffer book.now.base (ask_of book.now) desk.now.table result }
 {
+    book.invariant();
     make_bid(book.scaled(), &desk.table, desk.version, book.ask(), person)
 }
 
@@ -181,8 +183,7 @@ fn submit_bid(book: &mut Book, desk: &Desk, worker: u16, bid: Bid) -> Told
     requires sound { IsSound book.old.base (ask_of book.old) desk.now.table bid }
     ensures { GoesOn book.old book.new }
 {
-    // For the proof alone: the book is free.
-    let _claim = book.claimed_by(worker);
+    book.invariant();
     let Bid { object, level, .. } = bid;
     told_bid(object, level, book.submit(worker, bid))
 }
@@ -213,8 +214,7 @@ pub(crate) fn submit_untimely(book: &mut Book, worker: u16, bid: Bid) -> Told
     requires { IsNumber (length book.old.claims) worker }
     ensures { GoesOn book.old book.new }
 {
-    // For the proof alone: the book is free.
-    let _claim = book.claimed_by(worker);
+    book.invariant();
     if bid.phase == book.ask().phase {
         return Told::Unasked;
     }
@@ -231,6 +231,7 @@ pub(crate) fn below(
     requires { IsNumber (length book.old.claims) worker }
     ensures { GoesOn book.old book.new }
 {
+    book.invariant();
     let Some(person) = book.claimed_by(worker) else {
         return Ok(Told::Unasked);
     };
@@ -247,6 +248,7 @@ pub(crate) fn below(
 fn next_phase(alloc: Global, book: &mut Book) -> Result<Told, AllocError>
     ensures { GoesOn book.old book.new }
 {
+    book.invariant();
     if !book.phase_over() {
         return Ok(Told::Unasked);
     }
@@ -307,8 +309,7 @@ fn catch_up(book: &mut Book, desk: &mut Desk, worker: u16) -> Told
     ensures below { IsBelow desk.new.table (prices_of book.new) }
     ensures earlier { IsEarlier book.new.log desk.new.table desk.new.version }
 {
-    // For the proof alone: the book is free.
-    let _claim = book.claimed_by(worker);
+    book.invariant();
     book.catch_up(worker, &mut desk.table, &mut desk.version);
     Told::Nothing
 }
@@ -327,8 +328,7 @@ fn call_by(
     ensures below { IsBelow desk.new.table (prices_of book.new) }
     ensures earlier { IsEarlier book.new.log desk.new.table desk.new.version }
 {
-    // For the proof alone: the book is free.
-    let _claim = book.claimed_by(worker);
+    book.invariant();
     if call == Call::CatchUp {
         return Ok(catch_up(book, desk, worker));
     }
@@ -345,6 +345,7 @@ pub(crate) fn call_of(
     if worker == 0 || worker > office.book.workers() || worker as usize > office.desks.len() {
         return Ok(Told::Unasked);
     }
+    office.book.invariant();
     let desk = &mut office.desks[worker as usize - 1];
     call_by(alloc, &mut office.book, desk, worker, call)
 }

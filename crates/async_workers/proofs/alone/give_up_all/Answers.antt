@@ -6,7 +6,7 @@ use Rattle.auction_book.proofs.Following.{goes_on_itself}
 use Rattle.async_workers.proofs.alone.give_up_all.Goals as goal
 
 pub loop-before-init : goal.loop-before-init
-loop-before-init c = record { goes_on = goes_on_itself c.args.book.now; free = c.workers-before-end.ensures.free; none = λ lt. absurd (omega (arith, lt)) }
+loop-before-init c = record { goes_on = goes_on_itself c.args.book.now; free = c.invariant.ensures; none = λ lt. absurd (omega (arith, lt)) }
 
 pub loop-before-preserved : goal.loop-before-preserved
 loop-before-preserved c =

@@ -12,7 +12,7 @@ use Rattle.async_workers.proofs.alone.offer_alone.Goals as goal
 pub prepare-offer-requires-clause-table : goal.prepare-offer-requires-clause-table
 prepare-offer-requires-clause-table c =
     let base = c.deref.ensures ∙ c.scaled.ensures.scaled in
-    ap length c.prices.ensures.prices ∙ c.prices.ensures.free.sizes.priced ∙ sym (ap (λ (s : ScaledProblem). length s.problem) base)
+    ap length c.prices.ensures.prices ∙ c.claim-claim.ensures.free.sizes.priced ∙ sym (ap (λ (s : ScaledProblem). length s.problem) base)
 
 pub prepare-offer-requires-clause-asked : goal.prepare-offer-requires-clause-asked
 prepare-offer-requires-clause-asked c =
@@ -21,7 +21,7 @@ prepare-offer-requires-clause-asked c =
 
 pub submit_offer-requires-clause-worker : goal.submit_offer-requires-clause-worker
 submit_offer-requires-clause-worker c =
-    let follows = alone_claimed c.args.book.now c.claim-claim.new.self c.claim-claim.result c.workers-workers.ensures.free c.requires.worker c.requires.none c.claim-claim.ensures.answer c.claim-claim.ensures.book in
+    let follows = alone_claimed c.args.book.now c.claim-claim.new.self c.claim-claim.result c.invariant.ensures c.requires.worker c.requires.none c.claim-claim.ensures.answer c.claim-claim.ensures.book in
     subst (λ n. IsNumber n 1) (sym follows.goes_on.workers) c.requires.worker
 
 pub submit_offer-requires-clause-prepared : goal.submit_offer-requires-clause-prepared
@@ -30,11 +30,11 @@ submit_offer-requires-clause-prepared c =
       prices_of b,
       c.version.result,
       below_itself (prices_of b),
-      alone_prepared c.args.book.now b c.deref.result.now c.prices.result.now c.version.result c.claim-claim.result c.prepare-offer.result c.workers-workers.ensures.free c.requires.worker c.requires.none
+      alone_prepared c.args.book.now b c.deref.result.now c.prices.result.now c.version.result c.claim-claim.result c.prepare-offer.result c.invariant.ensures c.requires.worker c.requires.none
           c.claim-claim.ensures.answer c.claim-claim.ensures.book (c.deref.ensures ∙ c.scaled.ensures.scaled) c.prices.ensures.prices c.prepare-offer.ensures,
     )
 
 pub returns-clause-goes_on : goal.returns-clause-goes_on
 returns-clause-goes_on c =
-    let claimed = alone_claimed c.args.book.now c.claim-claim.new.self c.claim-claim.result c.workers-workers.ensures.free c.requires.worker c.requires.none c.claim-claim.ensures.answer c.claim-claim.ensures.book in
+    let claimed = alone_claimed c.args.book.now c.claim-claim.new.self c.claim-claim.result c.invariant.ensures c.requires.worker c.requires.none c.claim-claim.ensures.answer c.claim-claim.ensures.book in
     goes_on_through c.args.book.now c.claim-claim.new.self c.submit_offer.new.book claimed.goes_on c.submit_offer.ensures.ends.follows.goes_on

@@ -19,7 +19,7 @@ submits c = subst (λ (o : Option Offer). Submits c.args.book.now c.args.event.w
     (c.submit_offer.result.note, noted_of c.args.book.now c.submit_offer.new.book c.args.event.worker c.take-offer.result c.submit_offer.result.note c.submit_offer.result.outcome _ c.in_ok-submit_offer.was c.submit_offer.ensures.handed_in)
 
 attends : (c : In_ok-submit_offer) → IsAttended c.args.event.worker c.args.event.catch_up c.args.book.now c.submit_offer.new.book c.args.seat.now.table c.args.seat.now.version
-attends c = attended c.args.event.worker c.args.event.catch_up c.args.book.now c.submit_offer.new.book c.args.seat.now c.claimed_by-claim.ensures.free c.requires.worker c.requires.seat (submits c)
+attends c = attended c.args.event.worker c.args.event.catch_up c.args.book.now c.submit_offer.new.book c.args.seat.now c.invariant.ensures c.requires.worker c.requires.seat (submits c)
 
 pub take_prices-requires-clause-worker : goal.take_prices-requires-clause-worker
 take_prices-requires-clause-worker c = (attends (goal.at.take_prices-requires-clause-worker c).In_ok-submit_offer).number

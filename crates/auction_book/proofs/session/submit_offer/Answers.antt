@@ -26,11 +26,11 @@ returns-in-Some-Bid-clause-ends c =
     let b = c.args.book.now in
     let h = c.requires.prepared in
     let p = subst (IsPrepared b c.args.worker h.0 h.1) (c.in-Some-Bid.is ∙ ap Some c.in-Some-Bid.field-0-is) h.3 in
-    (handed_left c.args.worker b _ h.0 h.1 (Some (made.Bid c.in-Some-Bid.bid)) _ _ c.claimed_by-claim.ensures.free h.2 p c.submit_bid.ensures.handed_in).ends
+    (handed_left c.args.worker b _ h.0 h.1 (Some (made.Bid c.in-Some-Bid.bid)) _ _ c.invariant.ensures h.2 p c.submit_bid.ensures.handed_in).ends
 
 pub returns-in-Some-Below-clause-ends : goal.returns-in-Some-Below-clause-ends
 returns-in-Some-Below-clause-ends c =
     let b = c.args.book.now in
     let h = c.requires.prepared in
     let p = subst (IsPrepared b c.args.worker h.0 h.1) (c.in-Some-Below.is ∙ ap Some c.in-Some-Below.field-0-is) h.3 in
-    (handed_left c.args.worker b _ h.0 h.1 (Some (made.Below c.in-Some-Below.below)) _ _ c.claimed_by-claim.ensures.free h.2 p c.submit_below.ensures.handed_in).ends
+    (handed_left c.args.worker b _ h.0 h.1 (Some (made.Below c.in-Some-Below.below)) _ _ c.invariant.ensures h.2 p c.submit_below.ensures.handed_in).ends

@@ -8,7 +8,7 @@ pub push_as-requires-clause-rule : goal.push_as-requires-clause-rule
 push_as-requires-clause-rule g c =
     let one : ruled_capacity c.in_ok-queue.queue ≡ 1 = c.in_ok-queue.ensures.0 in
     let opener = c.in_ok-desks.ensures.opener in
-    rw (one, c.in_ok-boxed.ensures) (opens_from _ _ _ _ c.workers-workers.ensures.free opener, opener_sees_from _ _ _ _ opener)
+    rw (one, c.in_ok-boxed.ensures) (opens_from _ _ _ _ c.invariant.ensures opener, opener_sees_from _ _ _ _ opener)
 
 pub unreachable-requires : goal.unreachable-requires
 unreachable-requires g c =

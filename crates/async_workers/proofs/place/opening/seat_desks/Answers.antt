@@ -8,7 +8,7 @@ use Rattle.async_workers.proofs.place.opening.seat_desks.Goals as goal
 pub another-theirs-requires-clause-rule : goal.another-theirs-requires-clause-rule
 another-theirs-requires-clause-rule g c =
     let few : c.loop-made.made < length c.args.book.now.claims = omega (arith, c.loop-made-test.true, c.workers-workers.ensures.workers) in
-    rw c.requires.book (forks_from _ _ c.args.book.now c.loop-made.made c.loop-made.invariant.opener c.workers-workers.ensures.free c.requires.untouched few)
+    rw c.requires.book (forks_from _ _ c.args.book.now c.loop-made.made c.loop-made.invariant.opener c.invariant.ensures c.requires.untouched few)
 
 pub loop-made-preserved : goal.loop-made-preserved
 loop-made-preserved g c =

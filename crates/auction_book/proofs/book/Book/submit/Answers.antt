@@ -8,7 +8,7 @@ use Rattle.auction_book.proofs.book.Book.submit.Goals as goal
 use Rattle.auction_book.proofs.book.Book.submit.Goals.{After-accept}
 
 pub price-price-requires : goal.price-price-requires
-price-price-requires c = (placed_bid c.args.self.now c.args.bid c.if-not-holds.ensures.free c.requires.fitting (search rules)).priced
+price-price-requires c = (placed_bid c.args.self.now c.args.bid c.invariant.ensures c.requires.fitting (search rules)).priced
 
 pub returns-then-is_low-clause-submitted : goal.returns-then-is_low-clause-submitted
 returns-then-is_low-clause-submitted c =
@@ -40,4 +40,4 @@ returns-in-Err-clause-submitted c =
     (c.if-not-holds.ensures.holds.0 refl, same, high, book)
 
 pub accept-requires-clause-object : goal.accept-requires-clause-object
-accept-requires-clause-object c = (placed_bid c.args.self.now c.args.bid c.if-not-holds.ensures.free c.requires.fitting (search rules)).owned
+accept-requires-clause-object c = (placed_bid c.args.self.now c.args.bid c.invariant.ensures c.requires.fitting (search rules)).owned

@@ -15,7 +15,7 @@ invariant_of-office-2 c =
     let desks = c.args.office.now.desks.items in
     let at = c.args.worker - 1 in
     let on = c.call_by.ensures.on in
-    let log = c.workers.ensures.free.log_ascends in
+    let log = c.invariant.ensures.log_ascends in
     record {
       below = All-set (λ (d : Desk). IsBelow d.table (prices_of new)) desks at c.call_by.new.desk c.call_by.ensures.below
           (All-weaker (λ (d : Desk). IsBelow d.table (prices_of b)) (λ (d : Desk). IsBelow d.table (prices_of new)) (λ d h. below_through d.table (prices_of b) (prices_of new) h on.below) desks c.args.office.now.below);

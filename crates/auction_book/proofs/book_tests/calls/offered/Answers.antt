@@ -8,4 +8,4 @@ pub make_bid-requires-clause-ask : goal.make_bid-requires-clause-ask
 make_bid-requires-clause-ask c =
     let b = c.args.book.now in
     let base = c.deref.ensures ∙ c.scaled.ensures.scaled in
-    subst (λ (s : ScaledProblem). IsAsk s c.ask.result) (sym base) (subst (IsAsk b.base) (sym c.ask.ensures) (ask_is b c.scaled.ensures.free))
+    subst (λ (s : ScaledProblem). IsAsk s c.ask.result) (sym base) (subst (IsAsk b.base) (sym c.ask.ensures) (ask_is b c.invariant.ensures))
