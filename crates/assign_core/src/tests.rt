@@ -1,7 +1,8 @@
 // Each public function on a small problem, with ample memory.
-ghost use Rattle.std.specs.Prelude.{◌≡◌, [], ◌∷◌, IfOk, length, map};
+ghost use Rattle.std.specs.Prelude.{◌≡◌, [], ◌∷◌, All, IfOk, length, map};
 ghost use Rattle.std.specs.List.{range_with_len};
 ghost use Rattle.assign_core.specs.Rows.{IsSize};
+ghost use Rattle.assign_core.specs.Sparse.{IsTriple};
 
 use super::*;
 use std::alloc::{AllocError, Global};
@@ -172,6 +173,14 @@ fn numbers_of_persons_and_objects(rt: HostRuntime) {
     assert_eq!(rt; Object(1).place(), 0);
 }
 
+// A sparse problem of two persons, as a line.
+fn sparse_told(alloc: Global, triples: &[(Person, Object, Cost)]) -> Result<String, AllocError>
+    requires { All (IsTriple 2) triples.now }
+{
+    let problem = Problem::sparse(alloc, 2, triples)?;
+    format!(in alloc; "{problem:?}")
+}
+
 #[test]
 fn a_pair_counts_once_at_its_least_cost(rt: HostRuntime) -> Result<(), Fail> {
     let triples = [
@@ -180,12 +189,10 @@ fn a_pair_counts_once_at_its_least_cost(rt: HostRuntime) -> Result<(), Fail> {
         (Person(2), Object(1), 9),
         (Person(2), Object(2), 4),
     ];
-    let problem = Problem::sparse(rt.alloc(), 2, &triples)?;
-    assert_eq!(rt; problem.n(), 2);
-    assert!(rt; problem.row(Person(1)).is_empty());
+    let told = sparse_told(rt.alloc(), &triples)?;
     assert_eq!(rt;
-        problem.row(Person(2)),
-        [(Object(1), 9), (Object(2), 3)].as_slice()
+        told.as_str(),
+        "Problem { rows: [[], [(Object(1), 9), (Object(2), 3)]] }"
     );
     Ok(())
 }
@@ -198,56 +205,52 @@ fn all_pairs_in_falling_order(rt: HostRuntime) -> Result<(), Fail> {
         (Person(1), Object(2), 2),
         (Person(1), Object(1), 1),
     ];
-    let problem = Problem::sparse(rt.alloc(), 2, &triples)?;
-    let dense = two_persons(rt.alloc())?;
-    for i in [1, 2] {
-        assert_eq!(rt; problem.row(Person(i)), dense.row(Person(i)));
-    }
+    let told = sparse_told(rt.alloc(), &triples)?;
+    assert_eq!(rt;
+        told.as_str(),
+        "Problem { rows: [[(Object(1), 1), (Object(2), 2)], [(Object(1), 3), (Object(2), 5)]] }"
+    );
     Ok(())
 }
 
-// What a best assignment of two persons gives to each, and its cost.
-fn best_of_two(alloc: Global, sense: Sense) -> Result<Option<(Vec<Object>, Cost)>, AllocError> {
-    let problem = two_persons(alloc)?;
+// What a best assignment gives to each person, and its cost, as a line.
+fn best_told(alloc: Global, problem: Problem, sense: Sense) -> Result<String, AllocError> {
     let Some(best) = plain_best(alloc, &problem, sense)? else {
-        return Ok(None);
+        return format!(in alloc; "no assignment");
     };
-    let objects = best.objects().to_vec(alloc)?;
-    Ok(Some((objects, problem.total(&best))))
+    format!(in alloc; "{:?} cost {}", best.objects(), problem.total(&best))
+}
+
+// That of the two persons.
+fn best_of_two(alloc: Global, sense: Sense) -> Result<String, AllocError> {
+    best_told(alloc, two_persons(alloc)?, sense)
+}
+
+// That of one person.
+fn best_of_one(alloc: Global) -> Result<String, AllocError> {
+    best_told(alloc, Problem::dense(alloc, 1, &[-7])?, Sense::Max)
 }
 
 #[test]
-fn best_of_two_persons(rt: HostRuntime) -> Result<(), Fail> {
-    for (sense, objects, total) in [
-        (Sense::Min, [Object(2), Object(1)], 5),
-        (Sense::Max, [Object(1), Object(2)], 6),
-    ] {
-        let Some((best, cost)) = best_of_two(rt.alloc(), sense)? else {
-            panic!(rt; "no assignment");
-        };
-        assert_eq!(rt; best.as_slice(), objects.as_slice());
-        assert_eq!(rt; cost, total);
-    }
+fn best_assignments(rt: HostRuntime) -> Result<(), Fail> {
+    let least = best_of_two(rt.alloc(), Sense::Min)?;
+    assert_eq!(rt; least.as_str(), "[Object(2), Object(1)] cost 5");
+    let greatest = best_of_two(rt.alloc(), Sense::Max)?;
+    assert_eq!(rt; greatest.as_str(), "[Object(1), Object(2)] cost 6");
+    let alone = best_of_one(rt.alloc())?;
+    assert_eq!(rt; alone.as_str(), "[Object(1)] cost -7");
     Ok(())
 }
 
-#[test]
-fn best_of_one_person(rt: HostRuntime) -> Result<(), Fail> {
-    let problem = Problem::dense(rt.alloc(), 1, &[-7])?;
-    let Some(best) = plain_best(rt.alloc(), &problem, Sense::Max)? else {
-        panic!(rt; "no assignment");
-    };
-    assert_eq!(rt; best.objects(), [Object(1)].as_slice());
-    assert_eq!(rt; problem.total(&best), -7);
-    Ok(())
+// That of two persons who list one object alone.
+fn best_of_one_object(alloc: Global) -> Result<String, AllocError> {
+    let triples = [(Person(1), Object(1), 4), (Person(2), Object(1), 6)];
+    best_told(alloc, Problem::sparse(alloc, 2, &triples)?, Sense::Min)
 }
 
 #[test]
 fn two_persons_and_one_listed_object(rt: HostRuntime) -> Result<(), Fail> {
-    let first = vec![in rt.alloc(); (Object(1), 4)]?;
-    let second = vec![in rt.alloc(); (Object(1), 6)]?;
-    let problem = Problem::from_rows(vec![in rt.alloc(); first, second]?);
-    let best = plain_best(rt.alloc(), &problem, Sense::Min)?;
-    assert!(rt; best.is_none());
+    let told = best_of_one_object(rt.alloc())?;
+    assert_eq!(rt; told.as_str(), "no assignment");
     Ok(())
 }
