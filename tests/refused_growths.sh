@@ -19,7 +19,8 @@ run() {
 
 # Refuses growth 1, 2, .. of one command, up to as many as it has with ample memory.
 try_all() {
-    local input=$1 refusals=0 wanted growth growths status
+    local input=$1 wanted growth status
+    refusals=0
     shift
     wanted=$(GROWTHS_TOLD="$work/growths" run 0 "$input" "$@")
     mv "$work/out" "$work/wanted"
@@ -34,6 +35,17 @@ try_all() {
         fi
     done
     echo "$(basename "$input") $*: status $wanted, $growths growths, $refusals answered with status 4"
+}
+
+# The same, where all but so many growths have to be answered with status 4: those are tried again or done without.
+try_all_but() {
+    local spared=$1
+    shift
+    try_all "$@"
+    if [ $((growths - refusals)) != "$spared" ]; then
+        echo "$(basename "$1") ${*:2}: wanted $((growths - spared)) answered with status 4"
+        failed=$((failed + 1))
+    fi
 }
 
 failed=0
@@ -55,6 +67,8 @@ for refresh in 0 1; do
     try_all "$top/examples/two_persons.txt" solve --mode workers --workers 2 --refresh "$refresh"
     try_all "$work/three_persons" solve --sparse --mode workers --workers 2 --refresh "$refresh"
 done
+# One worker has nobody who goes on without it.
+try_all_but 2 "$top/examples/two_persons.txt" solve --mode workers --workers 1
 try_all "$top/examples/two_persons.txt" solve --prices
 try_all "$work/three_persons" solve --sparse --prices
 printf '2 1 1 9 1 1 3 1 2 4 2 1 5 2 2 8' > "$work/twice"

@@ -1,5 +1,5 @@
 -- What a book answers, and the counts of its workers.
-use Rattle.std.proofs.Common.{◌≡◌, ℕ, ℤ, zero, suc, ◌+◌, List, [], ◌∷◌, ◌++◌, length, get_or, sum, add-one, None, Some, MatchOption, refl, sym, ap, ◌∙◌, subst, arith}
+use Rattle.std.proofs.Common.{◌≡◌, ℕ, ℤ, zero, suc, ◌+◌, List, [], ◌∷◌, ◌++◌, length, get_or, sum, add-one, None, Some, MatchOption, refl, sym, ap, ◌∙◌, subst, arith, true≢false}
 use Rattle.std.proofs.lemmas.List.{length-replicate}
 use Rattle.std.proofs.lemmas.List.Sums.{sum_by-cons}
 use Rattle.assign_core.specs.Hall.{HallLists, IsHallSet}
@@ -15,8 +15,8 @@ use Rattle.auction_book.proofs.Answering.{done_is}
 use Rattle.auction_book.proofs.Following.{goes_on_through}
 use Rattle.auction_book.proofs.Opening.{no_owner}
 use Rattle.async_workers.specs.declared.solving.Tally.{Tally}
-use Rattle.async_workers.specs.PlaceRule.{IsUntouched}
-use Rattle.async_workers.specs.Solving.{IsAnsweredBy, IsEnough, IsSolved, accepted_in_all, tallies, tally_of}
+use Rattle.async_workers.specs.PlaceRule.{Extends, IsUntouched}
+use Rattle.async_workers.specs.Solving.{IsAnsweredBy, IsEndOf, IsEnough, IsSolved, accepted_in_all, tallies, tally_of}
 
 pub recorded_hall : (b : BookData) (hall copy : HallLists) → IsFree b → b.refuted ≡ Some hall → copy ≡ hall → IsAnsweredBy b (Hall copy)
 recorded_hall b hall copy free is same =
@@ -72,12 +72,19 @@ solved_enough s prices workers (Best c) told is =
 pub opened_untouched : (s : ScaledProblem) (prices : List ℤ) (workers : ℕ) (b : BookData) → b ≡ opened s prices workers → IsUntouched b
 opened_untouched s prices workers b is = subst IsUntouched (sym is) record { no_claims = no_owner workers; no_acceptances = refl }
 
-pub solved : (s : ScaledProblem) (prices : List ℤ) (workers : ℕ) (opening worked book : BookData) (outcome : Outcome) (told : List Tally) → opening ≡ opened s prices workers → GoesOn opening worked → GoesOn worked book →
-    IsFree book → IsAnsweredBy book outcome → told ≡ tallies book workers → IsSolved s prices workers outcome told
-solved s prices workers opening worked book outcome told is first then free answers tallied = record {
-  book = book;
-  free = free;
-  goes_on = subst (λ (b : BookData). GoesOn b book) is (goes_on_through opening worked book first then);
-  answers = answers;
-  tallied = tallied;
-}
+-- the workers' book has an end, and no Hall set was recorded in the opened one
+pub solved : (s : ScaledProblem) (prices : List ℤ) (workers : ℕ) (opening worked : BookData) (outcome : Outcome) (told : List Tally) → opening ≡ opened s prices workers → Extends opening worked → IsEndOf worked (length worked.claims) outcome told → IsSolved s prices workers outcome told
+solved s prices workers opening worked outcome told is extends end =
+    let b = opened s prices workers in
+    let on : Extends b worked = subst (λ o. Extends o worked) is extends in
+    let same : length worked.claims ≡ workers = on.workers ∙ length-replicate workers None in
+    record {
+      book = end.book;
+      free = end.free;
+      goes_on = goes_on_through b worked end.book (record { base = on.base; workers = on.workers; below = on.below; log = on.log; refuted = λ h. absurd (true≢false (sym h)) }) end.goes_on;
+      answers = end.answers;
+      tallied = end.tallied ∙ ap (tallies end.book) same;
+    }
+
+pub has_end : (from book : BookData) (outcome : Outcome) (told : List Tally) → GoesOn from book → IsFree book → IsAnsweredBy book outcome → told ≡ tallies book (length book.claims) → IsEndOf from (length from.claims) outcome told
+has_end from book outcome told on free answers tallied = record { book = book; free = free; goes_on = on; answers = answers; tallied = tallied ∙ ap (tallies book) on.workers }

@@ -1,3 +1,4 @@
+pub mod Extending
 pub mod Untouched
 pub mod Steps
 pub mod Desks

@@ -5,12 +5,12 @@ use Rattle.std.proofs.lemmas.List.{reverse-append, map-append, length_push, leng
 use Rattle.atomic_table.specs.Seated.{TableId}
 use Rattle.crossbeam_utils.specs.declared.cache_padded.CachePadded.{CachePadded}
 use Rattle.auction_book.specs.Book.{BookData}
-use Rattle.auction_book.specs.Follows.{GoesOn}
-use Rattle.auction_book.proofs.Following.{goes_on_itself, goes_on_through}
 use Rattle.async_workers.specs.declared.working.Worker.{Worker}
+use Rattle.async_workers.specs.PlaceRule.{Extends}
 use Rattle.async_workers.specs.Desk.{DeskData, IsAway, IsReady, IsTrueOf, new_desk, new_desks}
 use Rattle.async_workers.specs.Solving.{HasWorked, IsMemory, desk_in, fault_in}
 use Rattle.async_workers.specs.Turns.{CanTurn, WorksOn}
+use Rattle.async_workers.proofs.Extending.{extends_itself, extends_through}
 
 -- ---- moving from the end of one list to the end of another
 pub moved : {A B : Type 0} (f : A → B) (done : List A) (left old : List B) (x : A) → old ≡ left ++ f x ∷ [] → map f (done ++ x ∷ []) ++ reverse left ≡ map f done ++ reverse old
@@ -54,22 +54,22 @@ works_through d e f first then = record {
   place = then.place ∙ first.place;
   base = then.base ∙ first.base;
   number = then.number ∙ first.number;
-  goes_on = λ taken put away.
-      let g = first.goes_on taken put away in
-      let h = then.goes_on g.0 g.1 g.2 in
-      (h.0, h.1, h.2, goes_on_through put g.1 h.1 g.3 h.3);
+  extends = λ taken put away.
+      let g = first.extends taken put away in
+      let h = then.extends g.0 g.1 g.2 in
+      (h.0, h.1, h.2, extends_through put g.1 h.1 g.3 h.3);
 }
 
--- a desk of the place, whose last book goes on from the opening one
+-- a desk of the place, whose last book extends the opening one
 record IsFrom (place : TableId) (b : BookData) (d : DeskData) : Type 0 where
   pub at : d.place ≡ place
-  pub goes_on : (taken : BookData) × (put : BookData) × IsAway d taken put × GoesOn b put
+  pub extends : (taken : BookData) × (put : BookData) × IsAway d taken put × Extends b put
 
 worked_from : (place : TableId) (b : BookData) (d e : DeskData) → IsFrom place b d → WorksOn d e → IsFrom place b e
 worked_from place b d e f w =
-    let g = f.goes_on in
-    let h = w.goes_on g.0 g.1 g.2 in
-    record { at = w.place ∙ f.at; goes_on = (h.0, h.1, h.2, goes_on_through b g.1 h.1 g.3 h.3) }
+    let g = f.extends in
+    let h = w.extends g.0 g.1 g.2 in
+    record { at = w.place ∙ f.at; extends = (h.0, h.1, h.2, extends_through b g.1 h.1 g.3 h.3) }
 
 -- after the runs each worker's desk and fault are as its run leaves them
 abbrev pub AreWorked : List (CachePadded Worker) → List (CachePadded Worker) → Type 0
@@ -90,7 +90,7 @@ faults_in xs ys w = λ k d lt. let e = w.0 in (w.1 k d (omega (arith, e, lt))).f
 -- ---- the new desks
 each_new : (place : TableId) (b : BookData) (n : ℕ) → Each (IsFrom place b) (new_desks place b n)
 each_new place b zero = tt
-each_new place b (suc n) = each_append (IsFrom place b) (new_desks place b n) (new_desk place b (n + 1) ∷ []) (each_new place b n) (record { at = refl; goes_on = (b, b, refl, goes_on_itself b) }, tt)
+each_new place b (suc n) = each_append (IsFrom place b) (new_desks place b n) (new_desk place b (n + 1) ∷ []) (each_new place b n) (record { at = refl; extends = (b, b, refl, extends_itself b) }, tt)
 
 each_can : (place : TableId) (b : BookData) (n : ℕ) → Each (CanTurn place) (new_desks place b n)
 each_can place b zero = tt
@@ -117,11 +117,11 @@ each_back place b n xs ys ds is w back =
     subst (Each (IsFrom place b)) (sym back) (each_reverse (IsFrom place b) (map desk_in ys) (each_to_map (IsFrom place b) desk_in ys (each_worked place b xs ys w from)))
 
 pub back_ready : (place : TableId) (b : BookData) (n : ℕ) (xs ys : List (CachePadded Worker)) (ds : List DeskData) → map desk_in xs ≡ reverse (new_desks place b n) → AreWorked xs ys → ds ≡ reverse (map desk_in ys) → All (IsReady place) ds
-back_ready place b n xs ys ds is w back = λ k d lt. let f = each_at (IsFrom place b) ds (each_back place b n xs ys ds is w back) k d lt in (f.at, (f.goes_on.0, f.goes_on.1, f.goes_on.2))
+back_ready place b n xs ys ds is w back = λ k d lt. let f = each_at (IsFrom place b) ds (each_back place b n xs ys ds is w back) k d lt in (f.at, (f.extends.0, f.extends.1, f.extends.2))
 
--- the book of which all that a desk was told is true goes on from the opening one
-pub back_goes_on : (place : TableId) (b c : BookData) (n : ℕ) (xs ys : List (CachePadded Worker)) (ds : List DeskData) → map desk_in xs ≡ reverse (new_desks place b n) → AreWorked xs ys → ds ≡ reverse (map desk_in ys) → 0 < length ds → All (IsTrueOf c) ds → GoesOn b c
-back_goes_on place b c n xs ys ds is w back some told =
+-- the book of which all that a desk was told is true extends the opening one
+pub back_extends : (place : TableId) (b c : BookData) (n : ℕ) (xs ys : List (CachePadded Worker)) (ds : List DeskData) → map desk_in xs ≡ reverse (new_desks place b n) → AreWorked xs ys → ds ≡ reverse (map desk_in ys) → 0 < length ds → All (IsTrueOf c) ds → Extends b c
+back_extends place b c n xs ys ds is w back some told =
     let d = new_desk place b 0 in
-    let g = (each_at (IsFrom place b) ds (each_back place b n xs ys ds is w back) 0 d some).goes_on in
-    goes_on_through b g.1 c g.3 (told 0 d some g.0 g.1 g.2).put_on
+    let g = (each_at (IsFrom place b) ds (each_back place b n xs ys ds is w back) 0 d some).extends in
+    extends_through b g.1 c g.3 (told 0 d some g.0 g.1 g.2).put_on

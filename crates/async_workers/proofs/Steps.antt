@@ -1,5 +1,5 @@
 -- Each step on the place keeps its rule.
-use Rattle.std.proofs.Common.{◌≡◌, ◌≢◌, ◌⊎◌, ℕ, ℤ, zero, suc, ◌+◌, ◌<◌, List, [], ◌∷◌, ◌++◌, length, set, Option, None, Some, Bool, true, refl, sym, ap, ◌∙◌, subst, inl, inr, ⊎_elim, arith, cond, eqb, eq-eqb, ne_eqb, add-one}
+use Rattle.std.proofs.Common.{◌≡◌, ◌≢◌, ◌⊎◌, ℕ, zero, suc, ◌+◌, ◌<◌, ◌≤◌, List, [], ◌∷◌, ◌++◌, length, set, Option, None, Some, true, refl, sym, ap, ◌∙◌, subst, inl, inr, ⊎_elim, arith, cond, eqb, eq-eqb, ne_eqb, add-one}
 use Rattle.std.proofs.lemmas.List.{length-set, set-set}
 use mathlib.Core.Option.{Option as Maybe, some, none, some-ne-none, some-injective}
 use lib.ListN.{get_elem?}
@@ -7,15 +7,14 @@ use Rattle.crossbeam_queue.specs.Fifo.{Pushes, Pops, Forks, Merges, Learns}
 use Rattle.crossbeam_queue.proofs.Lists.{at_set, set_here, set_else, at_longer}
 use Rattle.assign_core.specs.Numbered.{IsNumber, numbered}
 use Rattle.auction_book.specs.Book.{BookData, ask_of}
-use Rattle.auction_book.specs.Follows.{Follows}
 use Rattle.auction_book.specs.Free.{IsFree}
-use Rattle.auction_book.proofs.Following.{goes_on_itself, goes_on_through}
-use Rattle.auction_book.proofs.Runs.{own_kept}
+use Rattle.async_workers.specs.declared.rule.Known.{Known}
 use Rattle.async_workers.specs.declared.rule.Told.{Told}
 use Rattle.async_workers.specs.declared.rule.View.{View}
 use Rattle.async_workers.specs.declared.rule.View.TheVariants.{Fresh, Opening, Away, Holding, Meeting, Spent}
 use Rattle.async_workers.specs.Views.{claim_in, claim_with, desk_made, keeps_empty, met, opener_at, opener_next, told_at, told_first}
-use Rattle.async_workers.specs.PlaceRule.{Fits, Gave, IsClosing, IsRunning, IsSeated, IsTold, IsUnopened, IsUntouched, IsVacant, MayFollow, MetIsTold, Rule, Takes, Took, content}
+use Rattle.async_workers.specs.PlaceRule.{ExtendsBy, Fits, Gave, IsClosing, IsRunning, IsSeated, IsTold, IsUnopened, IsUntouched, IsVacant, MayFollow, MetIsTold, Rule, Takes, Took, content}
+use Rattle.async_workers.proofs.Extending.{extends_itself, extends_through, own_extended}
 use Rattle.async_workers.proofs.Untouched.{first_told}
 
 -- what stands in a list with one more at its end
@@ -60,7 +59,7 @@ fresh_opening : (b : BookData) (n : ℕ) → Fresh ≢ Opening b n
 fresh_opening b n e = cc
 
 -- another worker's claim, and what is asked of it, stay
-claim_kept : (b c : BookData) (number k : ℕ) (o : Option ℕ) → Follows number b c → k ≢ number → numbered b.claims k None ≡ o → claim_in b k ≡ claim_in c k
+claim_kept : (b c : BookData) (number k : ℕ) (o : Option ℕ) → ExtendsBy number b c → k ≢ number → numbered b.claims k None ≡ o → claim_in b k ≡ claim_in c k
 claim_kept b c number k None follows other is =
     ap (λ x. claim_with x (ask_of b)) is ∙ sym (ap (λ x. claim_with x (ask_of c)) (follows.claims k other ∙ is))
 claim_kept b c number k (Some person) follows other is =
@@ -68,21 +67,21 @@ claim_kept b c number k (Some person) follows other is =
     ap (λ x. claim_with x (ask_of b)) is ∙ ap (λ a. claim_with (Some person) a) asked ∙ sym (ap (λ x. claim_with x (ask_of c)) (follows.claims k other ∙ is))
 
 -- what a desk was told stays true through a change by another worker
-told_kept : (b c : BookData) (number : ℕ) (t : Told) → IsFree b → IsTold b t → Follows number b c → (b.stopped ≡ true → c.stopped ≡ true) → t.number ≢ number → IsTold c t
+told_kept : (b c : BookData) (number : ℕ) (t : Told) → IsFree b → IsTold b t → ExtendsBy number b c → (b.stopped ≡ true → c.stopped ≡ true) → t.known.number ≢ number → IsTold c t
 told_kept b c number t free told follows stays other =
     let on = follows.goes_on in
-    let own = own_kept b c t.table t.version free on (record { long = told.below; earlier = told.earlier }) in
+    let own = own_extended b c t.known.table t.known.version free on told.below told.earlier in
     record {
       taken_free = told.taken_free;
       put_free = told.put_free;
       taken_on = told.taken_on;
-      put_on = goes_on_through t.put b c told.put_on on;
+      put_on = extends_through t.put b c told.put_on on;
       base = told.base ∙ sym on.base;
-      number = subst (λ n. IsNumber n t.number) (sym on.workers) told.number;
+      number = subst (λ n. IsNumber n t.known.number) (sym on.workers) told.number;
       below = own.long;
       earlier = own.earlier;
-      accepted = told.accepted ∙ sym (follows.counts t.number other);
-      claim = told.claim ∙ claim_kept b c number t.number (numbered b.claims t.number None) follows other refl;
+      accepted = told.accepted ∙ sym (follows.counts t.known.number other);
+      claim = told.claim ∙ claim_kept b c number t.known.number (numbered b.claims t.known.number None) follows other refl;
       stopped = λ asked. stays (told.stopped asked);
     }
 
@@ -130,26 +129,25 @@ takes pass t x items views rule at =
 
 -- the other views when a pass puts the book x in place of b
 others_given : (b x : BookData) (holder : Maybe ℕ) (made : ℕ) (seat : ℕ → Maybe ℕ) (pass j number : ℕ) (u : View) → IsFree b → holder ≡ some pass → j ≢ pass → seat number ≡ some pass →
-    Follows number b x → (b.stopped ≡ true → x.stopped ≡ true) → Fits b holder made seat j u → Fits x none made seat j u
+    ExtendsBy number b x → (b.stopped ≡ true → x.stopped ≡ true) → Fits b holder made seat j u → Fits x none made seat j u
 others_given b x holder made seat pass j number Fresh free held apart mine follows stays f = f
 others_given b x holder made seat pass j number (Opening o n) free held apart mine follows stays f = absurd (apart (same_pass j pass holder f.0 held))
 others_given b x holder made seat pass j number (Away t) free held apart mine follows stays f =
-    let other : t.number ≢ number = λ e. apart (same_pass j pass (seat number) (subst (λ n. seat n ≡ some j) e f.2.0) mine) in
+    let other : t.known.number ≢ number = λ e. apart (same_pass j pass (seat number) (subst (λ n. seat n ≡ some j) e f.2.0) mine) in
     ((λ e. some-ne-none j (sym e)), told_kept b x number t free f.1 follows stays other, f.2)
 others_given b x holder made seat pass j number (Holding t taken) free held apart mine follows stays f = absurd (apart (same_pass j pass holder f.0 held))
 others_given b x holder made seat pass j number (Meeting t taken u) free held apart mine follows stays f = absurd (apart (same_pass j pass holder f.0 held))
 others_given b x holder made seat pass j number Spent free held apart mine follows stays f = λ e. some-ne-none j (sym e)
 
 -- what the giver was told is true of the book that it puts back
-told_given : (t : Told) (taken x : BookData) (table : List ℤ) (version : ℕ) (stop : Bool) → IsFree taken → IsNumber (length taken.claims) t.number → MayFollow t.number table version stop taken x →
-    IsTold x (told_at t.number table version stop taken x)
-told_given t taken x table version stop free number may = record {
+told_given : (k : Known) (taken x : BookData) → IsFree taken → IsNumber (length taken.claims) k.number → MayFollow k taken x → IsTold x (told_at k taken x)
+told_given k taken x free number may = record {
   taken_free = free;
   put_free = may.free;
-  taken_on = may.follows.goes_on;
-  put_on = goes_on_itself x;
+  taken_on = may.extends.goes_on;
+  put_on = extends_itself x;
   base = refl;
-  number = subst (λ n. IsNumber n t.number) (sym may.follows.goes_on.workers) number;
+  number = subst (λ n. IsNumber n k.number) (sym may.extends.goes_on.workers) number;
   below = may.below;
   earlier = may.earlier;
   accepted = refl;
@@ -158,16 +156,16 @@ told_given t taken x table version stop free number may = record {
 }
 
 -- give
-gives : (pass : ℕ) (t : Told) (taken x : BookData) (table : List ℤ) (version : ℕ) (stop : Bool) → MayFollow t.number table version stop taken x →
-    Pushes Rule 1 pass (Holding t taken) x (λ w. w ≡ Away (told_at t.number table version stop taken x))
-gives pass t taken x table version stop may items views room rule at =
+gives : (pass : ℕ) (t : Told) (taken x : BookData) (k : Known) → t.known.number ≡ k.number → MayFollow k taken x → Pushes Rule 1 pass (Holding t taken) x (λ w. w ≡ Away (told_at k taken x))
+gives pass t taken x k same may items views room rule at =
     let g : IsRunning items views = running items views pass (Holding t taken) rule at (fresh_holding t taken) in
     let mine = g.each pass (Holding t taken) at in
     let empty : items ≡ [] = g.place ∙ ap (λ h. content h g.book) mine.0 in
-    let w : View = Away (told_at t.number table version stop taken x) in
+    let w : View = Away (told_at k taken x) in
     let F : ℕ → View → Type 0 = Fits x none g.made g.seat in
     let free : IsFree taken = subst IsFree (sym mine.1) g.free in
-    let number : IsNumber (length taken.claims) t.number = subst (λ (b : BookData). IsNumber (length b.claims) t.number) (sym mine.1) mine.2.number in (
+    let number : IsNumber (length taken.claims) k.number = subst (λ (z : BookData × ℕ). IsNumber (length z.0.claims) z.1) (λ i. (sym mine.1 i, same i)) mine.2.number in
+    let seated : (g.seat k.number ≡ some pass) × (k.number ≤ g.made) = subst (λ n. (g.seat n ≡ some pass) × (n ≤ g.made)) same mine.3 in (
       w,
       inr record {
         book = x;
@@ -177,9 +175,9 @@ gives pass t taken x table version stop may items views room rule at =
         free = may.free;
         place = ap (λ l. l ++ x ∷ []) empty;
         held = λ q e. absurd (some-ne-none q (sym e));
-        each = each_set F views pass w ((λ e. some-ne-none pass (sym e)), told_given t taken x table version stop free number may, mine.3)
-            (λ j u apart e. others_given g.book x g.holder g.made g.seat pass j t.number u g.free mine.0 apart mine.3.0
-            (subst (λ b. Follows t.number b x) mine.1 may.follows)
+        each = each_set F views pass w ((λ e. some-ne-none pass (sym e)), told_given k taken x free number may, seated)
+            (λ j u apart e. others_given g.book x g.holder g.made g.seat pass j k.number u g.free mine.0 apart seated.0
+            (subst (λ b. ExtendsBy k.number b x) mine.1 may.extends)
             (subst (λ (b : BookData). b.stopped ≡ true → x.stopped ≡ true) mine.1 may.stays_stopped)
             (g.each j u e));
       },
@@ -212,7 +210,7 @@ others_split b holder made seat pass j new Fresh held apart f = f
 others_split b holder made seat pass j new (Opening o n) held apart f = absurd (apart (same_pass j pass holder f.0 held))
 others_split b holder made seat pass j new (Away t) held apart f =
     let last = f.2.1 in
-    (f.0, f.1, (with_seat-other seat (made + 1) new t.number (λ e. let e' : t.number ≡ made + 1 = e in omega arith) ∙ f.2.0, omega arith))
+    (f.0, f.1, (with_seat-other seat (made + 1) new t.known.number (λ e. let e' : t.known.number ≡ made + 1 = e in omega arith) ∙ f.2.0, omega arith))
 others_split b holder made seat pass j new (Holding t taken) held apart f = absurd (apart (same_pass j pass holder f.0 held))
 others_split b holder made seat pass j new (Meeting t taken u) held apart f = absurd (apart (same_pass j pass holder f.0 held))
 others_split b holder made seat pass j new Spent held apart f = f
@@ -375,18 +373,17 @@ begins = inl (refl, refl)
 same_told : (t u : Told) → Away t ≡ Away u → t ≡ u
 same_told t u e = cc
 
-same_held : (t u : Told) (b c : BookData) → Holding t b ≡ Holding u c → (t ≡ u) × (b ≡ c)
+pub same_held : (t u : Told) (b c : BookData) → Holding t b ≡ Holding u c → (t ≡ u) × (b ≡ c)
 same_held t u b c e = (cc, cc)
 
 pub takes_from : (pass : ℕ) (v : View) (t : Told) → v ≡ Away t → Pops Rule pass v (Took v)
 takes_from pass v t is = subst (λ u. Pops Rule pass u (Took u)) (sym is) (λ x items views rule at.
     let r = takes pass t x items views rule at in (r.0, r.1, λ u e. subst (λ s. Takes s x r.0) (same_told t u e) r.2))
 
-pub gives_from : (pass : ℕ) (v : View) (t : Told) (taken x : BookData) (table : List ℤ) (version : ℕ) (stop : Bool) → v ≡ Holding t taken → MayFollow t.number table version stop taken x →
-    Pushes Rule 1 pass v x (Gave table version stop v x)
-gives_from pass v t taken x table version stop is may = subst (λ u. Pushes Rule 1 pass u x (Gave table version stop u x)) (sym is) (λ items views room rule at.
-    let r = gives pass t taken x table version stop may items views room rule at in
-    (r.0, r.1, λ u c e. r.2 ∙ (λ i. Away (told_at ((same_held t u taken c e).0 i).number table version stop ((same_held t u taken c e).1 i) x))))
+pub gives_from : (pass : ℕ) (v : View) (t : Told) (taken x : BookData) (k : Known) → v ≡ Holding t taken → t.known.number ≡ k.number → MayFollow k taken x → Pushes Rule 1 pass v x (Gave k v x)
+gives_from pass v t taken x k is same may = subst (λ u. Pushes Rule 1 pass u x (Gave k u x)) (sym is) (λ items views room rule at.
+    let r = gives pass t taken x k same may items views room rule at in
+    (r.0, r.1, λ u c e number. r.2 ∙ ap (λ c. Away (told_at k c x)) (same_held t u taken c e).1))
 
 pub sees_vacant_from : (pass : ℕ) (v : View) (t : Told) (taken : BookData) → v ≡ Holding t taken → Learns Rule pass v (IsVacant v)
 sees_vacant_from pass v t taken is = subst (λ u. Learns Rule pass u (IsVacant u)) (sym is) (λ items views rule at _. sees_vacant pass t taken items views rule at)

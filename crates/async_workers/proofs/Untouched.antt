@@ -9,9 +9,9 @@ use Rattle.auction_book.specs.Book.{BookData, ask_of, prices_of}
 use Rattle.auction_book.specs.Free.{IsFree}
 use Rattle.auction_book.specs.Phases.{opened}
 use Rattle.scaled_values.specs.Scaled.{ScaledProblem}
-use Rattle.auction_book.proofs.Following.{goes_on_itself}
 use Rattle.async_workers.specs.PlaceRule.{IsTold, IsUntouched}
 use Rattle.async_workers.specs.Views.{claim_with, told_first}
+use Rattle.async_workers.proofs.Extending.{extends_itself}
 
 zero_each : (counts : List ℕ) (k : ℕ) → sum counts ≡ 0 → get_or counts k 0 ≡ 0
 zero_each [] k none = refl
@@ -36,8 +36,8 @@ pub first_told : (b : BookData) (number : ℕ) → IsFree b → IsUntouched b �
 first_told b number free untouched in_range = record {
   taken_free = free;
   put_free = free;
-  taken_on = goes_on_itself b;
-  put_on = goes_on_itself b;
+  taken_on = extends_itself b;
+  put_on = extends_itself b;
   base = refl;
   number = in_range;
   below = below_itself (prices_of b);

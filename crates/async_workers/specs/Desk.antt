@@ -1,49 +1,36 @@
 -- What a desk, and a book in hand, are to a contract.
-use Rattle.std.specs.Prelude.{◌≡◌, ℕ, ℤ, zero, suc, ◌+◌, List, [], ◌∷◌, ◌++◌, Option, None, Bool, false}
+use Rattle.std.specs.Prelude.{◌≡◌, ℕ, zero, suc, ◌+◌, List, [], ◌∷◌, ◌++◌, Option, None, Bool}
 use Rattle.atomic_table.specs.Seated.{TableId}
 use Rattle.scaled_values.specs.Scaled.{ScaledProblem}
 use Rattle.bidder.specs.declared.offers.Offer.{Offer}
-use Rattle.auction_book.specs.Book.{BookData, prices_of}
-use Rattle.async_workers.specs.declared.place.Claimed.{Claimed}
+use Rattle.auction_book.specs.Book.{BookData}
+use Rattle.async_workers.specs.declared.rule.Known.{Known}
 use Rattle.async_workers.specs.declared.rule.Told.{Told}
 use Rattle.async_workers.specs.declared.rule.View.{View}
 use Rattle.async_workers.specs.declared.rule.View.TheVariants.{Away, Holding}
 use Rattle.async_workers.specs.PlaceRule.{IsTold, MayFollow}
-use Rattle.async_workers.specs.Views.{told_first}
+use Rattle.async_workers.specs.Views.{first_known, told_first}
 
--- the problem, the place, what the desk's pass knows, and what the desk keeps
+-- the problem, the place, what the desk's pass knows, what the desk knows, its offer, and how many sessions are over, in
+-- all and since its table last became today's
 pub record DeskData : Type 0 where
   pub base : ScaledProblem
   pub place : TableId
   pub view : View
-  pub number : ℕ
-  pub table : List ℤ
-  pub version : ℕ
-  pub accepted : ℕ
-  pub claim : Option Claimed
-  pub stop : Bool
+  pub known : Known
   pub offer : Option Offer
   pub sessions : ℕ
   pub since : ℕ
 
--- a book in hand, and the offer that its desk had prepared
+-- a book in hand, the offer that its desk had prepared, and whether its desk has caught up in this session
 pub record HeldData : Type 0 where
   pub book : BookData
   pub offer : Option Offer
+  pub caught_up : Bool
 
 -- what the desk knows, where these are the books that it last took and put back
 abbrev pub told_by : DeskData → BookData → BookData → Told
-told_by d taken put = record {
-  base = d.base;
-  number = d.number;
-  table = d.table;
-  version = d.version;
-  accepted = d.accepted;
-  claim = d.claim;
-  stop = d.stop;
-  taken = taken;
-  put = put;
-}
+told_by d taken put = record { base = d.base; known = d.known; taken = taken; put = put }
 
 -- the desk is without the book, having last taken the first book and put back the second
 abbrev pub IsAway : DeskData → BookData → BookData → Type 0
@@ -55,11 +42,11 @@ IsReady place d = (d.place ≡ place) × ((taken put : BookData) × IsAway d tak
 
 -- the desk has the book that it took in this state
 abbrev pub IsHolding : DeskData → BookData → Type 0
-IsHolding d taken = (t : Told) × (d.view ≡ Holding t taken) × (t.number ≡ d.number)
+IsHolding d taken = (t : Told) × (d.view ≡ Holding t taken) × (t.known.number ≡ d.known.number)
 
 -- the desk may put this book back
 abbrev pub MayGive : DeskData → BookData → Type 0
-MayGive d b = (taken : BookData) × IsHolding d taken × MayFollow d.number d.table d.version d.stop taken b
+MayGive d b = (taken : BookData) × IsHolding d taken × MayFollow d.known taken b
 
 -- what the desk was told is true of the book
 abbrev pub IsTrueOf : BookData → DeskData → Type 0
@@ -71,12 +58,7 @@ new_desk place b number = record {
   base = b.base;
   place = place;
   view = Away (told_first b number);
-  number = number;
-  table = prices_of b;
-  version = 0;
-  accepted = 0;
-  claim = None;
-  stop = false;
+  known = first_known b number;
   offer = None;
   sessions = 0;
   since = 0;

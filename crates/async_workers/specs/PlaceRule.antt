@@ -1,5 +1,5 @@
 -- The rule of the place: what holds between any two steps on it.
-use Rattle.std.specs.Prelude.{◌≡◌, ◌≢◌, ◌⊎◌, ℕ, ℤ, ◌≤◌, List, [], ◌∷◌, None, Bool, true, length}
+use Rattle.std.specs.Prelude.{◌≡◌, ◌≢◌, ◌⊎◌, ℕ, ◌≤◌, List, [], ◌∷◌, None, true, length}
 use mathlib.Core.Option.{Option as Maybe, some, none}
 use lib.ListN.{get_elem?}
 use Rattle.assign_core.specs.Numbered.{IsNumber, numbered}
@@ -8,31 +8,42 @@ use Rattle.price_log.specs.History.{IsEarlier}
 use Rattle.auction_book.specs.Book.{BookData, prices_of, version_of}
 use Rattle.auction_book.specs.Follows.{Follows, GoesOn}
 use Rattle.auction_book.specs.Free.{IsFree}
+use Rattle.async_workers.specs.declared.rule.Known.{Known}
 use Rattle.async_workers.specs.declared.rule.Told.{Told}
 use Rattle.async_workers.specs.declared.rule.View.{View}
 use Rattle.async_workers.specs.declared.rule.View.TheVariants.{Fresh, Opening, Away, Holding, Meeting, Spent}
 use Rattle.async_workers.specs.Views.{claim_in, keeps_empty, told_at}
 
+-- the later book is of the same problem and number of workers, no price is lower, and its log continues. It may have no
+-- Hall set where one was recorded
+abbrev pub Extends : BookData → BookData → Type 0
+Extends old new = GoesOn (record old { refuted = None }) new
+
+-- and so it is by one worker: other workers' counts and claims stay, and where one of them has a claim the same is
+-- asked of its bid
+abbrev pub ExtendsBy : ℕ → BookData → BookData → Type 0
+ExtendsBy worker old new = Follows worker (record old { refuted = None }) new
+
 -- what a desk was told is true of the book. Valid books: those that the desk names are free, and of the book's problem
--- and workers. Prices and logs extend: the book goes on from the one that the desk put back, its prices are above the
+-- and workers. Prices and logs extend: the book extends the one that the desk put back, its prices are above the
 -- desk's table, and the table is the log's as far back as the log reaches. Told facts hold: acceptances, the claim and
 -- what is asked of its bid are the book's. Told of a stop: where the desk asked for one the book is stopped
 pub record IsTold (b : BookData) (t : Told) : Type 0 where
   pub taken_free : IsFree t.taken
   pub put_free : IsFree t.put
-  pub taken_on : GoesOn t.taken t.put
-  pub put_on : GoesOn t.put b
+  pub taken_on : Extends t.taken t.put
+  pub put_on : Extends t.put b
   pub base : t.base ≡ b.base
-  pub number : IsNumber (length b.claims) t.number
-  pub below : IsBelow t.table (prices_of b)
-  pub earlier : IsEarlier b.log t.table t.version
-  pub accepted : t.accepted ≡ numbered b.counts t.number 0
-  pub claim : t.claim ≡ claim_in b t.number
-  pub stopped : t.stop ≡ true → b.stopped ≡ true
+  pub number : IsNumber (length b.claims) t.known.number
+  pub below : IsBelow t.known.table (prices_of b)
+  pub earlier : IsEarlier b.log t.known.table t.known.version
+  pub accepted : t.known.accepted ≡ numbered b.counts t.known.number 0
+  pub claim : t.known.claim ≡ claim_in b t.known.number
+  pub stopped : t.known.stop ≡ true → b.stopped ≡ true
 
 -- distinct numbers: only this pass has the number of its desk, which is one of those that the opener has given out
 abbrev pub IsSeated : ℕ → (ℕ → Maybe ℕ) → ℕ → Told → Type 0
-IsSeated made seat pass t = (seat t.number ≡ some pass) × (t.number ≤ made)
+IsSeated made seat pass t = (seat t.known.number ≡ some pass) × (t.known.number ≤ made)
 
 -- one view and the book, who holds it, and the numbers given out
 abbrev pub Fits : BookData → Maybe ℕ → ℕ → (ℕ → Maybe ℕ) → ℕ → View → Type 0
@@ -81,21 +92,22 @@ pub record Takes (t : Told) (b : BookData) (after : View) : Type 0 where
   pub free : IsFree b
   pub told : IsTold b t
 
--- the book that may be put back after a change by one worker: free, gone on from the book taken by that worker alone,
--- stopped if that was, and as the desk's table, its version and its having asked for a stop want it
-pub record MayFollow (number : ℕ) (table : List ℤ) (version : ℕ) (stop : Bool) (taken b : BookData) : Type 0 where
+-- the book that may be put back after a change by one worker: free, extending the book taken by that worker alone,
+-- stopped if that was, and as what the desk knows wants it: its table, the table's version and its having asked for a stop
+pub record MayFollow (k : Known) (taken b : BookData) : Type 0 where
   pub free : IsFree b
-  pub follows : Follows number taken b
+  pub extends : ExtendsBy k.number taken b
   pub stays_stopped : taken.stopped ≡ true → b.stopped ≡ true
-  pub below : IsBelow table (prices_of b)
-  pub earlier : IsEarlier b.log table version
-  pub stopped : stop ≡ true → b.stopped ≡ true
+  pub below : IsBelow k.table (prices_of b)
+  pub earlier : IsEarlier b.log k.table k.version
+  pub stopped : k.stop ≡ true → b.stopped ≡ true
 
 abbrev pub Took : View → BookData → View → Type 0
 Took before b after = (t : Told) → before ≡ Away t → Takes t b after
 
-abbrev pub Gave : List ℤ → ℕ → Bool → View → BookData → View → Type 0
-Gave table version stop before b after = (t : Told) (taken : BookData) → before ≡ Holding t taken → after ≡ Away (told_at t.number table version stop taken b)
+-- what a desk that knows this learns when it puts the book back
+abbrev pub Gave : Known → View → BookData → View → Type 0
+Gave k before b after = (t : Told) (taken : BookData) → before ≡ Holding t taken → t.known.number ≡ k.number → after ≡ Away (told_at k taken b)
 
 abbrev pub IsVacant : View → List BookData → Type 0
 IsVacant v items = keeps_empty v ≡ true → items ≡ []

@@ -6,28 +6,33 @@ use Rattle.assign_core.specs.Hall.{IsHallSet}
 use Rattle.assign_core.specs.Numbered.{numbered}
 use Rattle.assign_core.specs.declared.outcome.Outcome.{Outcome}
 use Rattle.assign_core.specs.declared.outcome.Outcome.TheVariants.{Best, Hall}
+use Rattle.assign_core.specs.declared.outcome.SolveFault.{SolveFault}
+use Rattle.assign_core.specs.declared.outcome.SolveFault.TheVariants as fault
 use Rattle.scaled_values.specs.Scaled.{ScaledProblem}
 use Rattle.auction_book.specs.Answers.{IsAnswer}
 use Rattle.auction_book.specs.Book.{BookData}
 use Rattle.auction_book.specs.Follows.{GoesOn}
 use Rattle.auction_book.specs.Free.{IsFree}
 use Rattle.auction_book.specs.Phases.{is_done, opened}
-use Rattle.async_workers.specs.declared.gate.TurnFault.{TurnFault}
-use Rattle.async_workers.specs.declared.gate.TurnFault.TheVariants as turn_fault
+use Rattle.async_workers.specs.declared.gate.Turn.{Turn}
 use Rattle.async_workers.specs.declared.solving.Tally.{Tally}
 use Rattle.async_workers.specs.declared.working.Worker.{Worker}
 use Rattle.async_workers.specs.Desk.{DeskData}
-use Rattle.async_workers.specs.Turns.{WorksOn}
+use Rattle.async_workers.specs.Turns.{EndsRun, Faulted, Turned, WorksOn}
 
 abbrev pub desk_in : CachePadded Worker → DeskData
 desk_in w = (padded_value w).desk
 
-abbrev pub fault_in : CachePadded Worker → Option TurnFault
+abbrev pub fault_in : CachePadded Worker → Option SolveFault
 fault_in w = (padded_value w).fault
 
 -- no other fault than want of memory
-abbrev pub IsMemory : Option TurnFault → Type 0
-IsMemory fault = MatchOption fault (Unit {0}) (λ f. f ≡ turn_fault.Memory)
+abbrev pub IsMemory : Option SolveFault → Type 0
+IsMemory met = MatchOption met (Unit {0}) (λ f. f ≡ fault.Memory)
+
+-- the turn that ends a worker's run: one that answers so, or one that met a fault
+abbrev pub IsLastTurn : ℕ → DeskData → DeskData → Option SolveFault → Type 0
+IsLastTurn refresh before after met = MatchOption met ((answer : Turn) × Turned refresh before after answer × EndsRun answer) (λ f. Faulted refresh before after)
 
 -- a worker after its run
 pub record HasWorked (old new : CachePadded Worker) : Type 0 where
@@ -57,11 +62,15 @@ abbrev pub IsEnough : ℕ → Outcome → List Tally → Type 0
 IsEnough persons (Best c) told = persons ≤ accepted_in_all told
 IsEnough persons (Hall h) told = Unit {0}
 
--- outcome and tallies are those of one free book, which the workers' bids made of the one opened with these prices: it
--- has their problem and number of workers, and none of its prices is lower
-pub record IsSolved (s : ScaledProblem) (prices : List ℤ) (workers : ℕ) (outcome : Outcome) (told : List Tally) : Type 0 where
+-- outcome and tallies are those of one free book, with so many workers, that goes on from this one
+pub record IsEndOf (from : BookData) (workers : ℕ) (outcome : Outcome) (told : List Tally) : Type 0 where
   pub book : BookData
   pub free : IsFree book
-  pub goes_on : GoesOn (opened s prices workers) book
+  pub goes_on : GoesOn from book
   pub answers : IsAnsweredBy book outcome
   pub tallied : told ≡ tallies book workers
+
+-- that book is what the workers' bids made of the one opened with these prices: it has their problem and number of
+-- workers, and none of its prices is lower
+abbrev pub IsSolved : ScaledProblem → List ℤ → ℕ → Outcome → List Tally → Type 0
+IsSolved s prices workers outcome told = IsEndOf (opened s prices workers) workers outcome told

@@ -1,11 +1,12 @@
 -- What a pass knows of the book, and how its steps change that.
-use Rattle.std.specs.Prelude.{ℕ, ℤ, zero, suc, ◌+◌, List, [], Option, None, Some, Bool, true, false}
+use Rattle.std.specs.Prelude.{ℕ, zero, suc, ◌+◌, [], Option, None, Some, Bool, true, false}
 use Rattle.assign_core.specs.declared.sense.Sense.TheVariants.{Min}
 use Rattle.assign_core.specs.Numbered.{numbered}
 use Rattle.bidder.specs.declared.offers.Ask.{Ask}
 use Rattle.auction_book.specs.Book.{BookData, ask_of, prices_of}
 use Rattle.auction_book.specs.Phases.{opened}
 use Rattle.async_workers.specs.declared.place.Claimed.{Claimed}
+use Rattle.async_workers.specs.declared.rule.Known.{Known}
 use Rattle.async_workers.specs.declared.rule.Told.{Told}
 use Rattle.async_workers.specs.declared.rule.View.{View}
 use Rattle.async_workers.specs.declared.rule.View.TheVariants.{Fresh, Opening, Away, Holding, Meeting, Spent}
@@ -18,33 +19,28 @@ claim_with (Some person) ask = Some (record { person = person; ask = ask })
 abbrev pub claim_in : BookData → ℕ → Option Claimed
 claim_in b worker = claim_with (numbered b.claims worker None) (ask_of b)
 
--- what the desk of a worker knows once it has put a book back
-abbrev pub told_at : ℕ → List ℤ → ℕ → Bool → BookData → BookData → Told
-told_at number table version stop taken put = record {
-  base = put.base;
-  number = number;
-  table = table;
-  version = version;
-  accepted = numbered put.counts number 0;
-  claim = claim_in put number;
-  stop = stop;
-  taken = taken;
-  put = put;
-}
+-- what a desk knows once it was told of the book that it put back
+abbrev pub told_of : Known → BookData → Known
+told_of k put = record k { accepted = numbered put.counts k.number 0; claim = claim_in put k.number }
+
+-- a desk that has put a book back
+abbrev pub told_at : Known → BookData → BookData → Told
+told_at k taken put = record { base = put.base; known = told_of k put; taken = taken; put = put }
 
 -- what a new desk knows: the opening book's prices as version 0, no claim and no acceptance
-abbrev pub told_first : BookData → ℕ → Told
-told_first b number = record {
-  base = b.base;
+abbrev pub first_known : BookData → ℕ → Known
+first_known b number = record {
   number = number;
   table = prices_of b;
   version = 0;
   accepted = 0;
   claim = None;
   stop = false;
-  taken = b;
-  put = b;
 }
+
+-- a new desk
+abbrev pub told_first : BookData → ℕ → Told
+told_first b number = record { base = b.base; known = first_known b number; taken = b; put = b }
 
 -- the opener's view when it has made this many desks
 abbrev pub opener_at : BookData → ℕ → View
@@ -55,19 +51,13 @@ opener_at b (suc made) = Opening b (suc made)
 abbrev pub opener_next : BookData → View → View
 opener_next b Fresh = Opening b 1
 opener_next b (Opening o made) = Opening o (made + 1)
-opener_next b (Away t) = Spent
-opener_next b (Holding t taken) = Spent
-opener_next b (Meeting t taken u) = Spent
-opener_next b Spent = Spent
+opener_next b v = Spent
 
 -- that desk's view
 abbrev pub desk_made : BookData → View → View
 desk_made b Fresh = Away (told_first b 1)
 desk_made b (Opening o made) = Away (told_first o (made + 1))
-desk_made b (Away t) = Spent
-desk_made b (Holding t taken) = Spent
-desk_made b (Meeting t taken u) = Spent
-desk_made b Spent = Spent
+desk_made b v = Spent
 
 -- a closer's view when it has taken in a desk
 abbrev pub met : View → View → View
@@ -77,12 +67,9 @@ met v w = v
 
 -- the place is empty while a pass has this view
 abbrev pub keeps_empty : View → Bool
-keeps_empty Fresh = true
-keeps_empty (Opening o made) = true
 keeps_empty (Away t) = false
-keeps_empty (Holding t taken) = true
-keeps_empty (Meeting t taken u) = true
 keeps_empty Spent = false
+keeps_empty v = true
 
 -- stands where a proof has to name some book
 abbrev pub no_book : BookData

@@ -1,5 +1,5 @@
 // What a turn answers, and who is told of it.
-use assign_core::{Object, Person};
+pub use assign_core::SolveFault as TurnFault;
 use auction_book::Note;
 
 /// What a turn that met no fault answers.
@@ -15,16 +15,6 @@ pub enum Turn {
     Refuted,
     /// The auction was stopped.
     Stopped,
-}
-
-/// Why a turn failed.
-#[derive(Debug, Drop)]
-pub enum TurnFault {
-    /// A growth was refused.
-    Memory,
-    /// An alternating path from a person whose offer is below the floor to a free object. The floor is
-    /// exact, so no turn answers this.
-    Stuck(Person, Vec<Object>),
 }
 
 /// Who is told of the steps of a worker's turn, all of them while the worker is without the book.

@@ -12,8 +12,8 @@ mod taking;
 mod turning;
 
 use crate::boxed::BoxedBook;
-use crate::rule::{DeskPass, Queue};
-use assign_core::{Person, Prices};
+use crate::rule::{DeskPass, Known, Queue};
+use assign_core::Person;
 use auction_book::Book;
 use bidder::{Ask, Offer};
 pub use closing::close_place;
@@ -58,13 +58,7 @@ pub struct Claimed {
 pub struct Desk {
     scaled: Arc<Scaled>,
     pass: DeskPass,
-    number: u16,
-    table: Prices,
-    version: u128,
-    accepted: u128,
-    claim: Option<Claimed>,
-    // Whether the desk asked for a stop.
-    stop: bool,
+    known: Known,
     offer: Option<Offer>,
     // How many sessions are over, in all and since the table last became today's.
     sessions: u64,
@@ -83,12 +77,7 @@ impl Model for Desk {
       base = arc_value d.scaled;
       place = d.pass.table_id;
       view = pass_view d.pass;
-      number = d.number;
-      table = d.table;
-      version = d.version;
-      accepted = d.accepted;
-      claim = d.claim;
-      stop = d.stop;
+      known = d.known;
       offer = d.offer;
       sessions = d.sessions;
       since = d.since;
@@ -102,6 +91,8 @@ impl Model for Desk {
 pub struct Held {
     book: BoxedBook,
     offer: Option<Offer>,
+    // Whether the desk's table has become today's in this session.
+    caught_up: bool,
 }
 
 impl Model for Held {
@@ -109,7 +100,7 @@ impl Model for Held {
 
     ghost Value = { HeldData };
 
-    ghost view = { λ h. record { book = h.book; offer = h.offer } };
+    ghost view = { λ h. record { book = h.book; offer = h.offer; caught_up = h.caught_up } };
 }
 
 impl Held {

@@ -8,16 +8,26 @@ use crossbeam_queue::{Pass, RuledArrayQueue};
 use scaled_values::Scaled;
 use std::marker::{Brand, PhantomData};
 
-/// What a desk knows while it is without the book: what it keeps for itself, what it was told when
-/// it put the book back, and the books that it last took and put back. No value of it is made.
-pub struct Told {
-    pub base: Scaled,
+/// What a desk knows: what it keeps for itself, and what it was told when it last put the book back.
+#[derive(Drop)]
+pub struct Known {
+    /// The worker's number, from 1.
     pub number: u16,
+    /// The worker's own table of prices, of this version.
     pub table: Prices,
     pub version: u128,
+    /// How many of the worker's bids were accepted, and the worker's claim.
     pub accepted: u128,
     pub claim: Option<Claimed>,
+    /// Whether the desk asked for a stop.
     pub stop: bool,
+}
+
+/// A desk while it is without the book: what it knows, and the books that it last took and put back.
+/// No value of it is made.
+pub struct Told {
+    pub base: Scaled,
+    pub known: Known,
     pub taken: Book,
     pub put: Book,
 }
@@ -55,40 +65,31 @@ impl Outcome<BoxedBook, View> for Take {
     ghost then = { Took };
 }
 
-/// The table that a desk has when it gives the book back, with its version, and whether the desk
-/// asked for a stop.
-pub trait Jotting {
-    ghost use Rattle.std.specs.Prelude.{ℕ, ℤ, List, Bool};
+/// What a desk knows when it gives the book back.
+pub trait Giver {
+    ghost use Rattle.async_workers.specs.declared.rule.Known.{Known};
 
-    ghost table: { List ℤ };
-
-    ghost version: { ℕ };
-
-    ghost stop: { Bool };
+    ghost known: { Known };
 }
 
-impl Jotting for Brand {
-    ghost use Rattle.std.specs.Prelude.{[], false};
+impl Giver for Brand {
+    ghost use Rattle.async_workers.specs.Views.{first_known, no_book};
 
-    ghost table = { [] };
-
-    ghost version = { 0 };
-
-    ghost stop = { false };
+    ghost known = { first_known no_book 0 };
 }
 
 /// A desk gives the book back.
-pub struct Give<J: Jotting> {
-    jotting: PhantomData<J>,
+pub struct Give<G: Giver> {
+    giver: PhantomData<G>,
 }
 
-impl<J: Jotting> Outcome<BoxedBook, View> for Give<J> {
+impl<G: Giver> Outcome<BoxedBook, View> for Give<G> {
     ghost use Rattle.async_workers.specs.PlaceRule.{Gave};
 
-    ghost then = { Gave J.table J.version J.stop };
+    ghost then = { Gave G.known };
 }
 
-impl<J: Jotting> Lesson<BoxedBook, View> for Give<J> {
+impl<G: Giver> Lesson<BoxedBook, View> for Give<G> {
     ghost use Rattle.async_workers.specs.PlaceRule.{IsVacant};
 
     ghost fact = { IsVacant };

@@ -1,14 +1,12 @@
 // Workers that solve together.
-ghost use Rattle.std.specs.Prelude.{◌≡◌, ◌<◌, ◌≤◌, ◌≤ℤ◌, [], IfErr, IfOk, OnOk, length, pos, replicate, vec_capacity};
+ghost use Rattle.std.specs.Prelude.{◌≡◌, ◌<◌, ◌≤ℤ◌, IfErr, IfOk, OnOk, length, pos, replicate};
 ghost use Rattle.std.specs.Arc.{arc_value};
 ghost use Rattle.assign_core.specs.declared.outcome.SolveFault.TheVariants as solve_fault;
 ghost use Rattle.scaled_values.specs.Scaled.{greatest_of};
 ghost use Rattle.auction_book.specs.Follows.{GoesOn};
 ghost use Rattle.auction_book.specs.Free.{IsFree};
-ghost use Rattle.auction_book.specs.Phases.{opened};
-ghost use Rattle.async_workers.specs.PlaceRule.{IsUntouched};
-ghost use Rattle.async_workers.specs.Solving.{IsAnsweredBy, IsEnough, IsMemory, IsSolved, tallies};
-ghost use Rattle.async_workers.specs.declared.gate.TurnFault.TheVariants as turn_fault;
+ghost use Rattle.async_workers.specs.PlaceRule.{Extends, IsUntouched};
+ghost use Rattle.async_workers.specs.Solving.{IsAnsweredBy, IsEndOf, IsEnough, IsMemory, IsSolved, tallies};
 
 use crate::alone::{go_alone, outcome_of};
 use crate::gate::{Gate, TurnFault};
@@ -38,7 +36,7 @@ fn worked_book<G: Gate + Sync, R: Threads + Wait + Sync>(
 ) -> Result<(Book, Option<TurnFault>), AllocError>
     requires some { 0 < length book.claims }
     requires untouched { IsUntouched book }
-    ensures goes_on { IfOk result (λ worked. GoesOn book worked.0) }
+    ensures extends { IfOk result (λ worked. Extends book worked.0) }
     ensures free { IfOk result (λ worked. IsFree worked.0) }
     ensures fault { IfOk result (λ worked. IsMemory worked.1) }
 {
@@ -50,13 +48,12 @@ fn worked_book<G: Gate + Sync, R: Threads + Wait + Sync>(
     Ok((close_place(rt, place, desks), fault))
 }
 
-// What each worker's bids came to, into a list with room for it.
-fn tally_all(book: &Book, mut told: Vec<Tally>, workers: u16) -> Vec<Tally>
-    requires empty { told.items ≡ [] }
-    requires room { workers ≤ vec_capacity told }
-    requires workers { workers ≤ length book.now.claims }
-    ensures { result.items ≡ tallies book.now workers }
+// What each worker's bids came to.
+fn tally_all(alloc: Global, book: &Book) -> Result<Vec<Tally>, AllocError>
+    ensures { IfOk result (λ told. told.items ≡ tallies book.now (length book.now.claims)) }
 {
+    let workers = book.workers();
+    let mut told = Vec::with_capacity(alloc, workers as usize)?;
     for before in 0..workers {
         let worker = before + 1;
         told.push_reserved(Tally {
@@ -64,7 +61,7 @@ fn tally_all(book: &Book, mut told: Vec<Tally>, workers: u16) -> Vec<Tally>
             accepted: book.accepted_by(worker),
         });
     }
-    told
+    Ok(told)
 }
 
 // What the book answers. Where it has no answer yet this thread goes on with it alone.
@@ -80,41 +77,18 @@ fn finish<R: Wait>(rt: &R, alloc: Global, book: &mut Book) -> Result<Outcome, Al
     }
 }
 
-// A worker's fault as the run's.
-fn fault_of(fault: TurnFault) -> SolveFault
-    ensures { fault ≡ turn_fault.Memory → result ≡ solve_fault.Memory }
-{
-    match fault {
-        TurnFault::Memory => SolveFault::Memory,
-        TurnFault::Stuck(person, path) => SolveFault::Stuck(person, path),
-    }
-}
-
-// A whole run, and the fault of the lowest worker that met one.
-fn run_workers<G: Gate + Sync, R: Threads + Wait + Sync>(
+// The answer of a book that the workers left, and the tallies.
+fn answer<R: Wait>(
     rt: &R,
     alloc: Global,
-    scaled: Arc<Scaled>,
-    prices: Prices,
-    workers: u16,
-    refresh: u64,
-    gate: &G,
-) -> Result<Result<(Outcome, Vec<Tally>), TurnFault>, AllocError>
-    requires workers { 0 < workers }
-    requires long { length prices ≡ length (arc_value scaled).problem }
-    requires low { greatest_of prices ≤ℤ GREATEST_FIRST_PRICE }
-    ensures solved { IfOk result (λ run. IfOk run (λ r. IsSolved (arc_value scaled) prices workers r.0 r.1.items)) }
-    ensures enough { IfOk result (λ run. IfOk run (λ r. IsEnough (length (arc_value scaled).problem) r.0 r.1.items)) }
-    ensures memory { IfOk result (λ run. IfErr run (λ fault. fault ≡ turn_fault.Memory)) }
+    mut book: Book,
+) -> Result<(Outcome, Vec<Tally>), AllocError>
+    requires { 0 < length book.claims }
+    ensures { IfOk result (λ r. IsEndOf book (length book.claims) r.0 r.1.items) }
 {
-    let told = Vec::with_capacity(alloc, workers as usize)?;
-    let opening = Book::open_from(alloc, scaled, prices, workers)?;
-    let (mut book, fault) = worked_book(rt, alloc, opening, refresh, gate)?;
-    if let Some(fault) = fault {
-        return Ok(Err(fault));
-    }
     let outcome = finish(rt, alloc, &mut book)?;
-    Ok(Ok((outcome, tally_all(&book, told, workers))))
+    let told = tally_all(alloc, &book)?;
+    Ok((outcome, told))
 }
 
 /// Solves by so many workers, 1 to 64 as a rule, each in a thread of its own: a worker bids from a
@@ -148,9 +122,17 @@ pub fn solve_workers_from<G: Gate + Sync, R: Threads + Wait + Sync>(
     ensures enough { IfOk result (λ r. IsEnough (length (arc_value scaled).problem) r.0 r.1.items) }
     ensures memory { IfErr result (λ fault. fault ≡ solve_fault.Memory) }
 {
-    match run_workers(rt, alloc, scaled, prices, workers, refresh, gate) {
-        Ok(Ok(answer)) => Ok(answer),
-        Ok(Err(fault)) => Err(fault_of(fault)),
+    let Ok(opening) = Book::open_from(alloc, scaled, prices, workers) else {
+        return Err(SolveFault::Memory);
+    };
+    let Ok((book, fault)) = worked_book(rt, alloc, opening, refresh, gate) else {
+        return Err(SolveFault::Memory);
+    };
+    if let Some(fault) = fault {
+        return Err(fault);
+    }
+    match answer(rt, alloc, book) {
+        Ok(found) => Ok(found),
         Err(AllocError) => Err(SolveFault::Memory),
     }
 }

@@ -1,6 +1,7 @@
 // Each worker's run, in a thread of its own where one can be started.
-ghost use Rattle.std.specs.Prelude.{◌≡◌, ◌<◌, ◌≤◌, [], All, IfOk, length, map, reverse, slice_index_or, vec_capacity, vec_len, ℕ};
-ghost use Rattle.async_workers.specs.Solving.{HasWorked, IsMemory, desk_in, fault_in};
+ghost use Rattle.std.specs.Prelude.{◌≡◌, ◌<◌, ◌≤◌, [], All, IfOk, OnSome, length, map, reverse, slice_index_or, true, vec_capacity, vec_len, ℕ};
+ghost use Rattle.async_workers.specs.Desk.{DeskData};
+ghost use Rattle.async_workers.specs.Solving.{HasWorked, IsLastTurn, IsMemory, desk_in, fault_in};
 ghost use Rattle.async_workers.specs.Turns.{CanTurn, WorksOn};
 
 use crate::gate::{Gate, Turn, TurnFault};
@@ -48,6 +49,7 @@ fn take_turns<G: Gate, R: Wait>(
     ensures can_turn { CanTurn place.now desk.new }
     ensures works { WorksOn desk.old desk.new }
     ensures fault { IsMemory result }
+    ensures last { (before : DeskData) × IsLastTurn refresh before desk.new result }
 {
     let parker = Parker::new();
     let mut idle = 0;
@@ -55,7 +57,9 @@ fn take_turns<G: Gate, R: Wait>(
         match turn(rt, alloc, place, desk, refresh, gate) {
             Ok(Turn::Claimed) => idle = 0,
             Ok(Turn::Idle) => idle = pause(rt, &parker, idle),
-            Ok(_) => return None,
+            Ok(Turn::Done) => return None,
+            Ok(Turn::Refuted) => return None,
+            Ok(Turn::Stopped) => return None,
             Err(fault) => return Some(fault),
         }
     }
@@ -74,6 +78,7 @@ fn work<G: Gate, R: Wait>(
     requires { CanTurn place.now worker.old.desk }
     ensures works { WorksOn worker.old.desk worker.new.desk }
     ensures fault { IsMemory worker.new.fault }
+    ensures stops { OnSome worker.new.fault (worker.new.desk.known.stop ≡ true) }
 {
     let fault = take_turns(rt, alloc, place, &mut worker.desk, refresh, gate);
     if fault.is_some() {

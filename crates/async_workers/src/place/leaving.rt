@@ -1,42 +1,38 @@
 // How a worker leaves, and asks for a stop.
-ghost use Rattle.std.specs.Prelude.{◌≡◌, ◌||◌, None, false, is_some, true};
-ghost use Rattle.assign_core.specs.Numbered.{numbered};
+ghost use Rattle.std.specs.Prelude.{◌≡◌, ◌||◌, false, is_some, true};
 ghost use Rattle.auction_book.specs.Book.{BookData};
-ghost use Rattle.auction_book.specs.Changes.{given_up};
+ghost use Rattle.async_workers.specs.Desk.{IsReady};
 ghost use Rattle.async_workers.specs.Hand.{IsInHand};
-ghost use Rattle.async_workers.specs.Session.{counted};
-ghost use Rattle.async_workers.specs.Turns.{CanTurn, StepsOut, WorksOn, stopped_if};
+ghost use Rattle.async_workers.specs.Turns.{CanTurn, StepsOut, WorksOn, stopped_if, without_claim};
 
 use super::{BookPlace, Desk, Held};
 use std::sync::Wait;
 
 // The desk's claim is given up.
-fn let_go(held: &mut Held, desk: &mut Desk)
-    requires hand { (taken : BookData) × IsInHand desk.old taken held.old.book }
-    ensures hand { (taken : BookData) → IsInHand desk.old taken held.old.book → IsInHand desk.new taken held.new.book }
-    ensures book { held.new.book ≡ given_up held.old.book desk.old.number (numbered held.old.book.claims desk.old.number None) }
-    ensures desk { desk.new ≡ counted false desk.old }
+fn let_go(held: &mut Held, desk: &Desk)
+    requires hand { (taken : BookData) × IsInHand desk.now taken held.old.book }
+    ensures hand { (taken : BookData) → IsInHand desk.now taken held.old.book → IsInHand desk.now taken held.new.book }
+    ensures held { held.new ≡ record held.old { book = without_claim held.old.book desk.now.known.number } }
 {
-    held.book_mut().give_up(desk.number);
-    let _ = desk.count_session(0, false);
+    held.book_mut().give_up(desk.known.number);
 }
 
 // The book is stopped, and the desk notes that it asked, where this is wanted.
 fn stop_if(held: &mut Held, desk: &mut Desk, stopping: bool)
     requires hand { (taken : BookData) × IsInHand desk.old taken held.old.book }
     ensures hand { (taken : BookData) → IsInHand desk.old taken held.old.book → IsInHand desk.new taken held.new.book }
-    ensures book { held.new.book ≡ stopped_if stopping held.old.book }
-    ensures desk { desk.new ≡ record desk.old { stop = (stopping || desk.old.stop) } }
+    ensures held { held.new ≡ record held.old { book = stopped_if stopping held.old.book } }
+    ensures desk { desk.new ≡ (let k = desk.old.known in record desk.old { known = record k { stop = (stopping || k.stop) } }) }
 {
     if stopping {
         held.book_mut().stop();
-        desk.stop = true;
+        desk.known.stop = true;
     }
 }
 
 // One session that gives the claim up, drops the offer and may stop the book.
 fn step_out<R: Wait>(rt: &R, place: &BookPlace, desk: &mut Desk, stopping: bool)
-    requires { CanTurn place.now desk.old }
+    requires { IsReady place.now desk.old }
     ensures can_turn { CanTurn place.now desk.new }
     ensures out { StepsOut stopping desk.old desk.new }
     ensures works { WorksOn desk.old desk.new }
@@ -51,13 +47,13 @@ fn step_out<R: Wait>(rt: &R, place: &BookPlace, desk: &mut Desk, stopping: bool)
 /// drops its offer. True where the desk had a claim. The desk may take turns again later. It may
 /// wait for other workers, and takes no memory.
 pub fn leave<R: Wait>(rt: &R, place: &BookPlace, desk: &mut Desk) -> bool
-    requires { CanTurn place.now desk.old }
+    requires { IsReady place.now desk.old }
     ensures can_turn { CanTurn place.now desk.new }
     ensures out { StepsOut false desk.old desk.new }
     ensures works { WorksOn desk.old desk.new }
-    ensures answer { result ≡ is_some desk.old.claim }
+    ensures answer { result ≡ is_some desk.old.known.claim }
 {
-    let had = desk.claim.is_some();
+    let had = desk.known.claim.is_some();
     step_out(rt, place, desk, false);
     had
 }
@@ -67,7 +63,7 @@ pub fn leave<R: Wait>(rt: &R, place: &BookPlace, desk: &mut Desk) -> bool
 /// fault; other desks still submit the offers that they have prepared. It may wait for other
 /// workers, and takes no memory.
 pub fn ask_stop<R: Wait>(rt: &R, place: &BookPlace, desk: &mut Desk)
-    requires { CanTurn place.now desk.old }
+    requires { IsReady place.now desk.old }
     ensures can_turn { CanTurn place.now desk.new }
     ensures out { StepsOut true desk.old desk.new }
     ensures works { WorksOn desk.old desk.new }

@@ -1,5 +1,5 @@
 // The opening of a place.
-ghost use Rattle.std.specs.Prelude.{◌≡◌, length, IfOk};
+ghost use Rattle.std.specs.Prelude.{◌≡◌, None, false, length, IfOk};
 ghost use Rattle.crossbeam_queue.specs.Passes.{view, IsPassOf, IsSamePass};
 ghost use Rattle.async_workers.specs.PlaceRule.{IsUntouched};
 ghost use Rattle.async_workers.specs.Views.{opener_at};
@@ -7,7 +7,8 @@ ghost use Rattle.async_workers.specs.Desk.{new_desks};
 
 use super::{BookPlace, Desk};
 use crate::boxed::BoxedBook;
-use crate::rule::{DeskPass, Opening, PutIn, Queue, Seats};
+use crate::rule::{DeskPass, Known, Opening, PutIn, Queue, Seats};
+use assign_core::Prices;
 use auction_book::Book;
 use std::alloc::{AllocError, Global};
 use std::marker::Brand;
@@ -51,6 +52,20 @@ fn open_with<O: Opening, R: Wait>(
     Ok((BookPlace { queue }, desks))
 }
 
+// What a new desk knows.
+fn first_known(number: u16, table: Prices) -> Known
+    ensures { result ≡ record { number = number; table = table; version = 0; accepted = 0; claim = None; stop = false } }
+{
+    Known {
+        number,
+        table,
+        version: 0,
+        accepted: 0,
+        claim: None,
+        stop: false,
+    }
+}
+
 // A desk for each worker.
 fn seat_desks<O: Opening>(
     alloc: Global,
@@ -77,12 +92,7 @@ fn seat_desks<O: Opening>(
         desks.push_reserved(Desk {
             scaled,
             pass: theirs,
-            number: made + 1,
-            table,
-            version: 0,
-            accepted: 0,
-            claim: None,
-            stop: false,
+            known: first_known(made + 1, table),
             offer: None,
             sessions: 0,
             since: 0,

@@ -18,37 +18,37 @@ impl Desk {
 
     /// The worker's number, from 1.
     pub fn number(&self) -> u16
-        ensures { result ≡ self.now.number }
+        ensures { result ≡ self.now.known.number }
     {
-        self.number
+        self.known.number
     }
 
     /// The worker's own table of prices.
     pub fn table(&self) -> &Prices
-        ensures { result.now ≡ self.now.table }
+        ensures { result.now ≡ self.now.known.table }
     {
-        &self.table
+        &self.known.table
     }
 
     /// The version of the table.
     pub fn version(&self) -> u128
-        ensures { result ≡ self.now.version }
+        ensures { result ≡ self.now.known.version }
     {
-        self.version
+        self.known.version
     }
 
     /// How many of the worker's bids were accepted, as it was last told.
     pub fn accepted(&self) -> u128
-        ensures { result ≡ self.now.accepted }
+        ensures { result ≡ self.now.known.accepted }
     {
-        self.accepted
+        self.known.accepted
     }
 
     /// The worker's claim, as it was last told.
     pub fn claim(&self) -> Option<Claimed>
-        ensures { result ≡ self.now.claim }
+        ensures { result ≡ self.now.known.claim }
     {
-        self.claim
+        self.known.claim
     }
 
     /// The offer that is prepared for the worker's claim.

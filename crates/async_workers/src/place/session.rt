@@ -1,5 +1,5 @@
 // A session with the book in hand.
-ghost use Rattle.std.specs.Prelude.{◌≡◌, None, true, length, IfOk, OnErr};
+ghost use Rattle.std.specs.Prelude.{◌≡◌, None, false, true, length, IfOk, OnErr};
 ghost use Rattle.assign_core.specs.Numbered.{IsNumber, numbered};
 ghost use Rattle.auction_book.specs.declared.answers.Claim.{Claim};
 ghost use Rattle.auction_book.specs.Book.{BookData};
@@ -8,7 +8,7 @@ ghost use Rattle.auction_book.specs.Free.{IsFree};
 ghost use Rattle.auction_book.specs.Phases.{is_over};
 ghost use Rattle.auction_book.specs.Session.{IsHandedIn, IsPrepared, book_taken, next_if_over};
 ghost use Rattle.async_workers.specs.Hand.{IsInHand};
-ghost use Rattle.async_workers.specs.Session.{Ends, catches_up, counted, is_too_low, with_table};
+ghost use Rattle.async_workers.specs.Session.{Ends, catches_up, is_too_low, with_table};
 
 use super::{Desk, Held};
 use auction_book::{Claim, Note, Refused, Submission, begin_next_if_over, submit_offer};
@@ -35,13 +35,14 @@ impl Held {
 // The desk's offer goes in.
 fn offer_in(alloc: Global, held: &mut Held, desk: &Desk) -> Submission
     requires hand { (taken : BookData) × IsInHand desk.now taken held.old.book }
-    requires prepared { IsPrepared held.old.book desk.now.number desk.now.table desk.now.version held.old.offer }
+    requires prepared { IsPrepared held.old.book desk.now.known.number desk.now.known.table desk.now.known.version held.old.offer }
     ensures hand { (taken : BookData) → IsInHand desk.now taken held.old.book → IsInHand desk.now taken held.new.book }
-    ensures handed_in { IsHandedIn held.old.book desk.now.number held.old.offer held.new.book result.note result.outcome }
-    ensures none { numbered held.new.book.claims desk.now.number None ≡ None }
+    ensures handed_in { IsHandedIn held.old.book desk.now.known.number held.old.offer held.new.book result.note result.outcome }
+    ensures none { numbered held.new.book.claims desk.now.known.number None ≡ None }
+    ensures caught_up { held.new.caught_up ≡ held.old.caught_up }
 {
     let offer = held.take_offer();
-    submit_offer(alloc, held.book_mut(), desk.number, offer)
+    submit_offer(alloc, held.book_mut(), desk.known.number, offer)
 }
 
 fn was_too_low(note: Note) -> bool
@@ -51,28 +52,25 @@ fn was_too_low(note: Note) -> bool
 }
 
 impl Desk {
-    // One session more is over. Says whether the table is to become today's.
-    pub(super) fn count_session(&mut self, refresh: u64, too_low: bool) -> bool
-        ensures due { result ≡ catches_up refresh too_low self.old.since }
-        ensures desk { self.new ≡ counted result self.old }
+    // Whether the table is to become today's, this session counted.
+    fn is_late(&self, refresh: u64, too_low: bool) -> bool
+        ensures { result ≡ catches_up refresh too_low self.now.since }
     {
-        self.sessions = self.sessions.saturating_add(1);
         let since = self.since.saturating_add(1);
-        let due = too_low || (0 < refresh && refresh <= since);
-        self.since = if due { 0 } else { since };
-        due
+        too_low || (0 < refresh && refresh <= since)
     }
 }
 
-// Counts the session, and makes the desk's table today's where it is time.
+// Makes the desk's table today's where it is time.
 fn keep_up(held: &mut Held, desk: &mut Desk, refresh: u64, too_low: bool)
     requires hand { (taken : BookData) × IsInHand desk.old taken held.old.book }
+    requires fresh { held.old.caught_up ≡ false }
     ensures hand { (taken : BookData) → IsInHand desk.old taken held.old.book → IsInHand desk.new taken held.new.book }
-    ensures book { held.new.book ≡ book_taken (catches_up refresh too_low desk.old.since) held.old.book desk.old.number }
-    ensures desk { desk.new ≡ counted (catches_up refresh too_low desk.old.since)
-        (with_table (catches_up refresh too_low desk.old.since) held.old.book desk.old) }
+    ensures caught_up { held.new.caught_up ≡ catches_up refresh too_low desk.old.since }
+    ensures book { held.new.book ≡ book_taken (catches_up refresh too_low desk.old.since) held.old.book desk.old.known.number }
+    ensures desk { desk.new ≡ record desk.old { known = with_table (catches_up refresh too_low desk.old.since) held.old.book desk.old.known } }
 {
-    if desk.count_session(refresh, too_low) {
+    if desk.is_late(refresh, too_low) {
         held.catch_up(desk);
     }
 }
@@ -83,7 +81,7 @@ fn claim_next(held: &mut Held, worker: u16) -> Claim
     requires none { numbered held.old.book.claims worker None ≡ None }
     ensures answer { result ≡ claim_of held.old.book }
     ensures asked { IsAsked held.old.book.base result }
-    ensures book { held.new.book ≡ after_claim held.old.book worker result }
+    ensures held { held.new ≡ record held.old { book = after_claim held.old.book worker result } }
     ensures free { IsFree held.new.book }
 {
     held.book_mut().claim(worker)
@@ -92,29 +90,32 @@ fn claim_next(held: &mut Held, worker: u16) -> Claim
 // The next phase begins if this one is over, and the worker claims.
 fn move_on(alloc: Global, held: &mut Held, desk: &Desk) -> Result<Claim, AllocError>
     requires hand { (taken : BookData) × IsInHand desk.now taken held.old.book }
-    requires none { numbered held.old.book.claims desk.now.number None ≡ None }
+    requires none { numbered held.old.book.claims desk.now.known.number None ≡ None }
     ensures hand { (taken : BookData) → IsInHand desk.now taken held.old.book → IsInHand desk.now taken held.new.book }
     ensures ok { IfOk result (λ answer. let b : BookData = next_if_over held.old.book in
-        (answer ≡ claim_of b) × (held.new.book ≡ after_claim b desk.now.number answer)) }
+        (answer ≡ claim_of b) × (held.new.book ≡ after_claim b desk.now.known.number answer)) }
     ensures asked { IfOk result (IsAsked desk.now.base) }
     ensures err { OnErr result ((held.new.book ≡ held.old.book) × (is_over held.old.book ≡ true)) }
+    ensures caught_up { held.new.caught_up ≡ held.old.caught_up }
 {
     begin_next_if_over(alloc, held.book_mut())?;
-    Ok(claim_next(held, desk.number))
+    Ok(claim_next(held, desk.known.number))
 }
 
 // The offer goes in, the table becomes today's where it is time, the next phase begins if this one is
 // over, and the worker claims. Where a growth is refused the session ends there.
 pub(super) fn session(alloc: Global, held: &mut Held, desk: &mut Desk, refresh: u64) -> Ended
     requires hand { (taken : BookData) × IsInHand desk.old taken held.old.book }
-    requires prepared { IsPrepared held.old.book desk.old.number desk.old.table desk.old.version held.old.offer }
+    requires prepared { IsPrepared held.old.book desk.old.known.number desk.old.known.table desk.old.known.version held.old.offer }
+    requires fresh { held.old.caught_up ≡ false }
     ensures hand { (taken : BookData) → IsInHand desk.old taken held.old.book → IsInHand desk.new taken held.new.book }
-    ensures ends { Ends refresh desk.old held.old.offer held.old.book desk.new held.new.book result.note result.outcome }
+    ensures desk { desk.new ≡ record desk.old { known = desk.new.known } }
+    ensures ends { Ends refresh desk.old.since desk.old.known held.old.offer result.note result.outcome
+        held.old.book desk.new.known held.new.book held.new.caught_up }
     ensures asked { IfOk result.outcome (IsAsked desk.new.base) }
 {
     let Submission { note, outcome } = offer_in(alloc, held, desk);
     if let Err(refused) = outcome {
-        let _ = desk.count_session(0, false);
         return Ended {
             note,
             outcome: Err(refused),

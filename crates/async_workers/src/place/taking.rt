@@ -1,21 +1,21 @@
 // How a desk takes the book and gives it back.
-ghost use Rattle.std.specs.Prelude.{◌≡◌, length, None};
-ghost use Rattle.assign_core.specs.Numbered.{IsNumber, numbered};
+ghost use Rattle.std.specs.Prelude.{◌≡◌, cond, length, None, true, false};
+ghost use Rattle.assign_core.specs.Numbered.{IsNumber};
 ghost use Rattle.price_log.specs.History.{IsEarlier};
 ghost use Rattle.crossbeam_queue.specs.Passes.{view, IsPassOf, IsSamePass, ruled_capacity};
-ghost use Rattle.auction_book.specs.Book.{BookData, prices_of, version_of};
+ghost use Rattle.auction_book.specs.Book.{BookData};
 ghost use Rattle.auction_book.specs.Changes.{caught_up};
 ghost use Rattle.auction_book.specs.Free.{IsFree};
 ghost use Rattle.async_workers.specs.PlaceRule.{Gave, MayFollow, Took};
-ghost use Rattle.async_workers.specs.Views.{claim_in};
+ghost use Rattle.async_workers.specs.Views.{claim_in, told_of};
 ghost use Rattle.async_workers.specs.Desk.{IsAway, MayGive};
+ghost use Rattle.async_workers.specs.Session.{counted, one_more, with_table};
 ghost use Rattle.async_workers.specs.declared.rule.Told.{Told};
 ghost use Rattle.async_workers.specs.declared.rule.View.TheVariants.{Away, Holding};
 
 use super::{BookPlace, Claimed, Desk, Held};
 use crate::boxed::BoxedBook;
-use crate::rule::{DeskPass, Give, Jotting, Queue, Take};
-use assign_core::Prices;
+use crate::rule::{DeskPass, Give, Giver, Known, Queue, Take};
 use auction_book::Book;
 use std::marker::Brand;
 use std::sync::Wait;
@@ -38,23 +38,21 @@ pub(super) fn take_book<R: Wait>(rt: &R, queue: &Queue, pass: &mut DeskPass) -> 
 }
 
 // Puts the book into the place, which is empty while this pass holds the book.
-fn put_back<J: Jotting, R: Wait>(
+fn put_back<G: Giver, R: Wait>(
     rt: &R,
     queue: &Queue,
     pass: &mut DeskPass,
-    table: &Prices,
-    version: u128,
-    stop: bool,
+    known: &Known,
     book: BoxedBook,
 )
     requires queue { IsPassOf queue.now pass.old × (ruled_capacity queue.now ≡ 1) }
-    requires jotting { (J.table ≡ table.now) × (J.version ≡ version) × (J.stop ≡ stop) }
+    requires giver { G.known ≡ known.now }
     requires held { (t : Told) × (taken : BookData) × (view pass.old ≡ Holding t taken)
-        × MayFollow t.number table.now version stop taken book }
+        × (t.known.number ≡ known.now.number) × MayFollow known.now taken book }
     ensures queue { IsSamePass pass.old pass.new }
-    ensures gave { Gave table.now version stop (view pass.old) book (view pass.new) }
+    ensures gave { Gave known.now (view pass.old) book (view pass.new) }
 {
-    match queue.push_as::<Give<J>, R>(rt, pass, book) {
+    match queue.push_as::<Give<G>, R>(rt, pass, book) {
         Ok(()) => {}
         Err(_) => unreachable!(),
     }
@@ -85,52 +83,68 @@ impl Desk {
         requires place { self.old.place ≡ place.now }
         requires away { (taken put : BookData) × IsAway self.old taken put }
         ensures took { Took self.old.view result.book self.new.view }
-        ensures offer { result.offer ≡ self.old.offer }
+        ensures held { result ≡ record { book = result.book; offer = self.old.offer; caught_up = false } }
         ensures same { self.new ≡ record self.old { view = self.new.view; offer = None } }
     {
         let book = take_book(rt, &place.queue, &mut self.pass);
         Held {
             book,
             offer: self.offer.take(),
+            caught_up: false,
         }
     }
 }
 
+// How many sessions are over since the table became today's, after one more.
+fn since_after(since: u64, caught_up: bool) -> u64
+    ensures { result ≡ cond caught_up 0 (one_more since) }
+{
+    if caught_up {
+        0
+    } else {
+        since.saturating_add(1)
+    }
+}
+
 impl Held {
-    /// Makes the desk's table today's. Takes no memory.
+    /// Makes the desk's table today's: its sessions since it caught up are counted anew from the end of
+    /// this one. Takes no memory.
     pub fn catch_up(&mut self, desk: &mut Desk)
-        requires number { IsNumber (length self.old.book.claims) desk.old.number }
-        requires earlier { IsEarlier self.old.book.log desk.old.table desk.old.version }
-        ensures book { self.new ≡ record self.old { book = caught_up self.old.book desk.old.number } }
-        ensures desk { desk.new ≡ record desk.old { table = prices_of self.old.book; version = version_of self.old.book } }
+        requires number { IsNumber (length self.old.book.claims) desk.old.known.number }
+        requires earlier { IsEarlier self.old.book.log desk.old.known.table desk.old.known.version }
+        ensures held { self.new ≡ record self.old { book = caught_up self.old.book desk.old.known.number; caught_up = true } }
+        ensures desk { desk.new ≡ record desk.old { known = with_table true self.old.book desk.old.known } }
         ensures free { IsFree self.new.book }
     {
-        self.book
-            .book_mut()
-            .catch_up(desk.number, &mut desk.table, &mut desk.version);
+        let Known {
+            number,
+            table,
+            version,
+            ..
+        } = &mut desk.known;
+        self.book.book_mut().catch_up(*number, table, version);
+        self.caught_up = true;
     }
 
-    /// Puts the book back into its place, and tells the desk its acceptances and its claim. An offer
-    /// that was left here is dropped. Takes no memory; what may wait for other workers is the step
-    /// on the place.
+    /// Puts the book back into its place, tells the desk its acceptances and its claim, and counts the
+    /// session. An offer that was left here is dropped. Takes no memory; what may wait for other workers
+    /// is the step on the place.
     pub fn give<R: Wait>(self, rt: &R, place: &BookPlace, desk: &mut Desk)
         requires place { desk.old.place ≡ place.now }
         requires held { MayGive desk.old self.book }
-        requires number { IsNumber (length self.book.claims) desk.old.number }
-        ensures gave { Gave desk.old.table desk.old.version desk.old.stop desk.old.view self.book desk.new.view }
-        ensures same { desk.new ≡ record desk.old { view = desk.new.view; accepted = numbered self.book.counts desk.old.number 0; claim = claim_in self.book desk.old.number } }
+        requires number { IsNumber (length self.book.claims) desk.old.known.number }
+        ensures gave { Gave desk.old.known desk.old.view self.book desk.new.view }
+        ensures same { desk.new ≡ counted self.caught_up (record desk.old { view = desk.new.view; known = told_of desk.old.known self.book }) }
     {
-        let Held { book, offer: _ } = self;
-        desk.accepted = book.book().accepted_by(desk.number);
-        desk.claim = claim_of(book.book(), desk.number);
-        put_back::<Brand, R>(
-            rt,
-            &place.queue,
-            &mut desk.pass,
-            &desk.table,
-            desk.version,
-            desk.stop,
+        let Held {
             book,
-        );
+            offer: _,
+            caught_up,
+        } = self;
+        desk.known.accepted = book.book().accepted_by(desk.known.number);
+        desk.known.claim = claim_of(book.book(), desk.known.number);
+        desk.sessions = desk.sessions.saturating_add(1);
+        desk.since = since_after(desk.since, caught_up);
+        put_back::<Brand, R>(rt, &place.queue, &mut desk.pass, &desk.known, book);
     }
 }

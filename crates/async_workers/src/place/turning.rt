@@ -1,11 +1,10 @@
 // A worker's turn.
 ghost use Rattle.std.specs.Prelude.{◌≡◌, true, length, IfErr, IfOk};
-ghost use Rattle.auction_book.specs.Book.{BookData};
+ghost use Rattle.assign_core.specs.declared.outcome.SolveFault.TheVariants as turn_fault;
 ghost use Rattle.auction_book.specs.Claims.{IsAsked};
 ghost use Rattle.auction_book.specs.Session.{prepared};
-ghost use Rattle.async_workers.specs.Desk.{IsAway};
-ghost use Rattle.async_workers.specs.Turns.{CanTurn, EndsRun, Faulted, Given, Turned, WorksOn, turn_of};
-ghost use Rattle.async_workers.specs.declared.gate.TurnFault.TheVariants as turn_fault;
+ghost use Rattle.async_workers.specs.Session.{Ends};
+ghost use Rattle.async_workers.specs.Turns.{CanTurn, EndsRun, Faulted, Serves, Turned, WorksOn, turn_of};
 
 use super::session::{Ended, session};
 use super::{BookPlace, Desk};
@@ -24,11 +23,9 @@ fn one_session<R: Wait>(
     refresh: u64,
 ) -> Ended
     requires { CanTurn place.now desk.old }
-    ensures place { desk.new.place ≡ place.now }
-    ensures away { (taken put : BookData) × IsAway desk.new taken put }
-    ensures given { Given refresh desk.old desk.new result.note result.outcome }
-    ensures works { WorksOn desk.old desk.new }
-    ensures table { length desk.new.table ≡ length desk.new.base.problem }
+    ensures serves { Serves desk.old desk.new
+        (Ends refresh desk.old.since desk.old.known desk.old.offer result.note result.outcome) }
+    ensures table { length desk.new.known.table ≡ length desk.new.base.problem }
     ensures asked { IfOk result.outcome (IsAsked desk.new.base) }
 {
     let mut held = desk.take(rt, place);
@@ -39,10 +36,10 @@ fn one_session<R: Wait>(
 
 // Prepares the offer of the person that was claimed, if one was.
 fn prepare_offer<G: Gate>(desk: &mut Desk, claim: Claim, gate: &G) -> Turn
-    requires table { length desk.old.table ≡ length desk.old.base.problem }
+    requires table { length desk.old.known.table ≡ length desk.old.base.problem }
     requires asked { IsAsked desk.old.base claim }
     ensures turn { result ≡ turn_of claim }
-    ensures desk { desk.new ≡ record desk.old { offer = prepared desk.old.base desk.old.table desk.old.version claim } }
+    ensures desk { desk.new ≡ record desk.old { offer = prepared desk.old.base desk.old.known.table desk.old.known.version claim } }
 {
     desk.offer = None;
     match claim {
@@ -51,8 +48,9 @@ fn prepare_offer<G: Gate>(desk: &mut Desk, claim: Claim, gate: &G) -> Turn
         Claim::Stopped => Turn::Stopped,
         Claim::Wait => Turn::Idle,
         Claim::Person(person, ask) => {
-            gate.before_offer(desk.number);
-            let offer = make_bid(&desk.scaled, &desk.table, desk.version, ask, person);
+            let known = &desk.known;
+            gate.before_offer(known.number);
+            let offer = make_bid(&desk.scaled, &known.table, known.version, ask, person);
             desk.offer = Some(offer);
             Turn::Claimed
         }
@@ -86,9 +84,9 @@ pub fn turn<G: Gate, R: Wait>(
     ensures turned { IfOk result (λ answer. Turned refresh desk.old desk.new answer) }
     ensures fault { IfErr result (λ fault. (fault ≡ turn_fault.Memory) × Faulted refresh desk.old desk.new) }
     ensures works { WorksOn desk.old desk.new }
-    ensures stops { desk.old.stop ≡ true → IfOk result EndsRun }
+    ensures stops { desk.old.known.stop ≡ true → IfOk result EndsRun }
 {
-    let number = desk.number;
+    let number = desk.known.number;
     if desk.offer.is_some() {
         gate.before_submit(number, desk.sessions);
     }

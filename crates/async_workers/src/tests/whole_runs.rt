@@ -184,6 +184,25 @@ impl Gate for Holding {
     }
 }
 
+// Holds worker 1 after its first session until worker 2 was told of one.
+#[derive(Drop)]
+struct Telling {
+    told: AtomicU64,
+    late: AtomicU64,
+}
+
+impl Gate for Telling {
+    fn before_offer(&self, _worker: u16) {}
+
+    fn before_submit(&self, _worker: u16, _turns: u64) {}
+
+    fn after_session(&self, worker: u16, _note: Note) {
+        if is_first(&self.told, worker) && worker == 1 {
+            hold(&self.told, 2, true, &self.late);
+        }
+    }
+}
+
 // ---- worked problems
 // Costs with one least assignment: person i pays u_i + v_j, and more where it isn't given j.
 const EIGHT: [Cost; 64] = [
@@ -242,6 +261,18 @@ fn stale_bid<R: Threads + Wait + Sync>(
     let seen = dense_solved(rt, alloc, n, costs, 2, 0, &gate)?;
     let refused = gate.refused.load(Ordering::SeqCst);
     Ok((seen, refused, gate.late.load(Ordering::SeqCst)))
+}
+
+#[test]
+fn a_session_is_told_without_the_book(rt: HostRuntime) -> Result<(), Fail> {
+    let gate = Telling {
+        told: AtomicU64::new(0),
+        late: AtomicU64::new(0),
+    };
+    assert!(rt; eight(&rt, rt.alloc(), 2, 1, &gate)?.is_some());
+    assert_eq!(rt; gate.told.load(Ordering::SeqCst).count_ones(), 2);
+    assert_eq!(rt; gate.late.load(Ordering::SeqCst), 0);
+    Ok(())
 }
 
 #[test]

@@ -5,6 +5,8 @@ ghost use Rattle.async_workers.specs.Turns.{CanTurn};
 
 use super::problems::{Pair, first_prices, scaled_of};
 use super::*;
+use crate::alone::go_alone;
+use assign_core::Outcome;
 use auction_book::Refused;
 use std::test::Fail;
 
@@ -271,5 +273,29 @@ fn the_next_book_has_the_own_raise(rt: HostRuntime) -> Result<(), Fail> {
     };
     assert_eq!(rt; own.as_slice(), [0, 0].as_slice());
     assert_eq!(rt; found.as_slice(), [5, 0].as_slice());
+    Ok(())
+}
+
+// The objects that one thread alone gives to persons 1 and 2, after a claim and a stop.
+fn given_alone<R: Wait>(rt: &R, alloc: Global) -> Result<Vec<u16>, AllocError> {
+    let mut book = book_of(alloc, 2)?;
+    let _first = next_person(&mut book);
+    book.stop();
+    if book.workers() == 0 {
+        return Ok(Vec::new(alloc));
+    }
+    let mut given = Vec::new(alloc);
+    if let Outcome::Best(certificate) = go_alone(rt, alloc, &mut book)? {
+        for object in certificate.assignment.objects() {
+            given.push(object.0)?;
+        }
+    }
+    Ok(given)
+}
+
+#[test]
+fn one_thread_goes_on_after_a_claim_and_a_stop(rt: HostRuntime) -> Result<(), Fail> {
+    let given = given_alone(&rt, rt.alloc())?;
+    assert_eq!(rt; given.as_slice(), [2, 1].as_slice());
     Ok(())
 }

@@ -1,7 +1,7 @@
 use Rattle.std.proofs.Common.{◌≡◌, ◌∙◌, ap, map, reverse, length, arith}
 use Rattle.async_workers.specs.Desk.{new_desks}
 use Rattle.async_workers.specs.Solving.{desk_in}
-use Rattle.async_workers.proofs.Runs.{back_goes_on, back_ready, faults_in, length_back, length_workers, workers_can}
+use Rattle.async_workers.proofs.Runs.{back_extends, back_ready, faults_in, length_back, length_workers, workers_can}
 use Rattle.async_workers.proofs.solving.worked_book.Goals as goal
 
 pub run_all-workers-requires-clause-some : goal.run_all-workers-requires-clause-some
@@ -43,8 +43,8 @@ close_place-requires-clause-ready g c =
     back_ready c.in_ok-place.place b (length b.claims) xs.items ys.items c.unseat_workers-desks.result.0.items (c.in_ok-workers.ensures ∙ ap reverse c.in_ok-place.ensures)
     (omega (arith, long, xs.ok, ys.ok), λ k d lt. r.worked k d (omega (arith, lt, xs.ok))) c.unseat_workers-desks.ensures.desks
 
-pub returns-clause-goes_on : goal.returns-clause-goes_on
-returns-clause-goes_on g c =
+pub returns-clause-extends : goal.returns-clause-extends
+returns-clause-extends g c =
     let b = c.args.book in
     let xs = c.in_ok-workers.workers in
     let ys = c.run_all-workers.result in
@@ -55,5 +55,5 @@ returns-clause-goes_on g c =
     let back = ap length c.unseat_workers-desks.ensures.desks ∙ length_back ys.items in
     let len = r.long in
     let same : length ys.items ≡ length xs.items = omega (arith, len, xs.ok, ys.ok) in
-    back_goes_on c.in_ok-place.place b c.close_place.result (length b.claims) xs.items ys.items c.unseat_workers-desks.result.0.items is
+    back_extends c.in_ok-place.place b c.close_place.result (length b.claims) xs.items ys.items c.unseat_workers-desks.result.0.items is
     (same, λ k d lt. r.worked k d (omega (arith, lt, xs.ok))) c.unseat_workers-desks.ensures.desks (omega (arith, l, some, back, same)) c.close_place.ensures.told

@@ -1,3 +1,6 @@
+use Rattle.std.proofs.Common.{subst}
+use Rattle.async_workers.specs.declared.gate.Turn.TheVariants as turn
+use Rattle.async_workers.specs.Turns.{Turned}
 use Rattle.async_workers.proofs.Runs.{works_through}
 use Rattle.async_workers.proofs.working.take_turns.Goals as goal
 
@@ -7,8 +10,32 @@ loop-preserved-in-Ok-Claimed g c = record { can_turn = c.turn.ensures.can_turn; 
 pub loop-preserved : goal.loop-preserved
 loop-preserved g c = record { can_turn = c.turn.ensures.can_turn; works = works_through c.args.desk.now c.loop.desk c.turn.new.desk c.loop.invariant.works c.turn.ensures.works }
 
-pub returns-in-Ok : goal.returns-in-Ok
-returns-in-Ok g c = record { can_turn = c.turn.ensures.can_turn; works = works_through c.args.desk.now c.loop.desk c.turn.new.desk c.loop.invariant.works c.turn.ensures.works; fault = tt }
+pub returns-in-Ok-Done : goal.returns-in-Ok-Done
+returns-in-Ok-Done g c = record {
+  can_turn = c.turn.ensures.can_turn;
+  works = works_through c.args.desk.now c.loop.desk c.turn.new.desk c.loop.invariant.works c.turn.ensures.works;
+  fault = tt;
+  last = (c.loop.desk, (turn.Done, subst (Turned c.args.refresh c.loop.desk c.turn.new.desk) c.in-Ok-Done.field-0-is c.in-Ok-Done.ensures.turned, tt));
+}
+
+pub returns-in-Ok-Refuted : goal.returns-in-Ok-Refuted
+returns-in-Ok-Refuted g c = record {
+  can_turn = c.turn.ensures.can_turn;
+  works = works_through c.args.desk.now c.loop.desk c.turn.new.desk c.loop.invariant.works c.turn.ensures.works;
+  fault = tt;
+  last = (c.loop.desk, (turn.Refuted, subst (Turned c.args.refresh c.loop.desk c.turn.new.desk) c.in-Ok-Refuted.field-0-is c.in-Ok-Refuted.ensures.turned, tt));
+}
+
+pub returns-in-Ok-Stopped : goal.returns-in-Ok-Stopped
+returns-in-Ok-Stopped g c = record {
+  can_turn = c.turn.ensures.can_turn;
+  works = works_through c.args.desk.now c.loop.desk c.turn.new.desk c.loop.invariant.works c.turn.ensures.works;
+  fault = tt;
+  last = (c.loop.desk, (turn.Stopped, subst (Turned c.args.refresh c.loop.desk c.turn.new.desk) c.in-Ok-Stopped.field-0-is c.in-Ok-Stopped.ensures.turned, tt));
+}
 
 pub returns-in-Err-clause-works : goal.returns-in-Err-clause-works
 returns-in-Err-clause-works g c = works_through c.args.desk.now c.loop.desk c.turn.new.desk c.loop.invariant.works c.turn.ensures.works
+
+pub returns-in-Err-clause-last : goal.returns-in-Err-clause-last
+returns-in-Err-clause-last g c = (c.loop.desk, c.in-Err.ensures.fault.1)

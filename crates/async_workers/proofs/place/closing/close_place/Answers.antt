@@ -34,3 +34,15 @@ returns-clause-free g c =
     let desk = c.in-Some.closer in
     let ready = All-pop (IsReady c.args.place) c.args.desks.items c.pop.new.self.items (Some desk) c.in-Some.ensures.items c.requires.ready in
     subst IsFree (sym c.into_book.ensures) (c.take_book-book.ensures.took (told_by desk ready.1.1.0 ready.1.1.1) (c.into_pass-pass.ensures.view ∙ ready.1.1.2)).free
+
+pub take_book-book-requires-clause-away : goal.take_book-book-requires-clause-away
+take_book-book-requires-clause-away g c =
+    let ready = All-pop (IsReady c.args.place) c.args.desks.items c.pop.new.self.items (Some c.in-Some.closer) c.in-Some.ensures.items c.requires.ready in
+    (told_by c.in-Some.closer ready.1.1.0 ready.1.1.1, c.into_pass-pass.ensures.view ∙ ready.1.1.2)
+
+pub meet_all-requires-clause-queue : goal.meet_all-requires-clause-queue
+meet_all-requires-clause-queue g c =
+    let ready = All-pop (IsReady c.args.place) c.args.desks.items c.pop.new.self.items (Some c.in-Some.closer) c.in-Some.ensures.items c.requires.ready in
+    let pass = c.into_pass-pass.ensures in
+    let same = c.take_book-book.ensures.queue in
+    (same.0 ∙ pass.place ∙ ready.1.0 ∙ sym c.place.view_is, same.2 ∙ pass.idle)

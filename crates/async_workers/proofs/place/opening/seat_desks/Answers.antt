@@ -19,7 +19,7 @@ loop-made-preserved g c =
     record {
       same = (pass.0.0 ∙ inv.same.0, pass.0.1 ∙ inv.same.1, pass.0.2 ∙ inv.same.2);
       opener = views.0 ∙ ap (λ o. opener_next o (view c.loop-made.pass)) c.requires.book ∙ ap (opener_next b) inv.opener ∙ opener_next-at b c.loop-made.made;
-      desks = desks_more _ _ b c.loop-made.made _ _ _ _ _ _ (c.in_ok-scaled.ensures ∙ c.scaled.ensures.scaled) pass.1.0
+      desks = desks_more _ _ b c.loop-made.made _ _ _ _ _ _ _ (c.in_ok-scaled.ensures ∙ c.scaled.ensures.scaled) pass.1.0
           (views.1 ∙ ap (λ o. desk_made o (view c.loop-made.pass)) c.requires.book ∙ ap (desk_made b) inv.opener ∙ desk_made-at b c.loop-made.made)
-          (c.in_ok-table.ensures ∙ c.prices.ensures.prices) inv.desks c.reserve.ensures.items c.push_reserved.ensures.items;
+          (c.in_ok-table.ensures ∙ c.prices.ensures.prices) c.first_known.ensures inv.desks c.reserve.ensures.items c.push_reserved.ensures.items;
     }

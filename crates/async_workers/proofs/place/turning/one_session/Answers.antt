@@ -1,5 +1,9 @@
-use Rattle.async_workers.proofs.Hands.{hand_given, hand_taken}
-use Rattle.async_workers.proofs.Turning.{given, prepared_taken, table_long, works_on}
+use Rattle.std.proofs.Common.{ap, subst, Option}
+use Rattle.bidder.specs.declared.offers.Offer.{Offer}
+use Rattle.async_workers.specs.Desk.{DeskData, HeldData}
+use Rattle.async_workers.specs.Session.{Ends}
+use Rattle.async_workers.proofs.Hands.{hand_taken, serves, table_long}
+use Rattle.async_workers.proofs.Turning.{prepared_taken}
 use Rattle.async_workers.proofs.place.turning.one_session.Goals as goal
 
 pub session-ended-requires-clause-hand : goal.session-ended-requires-clause-hand
@@ -10,47 +14,56 @@ session-ended-requires-clause-hand g c =
 pub session-ended-requires-clause-prepared : goal.session-ended-requires-clause-prepared
 session-ended-requires-clause-prepared g c =
     let a = c.requires.ready.1 in
-    prepared_taken c.args.desk.now c.take-held.new.self c.take-held.result.book a.0 a.1 c.take-held.result.offer a.2 c.requires.offer c.take-held.ensures.took c.take-held.ensures.same c.take-held.ensures.offer
+    prepared_taken c.args.desk.now c.take-held.new.self c.take-held.result.book a.0 a.1 c.take-held.result.offer a.2 c.requires.offer c.take-held.ensures.took c.take-held.ensures.same (ap (λ (h : HeldData). h.offer) c.take-held.ensures.held)
+
+pub session-ended-requires-clause-fresh : goal.session-ended-requires-clause-fresh
+session-ended-requires-clause-fresh g c = ap (λ (h : HeldData). h.caught_up) c.take-held.ensures.held
 
 pub give-requires-clause-held : goal.give-requires-clause-held
 give-requires-clause-held g c =
-    let a = c.requires.ready.1 in
+    let d = c.args.desk.now in
+    let e = c.take-held.new.self in
+    let f = c.session-ended.new.desk in
     let b = c.take-held.result.book in
-    let h = c.session-ended.ensures.hand b (hand_taken c.args.desk.now c.take-held.new.self b a.0 a.1 a.2 c.take-held.ensures.took c.take-held.ensures.same) in
-    (b, (h.told, h.holding, h.same_number), h.may)
+    let held = c.session-ended.new.held in
+    let a = c.requires.ready.1 in
+    let hand = c.session-ended.ensures.hand b (hand_taken d e b a.0 a.1 a.2 c.take-held.ensures.took c.take-held.ensures.same) in
+    (b, (hand.told, hand.holding, hand.same_number), hand.may)
 
 pub give-requires-clause-number : goal.give-requires-clause-number
 give-requires-clause-number g c =
-    let a = c.requires.ready.1 in
+    let d = c.args.desk.now in
+    let e = c.take-held.new.self in
+    let f = c.session-ended.new.desk in
     let b = c.take-held.result.book in
-    (c.session-ended.ensures.hand b (hand_taken c.args.desk.now c.take-held.new.self b a.0 a.1 a.2 c.take-held.ensures.took c.take-held.ensures.same)).in_range
+    let held = c.session-ended.new.held in
+    let a = c.requires.ready.1 in
+    let hand = c.session-ended.ensures.hand b (hand_taken d e b a.0 a.1 a.2 c.take-held.ensures.took c.take-held.ensures.same) in
+    hand.in_range
 
-pub returns-clause-away : goal.returns-clause-away
-returns-clause-away g c =
-    let a = c.requires.ready.1 in
+pub returns-clause-serves : goal.returns-clause-serves
+returns-clause-serves g c =
+    let d = c.args.desk.now in
+    let e = c.take-held.new.self in
+    let f = c.session-ended.new.desk in
     let b = c.take-held.result.book in
-    let h = c.session-ended.ensures.hand b (hand_taken c.args.desk.now c.take-held.new.self b a.0 a.1 a.2 c.take-held.ensures.took c.take-held.ensures.same) in
-    (b, c.session-ended.new.held.book, hand_given c.session-ended.new.desk c.give.new.desk b c.session-ended.new.held.book h c.give.ensures.gave c.give.ensures.same)
-
-pub returns-clause-given : goal.returns-clause-given
-returns-clause-given g c =
+    let held = c.session-ended.new.held in
     let a = c.requires.ready.1 in
-    let b = c.take-held.result.book in
-    let h = c.session-ended.ensures.hand b (hand_taken c.args.desk.now c.take-held.new.self b a.0 a.1 a.2 c.take-held.ensures.took c.take-held.ensures.same) in
-    given c.args.refresh c.args.desk.now c.take-held.new.self c.session-ended.new.desk c.give.new.desk b c.session-ended.new.held.book c.take-held.result.offer c.session-ended.result.note c.session-ended.result.outcome a.0 a.1 a.2
-    c.take-held.ensures.took c.take-held.ensures.same c.take-held.ensures.offer h c.session-ended.ensures.ends c.give.ensures.gave c.give.ensures.same
-
-pub returns-clause-works : goal.returns-clause-works
-returns-clause-works g c =
-    let a = c.requires.ready.1 in
-    let b = c.take-held.result.book in
-    let h = c.session-ended.ensures.hand b (hand_taken c.args.desk.now c.take-held.new.self b a.0 a.1 a.2 c.take-held.ensures.took c.take-held.ensures.same) in
-    works_on c.args.refresh c.args.desk.now c.take-held.new.self c.session-ended.new.desk c.give.new.desk b c.session-ended.new.held.book c.take-held.result.offer c.session-ended.result.note c.session-ended.result.outcome
-    c.take-held.ensures.took c.take-held.ensures.same c.session-ended.ensures.ends h c.give.ensures.gave c.give.ensures.same
+    let hand = c.session-ended.ensures.hand b (hand_taken d e b a.0 a.1 a.2 c.take-held.ensures.took c.take-held.ensures.same) in
+    let told = c.session-ended.result.note in
+    let outcome = c.session-ended.result.outcome in
+    let same = c.take-held.ensures.same in
+    let offer = ap (λ (h : HeldData). h.offer) c.take-held.ensures.held in
+    let ends = subst (λ (z : DeskData × Option Offer). Ends c.args.refresh z.0.since z.0.known z.1 told outcome b f.known held.book held.caught_up) (λ i. (same i, offer i)) c.session-ended.ensures.ends in
+    serves (Ends c.args.refresh d.since d.known d.offer told outcome) d e f c.give.new.desk b held.book held.caught_up a.0 a.1 a.2 c.take-held.ensures.took same c.session-ended.ensures.desk hand ends c.give.ensures.gave c.give.ensures.same
 
 pub returns-clause-table : goal.returns-clause-table
 returns-clause-table g c =
-    let a = c.requires.ready.1 in
+    let d = c.args.desk.now in
+    let e = c.take-held.new.self in
+    let f = c.session-ended.new.desk in
     let b = c.take-held.result.book in
-    let h = c.session-ended.ensures.hand b (hand_taken c.args.desk.now c.take-held.new.self b a.0 a.1 a.2 c.take-held.ensures.took c.take-held.ensures.same) in
-    table_long c.session-ended.new.desk c.give.new.desk b c.session-ended.new.held.book h c.give.ensures.same
+    let held = c.session-ended.new.held in
+    let a = c.requires.ready.1 in
+    let hand = c.session-ended.ensures.hand b (hand_taken d e b a.0 a.1 a.2 c.take-held.ensures.took c.take-held.ensures.same) in
+    table_long f c.give.new.desk b held.book held.caught_up hand c.give.ensures.same
