@@ -18,7 +18,7 @@ use Rattle.assign_core.specs.Assignment.{AreListed, IsAssignment, total}
 use Rattle.assign_core.specs.Hall.{IsHallSet}
 use Rattle.assign_core.specs.Prices as prices
 use Rattle.assign_core.proofs.Listed.{all_listed, length_zip, object_within}
-use Rattle.report.specs.Reports.{IsReport, IsBestReport, IsHallReport, is_entry, is_price, is_rising, is_total, ArePrices, cost_limit, price_end, total_limit}
+use Rattle.report.specs.Reports.{IsReport, IsBestReport, IsHallReport, is_entry, is_price, is_rising, is_total, ArePrices, cost_limit, price_end}
 use Rattle.report.specs.Outcomes.{pairs_of, chosen_prices, outcome_report, IsOutcome}
 
 -- an integer between two bounds

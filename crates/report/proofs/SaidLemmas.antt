@@ -1,5 +1,5 @@
 -- What lines say, and a report's lines.
-use Rattle.std.proofs.Common.{◌≡◌, ℕ, ℤ, nat_abs, ◌<◌, ◌≤◌, ◌+◌, List, [], ◌∷◌, ◌++◌, true, eqb, leb, ltb, Option, Some, None, length, refl, sym, ap, subst, ◌∙◌, arith, append_assoc, append-nil}
+use Rattle.std.proofs.Common.{◌≡◌, ℕ, ℤ, ◌<◌, ◌≤◌, ◌+◌, List, [], ◌∷◌, ◌++◌, true, eqb, leb, ltb, Option, Some, None, length, refl, sym, ap, subst, ◌∙◌, arith, append_assoc, append-nil}
 use Rattle.std.specs.List.{AllByRecursion}
 use Rattle.std.proofs.lemmas.Bool.{eqb-true, eq-eqb, lt-ltb, ltb-true, le-leb}
 use Rattle.std.proofs.lemmas.Option.{cond_some}
