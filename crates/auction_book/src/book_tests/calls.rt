@@ -172,6 +172,7 @@ pub(crate) fn offered(book: &Book, desk: &Desk, person: Person) -> Offer
 
 // The same from the table of a worker, if there is one.
 pub(crate) fn offer_of(office: &Office, worker: u16, person: u16) -> Option<Offer> {
+    office.book.invariant();
     let desk = office.desks.get((worker as usize).wrapping_sub(1))?;
     let person = Person(number(office.book.scaled().n(), person));
     Some(offered(&office.book, desk, person))
