@@ -1,0 +1,31 @@
+-- Answers fit into rooms of one place for each person.
+use Rattle.std.proofs.Common.{◌≡◌, ℕ, zero, suc, ◌<◌, ◌≤◌, ◌+◌, List, [], ◌∷◌, ◌++◌, length, slice_index, drop, map, ap, ◌∙◌, add-one, arith}
+use Rattle.std.specs.List.{All}
+use Rattle.std.specs.List.Sorted.{IsStrictlyIncreasing}
+use Rattle.std.proofs.lemmas.List.{append-nil, map-id}
+use Rattle.std.proofs.Math.ListN.{drop_of_length-le}
+use Rattle.assign_core.specs.Numbered.{IsNumber}
+
+-- of numbers from 1 on that rise, that at place k is above k
+above_place : (xs : List ℕ) (n k : ℕ) → IsStrictlyIncreasing xs → All (IsNumber n) xs → k < length xs → k < slice_index xs k
+above_place xs n zero rise within lt = (within 0 0 lt).first
+above_place xs n (suc k) rise within lt =
+    let before : k < slice_index xs k = above_place xs n k rise within (omega arith) in
+    let up : slice_index xs k < slice_index xs (k + 1) = rise k (omega arith) in
+    let next = ap (slice_index xs) (add-one k) in
+    omega arith
+
+-- of numbers from 1 to n that rise there are at most n
+pub few_rise : (xs : List ℕ) (n : ℕ) → IsStrictlyIncreasing xs → All (IsNumber n) xs → length xs ≤ n
+few_rise [] n rise within = omega arith
+few_rise (x ∷ xs) n rise within =
+    let last = above_place (x ∷ xs) n (length xs) rise within (omega arith) in
+    let number = within (length xs) 0 (omega arith) in
+    let most : slice_index (x ∷ xs) (length xs) ≤ n = number.last in
+    omega arith
+
+-- numbers that fill a room
+pub filled : (room old xs : List ℕ) → length old ≡ length xs → room ≡ map (λ x. x) xs ++ drop (length xs) old → room ≡ xs
+filled room old xs long is =
+    let none : drop (length xs) old ≡ [] = drop_of_length-le old (omega arith) in
+    is ∙ ap (λ l. map (λ x. x) xs ++ l) none ∙ append-nil (map (λ x. x) xs) ∙ map-id xs

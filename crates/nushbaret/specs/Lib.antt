@@ -1,0 +1,5 @@
+pub mod Prices
+pub mod Given
+pub mod Faults
+pub mod Ends
+pub mod Checks

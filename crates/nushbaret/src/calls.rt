@@ -1,0 +1,217 @@
+// The calls, as `c/nushbaret.h` declares them.
+ghost use Rattle.std.specs.Prelude.{[], ◌∷◌, ◌⊎◌, length, map};
+ghost use Rattle.nushbaret.specs.Checks.{IsHallJudged, IsJudged, IsRefused};
+ghost use Rattle.nushbaret.specs.Ends.{IsTold, rooms};
+ghost use Rattle.nushbaret.specs.Given.{dense, either, sparse};
+ghost use Rattle.nushbaret.specs.Prices.{price_in};
+
+use crate::check::{hall_verdict_on, tell_hall_verdict, tell_verdict, verdict_on};
+use crate::end::refuse;
+use crate::form::{Form, form_of};
+use crate::given::Given;
+use crate::halves::Halves;
+use crate::solve::solve_given;
+use crate::told::Told;
+use std::alloc::Global;
+
+/// Solves a dense problem: `n` persons, `n` objects, and the cost of each pair, row by row.
+#[unsafe(no_mangle)]
+pub extern "C" fn nushbaret_dense(
+    alloc: Global,
+    sense: u32,
+    n: usize,
+    costs: &[i64],
+    objects: &mut [u16],
+    persons: &mut [u16],
+    prices: &mut [Halves],
+    told: &mut Told,
+) -> i32
+    ensures { IsTold
+        (dense sense n (length objects.old ∷ length persons.old ∷ length prices.old ∷ []) costs.now [])
+        (rooms objects.old persons.old prices.old told.old)
+        (rooms objects.new persons.new prices.new told.new) result }
+{
+    let lengths = [objects.len(), persons.len(), prices.len()];
+    let given = Given {
+        form: Form::Dense,
+        sense,
+        n,
+        lengths: &lengths,
+        persons: &[],
+        objects: &[],
+        costs,
+        first: &[],
+    };
+    solve_given(alloc, &given, objects, persons, prices, told)
+}
+
+/// Solves a dense problem from first prices on.
+#[unsafe(no_mangle)]
+pub extern "C" fn nushbaret_dense_from(
+    alloc: Global,
+    sense: u32,
+    n: usize,
+    costs: &[i64],
+    first: &[Halves],
+    objects: &mut [u16],
+    persons: &mut [u16],
+    prices: &mut [Halves],
+    told: &mut Told,
+) -> i32
+    ensures { IsTold
+        (dense sense n
+        (length objects.old ∷ length persons.old ∷ length prices.old ∷ length first.now ∷ [])
+        costs.now first.now)
+        (rooms objects.old persons.old prices.old told.old)
+        (rooms objects.new persons.new prices.new told.new) result }
+{
+    let lengths = [objects.len(), persons.len(), prices.len(), first.len()];
+    let given = Given {
+        form: Form::Dense,
+        sense,
+        n,
+        lengths: &lengths,
+        persons: &[],
+        objects: &[],
+        costs,
+        first,
+    };
+    solve_given(alloc, &given, objects, persons, prices, told)
+}
+
+/// Solves a sparse problem: `n` persons, `n` objects, and the persons, the objects and the costs of
+/// the pairs that are listed.
+#[unsafe(no_mangle)]
+pub extern "C" fn nushbaret_sparse(
+    alloc: Global,
+    sense: u32,
+    n: usize,
+    of_persons: &[u16],
+    of_objects: &[u16],
+    costs: &[i64],
+    objects: &mut [u16],
+    persons: &mut [u16],
+    prices: &mut [Halves],
+    told: &mut Told,
+) -> i32
+    ensures { IsTold
+        (sparse sense n (length objects.old ∷ length persons.old ∷ length prices.old ∷ [])
+        of_persons.now of_objects.now costs.now [])
+        (rooms objects.old persons.old prices.old told.old)
+        (rooms objects.new persons.new prices.new told.new) result }
+{
+    let lengths = [objects.len(), persons.len(), prices.len()];
+    let given = Given {
+        form: Form::Sparse,
+        sense,
+        n,
+        lengths: &lengths,
+        persons: of_persons,
+        objects: of_objects,
+        costs,
+        first: &[],
+    };
+    solve_given(alloc, &given, objects, persons, prices, told)
+}
+
+/// Solves a sparse problem from first prices on.
+#[unsafe(no_mangle)]
+pub extern "C" fn nushbaret_sparse_from(
+    alloc: Global,
+    sense: u32,
+    n: usize,
+    of_persons: &[u16],
+    of_objects: &[u16],
+    costs: &[i64],
+    first: &[Halves],
+    objects: &mut [u16],
+    persons: &mut [u16],
+    prices: &mut [Halves],
+    told: &mut Told,
+) -> i32
+    ensures { IsTold
+        (sparse sense n
+        (length objects.old ∷ length persons.old ∷ length prices.old ∷ length first.now ∷ [])
+        of_persons.now of_objects.now costs.now first.now)
+        (rooms objects.old persons.old prices.old told.old)
+        (rooms objects.new persons.new prices.new told.new) result }
+{
+    let lengths = [objects.len(), persons.len(), prices.len(), first.len()];
+    let given = Given {
+        form: Form::Sparse,
+        sense,
+        n,
+        lengths: &lengths,
+        persons: of_persons,
+        objects: of_objects,
+        costs,
+        first,
+    };
+    solve_given(alloc, &given, objects, persons, prices, told)
+}
+
+/// Holds an assignment with its prices against a problem. The problem is dense where there is no
+/// list of pairs but there are costs, and else sparse.
+#[unsafe(no_mangle)]
+pub extern "C" fn nushbaret_check(
+    alloc: Global,
+    sense: u32,
+    n: usize,
+    of_persons: &[u16],
+    of_objects: &[u16],
+    costs: &[i64],
+    objects: &[u16],
+    prices: &[Halves],
+    told: &mut Told,
+) -> i32
+    ensures { let given = either sense n of_persons.now of_objects.now costs.now in
+        IsJudged given objects.now (map price_in prices.now) told.old told.new result
+        ⊎ IsRefused given told.old told.new result }
+{
+    let given = Given {
+        form: form_of(of_persons, of_objects, costs),
+        sense,
+        n,
+        lengths: &[],
+        persons: of_persons,
+        objects: of_objects,
+        costs,
+        first: &[],
+    };
+    match verdict_on(alloc, &given, objects, prices) {
+        Ok(verdict) => tell_verdict(verdict, told),
+        Err(fault) => refuse(fault, told),
+    }
+}
+
+/// Holds a Hall set against a problem, which is dense or sparse as in `nushbaret_check`.
+#[unsafe(no_mangle)]
+pub extern "C" fn nushbaret_check_hall(
+    alloc: Global,
+    n: usize,
+    of_persons: &[u16],
+    of_objects: &[u16],
+    costs: &[i64],
+    persons: &[u16],
+    objects: &[u16],
+    told: &mut Told,
+) -> i32
+    ensures { let given = either 0 n of_persons.now of_objects.now costs.now in
+        IsHallJudged given persons.now objects.now told.old told.new result
+        ⊎ IsRefused given told.old told.new result }
+{
+    let given = Given {
+        form: form_of(of_persons, of_objects, costs),
+        sense: 0,
+        n,
+        lengths: &[],
+        persons: of_persons,
+        objects: of_objects,
+        costs,
+        first: &[],
+    };
+    match hall_verdict_on(alloc, &given, persons, objects) {
+        Ok(verdict) => tell_hall_verdict(verdict, told),
+        Err(fault) => refuse(fault, told),
+    }
+}

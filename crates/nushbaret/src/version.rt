@@ -1,0 +1,20 @@
+// Which version this is.
+ghost use Rattle.std.specs.Prelude.{◌≡◌, ◌++◌, ◌∷◌, [], ◌<◌, ◌≤◌, codes, drop, length};
+
+// The version, as `NUSHBARET_VERSION` in the header, with the 0 that ends a text in C.
+const VERSION: [u8; 6] = *b"1.0.0\0";
+
+/// The length of the version's text. Where the room has a place more than that, the text and a 0 stand at
+/// its beginning then; else it is as it was.
+#[unsafe(no_mangle)]
+pub extern "C" fn nushbaret_version(room: &mut [u8]) -> usize
+    ensures long { result ≡ 5 }
+    ensures text { 5 < length room.old → room.new ≡ codes "1.0.0" ++ 0 ∷ drop 6 room.old }
+    ensures short { length room.old ≤ 5 → room.new ≡ room.old }
+{
+    if room.len() > 5 {
+        let (text, _) = room.split_at_mut(6);
+        text.copy_from_slice(&VERSION);
+    }
+    5
+}
