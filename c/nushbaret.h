@@ -12,7 +12,7 @@
    - What a call writes (each list that isn't const, and `told`) overlaps nothing else that is passed to it, and while
      the call runs nobody else reads or writes it; nobody changes what it reads.
    - malloc, realloc and free are those of the C library, or any three that belong together and align as C says.
-   - The thread has 64 KB of stack left. No call is made from a signal handler, nor in the child of a fork of a
+   - The thread has 32 KB of stack left (calls were seen to take a third of it). No call is made from a signal handler, nor in the child of a fork of a
      process that had several threads.
 
    That is all: the numbers in the lists, the counts, n and the sense may have any value, and a call says by its

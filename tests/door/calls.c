@@ -322,7 +322,7 @@ int main(void) {
     refused(c, NUSHBARET_HALL, check_hall, "check_hall");
     /* The threads' own stack takes what the header names beside what this program's functions take. */
     pthread_attr_init(&attributes);
-    WANT(pthread_attr_setstacksize(&attributes, 96 << 10) == 0);
+    WANT(pthread_attr_setstacksize(&attributes, 48 << 10) == 0);
     for (t = 0; t < 8; t++) {
         seeds[t] = t + 1;
         WANT(pthread_create(&threads[t], &attributes, many, &seeds[t]) == 0);

@@ -1,5 +1,5 @@
 // What a caller gives.
-ghost use Rattle.std.specs.Prelude.{◌≡◌, ◌*◌, ◌≤◌, ◌↔◌, IsTrue};
+ghost use Rattle.std.specs.Prelude.{◌≡◌, ◌*◌, ◌↔◌, IsTrue};
 ghost use Rattle.assign_core.specs.Rows.{IsSize};
 ghost use Rattle.nushbaret.specs.Given.{GivenLists, HasPairs};
 

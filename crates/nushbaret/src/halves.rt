@@ -1,5 +1,5 @@
 // Prices in two halves, since no call takes numbers of 128 bits.
-ghost use Rattle.std.specs.Prelude.{◌≡◌, ◌≤ℤ◌, pos};
+ghost use Rattle.std.specs.Prelude.{◌≡◌};
 ghost use Rattle.assign_core.specs.Prices.{IsPrice};
 ghost use Rattle.nushbaret.specs.Prices.{price_in};
 

@@ -1,5 +1,5 @@
 // Whether what a caller gives is a problem.
-ghost use Rattle.std.specs.Prelude.{◌≡◌, ◌<◌, ◌*◌, ◌↔◌, ℕ, Some, None, IsTrue, length, All, MatchOption, IfOk, IfErr, OnOk};
+ghost use Rattle.std.specs.Prelude.{◌≡◌, ◌<◌, ◌↔◌, ℕ, Some, None, IsTrue, length, All, MatchOption, IfOk, IfErr, OnOk};
 ghost use Rattle.assign_core.specs.Numbered.{IsNumber};
 ghost use Rattle.assign_core.specs.Rows.{IsCost, IsSize};
 ghost use Rattle.nushbaret.specs.Given.{sense_of};

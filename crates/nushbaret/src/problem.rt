@@ -1,5 +1,5 @@
 // The problem that a caller gives.
-ghost use Rattle.std.specs.Prelude.{◌≡◌, ℕ, ℤ, ◌<◌, length, slice_index_or, IfOk};
+ghost use Rattle.std.specs.Prelude.{◌≡◌, length, IfOk};
 ghost use Rattle.nushbaret.specs.Faults.{IsWhole};
 ghost use Rattle.nushbaret.specs.Given.{HasRows, triples_of};
 

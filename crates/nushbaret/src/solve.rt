@@ -3,8 +3,8 @@ ghost use Rattle.std.specs.Prelude.{◌≡◌, All, IfErr, IfOk, OnErr, length};
 ghost use Rattle.std.specs.Arc.{arc_value};
 ghost use Rattle.assign_core.specs.Outcomes.{IsProof};
 ghost use Rattle.nushbaret.specs.Ends.{HoldsEnd, IsAnswered, IsTold, rooms};
-ghost use Rattle.nushbaret.specs.Faults.{HasFault, IsWhole};
-ghost use Rattle.nushbaret.specs.Given.{HasLengths, HasRows};
+ghost use Rattle.nushbaret.specs.Faults.{HasFault};
+ghost use Rattle.nushbaret.specs.Given.{HasLengths};
 ghost use Rattle.nushbaret.specs.Prices.{IsFirst};
 
 use crate::end::{End, answer};

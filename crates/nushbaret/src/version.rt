@@ -1,5 +1,5 @@
 // Which version this is.
-ghost use Rattle.std.specs.Prelude.{◌≡◌, ◌++◌, ◌∷◌, [], ◌<◌, ◌≤◌, codes, drop, length};
+ghost use Rattle.std.specs.Prelude.{◌≡◌, ◌++◌, ◌∷◌, ◌<◌, ◌≤◌, codes, drop, length};
 
 // The version, as `NUSHBARET_VERSION` in the header, with the 0 that ends a text in C.
 const VERSION: [u8; 6] = *b"1.0.0\0";

@@ -1,0 +1,48 @@
+#!/usr/bin/env bash
+# Builds the library for C, compares its header with the crate, and calls it from C and from C++: worked and drawn
+# problems, each fault and each code, each growth refused, eight threads at a time; once more with the compiler's own
+# checks of addresses and of undefined behaviour on the C side, where cc has them. Prints what differs.
+# Wants the kit, cc, c++ and python3: tests/door.sh
+set -euo pipefail
+top=$(cd "$(dirname "$0")/.." && pwd)
+work=$(mktemp -d)
+trap 'rm -rf "$work"' EXIT
+failed=0
+
+# run NAME COMMAND..: what it prints is shown where it fails.
+run() {
+    local name=$1
+    shift
+    if ! "$@" > "$work/log" 2>&1; then
+        echo "$name:"
+        tail -20 "$work/log"
+        failed=$((failed + 1))
+    fi
+}
+
+"$top/c/build.sh"
+archive=$top/c/out/libnushbaret.a
+run header python3 "$top/tests/door/header.py"
+
+flags=(-O1 -Wall -Wextra -Werror "-I$top/c" -pthread)
+wrapped=(-Wl,--wrap=malloc,--wrap=realloc,--wrap=free)
+calls=$top/tests/door/calls.c
+c99=(-std=c99 -D_POSIX_C_SOURCE=200809L)
+run 'C99: build' cc "${c99[@]}" "${flags[@]}" "$calls" "$archive" "${wrapped[@]}" -o "$work/calls"
+run 'C99' "$work/calls"
+run 'C++11: build' c++ -x c++ -std=c++11 "${flags[@]}" "$calls" -x none "$archive" "${wrapped[@]}" -o "$work/calls_as_cpp"
+run 'C++11' "$work/calls_as_cpp"
+if echo 'int main(void) { return 0; }' | cc -fsanitize=address,undefined -x c - -o "$work/empty" 2> /dev/null; then
+    run 'checked: build' cc "${c99[@]}" "${flags[@]}" -fsanitize=address,undefined -fno-sanitize-recover=all "$calls" "$archive" "${wrapped[@]}" -o "$work/checked"
+    run 'checked' "$work/checked"
+fi
+
+# The worked example, over the shared library.
+run 'example: build' cc -std=c99 "${flags[@]}" "$top/c/example.c" -L"$top/c/out" -lnushbaret -Wl,-rpath,"$top/c/out" -o "$work/example"
+run 'example' "$work/example"
+wanted=$'cost 5: person 1 has object 2, person 2 has object 1\nproved best'
+if [ "$("$work/example" 2> /dev/null)" != "$wanted" ]; then
+    echo 'example: another answer'
+    failed=$((failed + 1))
+fi
+[ "$failed" = 0 ]

@@ -1,0 +1,89 @@
+#!/usr/bin/env python3
+"""Compares the header for C, the names that the built library shows, and the crate: signatures, structs, codes, version.
+Prints what differs and ends with 1 then. Wants the built library (c/build.sh)."""
+import pathlib
+import re
+import subprocess
+import sys
+
+TOP = pathlib.Path(__file__).resolve().parent.parent.parent
+CRATE = TOP / "crates/nushbaret"
+HEADER = re.sub(r"/\*.*?\*/", "", (TOP / "c/nushbaret.h").read_text(), flags=re.S)
+NUMBERS = {"u8": "uint8_t", "u16": "uint16_t", "u32": "uint32_t", "u64": "uint64_t", "usize": "size_t", "i32": "int32_t", "i64": "int64_t",
+           "Halves": "struct nushbaret_price", "Told": "struct nushbaret_told"}
+# What a code's variant is called in the header, where that isn't its own name.
+CALLED = {"Verdict::Length": "ANSWER_LENGTH", "Verdict::PriceRange": "PRICE_RANGE", "HallVerdict::Range": "HALL_RANGE", "HallVerdict::Order": "HALL_ORDER",
+          "HallVerdict::Missing": "HALL_MISSING", "HallVerdict::Extra": "HALL_EXTRA", "HallVerdict::Count": "HALL_COUNT"}
+differ = []
+
+
+def compare(what, header, crate):
+    if header != crate:
+        differ.append(f"{what}: the header has {header}, the crate {crate}")
+
+
+def parameters(text):
+    """A crate's parameters as the header writes them: a slice is an address and a count, and `Global` is nothing."""
+    for name, kind in re.findall(r"(\w+): ([^,]+)", text):
+        many = re.fullmatch(r"&(mut )?\[(\w+)\]", kind)
+        one = re.fullmatch(r"&mut (\w+)", kind)
+        if many:
+            yield f"{'' if many[1] else 'const '}{NUMBERS[many[2]]} *{name}"
+            yield f"size_t {name}_count"
+        elif one:
+            yield f"{NUMBERS[one[1]]} *{name}"
+        elif kind != "Global":
+            yield f"{NUMBERS[kind]} {name}"
+
+
+def crate_calls():
+    for file in sorted((CRATE / "src").glob("*.rt")):
+        for name, inside, result in re.findall(r'extern "C" fn (\w+)\((.*?)\) -> (\w+)', file.read_text(), flags=re.S):
+            yield name, (NUMBERS[result], list(parameters(inside)))
+
+
+def header_calls():
+    for result, name, inside in re.findall(r"^(\w+) (nushbaret_\w+)\((.*?)\);", HEADER, flags=re.S | re.M):
+        yield name, (result, [" ".join(one.split()) for one in inside.split(",")])
+
+
+def crate_codes():
+    for file in ["end.rt", "check.rt"]:
+        text = (CRATE / "src" / file).read_text()
+        for kind, variant, number in re.findall(r"(Fault|End|HallVerdict|Verdict)::(\w+)(?:\([^)]*\))?\)? => (?:\{[^}]*?\n\s*)?(\d+)[,\n]", text):
+            if variant != "Yes":
+                yield CALLED.get(f"{kind}::{variant}", variant.upper()), int(number)
+
+
+def fields(struct):
+    body = re.search(rf"struct {struct} \{{(.*?)\}}", HEADER, flags=re.S)[1]
+    return [tuple(line.split()) for line in body.split(";") if line.strip()]
+
+
+def crate_fields(file, struct):
+    text = (CRATE / "src" / file).read_text()
+    body = re.search(rf"#\[repr\(C\)\]\n(?:#\[.*\]\n)*pub struct {struct} \{{(.*?)\n\}}", text, flags=re.S)[1]
+    return [(NUMBERS[kind], name) for name, kind in re.findall(r"pub (\w+): (\w+)", body)]
+
+
+calls, declared = dict(crate_calls()), dict(header_calls())
+compare("calls", sorted(declared), sorted(calls))
+for name in sorted(calls.keys() & declared.keys()):
+    compare(name, declared[name], calls[name])
+compare("codes", dict(sorted((name, int(code)) for name, code in re.findall(r"NUSHBARET_(\w+) = (\d+)", HEADER))), dict(sorted(crate_codes())))
+compare("nushbaret_price", fields("nushbaret_price"), crate_fields("halves.rt", "Halves"))
+compare("nushbaret_told", fields("nushbaret_told"), crate_fields("told.rt", "Told"))
+text = (TOP / "crates/assign_core/src/numbers.rt").read_text().replace("_", "")
+for name in ["MOST_PERSONS", "GREATEST_COST"]:
+    compare(name, int(re.search(rf"NUSHBARET_{name} (?:INT64_C\()?(\d+)", HEADER)[1]), int(re.search(rf"{name.replace('_', '')}: \w+ = (\d+)", text)[1]))
+version = re.search(r'b"([\d.]+)\\0"', (CRATE / "src/version.rt").read_text())[1]
+compare("version", re.search(r'NUSHBARET_VERSION "(.*)"', HEADER)[1], version)
+mapped = re.findall(r"^\s+(nushbaret_\w+);", (TOP / "c/exports.map").read_text(), flags=re.M)
+compare("exports.map", sorted(mapped), sorted(calls))
+shown = subprocess.run(["nm", "-D", "--defined-only", TOP / "c/out/libnushbaret.so"], capture_output=True, text=True, check=True).stdout
+compare("the shared library's names", sorted(line.split()[-1] for line in shown.splitlines()), sorted(calls))
+shown = subprocess.run(["nm", "-g", "--defined-only", TOP / "c/out/libnushbaret.a"], capture_output=True, text=True, check=True).stdout
+compare("the archive's names", sorted(line.split()[-1] for line in shown.splitlines() if " " in line), sorted(calls))
+for line in differ:
+    print(line)
+sys.exit(bool(differ))
