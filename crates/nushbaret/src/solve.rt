@@ -1,6 +1,7 @@
 // From what is given to an answer in the caller's rooms.
 ghost use Rattle.std.specs.Prelude.{◌≡◌, All, IfErr, IfOk, OnErr, length};
 ghost use Rattle.std.specs.Arc.{arc_value};
+ghost use Rattle.assign_core.specs.Assignment.{IsAssignment, total};
 ghost use Rattle.assign_core.specs.Outcomes.{IsProof};
 ghost use Rattle.nushbaret.specs.Ends.{HoldsEnd, IsAnswered, IsTold, rooms};
 ghost use Rattle.nushbaret.specs.Faults.{HasFault};
@@ -15,7 +16,7 @@ use crate::judge::judge;
 use crate::problem::problem_of;
 use crate::rooms::{first_prices, put_numbers, put_prices};
 use crate::told::Told;
-use assign_core::{Outcome, Problem, Sense, slack_means_best};
+use assign_core::{Assignment, Outcome, Problem, Sense, slack_means_best};
 use rounds::{solve_rounds_alone, solve_rounds_alone_from};
 use scaled_values::{Scaled, scale};
 use std::alloc::{AllocError, Global};
@@ -36,6 +37,14 @@ fn outcome_of(alloc: Global, scaled: Arc<Scaled>, first: &[Halves]) -> Result<Ou
         Ok(outcome) => Ok(outcome),
         Err(_) => Err(AllocError),
     }
+}
+
+// Tells the sum of the costs of an assignment.
+fn tell_sum(problem: &Problem, assignment: &Assignment, told: &mut Told)
+    requires { IsAssignment problem.now assignment.now }
+    ensures { told.new ≡ record told.old { total = total problem.now assignment.now } }
+{
+    told.total = problem.total(assignment);
 }
 
 // Writes an answer that is a proof.
@@ -63,7 +72,7 @@ fn give(
         Outcome::Best(best) => {
             put_numbers(objects, best.assignment.objects());
             put_prices(prices, best.prices.as_slice());
-            told.total = problem.total(&best.assignment);
+            tell_sum(problem, &best.assignment, told);
             End::Best
         }
         Outcome::Hall(hall) => {

@@ -1,5 +1,4 @@
-use Rattle.std.proofs.Common.{◌≡◌, ℕ, ℤ, List, length, map, refl, sym, subst, ap, ◌∙◌, arith, rules, SFits, to_z, of_z, w64}
-use Rattle.std.proofs.lemmas.Int.{to_z-of_z}
+use Rattle.std.proofs.Common.{◌≡◌, ℕ, ℤ, List, length, map, refl, sym, subst, ap, ◌∙◌, arith}
 use Rattle.assign_core.specs.Assignment.{IsBest, total}
 use Rattle.assign_core.specs.Slackness.{IsCertificate}
 use Rattle.nushbaret.specs.Prices.{price_in}
@@ -33,11 +32,9 @@ returns-in-Best c =
     let room : c.put_numbers.new.room ≡ xs = filled c.put_numbers.new.room c.args.objects.now c.objects.result.now (omega (arith, c.requires.objects)) c.put_numbers.ensures ∙ c.objects.ensures.objects in
     let prices = c.put_prices.ensures ∙ c.as_slice.ensures.prices in
     let best = c.slack_means_best.ensures sense rows xs c.in-Best.best.prices c.n-persons.ensures.problem proof.assigned proof.slack in
-    let fits : SFits w64 c.total-told.result = search rules in
-    let sum : to_z w64 (of_z w64 c.total-told.result) ≡ total rows c.put_numbers.new.room = simp to_z-of_z (c.total-told.ensures ∙ ap (total rows) (sym room)) in
     record {
       proof = subst (λ (ys : List ℕ). IsCertificate sense rows ys (map price_in c.put_prices.new.room)) (sym room) (subst (λ (ps : List ℤ). IsCertificate sense rows xs ps) (sym prices) proof);
       best = subst (λ (ys : List ℕ). IsBest sense rows ys) (sym room) best;
-      sum = ap (λ (t : ℤ). record c.args.told.now { total = t }) sum;
+      sum = c.tell_sum.ensures ∙ ap (λ (ys : List ℕ). record c.args.told.now { total = total rows ys }) (sym room);
       persons = refl;
     }
