@@ -1,4 +1,4 @@
--- First prices are a table of prices, none too great.
+-- First prices are a table of prices.
 use Rattle.std.proofs.Common.{ℤ, List, length, map, pos, ◌≤◌, ◌≤ℤ◌, arith, Result, Ok, Err, IfOk}
 use Rattle.std.specs.List.{All}
 use Rattle.std.proofs.lemmas.Int.{ints}
@@ -11,11 +11,6 @@ use Rattle.scaled_values.specs.Scaled.{greatest_of}
 use Rattle.nushbaret.specs.declared.halves.Halves.{Halves}
 use Rattle.nushbaret.specs.Prices.{IsFirst, IsFirstPrice, price_in}
 
--- what follows from what holds of a success holds of it
-pub if_ok : {T E : Type 0} (r : Result T E) (P Q : T → Type 0) → IfOk r P → ((v : T) → P v → Q v) → IfOk r Q
-if_ok (Ok v) P Q h f = f v h
-if_ok (Err e) P Q h f = tt
-
 within : (p : ℤ) → IsFirstPrice p → IsPrice p
 within p h = record { least = h.least; below = omega (arith, ints, h.greatest) }
 
@@ -27,9 +22,3 @@ table_of first few low = record {
   few = rw length-map few;
   each = each_within (map price_in first) (All-map IsFirstPrice price_in first low);
 }
-
-pub low_greatest : (first : List Halves) → All IsFirst first → greatest_of (map price_in first) ≤ℤ GREATEST_FIRST_PRICE
-low_greatest first low =
-    let zero : IsFirstPrice (pos 0) = record { least = omega (arith, ints); greatest = omega (arith, ints) } in
-    let all : IsFirstPrice (greatest_of (map price_in first)) = greatest_holds IsFirstPrice (map price_in first) zero (All-map IsFirstPrice price_in first low) in
-    all.greatest

@@ -1,11 +1,10 @@
 // Answers into a caller's rooms, and lists out of them.
-ghost use Rattle.std.specs.Prelude.{◌≡◌, ◌≤◌, ◌≤ℤ◌, ◌++◌, All, IfOk, drop, length, map};
+ghost use Rattle.std.specs.Prelude.{◌≡◌, ◌≤◌, ◌++◌, All, IfOk, drop, length, map};
 ghost use Rattle.assign_core.specs.Prices.{IsPrice};
 ghost use Rattle.nushbaret.specs.Prices.{IsFirst, price_in};
-ghost use Rattle.scaled_values.specs.Scaled.{greatest_of};
 
 use crate::halves::Halves;
-use assign_core::{GREATEST_FIRST_PRICE, MOST_PERSONS, Numbered, Price, Prices};
+use assign_core::{MOST_PERSONS, Numbered, Price, Prices};
 use std::alloc::{AllocError, Global};
 
 /// Writes the numbers of persons or objects at the beginning of a room.
@@ -55,8 +54,7 @@ pub fn prices_of(alloc: Global, halves: &[Halves]) -> Result<Vec<Price>, AllocEr
 pub fn first_prices(alloc: Global, first: &[Halves]) -> Result<Prices, AllocError>
     requires few { length first.now ≤ MOST_PERSONS }
     requires low { All IsFirst first.now }
-    ensures long { IfOk result (λ prices. length prices ≡ length first.now) }
-    ensures low { IfOk result (λ prices. greatest_of prices ≤ℤ GREATEST_FIRST_PRICE) }
+    ensures { IfOk result (λ prices. length prices ≡ length first.now) }
 {
     let values = prices_of(alloc, first)?;
     Prices::new(alloc, values)

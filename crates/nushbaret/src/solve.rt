@@ -17,8 +17,8 @@ use crate::problem::problem_of;
 use crate::rooms::{first_prices, put_numbers, put_prices};
 use crate::told::Told;
 use assign_core::{Assignment, Outcome, Problem, Sense, slack_means_best};
-use rounds::{solve_rounds_alone, solve_rounds_alone_from};
 use scaled_values::{Scaled, scale};
+use shortest_paths::{solve_paths, solve_paths_from};
 use std::alloc::{AllocError, Global};
 use std::sync::Arc;
 
@@ -29,9 +29,9 @@ fn outcome_of(alloc: Global, scaled: Arc<Scaled>, first: &[Halves]) -> Result<Ou
 {
     let found = if first.len() == scaled.n() as usize {
         let prices = first_prices(alloc, first)?;
-        solve_rounds_alone_from(alloc, scaled, prices)
+        solve_paths_from(alloc, scaled, prices)
     } else {
-        solve_rounds_alone(alloc, scaled)
+        solve_paths(alloc, scaled)
     };
     match found {
         Ok(outcome) => Ok(outcome),
