@@ -1,15 +1,13 @@
-// Bids without slackness: a person takes its best object and raises the price to what leaves it as
-// good as the second best (augmenting row reduction; Jonker and Volgenant, A shortest augmenting path
-// algorithm for dense and sparse linear assignment problems, 1987).
+// Bids: a person takes its best object and raises the price to what leaves it as good as the second
+// best, or by eps more. Without eps it is the augmenting row reduction of Jonker and Volgenant (A
+// shortest augmenting path algorithm for dense and sparse linear assignment problems, 1987), with it
+// Bertsekas's auction.
 ghost use Rattle.std.specs.Prelude.{◌≡◌, length};
 
 use super::market::Market;
 use super::rows::{place_of, row_at};
 use assign_core::{Benefit, Object};
 use scaled_values::{Row, Scaled};
-
-// So many bids for each person, all together.
-const BIDS_A_PERSON: usize = 4;
 
 // The two best objects of a person, with their values.
 #[derive(Clone, Copy)]
@@ -91,18 +89,17 @@ enum Came {
     Evicted(usize),
 }
 
-// One bid of a person that owns nothing. Where the two best are worth as much, the price stays, and
-// nobody is evicted.
-fn bid(market: &mut Market, two: Two, person: usize) -> Came
+// One bid of a person that owns nothing. Where the price stays nobody is evicted.
+fn bid(market: &mut Market, two: Two, person: usize, eps: i64) -> Came
     ensures { length market.new.prices.items ≡ length market.old.prices.items }
 {
     let Some(best) = two.object else {
         return Came::Done;
     };
     let raise = if two.second == i64::MIN {
-        0
+        eps
     } else {
-        two.best.wrapping_sub(two.second)
+        two.best.wrapping_sub(two.second).wrapping_add(eps)
     };
     let object = match two.other {
         Some(other) if raise == 0 && market.owner(best).is_some() => other,
@@ -124,14 +121,14 @@ fn bid(market: &mut Market, two: Two, person: usize) -> Came
 }
 
 // Bids of a person and of those that are evicted, at most so many. What is left of these.
-fn bid_on(scaled: &Scaled, market: &mut Market, first: usize, most: usize) -> usize
+fn bid_on(scaled: &Scaled, market: &mut Market, first: usize, eps: i64, most: usize) -> usize
     requires { length market.old.prices.items ≡ length scaled.now.problem }
     ensures { length market.new.prices.items ≡ length scaled.now.problem }
 {
     let mut person = first;
     for k in 0..most {
         let two = two_of(scaled, market.prices.as_slice(), person);
-        match bid(market, two, person) {
+        match bid(market, two, person, eps) {
             Came::Done => return most - k - 1,
             Came::Evicted(other) => person = other,
         }
@@ -139,16 +136,17 @@ fn bid_on(scaled: &Scaled, market: &mut Market, first: usize, most: usize) -> us
     0
 }
 
-// Each person bids that owns nothing, and so do those that are evicted.
-pub fn bid_all(scaled: &Scaled, market: &mut Market)
+// Each person bids that owns nothing, and so do those that are evicted, with so many bids for each
+// person, all together.
+pub fn bid_all(scaled: &Scaled, market: &mut Market, eps: i64, bids_a_person: u16)
     requires { length market.old.prices.items ≡ length scaled.now.problem }
     ensures { length market.new.prices.items ≡ length scaled.now.problem }
 {
     let n = scaled.n() as usize;
-    let mut left = n * BIDS_A_PERSON;
+    let mut left = n.saturating_mul(bids_a_person as usize);
     for person in 0..n {
         if market.object(person).is_none() {
-            left = bid_on(scaled, market, person, left);
+            left = bid_on(scaled, market, person, eps, left);
         }
     }
 }

@@ -11,6 +11,12 @@ pub struct Market {
     pub objects: Vec<Option<usize>>,
 }
 
+fn clear(places: &mut [Option<usize>]) {
+    for place in places.iter_mut() {
+        *place = None;
+    }
+}
+
 impl Market {
     // Nobody owns anything.
     pub fn new(alloc: Global, prices: Vec<i64>) -> Result<Market, AllocError>
@@ -65,5 +71,13 @@ impl Market {
         if person < self.objects.len() {
             self.objects[person] = None;
         }
+    }
+
+    // Leaves everybody without an object.
+    pub fn release_all(&mut self)
+        ensures { length self.new.prices.items ≡ length self.old.prices.items }
+    {
+        clear(self.owners.as_mut_slice());
+        clear(self.objects.as_mut_slice());
     }
 }

@@ -71,13 +71,19 @@ pub fn usual_prices(alloc: Global, scaled: &Scaled) -> Result<Vec<i64>, AllocErr
     Ok(prices)
 }
 
+// The next multiple of the step, towards 0.
+pub fn rounded(number: i64, step: i64) -> i64
+    requires { pos 0 <ℤ step }
+{
+    number.wrapping_sub(number % step)
+}
+
 // How far a price is above the least, cut and brought to a multiple of the step.
 fn cut_price(price: Price, least: Price, step: i64) -> i64
     requires { pos 0 <ℤ step }
 {
     let above = i64::try_from(price.wrapping_sub(least)).unwrap_or(PRICE_CUT);
-    let cut = above.max(0).min(PRICE_CUT);
-    cut.wrapping_sub(cut % step)
+    rounded(above.max(0).min(PRICE_CUT), step)
 }
 
 // Given prices, as far as a search can use them: it looks at differences alone.

@@ -40,6 +40,8 @@ pub enum End {
     Blocked,
     // It went wrong.
     Lost,
+    // Of no one search, but of all: more persons were scanned than were to be.
+    Long,
 }
 
 // An object isn't reached. Prices and benefits are all multiples of one number above 1, so of objects

@@ -7,7 +7,7 @@ use super::answer::{best_of, hall_of};
 use super::bids::bid_all;
 use super::market::Market;
 use super::path::{raise, walk_back};
-use super::prices::{given_prices, usual_prices};
+use super::prices::{given_prices, rounded, usual_prices};
 use super::search::{End, Search};
 use assign_core::{Outcome, Person, Prices, SolveFault};
 use rounds::solve_rounds_alone;
@@ -17,6 +17,18 @@ use std::sync::Arc;
 
 // A search looks for the nearest object in a heap where fewer than one in so many pairs are listed.
 const HEAP_BELOW: usize = 8;
+
+// Bids for each person before the searches, without slackness.
+const BIDS_BEFORE: u16 = 4;
+
+// Bids for each person in each phase of an auction, at most.
+const BIDS_A_PHASE: u16 = 64;
+
+// Where searches scan more persons than so many for each person, an auction goes first.
+const SCANS_A_PERSON: usize = 64;
+
+// The most phases of an auction: slackness falls to a fifth from one to the next.
+const PHASES: usize = 24;
 
 // Whether so few pairs are listed.
 fn is_sparse(scaled: &Scaled) -> bool {
@@ -52,29 +64,69 @@ fn augment(
     Ok(end)
 }
 
-// Each person that owns nothing gets an object, up to one that reaches none. How the search of that
-// one ended.
+// Each person that owns nothing gets an object, up to one that reaches none, or up to so many scanned
+// persons. How the search of that one ended.
 fn augment_all(
     scaled: &Scaled,
     market: &mut Market,
     search: &mut Search,
+    most: usize,
 ) -> Result<Option<End>, AllocError>
     requires costs { length search.old.costs.items ≡ length scaled.now.problem }
     requires keys { length search.old.keys.items ≡ length scaled.now.problem }
 {
+    let mut left = most;
     for person in 0..scaled.n() as usize {
         if market.object(person).is_none() {
             match augment(scaled, market, search, person)? {
-                End::Free(_) => {}
+                End::Free(_) => left = left.saturating_sub(search.scanned.len()),
                 end => return Ok(Some(end)),
+            }
+            if left == 0 {
+                return Ok(Some(End::Long));
             }
         }
     }
     Ok(None)
 }
 
-// Paths from these prices.
-fn paths_from(
+// Prices of an auction in phases of falling slackness, all multiples of n + 1. Nobody owns anything
+// afterwards.
+fn auction(scaled: &Scaled, market: &mut Market)
+    requires { length market.old.prices.items ≡ length scaled.now.problem }
+    ensures { length market.new.prices.items ≡ length scaled.now.problem }
+{
+    let step = i64::from(scaled.n()) + 1;
+    let mut eps = scaled.spread() / 5;
+    for _phase in 0..PHASES {
+        if eps >= step {
+            market.release_all();
+            bid_all(scaled, market, rounded(eps, step), BIDS_A_PHASE);
+            eps = eps / 5;
+        }
+    }
+    market.release_all();
+}
+
+// What the searches found, by how the last one ended.
+fn answer_of(
+    alloc: Global,
+    scaled: &Scaled,
+    market: &Market,
+    search: &Search,
+    end: Option<End>,
+) -> Result<Option<Outcome>, AllocError>
+    ensures { IfOk result (λ found. IfSome found (IsProof scaled.now)) }
+{
+    match end {
+        None => best_of(alloc, scaled, market),
+        Some(End::Blocked) => hall_of(alloc, scaled, search),
+        Some(_) => Ok(None),
+    }
+}
+
+// Paths from the prices of an auction that begins at these.
+fn paths_after_auction(
     alloc: Global,
     scaled: &Scaled,
     prices: Vec<i64>,
@@ -83,13 +135,31 @@ fn paths_from(
     ensures { IfOk result (λ found. IfSome found (IsProof scaled.now)) }
 {
     let mut market = Market::new(alloc, prices)?;
-    bid_all(scaled, &mut market);
+    auction(scaled, &mut market);
+    bid_all(scaled, &mut market, 0, BIDS_BEFORE);
     let mut search = Search::new(alloc, scaled.n() as usize, is_sparse(scaled))?;
-    match augment_all(scaled, &mut market, &mut search)? {
-        None => best_of(alloc, scaled, &market),
-        Some(End::Blocked) => hall_of(alloc, scaled, &search),
-        Some(_) => Ok(None),
+    let end = augment_all(scaled, &mut market, &mut search, usize::MAX)?;
+    answer_of(alloc, scaled, &market, &search, end)
+}
+
+// Paths from these prices, and where the searches turn out long once more after an auction.
+fn paths_from(
+    alloc: Global,
+    scaled: &Scaled,
+    prices: Vec<i64>,
+) -> Result<Option<Outcome>, AllocError>
+    requires { length prices.items ≡ length scaled.now.problem }
+    ensures { IfOk result (λ found. IfSome found (IsProof scaled.now)) }
+{
+    let mut market = Market::new(alloc, prices.as_slice().to_vec(alloc)?)?;
+    bid_all(scaled, &mut market, 0, BIDS_BEFORE);
+    let mut search = Search::new(alloc, scaled.n() as usize, is_sparse(scaled))?;
+    let most = scaled.n() as usize * SCANS_A_PERSON;
+    let end = augment_all(scaled, &mut market, &mut search, most)?;
+    if let Some(End::Long) = end {
+        return paths_after_auction(alloc, scaled, prices);
     }
+    answer_of(alloc, scaled, &market, &search, end)
 }
 
 /// Looks for a proof by shortest augmenting paths: a best assignment with prices that prove it, or a

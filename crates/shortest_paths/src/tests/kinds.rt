@@ -138,8 +138,10 @@ fn other_than_rounds(alloc: Global, kind: u8, n: u16) -> Result<Option<Finding>,
 #[test]
 fn kinds_beside_rounds(rt: HostRuntime) -> Result<(), Fail> {
     for kind in 0..KINDS {
+        // Searches for so many persons of kind 7 are so long that an auction goes first.
+        let n = if kind == 7 { 200 } else { 48 };
         assert_eq!(rt;
-            other_than_rounds(rt.alloc(), kind, 48)?,
+            other_than_rounds(rt.alloc(), kind, n)?,
             None,
             "kind {kind}"
         );
