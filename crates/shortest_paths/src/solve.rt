@@ -167,8 +167,8 @@ fn paths_from(
 /// leave 64 bits: with costs near `GREATEST_COST`.
 ///
 /// The prices of a best assignment are multiples of `n + 1` under which each person has slackness 0.
-/// The time is at most that of `n` searches over all listed pairs, and mostly far less. None of this
-/// is proved.
+/// The time is at most that of twice `n` searches over all listed pairs and of an auction's bids, and
+/// mostly far less. None of this is proved.
 ///
 /// # Errors
 /// Only where memory is refused.
