@@ -10,7 +10,7 @@ failed=0
 
 # Two free objects would have to be bid up to the third one's price, by 1 or 2 a bid.
 printf '3 1 1 1 1 1 1 1 1 1' > "$work/problem"
-printf 'cost 3\nassign 1 1 1\nassign 2 2 1\nassign 3 3 1\nprice 1 0\nprice 2 0\nprice 3 1000000000000000000\n' > "$work/report"
+printf 'sense min\ncost 3\nassign 1 1 1\nassign 2 2 1\nassign 3 3 1\nprice 1 0\nprice 2 0\nprice 3 1000000000000000000\n' > "$work/report"
 for mode in rounds workers; do
     status=0
     timeout --preserve-status -s INT -k 5 1 env --default-signal=INT \
