@@ -124,7 +124,8 @@ int32_t nushbaret_dense(uint32_t sense, size_t n,
     struct nushbaret_price *prices, size_t prices_count,
     struct nushbaret_told *told);
 
-/* The same, where the search begins at first prices, as those of a solved neighbour; n of them. */
+/* The same, where the search begins at first prices, as those of a solved neighbour; n of them. Whatever they are, the answer
+   is as right. */
 int32_t nushbaret_dense_from(uint32_t sense, size_t n,
     const int64_t *costs, size_t costs_count,
     const struct nushbaret_price *first, size_t first_count,

@@ -1,13 +1,11 @@
 -- First prices are a table of prices.
-use Rattle.std.proofs.Common.{ℤ, List, length, map, pos, ◌≤◌, ◌≤ℤ◌, arith, Result, Ok, Err, IfOk}
+use Rattle.std.proofs.Common.{ℤ, List, length, map, ◌≤◌, arith}
 use Rattle.std.specs.List.{All}
 use Rattle.std.proofs.lemmas.Int.{ints}
 use Rattle.std.proofs.lemmas.List.{length-map}
 use Rattle.std.proofs.lemmas.List.Elements.{All-map}
-use Rattle.assign_core.specs.declared.numbers.TheConstants.{MOST_PERSONS, GREATEST_FIRST_PRICE}
+use Rattle.assign_core.specs.declared.numbers.TheConstants.{MOST_PERSONS}
 use Rattle.assign_core.specs.Prices.{IsPrice, IsTable}
-use Rattle.scaled_values.proofs.BenefitRange.{greatest_holds}
-use Rattle.scaled_values.specs.Scaled.{greatest_of}
 use Rattle.nushbaret.specs.declared.halves.Halves.{Halves}
 use Rattle.nushbaret.specs.Prices.{IsFirst, IsFirstPrice, price_in}
 

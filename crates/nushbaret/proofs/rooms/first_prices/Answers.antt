@@ -1,4 +1,4 @@
-use Rattle.std.proofs.Common.{◌≡◌, sym, subst}
+use Rattle.std.proofs.Common.{sym, subst}
 use Rattle.assign_core.specs.Prices.{IsTable}
 use Rattle.nushbaret.proofs.Starting.{table_of}
 use Rattle.nushbaret.proofs.rooms.first_prices.Goals as goal
