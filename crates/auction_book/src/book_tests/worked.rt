@@ -279,6 +279,73 @@ fn an_old_table_hides_the_floor(rt: HostRuntime) -> Result<(), Fail> {
     Ok(())
 }
 
+// Whether worker 2, which hasn't caught up, is told today's price of object 1.
+fn low_bid_goes(alloc: Global) -> Result<bool, AllocError> {
+    let mut office = three_persons(alloc)?;
+    let first = steps_that_go(alloc, &mut office, contested().as_slice())?;
+    let low = (2, HONEST, Told::TooLow(1, 52, 60), [3, 2], [60, 0]);
+    Ok(first == 3 && goes(alloc, &mut office, low)?)
+}
+
+#[test]
+fn a_low_bid_is_told_the_price(rt: HostRuntime) -> Result<(), Fail> {
+    assert!(rt; low_bid_goes(rt.alloc())?);
+    Ok(())
+}
+
+fn low(object: u16, level: Price, price: Price) -> Told {
+    Told::TooLow(object, level, price)
+}
+
+// Two workers in turn, the second with an old table, up to the second phase's first claims.
+fn old_tables() -> [Step; 11] {
+    [
+        (1, Call::Claim, person(1, FIRST), [2, 0], [0, 0]),
+        (2, Call::Claim, person(2, FIRST), [0, 0], [0, 0]),
+        (2, HONEST, bid(1, 8, 0), [0, 0], [8, 0]),
+        (2, Call::Claim, Told::Wait, [0, 0], [8, 0]),
+        (1, HONEST, low(1, 5, 8), [1, 0], [8, 0]),
+        (1, Call::CatchUp, Told::Nothing, [1, 0], [8, 0]),
+        (1, Call::Claim, person(1, FIRST), [0, 0], [8, 0]),
+        (1, HONEST, bid(2, 7, 0), [0, 0], [8, 7]),
+        (1, Call::NextPhase, Told::Nothing, [1, 2], [8, 7]),
+        (1, Call::Claim, person(1, SECOND), [2, 0], [8, 7]),
+        (2, Call::Claim, person(2, SECOND), [0, 0], [8, 7]),
+    ]
+}
+
+fn old_tables_to_the_end() -> [Step; 14] {
+    [
+        (1, HONEST, low(2, 6, 7), [1, 0], [8, 7]),
+        (1, Call::CatchUp, Told::Nothing, [1, 0], [8, 7]),
+        (1, Call::Claim, person(1, SECOND), [0, 0], [8, 7]),
+        (2, HONEST, low(1, 7, 8), [2, 0], [8, 7]),
+        (2, Call::Claim, person(2, SECOND), [0, 0], [8, 7]),
+        (1, HONEST, bid(1, 11, 0), [0, 0], [11, 7]),
+        (1, Call::Claim, Told::Wait, [0, 0], [11, 7]),
+        (2, HONEST, low(1, 7, 11), [2, 0], [11, 7]),
+        (2, Call::CatchUp, Told::Nothing, [2, 0], [11, 7]),
+        (2, Call::Claim, person(2, SECOND), [0, 0], [11, 7]),
+        (2, HONEST, bid(1, 14, 1), [1, 0], [14, 7]),
+        (2, Call::Claim, person(1, SECOND), [0, 0], [14, 7]),
+        (2, HONEST, bid(2, 9, 0), [0, 0], [14, 9]),
+        (2, Call::Claim, Told::Done, [0, 0], [14, 9]),
+    ]
+}
+
+fn old_tables_go(alloc: Global) -> Result<bool, AllocError> {
+    let mut office = two_office(alloc, &[])?;
+    let first = steps_that_go(alloc, &mut office, old_tables().as_slice())?;
+    let second = steps_that_go(alloc, &mut office, old_tables_to_the_end().as_slice())?;
+    Ok(first == 11 && second == 14)
+}
+
+#[test]
+fn two_workers_with_old_tables(rt: HostRuntime) -> Result<(), Fail> {
+    assert!(rt; old_tables_go(rt.alloc())?);
+    Ok(())
+}
+
 const LOWERED: Ask = Ask {
     phase: 1,
     eps: 2,

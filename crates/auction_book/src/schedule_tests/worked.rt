@@ -27,24 +27,30 @@ fn event(worker: u16, catch_up: bool) -> Event {
     Event { worker, catch_up }
 }
 
-// What stands after an event: the prices of the worker's table, its prepared bid as person, object
-// and level, today's prices and their version.
-type Step = ([Price; 2], Option<(u16, u16, Price)>, [Price; 2], u128);
+// What stands after an event: the prices of the worker's table and their version, its prepared bid as
+// person, object and level, today's prices and their version.
+type Step = (
+    [Price; 2],
+    u128,
+    Option<(u16, u16, Price)>,
+    [Price; 2],
+    u128,
+);
 
 fn twelve_events() -> [(Event, Step); 12] {
     [
-        (event(1, false), ([0, 0], Some((1, 1, 5)), [0, 0], 0)),
-        (event(2, false), ([0, 0], Some((2, 1, 8)), [0, 0], 0)),
-        (event(2, false), ([0, 0], None, [8, 0], 1)),
-        (event(1, true), ([8, 0], Some((1, 2, 7)), [8, 0], 1)),
-        (event(1, false), ([8, 0], Some((1, 2, 6)), [8, 7], 2)),
-        (event(2, false), ([0, 0], Some((2, 1, 7)), [8, 7], 2)),
-        (event(1, true), ([8, 7], Some((1, 1, 11)), [8, 7], 2)),
-        (event(2, false), ([0, 0], Some((2, 1, 7)), [8, 7], 2)),
-        (event(1, false), ([8, 7], None, [11, 7], 3)),
-        (event(2, true), ([11, 7], Some((2, 1, 14)), [11, 7], 3)),
-        (event(2, false), ([11, 7], Some((1, 2, 9)), [14, 7], 4)),
-        (event(2, false), ([11, 7], None, [14, 9], 5)),
+        (event(1, false), ([0, 0], 0, Some((1, 1, 5)), [0, 0], 0)),
+        (event(2, false), ([0, 0], 0, Some((2, 1, 8)), [0, 0], 0)),
+        (event(2, false), ([0, 0], 0, None, [8, 0], 1)),
+        (event(1, true), ([8, 0], 1, Some((1, 2, 7)), [8, 0], 1)),
+        (event(1, false), ([8, 0], 1, Some((1, 2, 6)), [8, 7], 2)),
+        (event(2, false), ([0, 0], 0, Some((2, 1, 7)), [8, 7], 2)),
+        (event(1, true), ([8, 7], 2, Some((1, 1, 11)), [8, 7], 2)),
+        (event(2, false), ([0, 0], 0, Some((2, 1, 7)), [8, 7], 2)),
+        (event(1, false), ([8, 7], 2, None, [11, 7], 3)),
+        (event(2, true), ([11, 7], 3, Some((2, 1, 14)), [11, 7], 3)),
+        (event(2, false), ([11, 7], 3, Some((1, 2, 9)), [14, 7], 4)),
+        (event(2, false), ([11, 7], 3, None, [14, 9], 5)),
     ]
 }
 
@@ -56,10 +62,11 @@ fn bid_of(offer: Option<Offer>) -> Option<(u16, u16, Price)> {
 }
 
 fn is_step(world: &World, worker: u16, step: Step) -> bool {
-    let (table, bid, prices, version) = step;
+    let (table, of_table, bid, prices, version) = step;
     match world.seats.get((worker as usize).wrapping_sub(1)) {
         Some(seat) => {
             seat.table.as_slice() == table.as_slice()
+                && seat.version == of_table
                 && bid_of(seat.offer) == bid
                 && world.book.prices().as_slice() == prices.as_slice()
                 && world.book.version() == version
@@ -150,10 +157,27 @@ fn ends_between(book: &Book) -> bool {
     book.prices().as_slice() == [14, 9].as_slice() && book.version() == 5 && book.first_kept() == 2
 }
 
+fn alike(first: &Seat, second: &Seat) -> bool {
+    first.table.as_slice() == second.table.as_slice()
+        && first.version == second.version
+        && first.offer == second.offer
+        && first.accepted == second.accepted
+}
+
+fn both_alike(first: &[Seat], second: &[Seat]) -> bool {
+    match (first, second) {
+        ([a, b], [c, d]) => alike(a, c) && alike(b, d),
+        _ => false,
+    }
+}
+
+// Whether the book and all seats end as without the events between.
 fn between_end(alloc: Global) -> Result<bool, AllocError> {
+    let known = known_events(alloc)?;
+    let plain = run_two(alloc, known.as_slice())?;
     let events = events_between(alloc)?;
     let world = run_two(alloc, events.as_slice())?;
-    Ok(ends_between(&world.book))
+    Ok(ends_between(&world.book) && both_alike(world.seats.as_slice(), plain.seats.as_slice()))
 }
 
 #[test]
