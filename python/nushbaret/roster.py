@@ -1,0 +1,376 @@
+"""Rosters and plans in CSV files: persons, objects and costs by name.
+
+A roster is read in one of two forms, a line for each pair or a matrix; a plan is lines of a person and an object.
+Lines and columns are counted from 1, and a column is a cell of its line.
+"""
+import csv
+import io
+import re
+import unicodedata
+from array import array
+from typing import Dict, Iterator, List, NamedTuple, NoReturn, Optional, Set, Tuple
+
+from .exact import MOST_PLACES
+from .library import GREATEST_COST, MOST_PERSONS
+
+MOST_BYTES = 2**30
+
+SEPARATORS = ";\t,"
+LINES, MATRIX = "lines", "matrix"
+MILLION = 10**MOST_PLACES
+
+
+class RosterFault(ValueError):
+    """What is wrong in a file, and where: line and column from 1, as far as there is such a place."""
+
+    def __init__(self, path: str, text: str, line: Optional[int] = None, column: Optional[int] = None) -> None:
+        self.path, self.text, self.line, self.column = path, text, line, column
+        place = path
+        if line is not None:
+            place += f", line {line}"
+        if column is not None:
+            place += f", column {column}"
+        super().__init__(f"{place}: {text}")
+
+
+def quoted(cell: str) -> str:
+    """A cell as a message shows it: in quotes, on one line, and not too long."""
+    return repr(cell if len(cell) <= 40 else cell[:37] + "...")
+
+
+class Sheet:
+    """The records of a CSV file: UTF-8 or UTF-16, with `;`, TAB or `,` between cells, whichever its first line has most of.
+
+    Raises `OSError` where the file can't be read, and `RosterFault` where it is no text or is too long.
+    """
+
+    def __init__(self, path: str) -> None:
+        self.path = path
+        with open(path, "rb") as file:
+            data = file.read(MOST_BYTES + 1)
+        if len(data) > MOST_BYTES:
+            self.refuse(f"longer than {MOST_BYTES} bytes")
+        self.text = self._decoded(data)
+        first = self.text.split("\n", 1)[0].rstrip("\r")
+        # Spreadsheets write such a line ahead of the title to name the separator.
+        self.has_hint = re.fullmatch('"?sep=.?"?', first, re.IGNORECASE) is not None
+        hinted = first.strip('"')[4:]
+        self.separator = hinted if self.has_hint and hinted in SEPARATORS and hinted else separator_of(first)
+
+    def _decoded(self, data: bytes) -> str:
+        wide = data.startswith((b"\xff\xfe", b"\xfe\xff"))
+        try:
+            return data.decode("utf-16" if wide else "utf-8-sig")
+        except UnicodeDecodeError as error:
+            self.refuse("bytes that are no UTF-8: save the file as 'CSV UTF-8'", data.count(b"\n", 0, error.start) + 1)
+
+    def refuse(self, text: str, line: Optional[int] = None, column: Optional[int] = None) -> NoReturn:
+        """Raises the fault of this file."""
+        raise RosterFault(self.path, text, line, column)
+
+    def records(self) -> Iterator[Tuple[int, List[str]]]:
+        """The records that aren't empty, each with the number of its first line; cells without the white space around them."""
+        reader = csv.reader(io.StringIO(self.text, newline=""), delimiter=self.separator, strict=True)
+        line = 1
+        try:
+            for cells in reader:
+                cells = [cell.strip() for cell in cells]
+                if any(cells) and not (self.has_hint and line == 1):
+                    yield line, cells
+                line = reader.line_num + 1
+        except csv.Error as error:
+            self.refuse(f"no CSV: {error}", line)
+
+    def title(self) -> Tuple[int, List[str]]:
+        """The first record, without empty cells at its end."""
+        for line, cells in self.records():
+            while not cells[-1]:
+                cells.pop()
+            return line, cells
+        self.refuse("an empty file")
+
+    def body(self, width: int) -> Iterator[Tuple[int, List[str]]]:
+        """The records behind the title, each of `width` cells."""
+        records = self.records()
+        next(records)
+        for line, cells in records:
+            if len(cells) < width or any(cells[width:]):
+                hint = " (a comma inside of a cell wants quotes)" if len(cells) > width and self.separator == "," else ""
+                self.refuse(f"{len(cells)} cells, where the title line has {width}{hint}", line)
+            yield line, cells[:width]
+
+    def name(self, cell: str, line: int, column: int) -> str:
+        """A cell as a name; letters with accents are one name however they are written."""
+        if not cell:
+            self.refuse("an empty name", line, column)
+        if not cell.isprintable() and any(unicodedata.category(letter) == "Cc" for letter in cell):
+            self.refuse(f"a line break or another control character in the name {quoted(cell)}", line, column)
+        return unicodedata.normalize("NFC", cell)
+
+
+def separator_of(first: str) -> str:
+    """What stands most between the cells of a first line; `,` where nothing does."""
+    bare = re.sub('"[^"]*"', "", first)
+    most = max(SEPARATORS, key=bare.count)
+    return most if most in bare else ","
+
+
+class Names:
+    """The names of one side, numbered from 0 as they come."""
+
+    def __init__(self, sheet: Sheet, kind: str) -> None:
+        self._sheet, self._kind = sheet, kind
+        self.list: List[str] = []
+        self.numbers: Dict[str, int] = {}
+
+    def number(self, cell: str, line: int, column: int) -> int:
+        """The number of a name, a new one where it is new."""
+        number = self.numbers.get(cell)
+        if number is None:
+            name = self._sheet.name(cell, line, column)
+            number = self.numbers.get(name)
+            if number is None:
+                number = self._add(name, line, column)
+        return number
+
+    def once(self, cell: str, line: int, column: int) -> int:
+        """The number of a name that must be new."""
+        before = len(self.list)
+        number = self.number(cell, line, column)
+        if number < before:
+            self._sheet.refuse(f"the name {quoted(cell)} a second time", line, column)
+        return number
+
+    def _add(self, name: str, line: int, column: int) -> int:
+        if len(self.list) == MOST_PERSONS:
+            self._sheet.refuse(f"more than {MOST_PERSONS} {self._kind}", line, column)
+        self.list.append(name)
+        self.numbers[name] = len(self.list) - 1
+        return len(self.list) - 1
+
+
+class Costs:
+    """Costs as they are read, exactly, in millionths until it is known how many places are used."""
+
+    def __init__(self, sheet: Sheet, decimals: Optional[int], comma: bool) -> None:
+        self._sheet, self._given, self._comma = sheet, decimals, comma
+        self._plain = re.compile(r"([+-]?)([0-9]*)(?:" + ("," if comma else r"\.") + r"([0-9]*))?")
+        self._millionths = array("q")
+        self._places = 0
+        self._greatest = (0, 0, 0)
+
+    def take(self, cell: str, line: int, column: int) -> None:
+        """Takes a cell, or refuses it."""
+        found = self._plain.fullmatch(cell)
+        if found is None or not (found[2] or found[3]):
+            self._sheet.refuse(f"{quoted(cell)} is no number{self._hint(cell)}", line, column)
+        whole, part = found[2].lstrip("0"), (found[3] or "").rstrip("0")
+        most = MOST_PLACES if self._given is None else self._given
+        if len(part) > most:
+            self._sheet.refuse(f"{quoted(cell)} has more than {most} decimal places", line, column)
+        size = int((whole or "0")[:20] + part.ljust(MOST_PLACES, "0"))
+        if size > GREATEST_COST * MILLION:
+            self._out_of_range(0, line, column)
+        self._places = max(self._places, len(part))
+        self._greatest = max(self._greatest, (size, line, column), key=lambda seen: seen[0])
+        self._millionths.append(-size if found[1] == "-" else size)
+
+    def scaled(self) -> Tuple[int, array]:
+        """How many places are used or were asked for, and the costs as whole numbers of that unit."""
+        decimals = self._places if self._given is None else self._given
+        unit = 10 ** (MOST_PLACES - decimals)
+        size, line, column = self._greatest
+        if size // unit > GREATEST_COST:
+            self._out_of_range(decimals, line, column)
+        if unit == 1:
+            return decimals, self._millionths
+        return decimals, array("q", (cost // unit for cost in self._millionths))
+
+    def _hint(self, cell: str) -> str:
+        if self._comma and re.fullmatch(r"[+-]?[0-9]+\.[0-9]+", cell):
+            return " with a decimal comma"
+        if not self._comma and re.fullmatch("[+-]?[0-9]+,[0-9]+", cell):
+            return "; with --decimal-comma it may be"
+        return ""
+
+    def _out_of_range(self, decimals: int, line: int, column: int) -> NoReturn:
+        places = f" with {decimals} decimal places" if decimals else ""
+        self._sheet.refuse(f"a cost beyond {GREATEST_COST // 10**decimals}{places}", line, column)
+
+
+class Roster(NamedTuple):
+    """A problem by names. Pair k is of `persons[of_persons[k]]` and `objects[of_objects[k]]`, no pair twice; `costs[k]` is in
+    units of 10^-decimals. `titles` are the words for a person, an object and a cost."""
+
+    persons: List[str]
+    objects: List[str]
+    person_numbers: Dict[str, int]
+    object_numbers: Dict[str, int]
+    of_persons: array
+    of_objects: array
+    costs: array
+    decimals: int
+    titles: Tuple[str, str, str]
+    separator: str
+    comma: bool
+
+    def costs_of(self, wanted: Set[Tuple[int, int]]) -> Dict[Tuple[int, int], int]:
+        """The costs of those of the wanted pairs that are allowed."""
+        triples = zip(self.of_persons, self.of_objects, self.costs)
+        return {(person, object_): cost for person, object_, cost in triples if (person, object_) in wanted}
+
+    def shown(self, cost) -> str:
+        """A number of units as text, with the decimals of the roster; what isn't whole is rounded."""
+        units = round(cost)
+        whole, part = divmod(abs(units), 10**self.decimals)
+        sign = "-" if units < 0 else ""
+        point = "," if self.comma else "."
+        return f"{sign}{whole}" + (f"{point}{part:0{self.decimals}}" if self.decimals else "")
+
+
+def looks_like_number(cell: str) -> bool:
+    """Whether a cell might be meant as a number, of any make."""
+    return re.fullmatch(r"[+-]?[0-9., ']*[0-9][0-9., ']*", cell) is not None
+
+
+def form_of(sheet: Sheet) -> str:
+    """Which form a roster has; refused where it might be either."""
+    line, title = sheet.title()
+    if len(title) != 3 or not title[0]:
+        return MATRIX
+    numbers = words = 0
+    seen: Set[str] = set()
+    twice = False
+    for _, cells in sheet.body(len(title)):
+        twice = twice or cells[0] in seen
+        seen.add(cells[0])
+        if not cells[1] or looks_like_number(cells[1]):
+            numbers += 1
+        else:
+            words += 1
+    if words and not numbers or twice and not words:
+        return LINES
+    sheet.refuse("lines of pairs, or a matrix of two objects? Say --lines or --matrix", line)
+
+
+def read_roster(path: str, form: Optional[str], decimals: Optional[int], comma: bool) -> Roster:
+    """Reads a roster.
+
+    Parameters
+    ----------
+    path : str
+        A CSV file with a title line.
+    form : 'lines', 'matrix' or None
+        None tells the form from the file.
+    decimals : int or None
+        How many decimal places costs have at most, 0 to 6; None: as many as the file uses, up to 6.
+    comma : bool
+        Whether costs are written with a decimal comma.
+
+    Raises
+    ------
+    RosterFault
+        For the first fault, with its place.
+    OSError
+        Where the file can't be read.
+    """
+    sheet = Sheet(path)
+    costs = Costs(sheet, decimals, comma)
+    read = _read_lines if (form or form_of(sheet)) == LINES else _read_matrix
+    titles, persons, objects, of_persons, of_objects = read(sheet, costs)
+    used, scaled = costs.scaled()
+    return Roster(persons.list, objects.list, persons.numbers, objects.numbers, of_persons, of_objects, scaled,
+                  used, titles, sheet.separator, comma)
+
+
+def _read_lines(sheet: Sheet, costs: Costs):
+    line, title = sheet.title()
+    if len(title) != 3:
+        sheet.refuse(f"{len(title)} titles, where a person, an object and a cost are wanted", line)
+    if looks_like_number(title[2]):
+        sheet.refuse(f"a title line is wanted first, and {quoted(title[2])} is a number", line, 3)
+    persons, objects = Names(sheet, "persons"), Names(sheet, "objects")
+    of_persons, of_objects = array("q"), array("q")
+    lines: Dict[Tuple[int, int], int] = {}
+    for line, (person_name, object_name, cost) in sheet.body(3):
+        person, object_ = persons.number(person_name, line, 1), objects.number(object_name, line, 2)
+        first = lines.setdefault((person, object_), line)
+        if first != line:
+            sheet.refuse(f"the pair {person_name}, {object_name} a second time, after line {first}", line)
+        costs.take(cost, line, 3)
+        of_persons.append(person)
+        of_objects.append(object_)
+    if not lines:
+        sheet.refuse("no line behind the title", line)
+    return tuple(title), persons, objects, of_persons, of_objects
+
+
+def _read_matrix(sheet: Sheet, costs: Costs):
+    line, title = sheet.title()
+    if looks_like_number(title[0]):
+        sheet.refuse(f"names are wanted in the first line and the first column, and {quoted(title[0])} is a number", line, 1)
+    if len(title) < 2:
+        sheet.refuse("no object beside the first column", line)
+    persons, objects = Names(sheet, "persons"), Names(sheet, "objects")
+    of_persons, of_objects = array("q"), array("q")
+    for column, name in enumerate(title[1:], 2):
+        objects.once(name, line, column)
+    for line, cells in sheet.body(len(title)):
+        person = persons.once(cells[0], line, 1)
+        for column, cell in enumerate(cells[1:], 2):
+            if cell:
+                costs.take(cell, line, column)
+                of_persons.append(person)
+                of_objects.append(column - 2)
+    if not persons.list:
+        sheet.refuse("no line behind the title", line)
+    return ("person", "object", "cost"), persons, objects, of_persons, of_objects
+
+
+class PlanLine(NamedTuple):
+    """A pair of a plan, and the line where it stands."""
+
+    person: int
+    object: int
+    line: int
+    cost: int
+
+
+def read_plan(path: str, roster: Roster) -> List[PlanLine]:
+    """Reads pairs that are to stand: a title line, and lines of a person and an object; further cells aren't read.
+
+    Raises `RosterFault` for the first name that the roster doesn't have, then for the first name that stands twice, then
+    for the first pair that the roster forbids; and `OSError` where the file can't be read.
+    """
+    sheet = Sheet(path)
+    line, title = sheet.title()
+    if len(title) < 2:
+        sheet.refuse("a person and an object are wanted in each line", line)
+    if title[0] in roster.person_numbers and title[1] in roster.object_numbers:
+        sheet.refuse(f"a title line is wanted first, and {title[0]}, {title[1]} is a pair", line)
+    places = [_plan_place(sheet, roster, line, cells) for line, cells in sheet.body(len(title))]
+    for column, kind in enumerate(("person", "object"), 1):
+        _refuse_twice(sheet, places, column, roster.persons if column == 1 else roster.objects)
+    costs = roster.costs_of({(person, object_) for person, object_, _ in places})
+    for person, object_, line in places:
+        if (person, object_) not in costs:
+            sheet.refuse(f"{roster.persons[person]}, {roster.objects[object_]} is a forbidden pair", line)
+    return [PlanLine(person, object_, line, costs[person, object_]) for person, object_, line in places]
+
+
+def _plan_place(sheet: Sheet, roster: Roster, line: int, cells: List[str]) -> Tuple[int, int, int]:
+    found = []
+    for column, (cell, numbers) in enumerate(zip(cells, (roster.person_numbers, roster.object_numbers)), 1):
+        name = sheet.name(cell, line, column)
+        if name not in numbers:
+            sheet.refuse(f"the roster has no {'person' if column == 1 else 'object'} {quoted(name)}", line, column)
+        found.append(numbers[name])
+    return found[0], found[1], line
+
+
+def _refuse_twice(sheet: Sheet, places: List[Tuple[int, int, int]], column: int, names: List[str]) -> None:
+    lines: Dict[int, int] = {}
+    for place in places:
+        first = lines.setdefault(place[column - 1], place[2])
+        if first != place[2]:
+            sheet.refuse(f"{quoted(names[place[column - 1]])} a second time, after line {first}", place[2], column)
