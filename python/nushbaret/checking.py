@@ -1,0 +1,235 @@
+"""Plans from elsewhere, held against a problem."""
+import operator
+from array import array
+from typing import Any, NamedTuple, Optional
+
+from . import library, problem as reading, rents, square
+from .result import Result, in_unit
+from .solving import solve_problem
+
+
+class Verdict:
+    """What the checker says of a plan with its prices: true as a condition exactly where they prove it best.
+
+    Attributes
+    ----------
+    proved : bool
+        Whether the prices prove that no plan of as many pairs is better.
+    why : str
+        What is wrong with the first row or column that speaks against it; empty where nothing is.
+    row, column : int or None
+        Which ones that are, where there are such.
+    """
+
+    def __init__(self, why="", row=None, column=None):
+        self.proved = not why
+        self.why, self.row, self.column = why, row, column
+
+    def __bool__(self):
+        return self.proved
+
+    def __repr__(self):
+        return "<nushbaret.Verdict: proved>" if self.proved else f"<nushbaret.Verdict: not proved: {self.why}>"
+
+
+class Comparison(NamedTuple):
+    """A plan made by hand beside the best one: its cost, the best cost, by how much it is worse (0 or more), and the best plan."""
+
+    cost: Any
+    best: Any
+    worse: Any
+    result: Optional[Result]
+
+
+def problem_of(costs, n_rows, n_cols, maximize, decimals):
+    """The problem of a matrix, of (rows, cols, costs), or of a sparse matrix; it must have so many rows and columns."""
+    if hasattr(costs, "tocsr"):
+        found = reading.of_sparse_matrix(costs, maximize, decimals)
+    elif isinstance(costs, tuple) and len(costs) == 3 and n_rows is not None and not _is_matrix(costs, n_rows, n_cols):
+        found = reading.of_pairs(n_rows, n_cols, *costs, maximize, decimals)
+    else:
+        found = reading.of_matrix(costs, maximize, decimals)
+    if n_rows is not None and (found.n_rows, found.n_cols) != (n_rows, n_cols):
+        raise ValueError(f"the costs have {found.n_rows} rows and {found.n_cols} columns, the plan was made for {n_rows} and {n_cols}")
+    return found
+
+
+def _is_matrix(costs, n_rows, n_cols):
+    """Whether a tuple of three is the rows of a matrix, and not three lists of pairs."""
+    return n_rows == 3 and all(hasattr(row, "__len__") and len(row) == n_cols for row in costs) and n_cols != 0
+
+
+def _pairs_of(problem, columns, rows):
+    """The pairs of a plan, judged: each number is one of the problem, and no row comes twice."""
+    columns = [None if column is None else operator.index(column) for column in columns]
+    rows = range(len(columns)) if rows is None else [operator.index(row) for row in rows]
+    if len(rows) != len(columns):
+        raise ValueError(f"there are {len(rows)} rows and {len(columns)} columns: a plan pairs them one by one")
+    pairs = [(row, column) for row, column in zip(rows, columns) if column is not None]
+    seen = set()
+    for row, column in pairs:
+        if not 0 <= row < problem.n_rows:
+            raise ValueError(f"row {row} of the plan isn't from 0 to {problem.n_rows - 1}")
+        if not 0 <= column < problem.n_cols:
+            raise ValueError(f"row {row} of the plan has column {column}, which isn't from 0 to {problem.n_cols - 1}")
+        if row in seen:
+            raise ValueError(f"row {row} stands twice in the plan")
+        seen.add(row)
+    return pairs
+
+
+def _cost_by_pair(problem, pairs):
+    """The whole costs of some pairs, None where one is forbidden; of a pair that is given several times the least."""
+    if problem.persons is None:
+        costs = rents.plain(problem.costs)
+        return [int(costs[row * problem.n_cols + column]) for row, column in pairs]
+    wanted = {(row + 1, column + 1): None for row, column in pairs}
+    for person, item, cost in zip(problem.persons.tolist(), problem.objects.tolist(), problem.costs.tolist()):
+        if (person, item) in wanted:
+            least = wanted[person, item]
+            wanted[person, item] = cost if least is None else min(cost, least)
+    return [wanted[row + 1, column + 1] for row, column in pairs]
+
+
+def _filled_up(problem, pairs, size):
+    """An object for each person of the square problem, from 1 on: dummies take what is left."""
+    objects = array("H", bytes(2 * size))
+    for row, column in pairs:
+        objects[row] = column + 1
+    used = {column for _, column in pairs}
+    unused = iter([column + 1 for column in range(problem.n_cols) if column not in used])
+    dummies = iter(range(problem.n_cols + 1, size + 1))
+    for row in range(size):
+        if not objects[row]:
+            objects[row] = next(dummies if row < problem.n_rows else unused, 0)
+    return objects
+
+
+def _price_of_dummies(problem, pairs, costs, prices, unit):
+    """What staying out costs a row: as much as the dearest pair that is served, so that none of these would rather stay out."""
+    sign = -1 if problem.maximize else 1
+    return max(sign * unit * cost + prices[column] for (_, column), cost in zip(pairs, costs))
+
+
+def check_problem(problem, rows, columns, given):
+    """The verdict on a plan whose rows and columns are known to be some of the problem's."""
+    pairs = list(zip(rows, columns))
+    served = len(pairs)
+    if not served:
+        return _verdict_on_none(problem)
+    costs = _cost_by_pair(problem, pairs)
+    for (row, column), cost in zip(pairs, costs):
+        if cost is None:
+            return Verdict(f"row {row} may not have column {column}", row, column)
+    given_columns = set()
+    for row, column in pairs:
+        if column in given_columns:
+            return Verdict(f"column {column} is given twice", row, column)
+        given_columns.add(column)
+    if problem.persons is None and served < min(problem.n_rows, problem.n_cols):
+        return Verdict(f"{served} rows have a column, and {min(problem.n_rows, problem.n_cols)} can")
+    given_square = square.squared(problem, served)
+    prices = rents.scaled(problem, given, given_square.size)
+    if given_square.size > problem.n_cols:
+        dummy = _price_of_dummies(problem, pairs, costs, prices, given_square.size + 1)
+        lowest = min(dummy, 0)
+        prices = [price - lowest for price in prices] + [dummy - lowest] * (given_square.size - problem.n_cols)
+    return _judged(problem, given_square, _filled_up(problem, pairs, given_square.size), prices)
+
+
+def _verdict_on_none(problem):
+    if not min(problem.n_rows, problem.n_cols) or problem.persons is not None and not len(problem.persons):
+        return Verdict()
+    return Verdict("no row has a column")
+
+
+def _judged(problem, given, objects, prices):
+    """The library's verdict on the square problem, in the caller's numbers."""
+    halves = library.Halves(prices=prices)
+    code, told = library.call("check", problem.maximize, given.size, given.persons, given.objects, given.costs, objects, halves)
+    if code == "BEST":
+        return Verdict()
+    if code == "SLACK":
+        return _slack(problem, objects, told.person - 1, told.object - 1)
+    if code == "PRICE_RANGE":
+        return Verdict("prices are too far apart")
+    return square.refuse(problem, code, told)
+
+
+def _slack(problem, objects, row, column):
+    if row >= problem.n_rows:
+        unused = objects[row] - 1
+        return Verdict(f"column {unused} stays unused, and column {column} is cheaper", None, column)
+    if column >= problem.n_cols:
+        return Verdict(f"row {row} would be better off without a column", row, None)
+    return Verdict(f"row {row} would be better off with column {column}, at these prices", row, column)
+
+
+def check(costs, columns, prices, rows=None, maximize=False, decimals=None):
+    """Holds a plan of any origin against a problem: whether these prices prove that it is best.
+
+    Parameters
+    ----------
+    costs : matrix
+        As in `solve`, or a sparse matrix of SciPy's.
+    columns : list of int
+        The column of each row, from 0; None for a row that stays out.
+    prices : list of numbers
+        One for each column, in the unit of the costs, as `Result.rents`: a solver's dual values (of the columns, with the sign
+        with which they are added to costs that are to be little). They are rounded to the nearest part of the library's unit,
+        so that floats will do.
+    rows : list of int, optional
+        The row of each of `columns`, where they aren't 0, 1, 2 ...
+    maximize, decimals
+        As in `solve`.
+
+    Returns
+    -------
+    Verdict
+        True as a condition exactly where they prove it: of all plans with as many pairs none is better. A plan may be best
+        though these prices don't prove it; `compare` tells that.
+
+    Raises
+    ------
+    ValueError, TypeError
+        As in `solve`, or where a number of the plan is none of the problem's, a row stands twice in it, or there aren't as
+        many prices as columns.
+    """
+    problem = problem_of(costs, None, None, maximize, decimals)
+    pairs = _pairs_of(problem, columns, rows)
+    return check_problem(problem, [row for row, _ in pairs], [column for _, column in pairs], prices)
+
+
+def compare(costs, columns, rows=None, maximize=False, decimals=None):
+    """By how much a plan made by hand is worse than the best one.
+
+    Parameters
+    ----------
+    costs, columns, rows, maximize, decimals
+        As in `check`. The plan must pair as many rows as can be paired.
+
+    Returns
+    -------
+    Comparison
+
+    Raises
+    ------
+    ValueError, TypeError
+        As in `check`, or where the plan uses a forbidden pair or a column twice, or pairs fewer rows than can be paired.
+    """
+    problem = problem_of(costs, None, None, maximize, decimals)
+    pairs = _pairs_of(problem, columns, rows)
+    held = _cost_by_pair(problem, pairs)
+    seen = set()
+    for (row, column), cost in zip(pairs, held):
+        if cost is None:
+            raise ValueError(f"row {row} may not have column {column}")
+        if column in seen:
+            raise ValueError(f"column {column} stands twice in the plan")
+        seen.add(column)
+    result = solve_problem(problem, None, True)
+    if len(pairs) != len(result.rows):
+        raise ValueError(f"the plan has {len(pairs)} pairs, and {len(result.rows)} can be made")
+    cost, best = sum(held), result._answer.total
+    worse = best - cost if problem.maximize else cost - best
+    return Comparison(in_unit(cost, problem.places), result.cost, in_unit(worse, problem.places), result)

@@ -1,0 +1,235 @@
+"""Costs of any kind become whole numbers, exactly: each is multiplied by one power of ten."""
+import decimal
+import math
+import operator
+import sys
+from array import array
+from fractions import Fraction
+from typing import NamedTuple
+
+from .library import GREATEST_COST
+
+MOST_PLACES = 6
+
+
+class Costs(NamedTuple):
+    """Costs times 10**places, in their order; `forbidden` has the places of those that forbid their pair, where a 0 stands."""
+
+    numbers: object
+    forbidden: object
+    places: int
+    rounded: bool
+
+
+def numpy_of(value):
+    """NumPy's module where the value is one of its arrays, or can become one by itself; else None."""
+    numpy = sys.modules.get("numpy")
+    if numpy is None:
+        return None
+    return numpy if isinstance(value, numpy.ndarray) or hasattr(value, "__array__") else None
+
+
+def judged_decimals(decimals):
+    if decimals is None:
+        return None
+    decimals = operator.index(decimals)
+    if not 0 <= decimals <= MOST_PLACES:
+        raise ValueError(f"decimals is {decimals}: 0 to {MOST_PLACES} can be had")
+    return decimals
+
+
+def refuse_range(where, places):
+    scaled = f", with {places} decimal places" if places else ""
+    raise ValueError(f"{where}: the cost is beyond {GREATEST_COST // 10**places}{scaled}")
+
+
+def _refuse_places(where, value):
+    raise ValueError(f"{where}: {value} has more than {MOST_PLACES} decimal places: "
+                     f"round the costs, as by nushbaret.solve(costs, decimals={MOST_PLACES})")
+
+
+def _refuse_invalid(where, value):
+    raise ValueError(f"matrix contains invalid numeric entries: {value} at {where}")
+
+
+class _Decimals:
+    """Reads numbers of a list one after the other; each is a whole number times a power of ten."""
+
+    def __init__(self, maximize, decimals, where):
+        self.maximize = maximize
+        self.decimals = decimals
+        self.where = where
+        self.places = 0
+        self.rounded = False
+
+    def of_digits(self, place, value):
+        """A finite decimal as (whole, exponent), with an exponent of at most 0 that is as near 0 as can be."""
+        sign, digits, exponent = value.as_tuple()
+        if not value:
+            return 0, 0
+        if value.adjusted() > 13:
+            refuse_range(self.where(place), self.decimals or 0)
+        whole = int("".join(map(str, digits))) * (-1 if sign else 1)
+        if exponent >= 0:
+            return whole * 10**exponent, 0
+        while exponent < 0 and whole % 10 == 0:
+            whole, exponent = whole // 10, exponent + 1
+        if exponent >= -MOST_PLACES:
+            return whole, exponent
+        if self.decimals is None:
+            _refuse_places(self.where(place), value)
+        return self.of_fraction(place, Fraction(value)) if exponent > -400 else (self._rounded(0), -MOST_PLACES)
+
+    def _rounded(self, whole):
+        self.rounded = True
+        return whole
+
+    def of_fraction(self, place, value):
+        if value.denominator == 1 or 10**MOST_PLACES % value.denominator == 0:
+            return int(value * 10**MOST_PLACES), -MOST_PLACES
+        if self.decimals is None:
+            _refuse_places(self.where(place), value)
+        return self._rounded(round(value * 10**self.decimals)), -self.decimals
+
+    def pair(self, place, value):
+        """(whole, exponent), or None where the pair is forbidden."""
+        if value is None:
+            return None
+        if isinstance(value, Fraction):
+            return self.of_digits_of_fraction(place, value)
+        if isinstance(value, float):
+            number = decimal.Decimal(repr(float(value)))
+        elif isinstance(value, decimal.Decimal):
+            number = value
+        elif hasattr(value, "dtype") and value.dtype.kind == "f":
+            number = decimal.Decimal(str(value))
+        else:
+            return self.of_whole(place, value)
+        if number.is_finite():
+            return self.of_digits(place, number)
+        if number.is_infinite() and (number < 0) == self.maximize:
+            return None
+        return _refuse_invalid(self.where(place), value)
+
+    def of_digits_of_fraction(self, place, value):
+        whole, exponent = self.of_fraction(place, value)
+        while exponent < 0 and whole % 10 == 0:
+            whole, exponent = whole // 10, exponent + 1
+        return whole, exponent
+
+    def of_whole(self, place, value):
+        try:
+            return operator.index(value), 0
+        except TypeError:
+            raise TypeError(f"Cannot cast array data: {self.where(place)} is {value!r}, which is no number") from None
+
+    def scaled(self, place, pair):
+        """The number times 10**places, rounded to the nearest, halves to even ones."""
+        whole, exponent = pair
+        shift = self.places + exponent
+        if shift >= 0:
+            number = whole * 10**shift
+        else:
+            number = round(Fraction(whole, 10**-shift))
+            self.rounded = self.rounded or number * 10**-shift != whole
+        if not -GREATEST_COST <= number <= GREATEST_COST:
+            refuse_range(self.where(place), self.places)
+        return number
+
+
+def of_list(values, maximize, decimals, where):
+    """The costs of a list. `where(place)` names a place for the caller."""
+    if not decimals:
+        try:
+            return Costs(array("q", values), (), 0, False)
+        except (TypeError, OverflowError):
+            pass
+    reader = _Decimals(maximize, decimals, where)
+    pairs = [(value, 0) if type(value) is int
+             else (int(value), 0) if type(value) is float and value.is_integer()
+             else reader.pair(place, value) for place, value in enumerate(values)]
+    least = min((pair[1] for pair in pairs if pair), default=0)
+    reader.places = -least if decimals is None else decimals
+    forbidden = [place for place, pair in enumerate(pairs) if pair is None]
+    numbers = array("q", [reader.scaled(place, pair) if pair else 0 for place, pair in enumerate(pairs)])
+    return Costs(numbers, forbidden, reader.places, reader.rounded)
+
+
+def of_array(numpy, values, maximize, decimals, where):
+    """The costs of a NumPy array, whatever its shape, in the order of C."""
+    kind = values.dtype.kind
+    if kind in "biu":
+        return _of_whole_array(numpy, values, decimals or 0, where)
+    if kind == "f" and values.dtype.itemsize <= 8:
+        return _of_float_array(numpy, values, maximize, decimals, where)
+    if kind in "Of":
+        costs = of_list([*values.ravel()], maximize, decimals, where)
+        return costs._replace(numbers=numpy.array(costs.numbers, numpy.int64))
+    raise TypeError(f"Cannot cast array data from {values.dtype!r} to costs: they must be numbers")
+
+
+def _refuse_first(numpy, beyond, where, places):
+    refuse_range(where(int(numpy.flatnonzero(beyond)[0])), places)
+
+
+def _of_whole_array(numpy, values, places, where):
+    flat = values.ravel()
+    if flat.dtype == numpy.uint64 or places and flat.dtype.kind != "b":
+        most = GREATEST_COST // 10**places
+        beyond = (flat > most) if flat.dtype.kind == "u" else (flat > most) | (flat < -most)
+        if beyond.any():
+            _refuse_first(numpy, beyond, where, places)
+    numbers = numpy.ascontiguousarray(flat, numpy.int64)
+    return Costs(numbers * 10**places if places else numbers, (), places, False)
+
+
+def _of_float_array(numpy, values, maximize, decimals, where):
+    flat = values.ravel()
+    if flat.dtype.itemsize < 8 and not (numpy.rint(flat) == flat).all():
+        flat = flat.astype("U32").astype(numpy.float64)
+    flat = flat.astype(numpy.float64, copy=False)
+    forbidden = ()
+    infinite = ~numpy.isfinite(flat)
+    if infinite.any():
+        wrong = infinite & (flat != (-math.inf if maximize else math.inf))
+        if wrong.any():
+            place = int(numpy.flatnonzero(wrong)[0])
+            _refuse_invalid(where(place), flat[place])
+        forbidden = numpy.flatnonzero(infinite)
+        flat = numpy.where(infinite, 0.0, flat)
+    if decimals is None:
+        places = _least_places(numpy, flat, where)
+    else:
+        places = decimals
+    scaled = numpy.rint(flat * 10.0**places)
+    beyond = numpy.abs(scaled) > GREATEST_COST
+    if beyond.any():
+        _refuse_first(numpy, beyond, where, places)
+    numbers = scaled.astype(numpy.int64)
+    rounded = decimals is not None and _round_halves(numpy, flat, numbers, places)
+    return Costs(numbers, forbidden, places, rounded)
+
+
+def _least_places(numpy, flat, where):
+    """The least power of ten that makes all whole. Two decimals of at most 15 digits are never one float, so that
+    equality after the division tells the decimal that a float prints as."""
+    left = flat
+    for places in range(MOST_PLACES + 1):
+        power = 10.0**places
+        left = left[numpy.rint(left * power) / power != left]
+        if not left.size:
+            return places
+    place = int(numpy.flatnonzero(flat == left[0])[0])
+    if abs(left[0]) > GREATEST_COST:
+        refuse_range(where(place), 0)
+    return _refuse_places(where(place), repr(float(left[0])))
+
+
+def _round_halves(numpy, flat, numbers, places):
+    """Rounds those near a half anew, as decimals; whether any number was changed by rounding."""
+    power = 10.0**places
+    product = flat * power
+    half = numpy.abs(numpy.abs(product - numpy.floor(product)) - 0.5) < 0.001
+    for place in numpy.flatnonzero(half):
+        numbers[place] = round(Fraction(repr(float(flat[place]))) * 10**places)
+    return bool((numbers / power != flat).any())

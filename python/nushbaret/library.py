@@ -1,0 +1,127 @@
+"""The shared library, by ctypes: where it is, its calls, codes and limits. The codes are those of c/nushbaret.h."""
+import ctypes
+import pathlib
+import threading
+from array import array
+
+from .errors import LibraryNotFound
+
+VERSION = "1.0.0"
+MOST_PERSONS = 8192
+GREATEST_COST = 10**12
+GREATEST_FIRST_PRICE = 10**21
+
+CODES = (
+    "BEST", "HALL",
+    "SENSE", "SIZE", "LENGTH", "PERSON", "OBJECT", "COST", "PRICE", "MEMORY",
+    "ANSWER_LENGTH", "UNLISTED", "TWICE", "PRICE_RANGE", "SLACK",
+    "HALL_RANGE", "HALL_ORDER", "HALL_MISSING", "HALL_EXTRA", "HALL_COUNT",
+)
+
+NAME = "libnushbaret.so"
+_PACKAGE = pathlib.Path(__file__).resolve().parent
+PLACES = (_PACKAGE / NAME, _PACKAGE.parent.parent / "c" / "out" / NAME)
+
+
+class Told(ctypes.Structure):
+    """What a call tells beside its lists."""
+
+    _fields_ = [(name, ctypes.c_int64 if name == "total" else ctypes.c_uint64)
+                for name in ("total", "place", "persons", "objects", "person", "object")]
+
+
+# How many lists each call takes, and whether a sense and what is told stand among its arguments.
+_LISTS = {"dense": 4, "dense_from": 5, "sparse": 6, "sparse_from": 7, "check": 5, "check_hall": 5}
+_loading = threading.Lock()
+_calls = {}
+
+
+def _open():
+    for place in PLACES:
+        if place.exists():
+            try:
+                return ctypes.CDLL(str(place))
+            except OSError as fault:
+                raise LibraryNotFound(f"{place} can't be loaded: {fault}") from fault
+    raise LibraryNotFound(f"{NAME} isn't there: c/build.sh makes it, at the top of a checkout of Nushbaret")
+
+
+def _load():
+    library = _open()
+    room = (ctypes.c_uint8 * 32)()
+    library.nushbaret_version.argtypes = [ctypes.c_void_p, ctypes.c_size_t]
+    library.nushbaret_version.restype = ctypes.c_size_t
+    library.nushbaret_version(room, 32)
+    found = bytes(room).split(b"\0")[0].decode()
+    if found != VERSION:
+        raise LibraryNotFound(f"the library is of version {found}, {VERSION} is wanted: make it anew by c/build.sh")
+    for name, lists in _LISTS.items():
+        call = getattr(library, f"nushbaret_{name}")
+        sense = [] if name == "check_hall" else [ctypes.c_uint32]
+        call.argtypes = sense + [ctypes.c_size_t] + [ctypes.c_void_p, ctypes.c_size_t] * lists + [ctypes.c_void_p]
+        call.restype = ctypes.c_int32
+        _calls[name] = call
+
+
+class Lent:
+    """A buffer of 64-bit numbers of another owner, which stays as long as this does."""
+
+    def __init__(self, view):
+        self.held = (ctypes.c_char * view.nbytes).from_buffer(view)
+        self.place = ctypes.addressof(self.held)
+        self.count = view.nbytes // 8
+
+    def __len__(self):
+        return self.count
+
+
+_SPARE = array("Q", [0])
+
+
+def _lend(values):
+    """Address and count; the address is never null."""
+    if not len(values):
+        return _SPARE.buffer_info()[0], 0
+    if isinstance(values, array):
+        return values.buffer_info()
+    if isinstance(values, Lent):
+        return values.place, values.count
+    return values.__array_interface__["data"][0], values.size
+
+
+class Halves:
+    """Prices as the library has them: two words each."""
+
+    def __init__(self, count=0, prices=None):
+        if prices is None:
+            self.words = array("Q", bytes(16 * count))
+        else:
+            self.words = array("Q", [word for price in prices for word in (price & 0xFFFFFFFFFFFFFFFF, price >> 64)])
+
+    def __len__(self):
+        return len(self.words) // 2
+
+    def prices(self):
+        low, high = self.words[0::2].tolist(), self.words[1::2]
+        if not any(high):
+            return low
+        return [part + (upper << 64) for part, upper in zip(low, high)]
+
+
+def call(name, sense, size, *lists):
+    """The name of the code, and what is told. `sense` is None for `check_hall`; MemoryError where memory is refused."""
+    if not _calls:
+        with _loading:
+            if not _calls:
+                _load()
+    told = Told()
+    words = [size] if sense is None else [1 if sense else 0, size]
+    for values in lists:
+        if isinstance(values, Halves):
+            words += (_lend(values.words)[0], len(values))
+        else:
+            words += _lend(values)
+    code = CODES[_calls[name](*words, ctypes.addressof(told))]
+    if code == "MEMORY":
+        raise MemoryError("the library was refused memory")
+    return code, told

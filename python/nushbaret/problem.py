@@ -1,0 +1,186 @@
+"""A problem of rows and columns, as the caller gave it, with its costs in whole numbers."""
+import operator
+from array import array
+from itertools import chain
+from typing import Any, NamedTuple
+
+from . import exact
+from .library import MOST_PERSONS, Lent
+
+
+class Problem(NamedTuple):
+    """Costs are times 10**places. Dense: all costs in order, and `persons` is None. Sparse: row persons[k] - 1 and column
+    objects[k] - 1 are a pair at costs[k]. `numpy` is the module where an array came in, else None."""
+
+    n_rows: int
+    n_cols: int
+    maximize: bool
+    costs: Any
+    persons: Any
+    objects: Any
+    places: int
+    rounded: bool
+    numpy: Any
+
+    def place(self, place):
+        """Row and column of a place of `costs`."""
+        if self.persons is None:
+            return divmod(place, self.n_cols)
+        return int(self.persons[place]) - 1, int(self.objects[place]) - 1
+
+    def numbers(self, values):
+        """Row or column numbers in the form that the caller wants."""
+        return values if self.numpy is None else self.numpy.array(values, self.numpy.intp)
+
+
+def _place_in(n_cols):
+    return lambda place: "row {}, column {}".format(*divmod(place, n_cols))
+
+
+def _judge_size(n_rows, n_cols):
+    if n_rows < 0 or n_cols < 0:
+        raise ValueError(f"{n_rows} rows and {n_cols} columns: neither can be below 0")
+    if max(n_rows, n_cols) > MOST_PERSONS:
+        raise ValueError(f"{n_rows} rows and {n_cols} columns: at most {MOST_PERSONS} of each can be had")
+
+
+def _rows_of(costs):
+    """The rows of a matrix that is no array of NumPy's, and how long they are."""
+    try:
+        rows = [row if hasattr(row, "__len__") else list(row) for row in costs]
+    except TypeError:
+        raise ValueError("expected a matrix (2-D array)") from None
+    if any(isinstance(row, (str, bytes)) for row in rows):
+        raise TypeError("Cannot cast array data: a row is a text")
+    lengths = set(map(len, rows))
+    if len(lengths) > 1:
+        row = next(row for row, held in enumerate(rows) if len(held) != len(rows[0]))
+        raise ValueError(f"expected a matrix (2-D array): row {row} has {len(rows[row])} costs, row 0 has {len(rows[0])}")
+    return rows, lengths.pop() if rows else 0
+
+
+def _of_view(view, maximize, decimals):
+    """Of a memoryview of two dimensions: lent where it has just the numbers that the library wants."""
+    if view.ndim != 2:
+        raise ValueError(f"expected a matrix (2-D array), got a {view.ndim} array")
+    n_rows, n_cols = view.shape
+    _judge_size(n_rows, n_cols)
+    own = view.format in ("q", "l") and view.itemsize == 8 and view.c_contiguous and not view.readonly
+    if own and not decimals and view.nbytes:
+        return n_rows, n_cols, exact.Costs(Lent(view), (), 0, False), None
+    flat = list(chain.from_iterable(view.tolist()))
+    return n_rows, n_cols, exact.of_list(flat, maximize, decimals, _place_in(n_cols)), None
+
+
+def _of_array(numpy, costs, maximize, decimals):
+    costs = numpy.asarray(costs)
+    if costs.ndim != 2:
+        raise ValueError(f"expected a matrix (2-D array), got a {costs.ndim} array")
+    n_rows, n_cols = costs.shape
+    _judge_size(n_rows, n_cols)
+    return n_rows, n_cols, exact.of_array(numpy, costs, maximize, decimals, _place_in(n_cols)), numpy
+
+
+def _read_matrix(costs, maximize, decimals):
+    numpy = exact.numpy_of(costs)
+    if numpy:
+        return _of_array(numpy, costs, maximize, decimals)
+    if not isinstance(costs, (list, tuple, str)):
+        try:
+            return _of_view(memoryview(costs), maximize, decimals)
+        except TypeError:
+            pass
+    rows, n_cols = _rows_of(costs)
+    _judge_size(len(rows), n_cols)
+    flat = list(chain.from_iterable(rows))
+    return len(rows), n_cols, exact.of_list(flat, maximize, decimals, _place_in(n_cols)), None
+
+
+def of_matrix(costs, maximize, decimals):
+    """The problem of a matrix. ValueError and TypeError name what is wrong, with row and column from 0."""
+    maximize = bool(maximize)
+    n_rows, n_cols, read, numpy = _read_matrix(costs, maximize, exact.judged_decimals(decimals))
+    numbers, persons, objects = read.numbers, None, None
+    if len(read.forbidden):
+        numbers, persons, objects = _without_forbidden(n_rows, n_cols, read, numpy)
+    return Problem(n_rows, n_cols, maximize, numbers, persons, objects, read.places, read.rounded, numpy)
+
+
+def _without_forbidden(n_rows, n_cols, read, numpy):
+    """Costs, persons and objects of the pairs that aren't forbidden."""
+    if numpy:
+        allowed = numpy.ones(n_rows * n_cols, bool)
+        allowed[read.forbidden] = False
+        places = numpy.flatnonzero(allowed)
+        persons, objects = numpy.divmod(places, n_cols)
+        return read.numbers[places], (persons + 1).astype(numpy.uint16), (objects + 1).astype(numpy.uint16)
+    forbidden = set(read.forbidden)
+    places = [place for place in range(n_rows * n_cols) if place not in forbidden]
+    persons = array("H", [place // n_cols + 1 for place in places])
+    objects = array("H", [place % n_cols + 1 for place in places])
+    return array("q", [read.numbers[place] for place in places]), persons, objects
+
+
+def _numbered(values, most, what):
+    """Row or column numbers, from 1 on."""
+    numpy = exact.numpy_of(values)
+    if numpy:
+        values = numpy.asarray(values)
+        if values.ndim != 1:
+            raise ValueError(f"{what} must be a list of numbers, not an array of {values.ndim} dimensions")
+        if values.size and values.dtype.kind not in "iu":
+            raise TypeError(f"{what} must be whole numbers, not {values.dtype}")
+        wrong = (values < 0) | (values >= most)
+        if wrong.any():
+            place = int(wrong.argmax())
+            raise ValueError(f"{what}[{place}] is {values[place]}: it must be from 0 to {most - 1}")
+        return (values + 1).astype(numpy.uint16)
+    numbers = [operator.index(value) for value in values]
+    for place, number in enumerate(numbers):
+        if not 0 <= number < most:
+            raise ValueError(f"{what}[{place}] is {number}: it must be from 0 to {most - 1}")
+    return array("H", [number + 1 for number in numbers])
+
+
+def _pair_costs(costs, maximize, decimals, where):
+    numpy = exact.numpy_of(costs)
+    if numpy:
+        costs = numpy.asarray(costs)
+        if costs.ndim != 1:
+            raise ValueError(f"costs must be a list of numbers, not an array of {costs.ndim} dimensions")
+        return exact.of_array(numpy, costs, maximize, decimals, where), numpy
+    return exact.of_list(list(costs), maximize, decimals, where), None
+
+
+def _one_form(numpy, values, kind):
+    """A list in the form of the others: an array of NumPy's where any came as one."""
+    return numpy.asarray(values, kind) if numpy else values
+
+
+def of_pairs(n_rows, n_cols, rows, cols, costs, maximize, decimals):
+    """The problem of listed pairs, whose costs may be infinite or None to forbid a pair after all."""
+    n_rows, n_cols = operator.index(n_rows), operator.index(n_cols)
+    _judge_size(n_rows, n_cols)
+    persons, objects = _numbered(rows, n_rows, "rows"), _numbered(cols, n_cols, "cols")
+
+    def where(place):
+        pair = f" (row {persons[place] - 1}, column {objects[place] - 1})" if place < min(len(persons), len(objects)) else ""
+        return f"costs[{place}]{pair}"
+
+    read, numpy = _pair_costs(costs, bool(maximize), exact.judged_decimals(decimals), where)
+    if not len(persons) == len(objects) == len(read.numbers):
+        raise ValueError(f"rows, cols and costs must be of one length: they have {len(persons)}, {len(objects)} and {len(read.numbers)}")
+    numpy = numpy or exact.numpy_of(rows) or exact.numpy_of(cols)
+    kinds = ("uint16", "uint16", "int64")
+    lists = [_one_form(numpy, values, kind) for values, kind in zip((persons, objects, read.numbers), kinds)]
+    if len(read.forbidden):
+        forbidden = set(map(int, read.forbidden))
+        kept = [place for place in range(len(persons)) if place not in forbidden]
+        lists = [values[kept] if numpy else array(values.typecode, [values[place] for place in kept]) for values in lists]
+    return Problem(n_rows, n_cols, bool(maximize), lists[2], lists[0], lists[1], read.places, read.rounded, numpy)
+
+
+def of_sparse_matrix(matrix, maximize, decimals):
+    """The problem of a sparse matrix of SciPy's, whose stored entries are its pairs, also those that are 0."""
+    entries = matrix.tocsr().tocoo()
+    return of_pairs(*matrix.shape, entries.row, entries.col, entries.data, maximize, decimals)

@@ -1,0 +1,116 @@
+"""A best assignment as the caller sees it."""
+import decimal
+from functools import cached_property
+
+from . import rents
+
+
+def in_unit(number, places):
+    """number / 10**places, exactly: an int where places is 0, else a Decimal."""
+    return decimal.Decimal(f"{number}E-{places}") if places else number
+
+
+class Result:
+    """A best assignment, with prices that prove it.
+
+    Row `rows[k]` has column `columns[k]`; numbers are from 0, and rows rise. They are NumPy arrays where the costs came in
+    as one, and lists elsewhere.
+
+    Attributes
+    ----------
+    rows, columns : list of int, or NumPy array
+        The pairs. With unequal numbers there are as many as the fewer of rows and columns.
+    cost : int or decimal.Decimal
+        The sum of their costs, exactly; a Decimal where costs have decimal places.
+    prices : list of int
+        The proof, one price for each column, in the unit of the costs divided by `scale`.
+    rents : list of int or of decimal.Decimal
+        The same in the unit of the costs: no row would be better off with another column, where it pays the column's rent
+        beside its cost (under maximize: where the rent is taken off). The least is 0, and so is that of unused columns.
+        Other rents prove the same plan as well.
+    unserved_rows, unused_columns : list of int, or NumPy array
+        Who stays without, rising.
+    scale : int
+        What prices are divided by to be in the unit of the costs.
+    decimals : int
+        How many decimal places were counted.
+    rounded : bool
+        Whether any cost was changed by rounding to `decimals` places: then the plan is best for the rounded costs.
+    maximize : bool
+        Whether the greatest sum was wanted.
+    """
+
+    def __init__(self, problem, answer):
+        self._problem = problem
+        self._answer = answer
+        columns = [item - 1 for item in answer.objects[:problem.n_rows]]
+        rows = [row for row, column in enumerate(columns) if column < problem.n_cols]
+        self._pairs = rows, [columns[row] for row in rows]
+        self.rows, self.columns = map(problem.numbers, self._pairs)
+        self.cost = in_unit(answer.total, problem.places)
+        self.scale = (answer.size + 1) * 10**problem.places
+        self.decimals, self.rounded, self.maximize = problem.places, problem.rounded, problem.maximize
+
+    def __repr__(self):
+        return f"<nushbaret.Result: cost {self.cost}, {len(self.rows)} pairs>"
+
+    @cached_property
+    def unserved_rows(self):
+        return self._problem.numbers(sorted(set(range(self._problem.n_rows)).difference(self._pairs[0])))
+
+    @cached_property
+    def unused_columns(self):
+        return self._problem.numbers(sorted(set(range(self._problem.n_cols)).difference(self._pairs[1])))
+
+    @cached_property
+    def prices(self):
+        return self._answer.halves.prices()[:self._problem.n_cols]
+
+    @cached_property
+    def rents(self):
+        whole = rents.of_answer(self._problem, self._answer, len(self._pairs[0]))
+        return [in_unit(rent, self.decimals) for rent in whole]
+
+    def verify(self, costs=None):
+        """Holds the plan and its rents against a problem, by the library's proved checker.
+
+        Parameters
+        ----------
+        costs : matrix, (rows, cols, costs) or sparse matrix, optional
+            The problem, of as many rows and columns; the one that was solved where it isn't given.
+
+        Returns
+        -------
+        Verdict
+            True as a condition exactly where the rents prove that no plan of as many pairs is better.
+        """
+        from .checking import check_problem, problem_of
+        problem = self._problem
+        if costs is not None:
+            problem = problem_of(costs, problem.n_rows, problem.n_cols, self.maximize, self.decimals if self.rounded else None)
+        return check_problem(problem, *self._pairs, self.rents)
+
+    def without(self, row, column):
+        """The best plan where this pair is forbidden; what it costs more is what the pair is worth.
+
+        Solves again, and looks at the costs again: leave an array that was solved as it was until then.
+
+        Parameters
+        ----------
+        row, column : int
+            A pair, by numbers from 0.
+
+        Returns
+        -------
+        Result
+            A best assignment of as many rows.
+
+        Raises
+        ------
+        Infeasible
+            Where there is none without the pair.
+        IndexError
+            Where the row or the column isn't one of the problem.
+        """
+        from .solving import solve_without
+        return solve_without(self._problem, len(self._pairs[0]), row, column)

@@ -1,0 +1,221 @@
+"""The solving calls."""
+import operator
+from array import array
+
+from . import matching, problem as reading, square
+from .exact import numpy_of
+from .result import Result
+
+
+class _Nothing:
+    """The answer to a problem without rows or without columns."""
+
+    size, total, objects = 0, 0, ()
+
+    class halves:
+        @staticmethod
+        def prices():
+            return []
+
+
+def _no_pairs(problem):
+    """The answer where there is no pair to make: all that there is stays out, at rents of 0."""
+    answer = _Nothing()
+    answer.objects = [problem.n_cols + 1] * problem.n_rows
+    answer.halves = _Zeros(problem.n_cols)
+    return answer
+
+
+class _Zeros:
+    def __init__(self, count):
+        self.count = count
+
+    def prices(self):
+        return [0] * self.count
+
+
+def _solved(problem, start=None, served=None):
+    """An answer or a Short of the square problem that stands for this one."""
+    if served == 0 or not min(problem.n_rows, problem.n_cols):
+        return _no_pairs(problem)
+    first = None if start is None else _first(problem, start, served)
+    return square.answer(problem, square.squared(problem, served), first)
+
+
+def _first(problem, start, served):
+    from .rents import first_prices
+    return first_prices(problem, start.rents if isinstance(start, Result) else start, served)
+
+
+def _most(problem, start):
+    """The best of the fullest plans. That no plan has one pair more is proved by the library as well."""
+    served = matching.most_served(problem)
+    if not isinstance(_solved(problem, served=served + 1), square.Short):
+        raise RuntimeError(f"{served} rows were found to be the most that can be served, and one more can")
+    return _solved(problem, start, served)
+
+
+def solve_problem(problem, start=None, as_many_as_can=False):
+    answer = _solved(problem, start)
+    if isinstance(answer, square.Short):
+        if not as_many_as_can:
+            raise square.infeasible(problem, answer)
+        answer = _most(problem, start)
+    return Result(problem, answer)
+
+
+def solve(costs, maximize=False, decimals=None, start=None, as_many_as_can=False):
+    """A best assignment of the rows and columns of a matrix, with prices that prove it.
+
+    Each row gets a column, no column twice; with unequal numbers as many pairs are made as can be, and some rows or columns
+    stay out.
+
+    Parameters
+    ----------
+    costs : matrix
+        A list of rows, a NumPy array, or a buffer of two dimensions. Whole numbers, floats, Decimals or Fractions; a float is
+        the decimal that it prints as. None or infinity (under maximize -infinity) forbids a pair. At most 8192 rows and
+        columns; each cost, times 10**decimals, is at most 10**12 either way.
+    maximize : bool, optional
+        Whether the greatest sum is wanted, not the least.
+    decimals : int, optional
+        Rounds each cost to so many places first, 0 to 6, halves to even ones (`Result.rounded` says whether that changed any).
+        Where it isn't given, costs are taken exactly, and there may be up to 6 places.
+    start : Result or list of numbers, optional
+        First prices, those of a solved neighbour: one for each column, in the unit of the costs. The sum is the same
+        whatever they are.
+    as_many_as_can : bool, optional
+        Where not all can be paired, makes as many pairs as can be, at the best sum among such plans, in place of raising.
+
+    Returns
+    -------
+    Result
+
+    Raises
+    ------
+    Infeasible
+        There is no assignment; `rows` and `cols` prove it. A ValueError.
+    ValueError
+        No matrix; too large; a cost that is out of range, NaN, or has too many places. The text says where.
+    TypeError
+        A cost that is no number.
+    MemoryError
+        Memory was refused.
+    LibraryNotFound
+        The shared library isn't there. An OSError.
+
+    Notes
+    -----
+    Takes time that grows as the cube of the size at worst, and 16 bytes a pair beside the costs. Runs without the interpreter's
+    lock, and can't be interrupted while it does.
+    """
+    return solve_problem(reading.of_matrix(costs, maximize, decimals), start, as_many_as_can)
+
+
+def solve_sparse(n_rows, n_cols=None, rows=None, cols=None, costs=None, maximize=False, decimals=None, start=None,
+                 as_many_as_can=False):
+    """A best assignment where only the listed pairs may be used.
+
+    Parameters
+    ----------
+    n_rows, n_cols : int
+        How many rows and columns there are, 0 to 8192 each. Or one sparse matrix of SciPy's in place of these and of the three
+        lists; its stored entries are the pairs, also those that are 0.
+    rows, cols, costs : lists or NumPy arrays of one length
+        Row rows[k] may have column cols[k] at costs[k]; numbers from 0. A pair that is given several times counts once, at its
+        least cost, also under maximize. Costs are as those of `solve`.
+    maximize, decimals, start, as_many_as_can
+        As in `solve`.
+
+    Returns
+    -------
+    Result
+
+    Raises
+    ------
+    Infeasible, ValueError, TypeError, MemoryError, LibraryNotFound
+        As in `solve`.
+    """
+    if hasattr(n_rows, "tocsr"):
+        if any(value is not None for value in (n_cols, rows, cols, costs)):
+            raise TypeError("a sparse matrix has rows, columns and costs of its own: give the other words by name")
+        problem = reading.of_sparse_matrix(n_rows, maximize, decimals)
+    elif any(value is None for value in (n_cols, rows, cols, costs)):
+        raise TypeError("n_rows, n_cols, rows, cols and costs are wanted, or one sparse matrix")
+    else:
+        problem = reading.of_pairs(n_rows, n_cols, rows, cols, costs, maximize, decimals)
+    return solve_problem(problem, start, as_many_as_can)
+
+
+def linear_sum_assignment(cost_matrix, maximize=False):
+    """The call of scipy.optimize, with its results and errors.
+
+    Parameters
+    ----------
+    cost_matrix : matrix
+        As `costs` of `solve`; NumPy's infinity (under maximize -infinity) or None forbids a pair.
+    maximize : bool, optional
+        Whether the greatest sum is wanted.
+
+    Returns
+    -------
+    row_ind, col_ind : NumPy arrays where one came in, else lists
+        Row row_ind[k] has column col_ind[k]; rows rise.
+
+    Raises
+    ------
+    ValueError, TypeError
+        As in `solve`, in SciPy's words where it has such an error.
+    """
+    result = solve(cost_matrix, maximize)
+    return result.rows, result.columns
+
+
+def solve_without(problem, served, row, column):
+    """Solves anew with one pair forbidden."""
+    row, column = operator.index(row), operator.index(column)
+    if not (0 <= row < problem.n_rows and 0 <= column < problem.n_cols):
+        raise IndexError(f"row {row}, column {column}: there are {problem.n_rows} rows and {problem.n_cols} columns")
+    less = _leave_out(problem, row, column)
+    answer = _solved(less, served=served)
+    if isinstance(answer, square.Short):
+        raise square.infeasible(less, answer) if served == min(less.n_rows, less.n_cols) else _fewer(less, served)
+    return Result(less, answer)
+
+
+def _fewer(problem, served):
+    """The refusal where a plan of as many pairs as could be made has no like without one of them."""
+    from .errors import Infeasible
+    try:
+        solve_problem(problem)
+    except Infeasible as short:
+        short.args = (f"{short.args[0]}; no other plan has {served} pairs",)
+        return short
+    raise RuntimeError("a problem has an assignment of all, and none of fewer pairs")
+
+
+def _leave_out(problem, row, column):
+    """The problem with one pair less."""
+    if problem.persons is None:
+        problem = _listed(problem)
+    numpy = problem.numpy
+    if numpy:
+        kept = (problem.persons != row + 1) | (problem.objects != column + 1)
+        return problem._replace(costs=problem.costs[kept], persons=problem.persons[kept], objects=problem.objects[kept])
+    kept = [place for place, pair in enumerate(zip(problem.persons, problem.objects)) if pair != (row + 1, column + 1)]
+    costs, persons, objects = (array(values.typecode, [values[place] for place in kept])
+                               for values in (problem.costs, problem.persons, problem.objects))
+    return problem._replace(costs=costs, persons=persons, objects=objects)
+
+
+def _listed(problem):
+    """A dense problem as a sparse one."""
+    n_rows, n_cols, numpy = problem.n_rows, problem.n_cols, problem.numpy
+    if numpy:
+        persons = numpy.repeat(numpy.arange(1, n_rows + 1, dtype=numpy.uint16), n_cols)
+        return problem._replace(persons=persons, objects=numpy.tile(numpy.arange(1, n_cols + 1, dtype=numpy.uint16), n_rows))
+    persons, objects = array("H"), array("H", range(1, n_cols + 1)) * n_rows
+    for row in range(1, n_rows + 1):
+        persons.extend(array("H", [row]) * n_cols)
+    costs = problem.costs if isinstance(problem.costs, array) else array("q", bytes(problem.costs.held))
+    return problem._replace(costs=costs, persons=persons, objects=objects)

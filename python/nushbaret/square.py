@@ -1,0 +1,127 @@
+"""The square problem that stands for one of rows and columns: dummies, which cost nothing, fill up what is missing.
+
+Where m pairs are wanted, R - m dummy columns take the rows that stay out, and C - m dummy rows take the columns that stay
+unused. Each row lists all dummy columns at 0 and each dummy row all columns at 0, and no dummy lists a dummy: so just m real
+pairs stand in each assignment, and the sum of costs is theirs."""
+from array import array
+from typing import Any, NamedTuple
+
+from . import library
+from .errors import Infeasible
+from .library import MOST_PERSONS
+
+
+class Square(NamedTuple):
+    """What is passed to the library: a size, and three lists, of which persons and objects are empty where it is dense."""
+
+    size: int
+    persons: Any
+    objects: Any
+    costs: Any
+
+
+NONE = array("H")
+
+
+def _dense(problem):
+    n_rows, n_cols = problem.n_rows, problem.n_cols
+    size = max(n_rows, n_cols)
+    if n_rows == n_cols:
+        return Square(size, NONE, NONE, problem.costs)
+    if problem.numpy:
+        costs = problem.numpy.zeros((size, size), problem.numpy.int64)
+        costs[:n_rows, :n_cols] = problem.costs.reshape(n_rows, n_cols)
+        return Square(size, NONE, NONE, costs)
+    given = problem.costs if isinstance(problem.costs, array) else array("q", bytes(problem.costs.held))
+    costs = array("q", bytes(8 * size * size))
+    for row in range(n_rows):
+        costs[row * size:row * size + n_cols] = given[row * n_cols:(row + 1) * n_cols]
+    return Square(size, NONE, NONE, costs)
+
+
+def _dummies(n_rows, n_cols, size):
+    """Persons and objects of the pairs that dummies are in."""
+    persons, objects = array("H"), array("H")
+    for column in range(n_cols + 1, size + 1):
+        persons.extend(range(1, n_rows + 1))
+        objects.extend(array("H", [column]) * n_rows)
+    columns = array("H", range(1, n_cols + 1))
+    for row in range(n_rows + 1, size + 1):
+        persons.extend(array("H", [row]) * n_cols)
+        objects.extend(columns)
+    return persons, objects
+
+
+def squared(problem, served=None):
+    """The square problem in whose assignments `served` rows have a column, the lesser of rows and columns where it isn't given."""
+    n_rows, n_cols = problem.n_rows, problem.n_cols
+    served = min(n_rows, n_cols) if served is None else served
+    size = n_rows + n_cols - served
+    if size > MOST_PERSONS:
+        raise ValueError(f"{n_rows} rows and {n_cols} columns, of which {served} can be paired, want {size} with dummies: "
+                         f"at most {MOST_PERSONS} can be had")
+    if problem.persons is None:
+        return _dense(problem)
+    persons, objects = _dummies(n_rows, n_cols, size)
+    if not persons:
+        return Square(size, problem.persons, problem.objects, problem.costs)
+    costs = array("q", bytes(8 * len(persons)))
+    if problem.numpy:
+        join = problem.numpy.concatenate
+        return Square(size, join((problem.persons, persons)), join((problem.objects, objects)), join((problem.costs, costs)))
+    return Square(size, problem.persons + persons, problem.objects + objects, problem.costs + costs)
+
+
+class Answer(NamedTuple):
+    """A best assignment of a square problem: an object for each person, from 1 on, prices in the unit of costs times size + 1."""
+
+    size: int
+    total: int
+    objects: Any
+    halves: Any
+
+
+class Short(NamedTuple):
+    """Persons and objects, from 1 on, that prove that a square problem has no assignment."""
+
+    persons: Any
+    objects: Any
+
+
+def refuse(problem, code, told):
+    """Raises what a code of the library means that is no answer."""
+    if code == "COST":
+        from .exact import refuse_range
+        refuse_range("row {}, column {}".format(*problem.place(told.place)), problem.places)
+    raise RuntimeError(f"the library refused its lists: {code} at {told.place}")
+
+
+def answer(problem, square, first=None):
+    """The library's answer, an Answer or a Short. `first` are first prices."""
+    size = square.size
+    objects, persons = array("H", bytes(2 * size)), array("H", bytes(2 * size))
+    halves = library.Halves(size)
+    lists = [square.costs] if not len(square.persons) and problem.persons is None else [square.persons, square.objects, square.costs]
+    name = "dense" if len(lists) == 1 else "sparse"
+    if first is not None:
+        name, lists = name + "_from", lists + [first]
+    code, told = library.call(name, problem.maximize, size, *lists, objects, persons, halves)
+    if code == "BEST":
+        return Answer(size, told.total, objects, halves)
+    if code == "HALL":
+        return Short(persons[:told.persons], objects[:told.objects])
+    return refuse(problem, code, told)
+
+
+def infeasible(problem, short):
+    """The proof in the caller's rows and columns."""
+    n_rows, n_cols = problem.n_rows, problem.n_cols
+    if n_rows <= n_cols:
+        rows, cols = [person - 1 for person in short.persons], [item - 1 for item in short.objects]
+    else:
+        # The columns that the named rows don't list: whoever lists one is none of them, and such rows are fewer.
+        listed = set(short.objects)
+        wanting = {item for item in range(1, n_cols + 1) if item not in listed}
+        cols = [item - 1 for item in sorted(wanting)]
+        rows = sorted({int(person) - 1 for person, item in zip(problem.persons, problem.objects) if int(item) in wanting})
+    return Infeasible(problem.numbers(rows), problem.numbers(cols))
