@@ -219,13 +219,15 @@ class Roster(NamedTuple):
         triples = zip(self.of_persons, self.of_objects, self.costs)
         return {(person, object_): cost for person, object_, cost in triples if (person, object_) in wanted}
 
-    def shown(self, cost) -> str:
-        """A number of units as text, with the decimals of the roster; what isn't whole is rounded."""
-        units = round(cost)
-        whole, part = divmod(abs(units), 10**self.decimals)
-        sign = "-" if units < 0 else ""
-        point = "," if self.comma else "."
-        return f"{sign}{whole}" + (f"{point}{part:0{self.decimals}}" if self.decimals else "")
+    def shown(self, units: int) -> str:
+        """A cost or a rent as the roster writes it."""
+        return decimal_text(units, self.decimals, "," if self.comma else ".")
+
+
+def decimal_text(units: int, decimals: int, point: str) -> str:
+    """A number of units of 10^-decimals."""
+    whole, part = divmod(abs(units), 10**decimals)
+    return ("-" if units < 0 else "") + str(whole) + (f"{point}{part:0{decimals}}" if decimals else "")
 
 
 def looks_like_number(cell: str) -> bool:

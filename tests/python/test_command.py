@@ -1,0 +1,426 @@
+"""The command for rosters with names: what it prints and writes, and with which status it ends."""
+import contextlib
+import csv
+import io
+import itertools
+import json
+import os
+import pathlib
+import random
+import subprocess
+import sys
+import tempfile
+import unittest
+from html.parser import HTMLParser
+from unittest import mock
+
+TOP = pathlib.Path(__file__).resolve().parents[2]
+sys.path.insert(0, str(TOP / "python"))
+
+from nushbaret import command, library
+from nushbaret.answer import Short, listed, plural, sentence
+from nushbaret.roster import read_roster
+
+NIGHTS = "person,shift,hours\nAda,early,1\nBen,night,2\nBen,weekend,3\nCleo,night,2\nDan,night,1\nDan,weekend,5\nAda,late,2\nAda,office,1\n"
+SENTENCE = ("3 people (Ben, Cleo, Dan) can take only 2 shifts between them (night, weekend): "
+            "allow one of them another, or leave one out")
+SQUARE = ",early,late,night\nAda,4,1,3\nBen,2,0,5\nCleo,3,2,2\n"
+
+
+class Runs(unittest.TestCase):
+    """Tests in a folder of their own, in which the command runs."""
+
+    def setUp(self):
+        holder = tempfile.TemporaryDirectory()
+        self.addCleanup(holder.cleanup)
+        self.addCleanup(os.chdir, os.getcwd())
+        os.chdir(holder.name)
+
+    def file(self, name, content):
+        pathlib.Path(name).write_text(content, encoding="utf-8")
+
+    def read(self, name):
+        return pathlib.Path(name).read_text(encoding="utf-8")
+
+    def run_words(self, *words):
+        out, err = io.StringIO(), io.StringIO()
+        with contextlib.redirect_stdout(out), contextlib.redirect_stderr(err):
+            try:
+                status = command.main(words)
+            except SystemExit as end:
+                status = end.code
+        return status, out.getvalue(), err.getvalue()
+
+    def expect(self, status, out, err, *words):
+        self.assertEqual(self.run_words(*words), (status, out, err))
+
+    def refused(self, status, text, *words):
+        before = sorted(os.listdir())
+        found, out, err = self.run_words(*words)
+        self.assertEqual((found, out), (status, ""))
+        self.assertIn(text, err)
+        self.assertEqual(sorted(os.listdir()), before)
+
+
+class Plans(Runs):
+    def test_least_and_greatest(self):
+        self.file("r.csv", SQUARE)
+        self.expect(0, "least cost: 5\nAda: late, 1\nBen: early, 2\nCleo: night, 2\n", "", "r.csv")
+        self.expect(0, "greatest cost: 11\nAda: early, 4\nBen: night, 5\nCleo: late, 2\n", "", "r.csv", "--max")
+
+    def test_decimal_comma(self):
+        self.file("r.csv", "wer;was;Stunden\nAda;fr\u00fch;2,50\nAda;sp\u00e4t;-4\nBen;fr\u00fch;0,05\n")
+        status, out, _ = self.run_words("r.csv", "--decimal-comma", "--output", "p.csv")
+        self.assertEqual((status, out), (0, "least Stunden: -3,95\nAda: sp\u00e4t, -4,00\nBen: fr\u00fch, 0,05\n"))
+        self.assertEqual(self.read("p.csv"), "wer;was;Stunden\nAda;sp\u00e4t;-4,00\nBen;fr\u00fch;0,05\n")
+
+    def test_unequal_numbers(self):
+        self.file("r.csv", ",x,y,z\nAda,5,1,4\nBen,1,1,9\n")
+        self.expect(0, "least cost: 2\nAda: y, 1\nBen: x, 1\nunused: z\n", "", "r.csv")
+        self.file("r.csv", ",x,y\nAda,5,1\nBen,1,1\nCleo,9,9\n")
+        self.expect(0, "least cost: 2\nAda: y, 1\nBen: x, 1\nwithout: Cleo\n", "", "r.csv")
+        self.expect(0, "greatest cost: 14\nAda: x, 5\nCleo: y, 9\nwithout: Ben\n", "", "r.csv", "--max")
+
+    def test_vehicles_and_jobs(self):
+        drawn = random.Random(12)
+        self.file("r.csv", "," + ",".join(f"job {number}" for number in range(20)) + "\n" + "".join(
+            f"vehicle {number}," + ",".join(str(drawn.randrange(100)) for _ in range(20)) + "\n" for number in range(12)))
+        status, out, _ = self.run_words("r.csv")
+        self.assertEqual((status, out.count("vehicle"), len(out.splitlines()[-1].split(", "))), (0, 12, 8))
+
+    def test_fixed(self):
+        self.file("r.csv", SQUARE)
+        self.file("f.csv", "a,b\nAda,early\n")
+        self.expect(0, "least cost: 6\nAda: early, 4 (fixed)\nBen: late, 0\nCleo: night, 2\n", "", "r.csv", "--fixed", "f.csv")
+        self.file("f.csv", "a,b\nAda,early\nCleo,late\nBen,night\n")
+        status, out, _ = self.run_words("r.csv", "--fixed", "f.csv", "--rents", "--output", "p.html")
+        self.assertEqual((status, out.splitlines()[0], out.count("(fixed)"), out.count("rent")), (0, "least cost: 11", 3, 0))
+        self.file("w.csv", ",x\nAda,9\nBen,1\n")
+        self.file("f.csv", "a,b\nAda,x\n")
+        self.expect(0, "least cost: 9\nAda: x, 9 (fixed)\nwithout: Ben\n", "", "w.csv", "--fixed", "f.csv")
+
+    def test_compare(self):
+        self.file("r.csv", SQUARE)
+        best = "least cost: 5\nAda: late, 1\nBen: early, 2\nCleo: night, 2\n"
+        self.file("h.csv", "a,b\nAda,late\nBen,early\nCleo,night\n")
+        self.expect(0, best + "h.csv: 5, as good as the best\n", "", "r.csv", "--compare", "h.csv")
+        self.file("h.csv", "a,b\nCleo,night\nAda,early\nBen,late\n")
+        self.expect(0, best + "h.csv: 6, 1 more than the best\n  there Ada: early, 4\n  there Ben: late, 0\n", "",
+                    "r.csv", "--compare", "h.csv")
+        status, out, _ = self.run_words("r.csv", "--compare", "h.csv", "--max")
+        self.assertIn("h.csv: 6, 5 less than the best\n", out)
+        self.file("h.csv", "a,b\nCleo,night\nAda,early\n")
+        self.refused(3, "h.csv: 2 pairs, where 3 can be: none has Ben", "r.csv", "--compare", "h.csv", "--output", "p.csv")
+        self.file("f.csv", "a,b\nAda,late\n")
+        self.refused(3, "h.csv: the fixed pair Ada, late is missing", "r.csv", "--compare", "h.csv", "--fixed", "f.csv")
+
+    def test_rents_prove_the_plan(self):
+        self.file("r.csv", SQUARE)
+        _, out, _ = self.run_words("r.csv", "--rents")
+        rents = [int(line.split(": ")[1]) for line in out.splitlines() if line.startswith("rent of ")]
+        self.assertEqual((len(rents), min(rents)), (3, 0))
+        for own, costs in zip((1, 0, 2), ((4, 1, 3), (2, 0, 5), (3, 2, 2))):
+            self.assertEqual(costs[own] + rents[own], min(cost + rent for cost, rent in zip(costs, rents)))
+
+    def test_start(self):
+        self.file("r.csv", SQUARE)
+        self.run_words("r.csv", "--output", "p.json")
+        self.expect(0, "least cost: 5\nAda: late, 1\nBen: early, 2\nCleo: night, 2\n", "", "r.csv", "--start", "p.json")
+        self.file("other.csv", ",early,noon\nAda,2.5,1\nEve,1,1\n")
+        self.expect(0, "least cost: 2.0\nAda: noon, 1.0\nEve: early, 1.0\n", "", "other.csv", "--start", "p.json")
+        self.file("far.json", json.dumps({"format": 1, "rents": {"early": "9" * 15 + ".999999"}}))
+        self.assertEqual(self.run_words("other.csv", "--start", "far.json")[0], 0)
+        self.refused(3, "far.json: the rent of 'early' is beyond 122055413157.573538", "other.csv", "--start", "far.json", "--decimals", "6")
+
+    def test_drawn_rosters(self):
+        drawn = random.Random(27)
+        for case in range(60):
+            persons, objects = drawn.randint(1, 5), drawn.randint(1, 5)
+            pairs = {(person, object_): drawn.randint(-300, 300) for person in range(persons) for object_ in range(objects)
+                     if drawn.random() < 0.7}
+            rows = [[f"p{person}"] + ["" if (person, object_) not in pairs else f"{pairs[person, object_] / 100:.2f}"
+                                      for object_ in range(objects)] for person in range(persons)]
+            text = io.StringIO()
+            csv.writer(text).writerows([[""] + [f"o{object_}" for object_ in range(objects)]] + rows)
+            self.file("r.csv", text.getvalue())
+            with self.subTest(case=case):
+                self.compare_with_search(persons, objects, pairs)
+
+    def compare_with_search(self, persons, objects, pairs):
+        count, best = fullest(persons, objects, pairs)
+        status, out, err = self.run_words("r.csv", "--decimals", "2", "--as-many-as-can", "--output", "p.json", "--force")
+        self.assertEqual((status, err), (0 if count == min(persons, objects) else 1, ""))
+        plan = json.loads(self.read("p.json"))
+        self.assertEqual((len(plan["pairs"]), round(float(plan["cost"]) * 100)), (count, best))
+        self.assertEqual(len({pair["object"] for pair in plan["pairs"]}), count)
+        self.assertEqual(("short" in plan), status == 1)
+        if status == 1:
+            self.judge_short(pairs, plan["short"])
+
+    def judge_short(self, pairs, short):
+        of_persons, of_objects = ({int(name[1:]) for name in short[side]} for side in ("persons", "objects"))
+        if len(of_persons) > len(of_objects):
+            self.assertEqual({object_ for person, object_ in pairs if person in of_persons} - of_objects, set())
+        else:
+            self.assertGreater(len(of_objects), len(of_persons))
+            self.assertEqual({person for person, object_ in pairs if object_ in of_objects} - of_persons, set())
+
+
+def fullest(persons, objects, pairs):
+    """The most pairs that a plan can have, and the least cost of such a plan, by trying all."""
+    best = (0, 0)
+    for chosen in itertools.product(range(-1, objects), repeat=persons):
+        had = [(person, object_) for person, object_ in enumerate(chosen) if object_ >= 0]
+        if len({object_ for _, object_ in had}) == len(had) and all(pair in pairs for pair in had):
+            best = min(best, (-len(had), sum(pairs[pair] for pair in had)))
+    return -best[0], best[1]
+
+
+class NoPlans(Runs):
+    def test_sentence(self):
+        self.file("r.csv", NIGHTS)
+        self.file("r.csv", NIGHTS + "Eve,early,1\n")
+        self.expect(1, SENTENCE + "\n", "", "r.csv")
+        status, out, _ = self.run_words("r.csv", "--as-many-as-can")
+        self.assertEqual(status, 1)
+        self.assertEqual(out.splitlines()[:2], [SENTENCE, "least hours of 4 pairs: 6"])
+        self.assertEqual(out.splitlines()[-2:], ["without: Cleo", "unused: late"])
+
+    def test_other_shortages(self):
+        cases = [
+            (",x,y\nAda,1,2\nBen,,\n", "1 person (Ben) can take no object: allow Ben one, or leave Ben out"),
+            (",x,y\nAda,1,\nBen,1,\nCleo,,\n", "1 object (y) can go to no person: allow it to somebody, or leave it open"),
+            (",x,y,z\nAda,1,,\nBen,1,,\nCleo,,1,1\n", "2 people (Ada, Ben) can take only 1 object between them (x): "
+             "allow one of them another, or leave one out"),
+            (",x,y,z\nAda,1,1,\nBen,1,1,\nCleo,,,1\nDan,,,1\n", None),
+            (",x,y\nAda,1,1\nBen,,\nCleo,,\n", "2 objects (x, y) can go to only 1 person between them (Ada): "
+             "allow one of them to another, or leave one open"),
+        ]
+        for content, wanted in cases:
+            with self.subTest(wanted=wanted):
+                self.file("r.csv", content)
+                self.expect(1 if wanted else 0, wanted + "\n" if wanted else "least cost: 3\nAda: x, 1\nBen: y, 1\n"
+                            "Cleo: z, 1\nwithout: Dan\n", "", "r.csv")
+
+    def test_sentences_of_larger_groups(self):
+        self.file("r.csv", ",x,y\nAda,1,1\nBen,1,1\n")
+        roster = read_roster("r.csv", None, None, False)
+        for short, wanted in (
+                (Short([0, 1], [], False), "2 people (Ada, Ben) can take no object: allow each one, or leave them out"),
+                (Short([], [0, 1], True), "2 objects (x, y) can go to no person: allow each to somebody, or leave them open"),
+                (Short([0, 1, 1], [0], False), "3 people (Ada, Ben, Ben) can take only 1 object between them (x): "
+                 "allow 2 of them another, or leave 2 out")):
+            self.assertEqual(sentence(roster, short, False), wanted)
+
+    def test_fixed_pairs_leave_too_little(self):
+        self.file("r.csv", ",x,y\nAda,1,2\nBen,1,\n")
+        self.file("f.csv", "a,b\nAda,x\n")
+        status, out, _ = self.run_words("r.csv", "--fixed", "f.csv")
+        self.assertEqual((status, out.split(":")[0]), (1, "beside the fixed pairs, 1 person (Ben) can take no object"))
+
+    def test_many_names_are_cut(self):
+        names = [f"p{number}" for number in range(30)]
+        self.assertEqual(listed(names, list(range(20))), ", ".join(names[:20]))
+        self.assertEqual(listed(names, list(range(1, 23))), ", ".join(names[1:21]) + " and 2 more")
+
+    def test_outputs(self):
+        self.file("r.csv", NIGHTS + "Eve,early,1\n")
+        self.expect(1, SENTENCE + "\np.csv isn't written: there is no plan\n", "", "r.csv",
+                    "--output", "p.csv", "--output", "p.json", "--html", "page")
+        self.assertEqual(sorted(os.listdir()), ["p.json", "page", "r.csv"])
+        self.assertEqual(json.loads(self.read("p.json")), {"format": 1, "sense": "min", "short": {
+            "persons": ["Ben", "Cleo", "Dan"], "objects": ["night", "weekend"], "sentence": SENTENCE}})
+
+    def test_plurals(self):
+        words = {"shift": "shifts", "shifts": "shifts", "bus": "bus", "duty": "duties", "day": "days", "box": "boxes",
+                 "branch": "branches", "Person": "people", "class": "classes"}
+        self.assertEqual({word: plural(word) for word in words}, words)
+
+
+class Outputs(Runs):
+    def test_round_of_names(self):
+        names = ['O"Neil', "a,b", "c;d", "Zo\u00eb", "<b>&amp;", "=1+1", "x y"]
+        text = io.StringIO()
+        csv.writer(text).writerows([["who", "what", "much"]] + [
+            [who, what + "!", f"{(first * 5 + second * 3) % 7}.5"] for first, who in enumerate(names) for second, what in enumerate(names)])
+        self.file("r.csv", text.getvalue())
+        _, first, _ = self.run_words("r.csv", "--output", "p.csv", "--output", "p.json")
+        _, again, _ = self.run_words("p.csv")
+        self.assertEqual(again, first)
+        self.assertEqual(self.run_words("r.csv", "--fixed", "p.csv")[1].replace(" (fixed)", ""), first)
+        self.assertIn("as good as the best", self.run_words("r.csv", "--compare", "p.csv")[1])
+        self.assertEqual({pair["person"] for pair in json.loads(self.read("p.json"))["pairs"]}, set(names))
+
+    def test_existing_output(self):
+        self.file("r.csv", SQUARE)
+        self.file("p.csv", "old")
+        self.refused(4, "p.csv exists: --force overwrites it", "r.csv", "--output", "p.csv")
+        self.refused(4, "p.csv exists", "r.csv", "--output", "p.json", "--output", "p.csv")
+        self.assertEqual(self.read("p.csv"), "old")
+        self.assertEqual(self.run_words("r.csv", "--output", "p.csv", "--force")[0], 0)
+        self.assertEqual(self.read("p.csv"), "person,object,cost\nAda,late,1\nBen,early,2\nCleo,night,2\n")
+        self.assertEqual(sorted(os.listdir()), ["p.csv", "r.csv"])
+
+    def test_nothing_is_written_on_a_refusal(self):
+        self.file("bad.csv", SQUARE + "Dan,1,x,3\n")
+        self.refused(3, "bad.csv, line 5, column 3: 'x' is no number", "bad.csv", "--output", "p.csv", "--html", "p.html")
+
+    def test_page(self):
+        self.file("r.csv", SQUARE)
+        self.run_words("r.csv", "--html", "p.html")
+        page = parsed(self.read("p.html"))
+        self.assertEqual([cell for cell, kinds in page.cells if "own" in kinds], ["1", "2", "2"])
+        self.assertEqual(len([cell for cell, kinds in page.cells if any(kind[:1] == "s" for kind in kinds)]), 9)
+
+    def test_page_of_a_shortage(self):
+        self.file("<i>.csv", NIGHTS.replace("Ben", "<b>Ben</b>") + "Eve,early,1\n")
+        self.run_words("<i>.csv", "--as-many-as-can", "--html", "p.html")
+        page = parsed(self.read("p.html"))
+        self.assertEqual(page.short, ["night", "weekend", "<b>Ben</b>", "Cleo", "Dan"])
+        edges = [sum(edge in kinds for _, kinds in page.cells) for edge in ("top", "bottom", "left", "right")]
+        self.assertEqual(edges, [2, 2, 3, 3])
+        self.assertNotIn("b", page.tags)
+
+    def test_large_page(self):
+        drawn = random.Random(500)
+        for size in (30, 500):
+            self.file("r.csv", "," + ",".join(f"o{number}" for number in range(size)) + "\n" + "".join(
+                f"p{number}," + ",".join(str(drawn.randrange(1000)) for _ in range(size)) + "\n" for number in range(size)))
+            self.assertEqual(self.run_words("r.csv", "--html", "p.html", "--force")[0], 0)
+            page = parsed(self.read("p.html"))
+            self.assertEqual(len([1 for _, kinds in page.cells if "own" in kinds]), size)
+            self.assertEqual(len(page.cells), size * size + 3 * size)
+        with mock.patch("nushbaret.page.MOST_CELLS", 899):
+            self.run_words("r.csv", "--html", "q.html")
+        self.assertIn("isn't drawn", self.read("q.html"))
+
+
+class Page(HTMLParser):
+    """What a page has: its tags, the cells with their kinds, and the headings of the short group."""
+
+    def __init__(self):
+        super().__init__()
+        self.tags, self.cells, self.short, self.open = set(), [], [], []
+        self.kinds = []
+
+    def handle_starttag(self, tag, attributes):
+        self.tags.add(tag)
+        named = dict(attributes)
+        for name in named:
+            assert name in ("class", "scope", "lang", "charset", "http-equiv", "content"), name
+        if tag != "meta":
+            self.open.append((tag, (named.get("class") or "").split()))
+        if tag == "td":
+            self.cells.append(["", self.open[-1][1]])
+
+    def handle_endtag(self, tag):
+        assert self.open.pop()[0] == tag, tag
+
+    def handle_data(self, data):
+        if self.open and self.open[-1][0] == "td":
+            self.cells[-1][0] += data
+        if any(tag == "th" and "short" in kinds for tag, kinds in self.open):
+            self.short.append(data)
+
+
+def parsed(text):
+    page = Page()
+    page.feed(text)
+    page.close()
+    assert not page.open, page.open
+    assert not page.tags & {"script", "link", "img", "iframe", "object"} and "url(" not in text and "@import" not in text
+    return page
+
+
+class Statuses(Runs):
+    def test_words(self):
+        self.file("r.csv", SQUARE)
+        for words in ((), ("r.csv", "--lines", "--matrix"), ("r.csv", "--decimals", "7"), ("r.csv", "--decimals", "x"),
+                      ("r.csv", "--output", "p.txt"), ("r.csv", "--dec", "2"), ("r.csv", "s.csv"), ("r.csv", "--output"),
+                      ("r.csv", "--output", "r.csv", "--force"), ("r.csv", "--output", "p.csv", "--html", "./p.csv")):
+            with self.subTest(words=words):
+                self.refused(2, "usage: python3 -m nushbaret", *words)
+        status, out, _ = self.run_words("--help")
+        self.assertEqual(status, 0)
+        for option in command._parser()._option_string_actions:
+            self.assertIn(option, out)
+
+    def test_refused_plans_and_starts(self):
+        self.file("r.csv", NIGHTS)
+        for content, text in (("a,b\nBen,early\n", "f.csv, line 2: Ben, early is a forbidden pair"),
+                              ("a,b\nBen,night\nBen,weekend\n", "f.csv, line 3, column 1: 'Ben' a second time"),
+                              ("a,b\nBen,night\nDan,night\n", "f.csv, line 3, column 2: 'night' a second time"),
+                              ("a,b\nEve,night\n", "f.csv, line 2, column 1: the roster has no person 'Eve'")):
+            self.file("f.csv", content)
+            for option in ("--fixed", "--compare"):
+                self.refused(3, text, "r.csv", option, "f.csv")
+        for content in ("", "{", "[]", "{}", '{"format": 2, "rents": {}}', '{"format": 1}', '{"format": 1, "rents": []}', "[" * 100000):
+            self.file("s.json", content)
+            self.refused(3, "s.json: no ", "r.csv", "--start", "s.json")
+        for rent in (1, "-1", "1e3", "x", "1" * 19, "nan", None, "0.0000001"):
+            self.file("s.json", json.dumps({"format": 1, "rents": {"night": rent}}))
+            self.refused(3, "s.json: the rent of 'night' is no number", "r.csv", "--start", "s.json")
+
+    def test_files(self):
+        self.file("r.csv", SQUARE)
+        for words in (("none.csv",), (".",), ("r.csv", "--fixed", "none.csv"), ("r.csv", "--compare", "none.csv"),
+                      ("r.csv", "--start", "none.csv"), ("r.csv", "--output", "none/p.csv"),
+                      ("r.csv", "--output", "none/p.csv", "--force")):
+            with self.subTest(words=words):
+                self.refused(4, "none" if len(words) > 1 or words[0] != "." else "", *words)
+
+    def test_no_library_and_no_memory(self):
+        self.file("r.csv", SQUARE)
+        with mock.patch.dict(library._calls, clear=True), mock.patch.object(library, "PLACES", ()):
+            self.refused(4, "c/build.sh", "r.csv", "--output", "p.csv")
+        with mock.patch("nushbaret.answer.solve_sparse", side_effect=MemoryError):
+            self.refused(4, "memory refused", "r.csv", "--output", "p.csv")
+
+    def program(self, *words, **options):
+        return subprocess.run([sys.executable, "-m", "nushbaret", *words], env={**os.environ, "PYTHONPATH": str(TOP / "python")},
+                              stderr=subprocess.PIPE, **options)
+
+    def test_as_a_program(self):
+        self.file("r.csv", SQUARE.replace("Ada", "Ad\u00e4"))
+        ended = self.program("r.csv", stdout=subprocess.PIPE)
+        self.assertEqual((ended.returncode, ended.stderr, ended.stdout.splitlines()[0]), (0, b"", b"least cost: 5"))
+        self.file("n.csv", NIGHTS + "Eve,early,1\n")
+        self.assertEqual(self.program("n.csv", stdout=subprocess.PIPE).returncode, 1)
+        self.assertEqual(self.program(stdout=subprocess.PIPE).returncode, 2)
+        with open("/dev/full", "wb") as full:
+            ended = self.program("r.csv", stdout=full)
+        self.assertEqual((ended.returncode, ended.stderr), (4, b"standard output: No space left on device\n"))
+
+
+class Examples(unittest.TestCase):
+    """The sessions on the page run as written, at the top of the repository."""
+
+    def test_sessions(self):
+        page = (TOP / "docs" / "ROSTERS.md").read_text(encoding="utf-8")
+        blocks = [line[4:] for line in page.splitlines() if line.startswith("    ")]
+        count = 0
+        with tempfile.TemporaryDirectory() as folder:
+            for name in ("python", "examples", "c"):
+                os.symlink(TOP / name, os.path.join(folder, name))
+            first = sessions(blocks)[0][0]
+            for words, wanted in sessions(blocks):
+                with self.subTest(words=words):
+                    ended = subprocess.run(["bash", "-c", first + "; " + words], cwd=folder, stdout=subprocess.PIPE, stderr=subprocess.STDOUT)
+                    self.assertEqual(ended.stdout.decode(), wanted)
+                    count += 1
+        self.assertGreater(count, 5)
+
+
+def sessions(lines):
+    """The commands among lines, each with what stands below it."""
+    found = []
+    for line in lines:
+        if line.startswith("$ "):
+            found.append((line[2:], ""))
+        elif found:
+            found[-1] = (found[-1][0], found[-1][1] + line + "\n")
+    return found
+
+
+if __name__ == "__main__":
+    unittest.main()
