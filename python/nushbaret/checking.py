@@ -41,22 +41,17 @@ class Comparison(NamedTuple):
     result: Optional[Result]
 
 
-def problem_of(costs, n_rows, n_cols, maximize, decimals):
-    """The problem of a matrix, of (rows, cols, costs), or of a sparse matrix; it must have so many rows and columns."""
-    if hasattr(costs, "tocsr"):
+def problem_of(costs, rows, cols, sizes, maximize, decimals):
+    """The problem of a matrix, of a sparse matrix, or of listed pairs; it must be of these sizes, where they are given."""
+    if rows is not None or cols is not None:
+        found = reading.of_pairs(*sizes, rows, cols, costs, maximize, decimals)
+    elif hasattr(costs, "tocsr"):
         found = reading.of_sparse_matrix(costs, maximize, decimals)
-    elif isinstance(costs, tuple) and len(costs) == 3 and n_rows is not None and not _is_matrix(costs, n_rows, n_cols):
-        found = reading.of_pairs(n_rows, n_cols, *costs, maximize, decimals)
     else:
         found = reading.of_matrix(costs, maximize, decimals)
-    if n_rows is not None and (found.n_rows, found.n_cols) != (n_rows, n_cols):
-        raise ValueError(f"the costs have {found.n_rows} rows and {found.n_cols} columns, the plan was made for {n_rows} and {n_cols}")
+    if sizes not in (None, (found.n_rows, found.n_cols)):
+        raise ValueError(f"the costs have {found.n_rows} rows and {found.n_cols} columns, the plan was made for {sizes[0]} and {sizes[1]}")
     return found
-
-
-def _is_matrix(costs, n_rows, n_cols):
-    """Whether a tuple of three is the rows of a matrix, and not three lists of pairs."""
-    return n_rows == 3 and all(hasattr(row, "__len__") and len(row) == n_cols for row in costs) and n_cols != 0
 
 
 def _pairs_of(problem, columns, rows):
@@ -195,7 +190,7 @@ def check(costs, columns, prices, rows=None, maximize=False, decimals=None):
         As in `solve`, or where a number of the plan is none of the problem's, a row stands twice in it, or there aren't as
         many prices as columns.
     """
-    problem = problem_of(costs, None, None, maximize, decimals)
+    problem = problem_of(costs, None, None, None, maximize, decimals)
     pairs = _pairs_of(problem, columns, rows)
     return check_problem(problem, [row for row, _ in pairs], [column for _, column in pairs], prices)
 
@@ -217,7 +212,7 @@ def compare(costs, columns, rows=None, maximize=False, decimals=None):
     ValueError, TypeError
         As in `check`, or where the plan uses a forbidden pair or a column twice, or pairs fewer rows than can be paired.
     """
-    problem = problem_of(costs, None, None, maximize, decimals)
+    problem = problem_of(costs, None, None, None, maximize, decimals)
     pairs = _pairs_of(problem, columns, rows)
     held = _cost_by_pair(problem, pairs)
     seen = set()

@@ -1,5 +1,6 @@
 """Prices between the library's unit, costs times size + 1, and that of the costs."""
 import decimal
+import math
 import numbers
 from fractions import Fraction
 
@@ -67,7 +68,7 @@ def _whole(price, scale, place):
     try:
         if isinstance(price, (int, decimal.Decimal, numbers.Rational)):
             return round(Fraction(price) * scale)
-        return round(Fraction(float(price)) * scale)
+        return round(Fraction(math.fsum((price,))) * scale)
     except (ValueError, OverflowError):
         raise ValueError(f"the price of column {place} is {price}: it must be finite") from None
     except TypeError:

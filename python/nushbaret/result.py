@@ -71,13 +71,15 @@ class Result:
         whole = rents.of_answer(self._problem, self._answer, len(self._pairs[0]))
         return [in_unit(rent, self.decimals) for rent in whole]
 
-    def verify(self, costs=None):
+    def verify(self, costs=None, rows=None, cols=None):
         """Holds the plan and its rents against a problem, by the library's proved checker.
 
         Parameters
         ----------
-        costs : matrix, (rows, cols, costs) or sparse matrix, optional
+        costs : matrix or sparse matrix, optional
             The problem, of as many rows and columns; the one that was solved where it isn't given.
+        rows, cols : lists of int, optional
+            Where they are given, `costs` is a list too, and these are its pairs, as in `solve_sparse`.
 
         Returns
         -------
@@ -87,7 +89,7 @@ class Result:
         from .checking import check_problem, problem_of
         problem = self._problem
         if costs is not None:
-            problem = problem_of(costs, problem.n_rows, problem.n_cols, self.maximize, self.decimals if self.rounded else None)
+            problem = problem_of(costs, rows, cols, (problem.n_rows, problem.n_cols), self.maximize, self.decimals if self.rounded else None)
         return check_problem(problem, *self._pairs, self.rents)
 
     def without(self, row, column):

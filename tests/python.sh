@@ -1,0 +1,9 @@
+#!/usr/bin/env bash
+# Tests the Python package and its command, with python3 alone; the parts for NumPy and SciPy run where these import. Wants
+# c/out/libnushbaret.so (c/build.sh). PYTHON=.. names another interpreter. The last line says what ran.
+set -euo pipefail
+cd "$(dirname "$0")/.."
+python=${PYTHON:-python3}
+export PYTHONPATH=$PWD/python PYTHONDONTWRITEBYTECODE=1
+"$python" -m unittest discover -s tests/python -p 'test_*.py'
+"$python" tests/python/which_ran.py

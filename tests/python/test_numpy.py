@@ -1,0 +1,126 @@
+"""Costs in NumPy's arrays: kinds, layouts, what comes back; and, where SciPy is there, drawn problems beside its solver."""
+import unittest
+from decimal import Decimal
+
+import nushbaret
+
+try:
+    import numpy as np
+except ImportError:
+    np = None
+try:
+    from scipy import optimize, sparse
+except ImportError:
+    optimize = None
+
+
+@unittest.skipUnless(np, "NumPy isn't there")
+class Arrays(unittest.TestCase):
+    def test_kinds(self):
+        whole = [[4, 1, 3], [2, 0, 5], [3, 2, 2]]
+        kinds = ["bool", "int8", "uint8", "int16", "uint16", "int32", "uint32", "int64", "uint64", "float16", "float32", "float64",
+                 "longdouble", "object", ">i4", ">f8"]
+        for kind in kinds:
+            costs = np.array(whole).astype(kind)
+            wanted = 2 if kind == "bool" else 5
+            for form in costs, np.asfortranarray(costs), costs.T.copy().T, np.repeat(np.repeat(costs, 2, 0), 2, 1)[::2, ::2]:
+                form.flags.writeable = False
+                result = nushbaret.solve(form)
+                self.assertEqual(result.cost, wanted, kind)
+                self.assertEqual((result.rows.dtype, result.columns.dtype), (np.intp, np.intp))
+                self.assertTrue(result.verify(form))
+
+    def test_floats(self):
+        self.assertEqual(nushbaret.solve(np.array([[0.1]], np.float32)).cost, Decimal("0.1"))
+        self.assertEqual(nushbaret.solve(np.array([[16777.1, 9], [9, 0.123456]], np.float32), True).cost, Decimal("16777.223456"))
+        self.assertEqual(nushbaret.solve(np.array([[123456.789012]])).cost, Decimal("123456.789012"))
+        with self.assertRaisesRegex(ValueError, "row 0, column 1: 0.30000000000000004 has more than 6 decimal places"):
+            nushbaret.solve(np.array([[1.0, 0.1 + 0.2]]))
+        self.assertEqual(nushbaret.solve(np.array([[0.1 + 0.2]]), decimals=6).cost, Decimal("0.3"))
+        for value, wanted in (2.675, "2.68"), (2.665, "2.66"), (-2.675, "-2.68"), (0.005, "0"), (0.015, "0.02"):
+            result = nushbaret.solve(np.array([[value]]), decimals=2)
+            self.assertEqual((result.cost, result.rounded), (Decimal(wanted), True), value)
+        self.assertFalse(nushbaret.solve(np.array([[2.67]]), decimals=2).rounded)
+
+    def test_lists_and_arrays_are_read_alike(self):
+        rng = np.random.default_rng(8)
+        for _ in range(500):
+            values = np.round(rng.normal(0, 10.0**rng.integers(0, 6), (2, 3)), int(rng.integers(0, 8)))
+            for decimals in None, 0, 2, 6:
+                told = []
+                for costs in values, values.tolist():
+                    try:
+                        result = nushbaret.solve(costs, decimals=decimals)
+                        told.append((result.cost, result.decimals, result.rounded))
+                    except ValueError as fault:
+                        told.append(str(fault))
+                self.assertEqual(*told)
+
+    def test_refusals(self):
+        for costs, kind, words in ((np.zeros(3), ValueError, "expected a matrix"), (np.eye(2).astype(str), TypeError, "Cannot cast array data"),
+                                   (np.array([[1, 2**63]], np.uint64), ValueError, "row 0, column 1: the cost is beyond"),
+                                   (np.array([[1, -10**12 - 1]]), ValueError, "row 0, column 1: the cost is beyond"),
+                                   (np.array([[1, 1e300]]), ValueError, "row 0, column 1: the cost is beyond"),
+                                   (np.array([[1, np.nan]]), ValueError, "nan at row 0, column 1"),
+                                   (np.array([[1, -np.inf]]), ValueError, "contains invalid numeric entries"),
+                                   (np.zeros((8193, 1)), ValueError, "8193 rows"), (np.zeros((1, 1), complex), TypeError, "Cannot cast")):
+            with self.assertRaisesRegex(kind, words):
+                nushbaret.solve(costs)
+        with self.assertRaises(nushbaret.Infeasible) as caught:
+            nushbaret.solve(np.array([[1, np.inf], [2, np.inf]]))
+        self.assertEqual((caught.exception.rows.tolist(), caught.exception.cols.tolist()), ([0, 1], [0]))
+        with self.assertRaisesRegex(ValueError, r"rows\[1\] is 2"):
+            nushbaret.solve_sparse(2, 2, np.array([0, 2]), np.array([0, 1]), np.array([1, 1]))
+
+    def test_results(self):
+        costs = np.array([[1, 2, np.inf], [3, 5, 4], [1, np.inf, np.inf]])
+        result = nushbaret.solve(costs)
+        self.assertEqual((result.cost, bool(result.verify(costs))), (7, True))
+        with self.assertRaises(nushbaret.Infeasible):
+            result.without(2, 0)
+        costs = np.array([[1, 2], [3, 5]])
+        self.assertEqual(nushbaret.solve(costs).without(0, 1).cost, 6)
+        self.assertEqual(nushbaret.compare(costs, np.array([0, 1])).worse, 1)
+        fullest = nushbaret.solve(np.array([[1, np.inf], [2, np.inf]]), as_many_as_can=True)
+        self.assertEqual((fullest.cost, fullest.unserved_rows.tolist(), fullest.unused_columns.tolist()), (1, [1], [1]))
+
+
+@unittest.skipUnless(optimize, "SciPy isn't there")
+class BesideScipy(unittest.TestCase):
+    def test_drawn(self):
+        rng = np.random.default_rng(9)
+        for _ in range(500):
+            shape = tuple(int(side) for side in rng.integers(1, 30, 2))
+            span, maximize = int(rng.choice([1, 9, 1000, 10**12])), bool(rng.integers(2))
+            costs = rng.integers(-span, span + 1, shape)
+            wanted = costs[optimize.linear_sum_assignment(costs, maximize)].sum()
+            result = nushbaret.solve(costs, maximize)
+            self.assertEqual((result.cost, costs[result.rows, result.columns].sum()), (wanted, wanted))
+            self.assertTrue(result.verify(costs))
+            rows, columns = nushbaret.linear_sum_assignment(costs.astype(float), maximize)
+            self.assertEqual(costs[rows, columns].sum(), wanted)
+
+    def test_sparse(self):
+        rng, found = np.random.default_rng(10), 0
+        for _ in range(500):
+            shape = tuple(int(side) for side in rng.integers(1, 20, 2))
+            full = np.where(rng.random(shape) < rng.choice([0.2, 0.5]), rng.integers(1, 1000, shape) / 4, np.inf)
+            try:
+                wanted = full[optimize.linear_sum_assignment(full)].sum()
+            except ValueError:
+                wanted = None
+            matrix = sparse.coo_matrix(np.where(np.isinf(full), 0, full))
+            for form in matrix, matrix.tocsr(), matrix.tocsc():
+                try:
+                    result = nushbaret.solve_sparse(form)
+                    self.assertEqual(float(result.cost), wanted)
+                    self.assertTrue(result.verify(form))
+                    found += 1
+                except nushbaret.Infeasible as fault:
+                    self.assertIsNone(wanted)
+                    self.assertNotEqual(len(fault.rows), len(fault.cols))
+        self.assertGreater(found, 300)
+
+
+if __name__ == "__main__":
+    unittest.main()

@@ -1,0 +1,190 @@
+"""What the package refuses, with the words that name the place; costs of every kind; limits; the library's constants."""
+import ast
+import math
+import os
+import pathlib
+import re
+import subprocess
+import sys
+import unittest
+from array import array
+from decimal import Decimal
+from fractions import Fraction
+
+import nushbaret
+from nushbaret import library
+
+TOP = pathlib.Path(__file__).resolve().parent.parent.parent
+MOST = nushbaret.GREATEST_COST
+
+
+class Refused(unittest.TestCase):
+    def refused(self, kind, words, call, *given, **named):
+        with self.assertRaisesRegex(kind, re.escape(words)):
+            call(*given, **named)
+
+    def test_matrices(self):
+        solve = nushbaret.solve
+        self.refused(ValueError, "expected a matrix", solve, [1, 2, 3])
+        self.refused(ValueError, "expected a matrix", solve, array("q", [1, 2]))
+        self.refused(ValueError, "row 1 has 1 costs, row 0 has 2", solve, [[1, 2], [3]])
+        self.refused(TypeError, "Cannot cast array data: row 0, column 1 is 'x'", solve, [[1, "x"], [3, 4]])
+        self.refused(TypeError, "Cannot cast array data", solve, ["ab", "cd"])
+        self.refused(TypeError, "row 0, column 0 is 1j", solve, [[1j]])
+        self.refused(ValueError, "contains invalid numeric entries: nan at row 1, column 0", solve, [[1, 2], [math.nan, 4]])
+        self.refused(ValueError, "contains invalid numeric entries: -inf", solve, [[-math.inf]])
+        self.refused(ValueError, "contains invalid numeric entries: inf", solve, [[math.inf]], maximize=True)
+        self.refused(ValueError, "invalid numeric entries", solve, [[Decimal("sNaN")]])
+        self.refused(ValueError, "8193 columns: at most 8192", solve, [[0] * 8193])
+        self.refused(ValueError, "8193 rows", solve, [[0]] * 8193)
+
+    def test_ranges(self):
+        solve = nushbaret.solve
+        self.assertEqual(solve([[MOST, -MOST], [0, MOST]]).cost, -MOST)
+        for beyond in MOST + 1, -MOST - 1, 2**63, -2**70, Decimal(MOST + 1), float(MOST + 1), 1e300, Decimal("1E+999999"):
+            self.refused(ValueError, "row 1, column 0: the cost is beyond 1000000000000", solve, [[1, 2], [beyond, 1]])
+            self.refused(ValueError, "row 0, column 1: the cost is beyond", solve, [[1, beyond], [None, 1]])
+        self.assertEqual(solve([[Decimal("1000000.000000")]], decimals=6).cost, 10**6)
+        self.assertEqual(solve([[Decimal("999999.999999")]]).cost, Decimal("999999.999999"))
+        self.refused(ValueError, "row 0, column 0: the cost is beyond 1000000, with 6 decimal places", solve, [[1000000.000001]])
+        self.refused(ValueError, "beyond 1000000, with 6 decimal places", solve, [[10**6 + 1]], decimals=6)
+
+    def test_places(self):
+        solve = nushbaret.solve
+        line = "round the costs, as by nushbaret.solve(costs, decimals=6)"
+        for value in 0.1 + 0.2, 1e-7, Decimal("0.1234567"), Fraction(1, 3), Decimal("1E-999999"):
+            self.refused(ValueError, line, solve, [[value]])
+            self.refused(ValueError, "row 0, column 1", nushbaret.linear_sum_assignment, [[1, value]])
+            self.assertTrue(solve([[value]], decimals=6).rounded)
+        self.assertEqual(solve([[0.1 + 0.2]], decimals=6).cost, Decimal("0.3"))
+        self.assertEqual(solve([[Fraction(1, 3)]], decimals=2).cost, Decimal("0.33"))
+        for value, wanted in (2.675, "2.68"), (2.665, "2.66"), (-2.675, "-2.68"), (0.005, "0"), (1.005, "1.00"), (0.015, "0.02"):
+            self.assertEqual(solve([[value]], decimals=2).cost, Decimal(wanted), value)
+        self.assertEqual((solve([[2.5]]).cost, solve([[2.0]]).cost, type(solve([[2.0]]).cost)), (Decimal("2.5"), 2, int))
+        self.assertEqual(type(solve([[2]], decimals=2).cost), Decimal)
+        self.refused(ValueError, "decimals is 7: 0 to 6", solve, [[1]], decimals=7)
+        self.refused(TypeError, "", solve, [[1]], decimals=0.5)
+
+    def test_kinds(self):
+        for costs in ([[True, False], [True, True]], [array("q", [1, 0]), array("q", [1, 1])], ((1.0, 0), (Decimal(1), Fraction(1)))):
+            self.assertEqual(nushbaret.solve(costs, maximize=True).cost, 2)
+        for code in "bBhHiIlLqQfd":
+            view = memoryview(array(code, [1, 0, 1, 1, 1, 0])).cast("B").cast(code, (2, 3))
+            self.assertEqual(nushbaret.solve(view, maximize=True).cost, 2, code)
+            self.assertEqual(nushbaret.solve(view).cost, 0, code)
+            self.assertEqual(nushbaret.solve(view).without(1, 2).cost, 1, code)
+        frozen = memoryview(array("q", [1, 2, 3, 5]).tobytes()).cast("q", (2, 2))
+        self.assertEqual(nushbaret.solve(frozen).cost, 5)
+        lent = memoryview(array("q", [1, 2, 3, 5])).cast("B").cast("q", (2, 2))
+        result = nushbaret.solve(lent)
+        self.assertEqual((result.cost, bool(result.verify(lent)), nushbaret.compare(lent, [0, 1]).worse), (5, True, 1))
+        lent = memoryview(array("q", [1, MOST + 1])).cast("B").cast("q", (1, 2))
+        self.refused(ValueError, "row 0, column 1: the cost is beyond", nushbaret.solve, lent)
+
+    def test_forbidden(self):
+        self.assertEqual(nushbaret.solve([[1, 2], [3, math.inf]]).columns, [1, 0])
+        self.assertEqual(nushbaret.solve([[1, 2], [-math.inf, 9]], maximize=True).cost, 10)
+        self.assertEqual(nushbaret.solve([[1, None], [Decimal("Infinity"), 9]]).cost, 10)
+        with self.assertRaises(nushbaret.Infeasible) as caught:
+            nushbaret.solve([[1, 5, None], [2, 6, None], [3, 7, None]])
+        self.assertEqual((caught.exception.rows, caught.exception.cols), ([0, 1, 2], [0, 1]))
+        with self.assertRaisesRegex(ValueError, "columns 1 may go to no row"):
+            nushbaret.solve([[1, None], [2, None], [3, None]])
+
+    def test_pairs(self):
+        solve = nushbaret.solve_sparse
+        self.refused(ValueError, "rows[1] is 2: it must be from 0 to 1", solve, 2, 2, [0, 2], [0, 1], [1, 1])
+        self.refused(ValueError, "cols[0] is -1", solve, 2, 2, [0, 1], [-1, 1], [1, 1])
+        self.refused(ValueError, "they have 2, 2 and 1", solve, 2, 2, [0, 1], [0, 1], [1])
+        self.refused(TypeError, "", solve, 2, 2, [0.0, 1.0], [0, 1], [1, 1])
+        self.refused(TypeError, "costs are wanted", solve, 2, 2)
+        self.refused(ValueError, "nan at costs[1] (row 1, column 0)", solve, 2, 2, [0, 1], [1, 0], [1, math.nan])
+        self.refused(ValueError, "row 1, column 0: the cost is beyond", solve, 2, 2, [0, 1], [1, 0], [1, MOST + 1])
+        self.refused(ValueError, "-1 rows", solve, -1, 2, [], [], [])
+        self.refused(ValueError, "8193 rows", solve, 8193, 2, [], [], [])
+        self.refused(nushbaret.Infeasible, "rows 0 may have no column", solve, 2, 2, [], [], [])
+        self.assertEqual(solve(1, 1, [0, 0], [0, 0], [5, 3], maximize=True).cost, 3)
+
+    def test_first_prices(self):
+        self.refused(ValueError, "there are 1 prices, and 2 columns", nushbaret.solve, [[1, 2], [3, 5]], start=[0])
+        self.refused(ValueError, "the price of column 1 is nan", nushbaret.solve, [[1, 2], [3, 5]], start=[0, math.nan])
+        self.refused(TypeError, "the price of column 0 is 'x'", nushbaret.solve, [[1, 2], [3, 5]], start=["x", 0])
+        self.refused(ValueError, "too far apart", nushbaret.solve, [[1, 2], [3, 5]], start=[0, 10**21])
+        self.assertEqual(nushbaret.solve([[1, 2], [3, 5]], start=[0, 10**20]).cost, 5)
+
+    def test_plans(self):
+        costs = [[1, 2], [3, 5]]
+        self.assertTrue(nushbaret.check(costs, [1, 0], [1, 0]))
+        self.assertTrue(nushbaret.check(costs, [1, 0], [1.1, 0.0]))
+        self.assertEqual(nushbaret.check(costs, [0, 1], [1, 0]).row, 1)
+        self.assertIn("column 0 is given twice", nushbaret.check(costs, [0, 0], [1, 0]).why)
+        self.assertIn("row 1 may not have column 1", nushbaret.check([[1, 2], [3, None]], [0, 1], [1, 0]).why)
+        self.assertIn("1 rows have a column, and 2 can", nushbaret.check(costs, [0, None], [1, 0]).why)
+        self.refused(ValueError, "row 0 of the plan has column 2", nushbaret.check, costs, [2, 0], [1, 0])
+        self.refused(ValueError, "row 2 of the plan", nushbaret.check, costs, [1, 0], [1, 0], rows=[0, 2])
+        self.refused(ValueError, "row 0 stands twice", nushbaret.check, costs, [1, 0], [1, 0], rows=[0, 0])
+        self.assertEqual(nushbaret.compare(costs, [0, 1])[:3], (6, 5, 1))
+        self.assertEqual(nushbaret.compare(costs, [1, 0], maximize=True)[:3], (5, 6, 1))
+        self.refused(ValueError, "column 0 stands twice", nushbaret.compare, costs, [0, 0])
+        self.refused(ValueError, "the plan has 1 pairs, and 2 can be made", nushbaret.compare, costs, [0, None])
+        self.refused(IndexError, "row 2, column 0: there are 2 rows", nushbaret.solve(costs).without, 2, 0)
+
+
+class Limits(unittest.TestCase):
+    def test_dummies_at_the_limit_of_costs(self):
+        """Dummies cost nothing, so that the greatest costs are served as the small ones are."""
+        costs = [[MOST, None, -MOST], [None, None, MOST], [None, None, -MOST]]
+        for maximize, wanted in (False, 0), (True, 2 * MOST):
+            result = nushbaret.solve(costs, maximize, as_many_as_can=True)
+            self.assertEqual((len(result.rows), result.cost), (2, wanted))
+        costs[0][0] += 1
+        with self.assertRaisesRegex(ValueError, "row 0, column 0: the cost is beyond"):
+            nushbaret.solve(costs, as_many_as_can=True)
+
+    def test_size_with_dummies(self):
+        rows = list(range(4097))
+        result = nushbaret.solve_sparse(4097, 4096, rows[:4096], rows[:4096], [1] * 4096)
+        self.assertEqual((result.cost, result.unserved_rows), (4096, [4096]))
+        with self.assertRaisesRegex(ValueError, "of which 1 can be paired, want 8193"):
+            nushbaret.solve_sparse(4097, 4097, [0] * 4097, rows, [1] * 4097, as_many_as_can=True)
+
+    @unittest.skipUnless(sys.platform == "linux", "limits of memory are Linux's here")
+    def test_memory_refused(self):
+        code = ("import resource, nushbaret\nfrom array import array\n"
+                "view = memoryview(array('q', bytes(8 * 1500 * 1500))).cast('B').cast('q', (1500, 1500))\n"
+                "nushbaret.solve([[1]])\n"
+                "used = int(open('/proc/self/statm').read().split()[0]) * 4096\n"
+                "resource.setrlimit(resource.RLIMIT_AS, (used + 4 * 2**20, resource.RLIM_INFINITY))\n"
+                "try:\n    nushbaret.solve(view)\nexcept MemoryError as fault:\n    print('refused')\n"
+                "resource.setrlimit(resource.RLIMIT_AS, (resource.RLIM_INFINITY, resource.RLIM_INFINITY))\n"
+                "print(nushbaret.solve(view).cost)\n")
+        told = subprocess.run([sys.executable, "-c", code], capture_output=True, text=True, check=True, env=os.environ)
+        self.assertEqual(told.stdout, "refused\n0\n")
+
+
+class Library(unittest.TestCase):
+    def test_constants_are_those_of_the_header(self):
+        header = (TOP / "c/nushbaret.h").read_text()
+        codes = {name: int(code) for name, code in re.findall(r"NUSHBARET_(\w+) = (\d+)", header)}
+        self.assertEqual({name: code for code, name in enumerate(library.CODES)}, codes)
+        self.assertIn(f"NUSHBARET_MOST_PERSONS {library.MOST_PERSONS}\n", header)
+        self.assertIn(f"NUSHBARET_GREATEST_COST INT64_C({library.GREATEST_COST})\n", header)
+        self.assertIn(f'NUSHBARET_VERSION "{library.VERSION}"', header)
+        told = re.search(r"struct nushbaret_told \{(.*?)\n\}", header, re.S)[1]
+        self.assertEqual(re.findall(r"int64_t (\w+);", told), [name for name, _ in library.Told._fields_])
+        numbers = (TOP / "crates/assign_core/src/numbers.rt").read_text().replace("_", "")
+        self.assertIn(str(library.GREATEST_FIRST_PRICE), numbers)
+
+    def test_no_library(self):
+        code = ("import pathlib, nushbaret, nushbaret.library as library\nlibrary.PLACES = (pathlib.Path('/nowhere.so'),)\n"
+                "try:\n    nushbaret.solve([[1]])\nexcept OSError as fault:\n    print(type(fault).__name__, fault)\n")
+        told = subprocess.run([sys.executable, "-c", code], capture_output=True, text=True, check=True, env=os.environ)
+        self.assertEqual(told.stdout, "LibraryNotFound libnushbaret.so isn't there: c/build.sh makes it, at the top of a checkout of Nushbaret\n")
+
+    def test_grammar_of_python_3_9(self):
+        for file in sorted((TOP / "python").rglob("*.py")):
+            ast.parse(file.read_text(), str(file), feature_version=(3, 9))
+
+
+if __name__ == "__main__":
+    unittest.main()
