@@ -155,7 +155,7 @@ def listed(names: List[str], numbers: List[int]) -> str:
 
 def sentence(roster: Roster, short: Short, some_fixed: bool) -> str:
     """What a manager reads where there is no plan."""
-    person, object_ = roster.titles[0] or "person", roster.titles[1] or "object"
+    person, object_ = roster.titles[0], roster.titles[1]
     persons, objects = named(short.persons, person, roster.persons), named(short.objects, object_, roster.objects)
     if short.of_objects:
         said = f"{objects} can go to {_only(short.persons, person, roster.persons)}: {_advice_on_objects(short)}"

@@ -4,11 +4,13 @@ Status 0: a plan; 1: there is none; 2: the words are refused; 3: something is wr
 can't be read or written, an output exists, the library isn't there, or memory was refused.
 """
 import argparse
+import contextlib
 import csv
 import io
 import json
 import os
 import re
+import stat
 import sys
 import tempfile
 from typing import Dict, List, NamedTuple, Optional, Sequence, TextIO
@@ -17,7 +19,7 @@ from .answer import Answer, Plan, answer_of, listed, sentence
 from .exact import MOST_PLACES
 from .library import GREATEST_FIRST_PRICE, MOST_PERSONS
 from .page import page
-from .roster import LINES, MATRIX, PlanLine, Roster, RosterFault, decimal_text, quoted, read_plan, read_roster
+from .roster import LINES, MATRIX, SEPARATORS, PlanLine, Roster, RosterFault, decimal_text, quoted, read_plan, read_roster
 
 PLANNED, NONE, WORDS, REFUSED, DEVICE = range(5)
 KINDS = ("csv", "json", "html")
@@ -109,17 +111,16 @@ def main(words: Optional[Sequence[str]] = None) -> int:
         return _run(options)
     except RosterFault as fault:
         return _refused(fault, REFUSED)
-    except (OSError, ImportError, OutputFault) as fault:
+    except (OSError, OutputFault, RuntimeError) as fault:
         return _refused(_device(fault), DEVICE)
     except MemoryError:
         return _refused("memory refused", DEVICE)
 
 
 def _refused(fault: object, status: int) -> int:
-    try:
-        print(fault, file=sys.stderr)
-    except OSError:
-        pass
+    if sys.stderr is not None:
+        with contextlib.suppress(OSError):
+            print(fault, file=sys.stderr)
     return status
 
 
@@ -212,7 +213,7 @@ def told(roster: Roster, answer: Answer, maximize: bool, some_fixed: bool) -> Li
     if answer.plan is not None:
         which = "greatest" if maximize else "least"
         fullest = f" of {len(answer.plan.pairs)} pairs" if answer.short is not None else ""
-        lines.append(f"{which} {roster.titles[2] or 'cost'}{fullest}: {roster.shown(answer.plan.cost)}")
+        lines.append(f"{which} {roster.titles[2]}{fullest}: {roster.shown(answer.plan.cost)}")
     return lines
 
 
@@ -283,10 +284,15 @@ def as_csv(roster: Roster, plan: Plan) -> str:
     """The pairs as a roster of lines, with the titles, the separator and the decimal mark of the roster that was read."""
     text = io.StringIO()
     writer = csv.writer(text, delimiter=roster.separator, lineterminator="\n")
-    writer.writerow(roster.titles)
+    # The separator is told from the title line, so that no other may seem to stand there.
+    csv.writer(text, delimiter=roster.separator, lineterminator="\n", quoting=_title_quoting(roster)).writerow(roster.titles)
     for pair in plan.pairs:
         writer.writerow((roster.persons[pair.person], roster.objects[pair.object], roster.shown(pair.cost)))
     return text.getvalue()
+
+
+def _title_quoting(roster: Roster) -> int:
+    return csv.QUOTE_ALL if any(mark in title for mark in SEPARATORS for title in roster.titles) else csv.QUOTE_MINIMAL
 
 
 def as_json(roster: Roster, answer: Answer, lines: List[str], maximize: bool) -> str:
@@ -335,9 +341,24 @@ def _fill(file: TextIO, path: str, text: str) -> None:
 
 def _replace(path: str, text: str) -> None:
     place = os.path.realpath(path)
+    mode = _mode_of(place)
     handle, beside = tempfile.mkstemp(prefix=".nushbaret.", dir=os.path.dirname(place))
     _fill(open(handle, "w", encoding="utf-8", newline=""), beside, text)
-    mask = os.umask(0)
-    os.umask(mask)
-    os.chmod(beside, 0o666 & ~mask)
-    os.replace(beside, place)
+    try:
+        os.chmod(beside, mode)
+        os.replace(beside, place)
+    except OSError:
+        os.unlink(beside)
+        raise
+
+
+def _mode_of(place: str) -> int:
+    """The permissions of the file that is replaced, or those of a new one. A device or a folder is refused."""
+    if not os.path.lexists(place):
+        mask = os.umask(0)
+        os.umask(mask)
+        return 0o666 & ~mask
+    mode = os.stat(place).st_mode
+    if not stat.S_ISREG(mode):
+        raise OutputFault(f"{place} is no regular file")
+    return stat.S_IMODE(mode)

@@ -5,7 +5,7 @@ from typing import Dict, Iterator, List, NamedTuple, Optional, Tuple
 from .answer import Answer, Plan, Short
 from .roster import Roster
 
-MOST_CELLS = 1_000_000
+MOST_CELLS = 250_000
 SHADES = ("#f7fbff", "#e3eef9", "#cfe1f2", "#b5d4e9", "#93c3df", "#6daed5", "#4b97c9", "#2f7ebc", "#1864aa")
 FIRST_DARK = 6
 
@@ -57,7 +57,7 @@ def _first(group: List[int], count: int) -> List[int]:
 def page(roster: Roster, answer: Answer, heading: str, lines: List[str]) -> str:
     """The page of an answer: the lines, the matrix with the chosen cells and the short group framed, and the plan as a list.
 
-    A matrix of more than a million cells isn't drawn, and the page says so.
+    A matrix of more than 250000 cells isn't drawn, and the page says so.
     """
     return "".join(_parts(roster, answer, heading, lines))
 
@@ -88,9 +88,7 @@ def _shades() -> str:
 def _matrix(roster: Roster, answer: Answer) -> Iterator[str]:
     frame = frame_of(roster, answer.short)
     chosen = {} if answer.plan is None else {(pair.person, pair.object): pair.fixed for pair in answer.plan.pairs}
-    rows: List[Dict[int, int]] = [{} for _ in roster.persons]
-    for person, object_, cost in zip(roster.of_persons, roster.of_objects, roster.costs):
-        rows[person][object_] = cost
+    costs = _costs_by_person(roster)
     span = (min(roster.costs, default=0), max(roster.costs, default=0))
     yield '<div class="matrix"><table>\n<thead><tr><th></th>'
     for column, object_ in enumerate(frame.objects):
@@ -98,12 +96,19 @@ def _matrix(roster: Roster, answer: Answer) -> Iterator[str]:
     yield "</tr></thead>\n<tbody>\n"
     for row, person in enumerate(frame.persons):
         yield "<tr>" + _heading("row", escape(roster.persons[person]), row < frame.rows)
-        for column, object_ in enumerate(frame.objects):
-            kinds = _edges(frame, row, column)
-            yield _cell(roster, rows[person].get(object_), chosen.get((person, object_)), span, kinds)
+        yield from (
+            _cell(roster, costs[person].get(object_), chosen.get((person, object_)), span, _edges(frame, row, column))
+            for column, object_ in enumerate(frame.objects))
         yield "</tr>\n"
     yield "</tbody>\n</table></div>\n"
     yield "<p>Darker cells cost more, hatched ones are forbidden; the plan's are outlined, the fixed ones twice.</p>\n"
+
+
+def _costs_by_person(roster: Roster) -> List[Dict[int, int]]:
+    costs: List[Dict[int, int]] = [{} for _ in roster.persons]
+    for person, object_, cost in zip(roster.of_persons, roster.of_objects, roster.costs):
+        costs[person][object_] = cost
+    return costs
 
 
 def _heading(scope: str, inner: str, is_short: bool) -> str:

@@ -17,7 +17,9 @@ MOST_BYTES = 2**30
 
 SEPARATORS = ";\t,"
 LINES, MATRIX = "lines", "matrix"
+TITLES = ("person", "object", "cost")
 MILLION = 10**MOST_PLACES
+ZEROS = "0" * MOST_PLACES
 
 
 class RosterFault(ValueError):
@@ -51,7 +53,7 @@ class Sheet:
         if len(data) > MOST_BYTES:
             self.refuse(f"longer than {MOST_BYTES} bytes")
         self.text = self._decoded(data)
-        first = self.text.split("\n", 1)[0].rstrip("\r")
+        first = re.split("[\r\n]", self.text.lstrip("\r\n"), maxsplit=1)[0]
         # Spreadsheets write such a line ahead of the title to name the separator.
         self.has_hint = re.fullmatch('"?sep=.?"?', first, re.IGNORECASE) is not None
         hinted = first.strip('"')[4:]
@@ -154,34 +156,40 @@ class Costs:
 
     def __init__(self, sheet: Sheet, decimals: Optional[int], comma: bool) -> None:
         self._sheet, self._given, self._comma = sheet, decimals, comma
-        self._plain = re.compile(r"([+-]?)([0-9]*)(?:" + ("," if comma else r"\.") + r"([0-9]*))?")
+        self._most = MOST_PLACES if decimals is None else decimals
+        point = "," if comma else r"\."
+        # Sign, whole part without zeros ahead, decimal places without zeros behind; a digit stands somewhere.
+        self._plain = re.compile(rf"([+-]?)(?={point}?[0-9])0*([0-9]*)(?:{point}([0-9]*?)0*)?")
         self._millionths = array("q")
         self._places = 0
-        self._greatest = (0, 0, 0)
+        self._greatest, self._greatest_place = 0, (0, 0)
 
     def take(self, cell: str, line: int, column: int) -> None:
         """Takes a cell, or refuses it."""
         found = self._plain.fullmatch(cell)
-        if found is None or not (found[2] or found[3]):
+        if found is None:
             self._sheet.refuse(f"{quoted(cell)} is no number{self._hint(cell)}", line, column)
-        whole, part = found[2].lstrip("0"), (found[3] or "").rstrip("0")
-        most = MOST_PLACES if self._given is None else self._given
-        if len(part) > most:
-            self._sheet.refuse(f"{quoted(cell)} has more than {most} decimal places", line, column)
-        size = int((whole or "0")[:20] + part.ljust(MOST_PLACES, "0"))
-        if size > GREATEST_COST * MILLION:
-            self._out_of_range(0, line, column)
-        self._places = max(self._places, len(part))
-        self._greatest = max(self._greatest, (size, line, column), key=lambda seen: seen[0])
-        self._millionths.append(-size if found[1] == "-" else size)
+        sign, whole, part = found.groups("")
+        if len(part) > self._places:
+            self._more_places(cell, len(part), line, column)
+        size = int(whole[:20] + part + ZEROS[len(part):])
+        if size > self._greatest:
+            if size > GREATEST_COST * MILLION:
+                self._out_of_range(0, line, column)
+            self._greatest, self._greatest_place = size, (line, column)
+        self._millionths.append(-size if sign == "-" else size)
+
+    def _more_places(self, cell: str, places: int, line: int, column: int) -> None:
+        if places > self._most:
+            self._sheet.refuse(f"{quoted(cell)} has more than {self._most} decimal places", line, column)
+        self._places = places
 
     def scaled(self) -> Tuple[int, array]:
         """How many places are used or were asked for, and the costs as whole numbers of that unit."""
         decimals = self._places if self._given is None else self._given
         unit = 10 ** (MOST_PLACES - decimals)
-        size, line, column = self._greatest
-        if size // unit > GREATEST_COST:
-            self._out_of_range(decimals, line, column)
+        if self._greatest // unit > GREATEST_COST:
+            self._out_of_range(decimals, *self._greatest_place)
         if unit == 1:
             return decimals, self._millionths
         return decimals, array("q", (cost // unit for cost in self._millionths))
@@ -291,6 +299,7 @@ def _read_lines(sheet: Sheet, costs: Costs):
         sheet.refuse(f"{len(title)} titles, where a person, an object and a cost are wanted", line)
     if looks_like_number(title[2]):
         sheet.refuse(f"a title line is wanted first, and {quoted(title[2])} is a number", line, 3)
+    titles = tuple(sheet.name(cell, line, column) if cell else TITLES[column - 1] for column, cell in enumerate(title, 1))
     persons, objects = Names(sheet, "persons"), Names(sheet, "objects")
     of_persons, of_objects = array("q"), array("q")
     lines: Dict[Tuple[int, int], int] = {}
@@ -304,7 +313,7 @@ def _read_lines(sheet: Sheet, costs: Costs):
         of_objects.append(object_)
     if not lines:
         sheet.refuse("no line behind the title", line)
-    return tuple(title), persons, objects, of_persons, of_objects
+    return titles, persons, objects, of_persons, of_objects
 
 
 def _read_matrix(sheet: Sheet, costs: Costs):
@@ -326,7 +335,7 @@ def _read_matrix(sheet: Sheet, costs: Costs):
                 of_objects.append(column - 2)
     if not persons.list:
         sheet.refuse("no line behind the title", line)
-    return ("person", "object", "cost"), persons, objects, of_persons, of_objects
+    return TITLES, persons, objects, of_persons, of_objects
 
 
 class PlanLine(NamedTuple):

@@ -251,6 +251,27 @@ class Outputs(Runs):
         self.assertIn("as good as the best", self.run_words("r.csv", "--compare", "p.csv")[1])
         self.assertEqual({pair["person"] for pair in json.loads(self.read("p.json"))["pairs"]}, set(names))
 
+    def test_titles_with_other_separators(self):
+        self.file("r.csv", '"a;b;c;d",what,"e;f"\nAda,x,1.5\nBen,x,1.5\nBen,y,1\n')
+        _, first, _ = self.run_words("r.csv", "--output", "p.csv")
+        self.assertEqual(self.run_words("p.csv")[:2], (0, first))
+
+    def test_force_keeps_what_the_file_is(self):
+        self.file("r.csv", SQUARE)
+        self.file("p.csv", "old")
+        os.chmod("p.csv", 0o640)
+        os.symlink("p.csv", "link.csv")
+        self.assertEqual(self.run_words("r.csv", "--output", "link.csv", "--force")[0], 0)
+        self.assertTrue(os.path.islink("link.csv") and self.read("p.csv").startswith("person,"))
+        self.assertEqual(os.stat("p.csv").st_mode & 0o777, 0o640)
+        os.mkdir("folder.csv")
+        os.mkfifo("pipe.csv")
+        for name in ("folder.csv", "pipe.csv"):
+            self.refused(4, f"{name} is no regular file", "r.csv", "--output", name, "--force")
+        self.run_words("r.csv", "--output", "new.csv")
+        self.run_words("r.csv", "--output", "other.csv", "--force")
+        self.assertEqual(os.stat("new.csv").st_mode, os.stat("other.csv").st_mode)
+
     def test_existing_output(self):
         self.file("r.csv", SQUARE)
         self.file("p.csv", "old")
@@ -387,6 +408,13 @@ class Statuses(Runs):
         self.file("n.csv", NIGHTS + "Eve,early,1\n")
         self.assertEqual(self.program("n.csv", stdout=subprocess.PIPE).returncode, 1)
         self.assertEqual(self.program(stdout=subprocess.PIPE).returncode, 2)
+        for closing, status in ((">&-", 4), ("2>&-", 0)):
+            ended = subprocess.run(["bash", "-c", f"{sys.executable} -m nushbaret r.csv {closing}"], stdout=subprocess.PIPE,
+                                   stderr=subprocess.PIPE, env={**os.environ, "PYTHONPATH": str(TOP / "python")})
+            self.assertEqual(ended.returncode, status)
+        ended = subprocess.run(["bash", "-c", f"{sys.executable} -m nushbaret none.csv 2>&-"], stdout=subprocess.PIPE,
+                               env={**os.environ, "PYTHONPATH": str(TOP / "python")})
+        self.assertEqual((ended.returncode, ended.stdout), (4, b""))
         with open("/dev/full", "wb") as full:
             ended = self.program("r.csv", stdout=full)
         self.assertEqual((ended.returncode, ended.stderr), (4, b"standard output: No space left on device\n"))

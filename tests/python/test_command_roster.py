@@ -60,7 +60,7 @@ class Forms(Folder):
             (LINES.replace("\n", "\r\n"), False), (LINES.replace("\n", "\r"), False), (with_quotes, False),
             (LINES.encode("utf-8-sig"), False), (LINES.encode("utf-16"), False), (LINES.replace(",", "\t"), False),
             (LINES.replace(",", " , "), False), (LINES.rstrip("\n"), False), (LINES + "\n,,\n \n", False),
-            (LINES.replace("\n", ",,\n"), False), ("sep=,\n" + LINES, False), (LINES.replace(",", ";"), False),
+            (LINES.replace("\n", ",,\n"), False), ("\r\n\n" + LINES.replace(",", ";"), False), ("sep=,\r" + LINES.replace("\n", "\r"), False), ("sep=,\n" + LINES, False), (LINES.replace(",", ";"), False),
         ]
         for content, comma in makes:
             with self.subTest(content=content):
@@ -118,6 +118,9 @@ class Refusals(Folder):
         self.refusal(",x,y\n,1,2\n", 2, 1, "an empty name")
         self.refusal('a,b,c\n"A\nda",x,1\n', 2, 1, "a line break")
         self.refusal('a,b,c\n"A\nda",x,1\n', 2, 1, "'A\\nda'")
+        self.refusal('a,b,c\n"Ben\nx",x,1\n"A\x1b",x,1\n', 2, 1, "'Ben\\nx'")
+        self.refusal('a,b,c\nAda,x,1\n\n"A\x1b[1m",x,1\n', 4, 1, "control character")
+        self.refusal('a,b,"c\nd"\nAda,x,1\n', 1, 3, "a line break")
 
     def test_shapes(self):
         self.refusal("", None, None, "an empty file")
