@@ -21,7 +21,8 @@ from nushbaret import command, library
 from nushbaret.answer import Short, listed, plural, sentence
 from nushbaret.roster import read_roster
 
-NIGHTS = "person,shift,hours\nAda,early,1\nBen,night,2\nBen,weekend,3\nCleo,night,2\nDan,night,1\nDan,weekend,5\nAda,late,2\nAda,office,1\n"
+NIGHTS = ("person,shift,hours\nAda,early,1\nBen,night,2\nBen,weekend,3\nCleo,night,2\nDan,night,1\nDan,weekend,5\n"
+          "Ada,late,2\nAda,office,1\n")
 SENTENCE = ("3 people (Ben, Cleo, Dan) can take only 2 shifts between them (night, weekend): "
             "allow one of them another, or leave one out")
 SQUARE = ",early,late,night\nAda,4,1,3\nBen,2,0,5\nCleo,3,2,2\n"
@@ -130,7 +131,8 @@ class Plans(Runs):
         self.expect(0, "least cost: 2.0\nAda: noon, 1.0\nEve: early, 1.0\n", "", "other.csv", "--start", "p.json")
         self.file("far.json", json.dumps({"format": 1, "rents": {"early": "9" * 15 + ".999999"}}))
         self.assertEqual(self.run_words("other.csv", "--start", "far.json")[0], 0)
-        self.refused(3, "far.json: the rent of 'early' is beyond 122055413157.573538", "other.csv", "--start", "far.json", "--decimals", "6")
+        self.refused(3, "far.json: the rent of 'early' is beyond 122055413157.573538",
+                     "other.csv", "--start", "far.json", "--decimals", "6")
 
     def test_drawn_rosters(self):
         drawn = random.Random(27)
@@ -174,6 +176,13 @@ def fullest(persons, objects, pairs):
         if len({object_ for _, object_ in had}) == len(had) and all(pair in pairs for pair in had):
             best = min(best, (-len(had), sum(pairs[pair] for pair in had)))
     return -best[0], best[1]
+
+
+def square(size):
+    """A drawn matrix of so many persons and objects."""
+    drawn = random.Random(size)
+    return "," + ",".join(f"o{number}" for number in range(size)) + "\n" + "".join(
+        f"p{number}," + ",".join(str(drawn.randrange(1000)) for _ in range(size)) + "\n" for number in range(size))
 
 
 class NoPlans(Runs):
@@ -242,7 +251,8 @@ class Outputs(Runs):
         names = ['O"Neil', "a,b", "c;d", "Zo\u00eb", "<b>&amp;", "=1+1", "x y"]
         text = io.StringIO()
         csv.writer(text).writerows([["who", "what", "much"]] + [
-            [who, what + "!", f"{(first * 5 + second * 3) % 7}.5"] for first, who in enumerate(names) for second, what in enumerate(names)])
+            [who, what + "!", f"{(first * 5 + second * 3) % 7}.5"]
+            for first, who in enumerate(names) for second, what in enumerate(names)])
         self.file("r.csv", text.getvalue())
         _, first, _ = self.run_words("r.csv", "--output", "p.csv", "--output", "p.json")
         _, again, _ = self.run_words("p.csv")
@@ -303,10 +313,8 @@ class Outputs(Runs):
         self.assertNotIn("b", page.tags)
 
     def test_large_page(self):
-        drawn = random.Random(500)
         for size in (30, 500):
-            self.file("r.csv", "," + ",".join(f"o{number}" for number in range(size)) + "\n" + "".join(
-                f"p{number}," + ",".join(str(drawn.randrange(1000)) for _ in range(size)) + "\n" for number in range(size)))
+            self.file("r.csv", square(size))
             self.assertEqual(self.run_words("r.csv", "--html", "p.html", "--force")[0], 0)
             page = parsed(self.read("p.html"))
             self.assertEqual(len([1 for _, kinds in page.cells if "own" in kinds]), size)
@@ -401,6 +409,13 @@ class Statuses(Runs):
         return subprocess.run([sys.executable, "-m", "nushbaret", *words], env={**os.environ, "PYTHONPATH": str(TOP / "python")},
                               stderr=subprocess.PIPE, **options)
 
+    def test_memory_refused_by_a_limit(self):
+        self.file("r.csv", square(500))
+        ended = subprocess.run(["bash", "-c", f"ulimit -v 60000; {sys.executable} -m nushbaret r.csv --output p.csv"],
+                               stdout=subprocess.PIPE, stderr=subprocess.PIPE, env={**os.environ, "PYTHONPATH": str(TOP / "python")})
+        self.assertEqual((ended.returncode, ended.stdout, ended.stderr), (4, b"", b"memory refused\n"))
+        self.assertEqual(os.listdir(), ["r.csv"])
+
     def test_as_a_program(self):
         self.file("r.csv", SQUARE.replace("Ada", "Ad\u00e4"))
         ended = self.program("r.csv", stdout=subprocess.PIPE)
@@ -433,7 +448,8 @@ class Examples(unittest.TestCase):
             first = sessions(blocks)[0][0]
             for words, wanted in sessions(blocks):
                 with self.subTest(words=words):
-                    ended = subprocess.run(["bash", "-c", first + "; " + words], cwd=folder, stdout=subprocess.PIPE, stderr=subprocess.STDOUT)
+                    ended = subprocess.run(["bash", "-c", first + "; " + words], cwd=folder,
+                                           stdout=subprocess.PIPE, stderr=subprocess.STDOUT)
                     self.assertEqual(ended.stdout.decode(), wanted)
                     count += 1
         self.assertGreater(count, 5)

@@ -60,7 +60,8 @@ class Forms(Folder):
             (LINES.replace("\n", "\r\n"), False), (LINES.replace("\n", "\r"), False), (with_quotes, False),
             (LINES.encode("utf-8-sig"), False), (LINES.encode("utf-16"), False), (LINES.replace(",", "\t"), False),
             (LINES.replace(",", " , "), False), (LINES.rstrip("\n"), False), (LINES + "\n,,\n \n", False),
-            (LINES.replace("\n", ",,\n"), False), ("\r\n\n" + LINES.replace(",", ";"), False), ("sep=,\r" + LINES.replace("\n", "\r"), False), ("sep=,\n" + LINES, False), (LINES.replace(",", ";"), False),
+            (LINES.replace("\n", ",,\n"), False), ("\r\n\n" + LINES.replace(",", ";"), False),
+            ("sep=,\r" + LINES.replace("\n", "\r"), False), ("sep=,\n" + LINES, False), (LINES.replace(",", ";"), False),
         ]
         for content, comma in makes:
             with self.subTest(content=content):
