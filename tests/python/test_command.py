@@ -195,6 +195,13 @@ class NoPlans(Runs):
         self.assertEqual(out.splitlines()[:2], [SENTENCE, "least hours of 4 pairs: 6"])
         self.assertEqual(out.splitlines()[-2:], ["without: Cleo", "unused: late"])
 
+    def test_fullest_of_the_greatest_cost(self):
+        self.file("r.csv", NIGHTS + "Eve,early,1\n")
+        self.run_words("r.csv", "--as-many-as-can", "--output", "p.json")
+        for words in ((), ("--start", "p.json")):
+            status, out, _ = self.run_words("r.csv", "--as-many-as-can", "--max", *words)
+            self.assertEqual((status, out.splitlines()[1]), (1, "greatest hours of 4 pairs: 10"))
+
     def test_other_shortages(self):
         cases = [
             (",x,y\nAda,1,2\nBen,,\n", "1 person (Ben) can take no object: allow Ben one, or leave Ben out"),
