@@ -148,7 +148,7 @@ def _judged(problem, given, objects, prices):
         return _slack(problem, objects, told.person - 1, told.object - 1)
     if code == "PRICE_RANGE":
         return Verdict("prices are too far apart")
-    return square.refuse(problem, code, told)
+    return square.refuse(problem, given, code, told)
 
 
 def _slack(problem, objects, row, column):

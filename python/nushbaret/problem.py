@@ -23,9 +23,7 @@ class Problem(NamedTuple):
     numpy: Any
 
     def place(self, place):
-        """Row and column of a place of `costs`."""
-        if self.persons is None:
-            return divmod(place, self.n_cols)
+        """Row and column of a place in the lists of pairs."""
         return int(self.persons[place]) - 1, int(self.objects[place]) - 1
 
     def numbers(self, values):
@@ -182,5 +180,6 @@ def of_pairs(n_rows, n_cols, rows, cols, costs, maximize, decimals):
 
 def of_sparse_matrix(matrix, maximize, decimals):
     """The problem of a sparse matrix of SciPy's, whose stored entries are its pairs, also those that are 0."""
-    entries = matrix.tocsr().tocoo()
+    entries = matrix.tocoo(copy=True)
+    entries.sum_duplicates()
     return of_pairs(*matrix.shape, entries.row, entries.col, entries.data, maximize, decimals)

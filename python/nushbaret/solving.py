@@ -2,36 +2,14 @@
 import operator
 from array import array
 
-from . import matching, problem as reading, square
-from .exact import numpy_of
+from . import matching, problem as reading, rents, square
+from .library import Halves
 from .result import Result
-
-
-class _Nothing:
-    """The answer to a problem without rows or without columns."""
-
-    size, total, objects = 0, 0, ()
-
-    class halves:
-        @staticmethod
-        def prices():
-            return []
 
 
 def _no_pairs(problem):
     """The answer where there is no pair to make: all that there is stays out, at rents of 0."""
-    answer = _Nothing()
-    answer.objects = [problem.n_cols + 1] * problem.n_rows
-    answer.halves = _Zeros(problem.n_cols)
-    return answer
-
-
-class _Zeros:
-    def __init__(self, count):
-        self.count = count
-
-    def prices(self):
-        return [0] * self.count
+    return square.Answer(0, 0, [problem.n_cols + 1] * problem.n_rows, Halves(problem.n_cols))
 
 
 def _solved(problem, start=None, served=None):
@@ -43,23 +21,23 @@ def _solved(problem, start=None, served=None):
 
 
 def _first(problem, start, served):
-    from .rents import first_prices
-    return first_prices(problem, start.rents if isinstance(start, Result) else start, served)
+    return rents.first_prices(problem, start.rents if isinstance(start, Result) else start, served)
 
 
 def _most(problem, start):
     """The best of the fullest plans. That no plan has one pair more is proved by the library as well."""
     served = matching.most_served(problem)
-    if not isinstance(_solved(problem, served=served + 1), square.Short):
-        raise RuntimeError(f"{served} rows were found to be the most that can be served, and one more can")
-    return _solved(problem, start, served)
+    answer = _solved(problem, start, served)
+    if isinstance(answer, square.Short) or not isinstance(_solved(problem, served=served + 1), square.Short):
+        raise RuntimeError(f"{served} rows were found to be the most that can be served, and the library says otherwise")
+    return answer
 
 
 def solve_problem(problem, start=None, as_many_as_can=False):
     answer = _solved(problem, start)
     if isinstance(answer, square.Short):
         if not as_many_as_can:
-            raise square.infeasible(problem, answer)
+            raise square.infeasible(problem, answer, min(problem.n_rows, problem.n_cols))
         answer = _most(problem, start)
     return Result(problem, answer)
 
@@ -179,19 +157,8 @@ def solve_without(problem, served, row, column):
     less = _leave_out(problem, row, column)
     answer = _solved(less, served=served)
     if isinstance(answer, square.Short):
-        raise square.infeasible(less, answer) if served == min(less.n_rows, less.n_cols) else _fewer(less, served)
+        raise square.infeasible(less, answer, served)
     return Result(less, answer)
-
-
-def _fewer(problem, served):
-    """The refusal where a plan of as many pairs as could be made has no like without one of them."""
-    from .errors import Infeasible
-    try:
-        solve_problem(problem)
-    except Infeasible as short:
-        short.args = (f"{short.args[0]}; no other plan has {served} pairs",)
-        return short
-    raise RuntimeError("a problem has an assignment of all, and none of fewer pairs")
 
 
 def _leave_out(problem, row, column):

@@ -8,6 +8,7 @@ from typing import Any, NamedTuple
 
 from . import library
 from .errors import Infeasible
+from .exact import refuse_range
 from .library import MOST_PERSONS
 
 
@@ -88,11 +89,11 @@ class Short(NamedTuple):
     objects: Any
 
 
-def refuse(problem, code, told):
+def refuse(problem, square, code, told):
     """Raises what a code of the library means that is no answer."""
     if code == "COST":
-        from .exact import refuse_range
-        refuse_range("row {}, column {}".format(*problem.place(told.place)), problem.places)
+        row, column = problem.place(told.place) if len(square.persons) else divmod(told.place, square.size)
+        refuse_range(f"row {row}, column {column}", problem.places)
     raise RuntimeError(f"the library refused its lists: {code} at {told.place}")
 
 
@@ -110,14 +111,14 @@ def answer(problem, square, first=None):
         return Answer(size, told.total, objects, halves)
     if code == "HALL":
         return Short(persons[:told.persons], objects[:told.objects])
-    return refuse(problem, code, told)
+    return refuse(problem, square, code, told)
 
 
-def infeasible(problem, short):
-    """The proof in the caller's rows and columns."""
+def infeasible(problem, short, served):
+    """The proof in the caller's rows and columns that no plan serves so many rows."""
     n_rows, n_cols = problem.n_rows, problem.n_cols
-    if n_rows <= n_cols:
-        rows, cols = [person - 1 for person in short.persons], [item - 1 for item in short.objects]
+    if served < n_cols or n_rows == n_cols:
+        rows, cols = [person - 1 for person in short.persons], [item - 1 for item in short.objects if item <= n_cols]
     else:
         # The columns that the named rows don't list: whoever lists one is none of them, and such rows are fewer.
         listed = set(short.objects)

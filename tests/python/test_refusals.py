@@ -44,6 +44,8 @@ class Refused(unittest.TestCase):
         for beyond in MOST + 1, -MOST - 1, 2**63, -2**70, Decimal(MOST + 1), float(MOST + 1), 1e300, Decimal("1E+999999"):
             self.refused(ValueError, "row 1, column 0: the cost is beyond 1000000000000", solve, [[1, 2], [beyond, 1]])
             self.refused(ValueError, "row 0, column 1: the cost is beyond", solve, [[1, beyond], [None, 1]])
+        for costs, place in ([[1, 2], [3, 4], [5, MOST + 1]], "row 2, column 1"), ([[1, 2, 3], [4, MOST + 1, 6]], "row 1, column 1"):
+            self.refused(ValueError, f"{place}: the cost is beyond", solve, costs)
         self.assertEqual(solve([[Decimal("1000000.000000")]], decimals=6).cost, 10**6)
         self.assertEqual(solve([[Decimal("999999.999999")]]).cost, Decimal("999999.999999"))
         self.refused(ValueError, "row 0, column 0: the cost is beyond 1000000, with 6 decimal places", solve, [[1000000.000001]])

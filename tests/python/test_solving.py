@@ -5,6 +5,7 @@ import unittest
 from decimal import Decimal
 
 import nushbaret
+from nushbaret import library
 from drawn import best, drawing, matrix
 
 
@@ -129,10 +130,30 @@ class Drawn(unittest.TestCase):
             less[row][column] = None
             wanted = best(less, maximize, len(result.rows))
             if wanted is None:
-                with self.assertRaises(nushbaret.Infeasible):
+                with self.assertRaises(nushbaret.Infeasible) as caught:
                     result.without(row, column)
+                self.hold_proof(less, caught.exception)
             else:
                 self.hold(less, result.without(row, column), maximize, len(result.rows))
+
+
+class Rents(unittest.TestCase):
+    def test_prices_of_any_slack_that_proves_give_whole_rents(self):
+        """Prices of rounds are no multiples: here each is raised by 0 or 1, as slackness 1 allows."""
+        draw, settled = drawing(8), 0
+        for _ in range(300):
+            n_rows, n_cols = draw.randint(1, 5), draw.randint(1, 5)
+            costs, maximize = matrix(draw, n_rows, n_cols, 9, draw.choice([0.6, 1.0])), draw.random() < 0.5
+            result = nushbaret.solve(costs, maximize, as_many_as_can=True)
+            if not result.rows:
+                continue
+            answer = result._answer
+            prices = [price + draw.randint(0, 1) for price in answer.halves.prices()]
+            settled += len(set(prices)) > 1
+            result._answer = answer._replace(halves=library.Halves(prices=prices))
+            self.assertTrue(proves(costs, result, maximize))
+            self.assertTrue(result.verify(costs))
+        self.assertGreater(settled, 100)
 
 
 class Results(unittest.TestCase):
