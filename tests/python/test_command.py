@@ -253,6 +253,34 @@ class NoPlans(Runs):
         self.assertEqual({word: plural(word) for word in words}, words)
 
 
+class SilentFailures(Runs):
+    """What a line of awk gets wrong without a word: each is read as it is meant, or refused."""
+
+    def test_quoted_names(self):
+        self.file("r.csv", 'who,what,cost\n"Smith, Ada","early ""A""",2.50\n')
+        self.expect(0, 'least cost: 2.5\nSmith, Ada: early "A", 2.5\n', "", "r.csv")
+
+    def test_decimal_comma(self):
+        self.file("r.csv", "who;what;cost\nAda;early;2,50\n")
+        self.refused(3, "r.csv, line 2, column 3: '2,50' is no number", "r.csv")
+        self.expect(0, "least cost: 2,5\nAda: early, 2,5\n", "", "r.csv", "--decimal-comma")
+
+    def test_empty_cell(self):
+        self.file("r.csv", "who,what,cost\nAda,early,\nAda,late,3\n")
+        self.refused(3, "r.csv, line 2, column 3: '' is no number", "r.csv")
+
+    def test_nobody_is_made_up(self):
+        self.file("r.csv", "who,what,cost\nAda,early,1\nBen,early,2\nAda,late,5\nAda,night,1\nBen,late,1\n")
+        self.expect(0, "least cost: 2\nAda: early, 1\nBen: late, 1\nunused: night\n", "", "r.csv", "--decimals", "0")
+
+    def test_two_rosters_in_a_folder(self):
+        self.file("a.csv", "who,what,cost\nAda,early,1\n")
+        self.file("b.csv", "who,what,cost\nBen,late,2\n")
+        first = self.run_words("a.csv")
+        self.expect(0, "least cost: 2\nBen: late, 2\n", "", "b.csv")
+        self.assertEqual((self.run_words("a.csv"), sorted(os.listdir())), (first, ["a.csv", "b.csv"]))
+
+
 class Outputs(Runs):
     def test_round_of_names(self):
         names = ['O"Neil', "a,b", "c;d", "Zo\u00eb", "<b>&amp;", "=1+1", "x y"]
