@@ -21,7 +21,7 @@ class Verdict:
         Which ones that are, where there are such.
     """
 
-    def __init__(self, why="", row=None, column=None):
+    def __init__(self, why: str = "", row: Optional[int] = None, column: Optional[int] = None):
         self.proved = not why
         self.why, self.row, self.column = why, row, column
 
@@ -38,7 +38,7 @@ class Comparison(NamedTuple):
     cost: Any
     best: Any
     worse: Any
-    result: Optional[Result]
+    result: Result
 
 
 def problem_of(costs, rows, cols, sizes, maximize, decimals):
@@ -160,7 +160,8 @@ def _slack(problem, objects, row, column):
     return Verdict(f"row {row} would be better off with column {column}, at these prices", row, column)
 
 
-def check(costs, columns, prices, rows=None, maximize=False, decimals=None):
+def check(costs: Any, columns: Any, prices: Any, rows: Any = None, maximize: bool = False,
+          decimals: Optional[int] = None) -> Verdict:
     """Holds a plan of any origin against a problem: whether these prices prove that it is best.
 
     Parameters
@@ -195,7 +196,8 @@ def check(costs, columns, prices, rows=None, maximize=False, decimals=None):
     return check_problem(problem, [row for row, _ in pairs], [column for _, column in pairs], prices)
 
 
-def compare(costs, columns, rows=None, maximize=False, decimals=None):
+def compare(costs: Any, columns: Any, rows: Any = None, maximize: bool = False,
+            decimals: Optional[int] = None) -> Comparison:
     """By how much a plan made by hand is worse than the best one.
 
     Parameters

@@ -74,22 +74,34 @@ class _Decimals:
             return whole * 10**exponent, 0
         while exponent < 0 and whole % 10 == 0:
             whole, exponent = whole // 10, exponent + 1
+        return self.judged(place, value, whole, exponent)
+
+    def judged(self, place, value, whole, exponent):
+        """The pair, where it has no more places than it may."""
         if exponent >= -MOST_PLACES:
             return whole, exponent
         if self.decimals is None:
             _refuse_places(self.where(place), value)
-        return self.of_fraction(place, Fraction(value)) if exponent > -400 else (self._rounded(0), -MOST_PLACES)
-
-    def _rounded(self, whole):
+        if exponent > -400:
+            return whole, exponent
         self.rounded = True
-        return whole
+        return 0, 0
+
+    def of_float(self, place, value):
+        """A float that isn't whole, by the text that it prints as."""
+        text = repr(float(value))
+        if "e" in text or "n" in text:
+            return self.of_decimal(place, decimal.Decimal(text))
+        before, _, after = text.partition(".")
+        return self.judged(place, text, int(before + after), -len(after)) if after != "0" else (int(before), 0)
 
     def of_fraction(self, place, value):
         if value.denominator == 1 or 10**MOST_PLACES % value.denominator == 0:
             return int(value * 10**MOST_PLACES), -MOST_PLACES
         if self.decimals is None:
             _refuse_places(self.where(place), value)
-        return self._rounded(round(value * 10**self.decimals)), -self.decimals
+        self.rounded = True
+        return round(value * 10**self.decimals), -self.decimals
 
     def pair(self, place, value):
         """(whole, exponent), or None where the pair is forbidden."""
@@ -98,18 +110,19 @@ class _Decimals:
         if isinstance(value, Fraction):
             return self.of_digits_of_fraction(place, value)
         if isinstance(value, float):
-            number = decimal.Decimal(repr(float(value)))
-        elif isinstance(value, decimal.Decimal):
-            number = value
-        elif hasattr(value, "dtype") and value.dtype.kind == "f":
-            number = decimal.Decimal(str(value))
-        else:
-            return self.of_whole(place, value)
+            return self.of_float(place, value)
+        if isinstance(value, decimal.Decimal):
+            return self.of_decimal(place, value)
+        if hasattr(value, "dtype") and value.dtype.kind == "f":
+            return self.of_decimal(place, decimal.Decimal(str(value)))
+        return self.of_whole(place, value)
+
+    def of_decimal(self, place, number):
         if number.is_finite():
             return self.of_digits(place, number)
         if number.is_infinite() and (number < 0) == self.maximize:
             return None
-        return _refuse_invalid(self.where(place), value)
+        return _refuse_invalid(self.where(place), str(number).lower().replace("infinity", "inf"))
 
     def of_digits_of_fraction(self, place, value):
         whole, exponent = self.of_fraction(place, value)
@@ -130,8 +143,9 @@ class _Decimals:
         if shift >= 0:
             number = whole * 10**shift
         else:
-            number = round(Fraction(whole, 10**-shift))
-            self.rounded = self.rounded or number * 10**-shift != whole
+            number, rest = divmod(whole, 10**-shift)
+            self.rounded = self.rounded or rest != 0
+            number += 2 * rest > 10**-shift or 2 * rest == 10**-shift and number % 2
         if not -GREATEST_COST <= number <= GREATEST_COST:
             refuse_range(self.where(place), self.places)
         return number

@@ -1,8 +1,12 @@
 """A best assignment as the caller sees it."""
 import decimal
 from functools import cached_property
+from typing import TYPE_CHECKING, Any, List, Union
 
-from . import rents
+from . import rents as prices_and_rents
+
+if TYPE_CHECKING:
+    from . import checking
 
 
 def in_unit(number, places):
@@ -55,23 +59,23 @@ class Result:
         return f"<nushbaret.Result: cost {self.cost}, {len(self.rows)} pairs>"
 
     @cached_property
-    def unserved_rows(self):
+    def unserved_rows(self) -> Any:
         return self._problem.numbers(sorted(set(range(self._problem.n_rows)).difference(self._pairs[0])))
 
     @cached_property
-    def unused_columns(self):
+    def unused_columns(self) -> Any:
         return self._problem.numbers(sorted(set(range(self._problem.n_cols)).difference(self._pairs[1])))
 
     @cached_property
-    def prices(self):
+    def prices(self) -> List[int]:
         return self._answer.halves.prices()[:self._problem.n_cols]
 
     @cached_property
-    def rents(self):
-        whole = rents.of_answer(self._problem, self._answer, len(self._pairs[0]))
+    def rents(self) -> List[Union[int, decimal.Decimal]]:
+        whole = prices_and_rents.of_answer(self._problem, self._answer, len(self._pairs[0]))
         return [in_unit(rent, self.decimals) for rent in whole]
 
-    def verify(self, costs=None, rows=None, cols=None):
+    def verify(self, costs: Any = None, rows: Any = None, cols: Any = None) -> "checking.Verdict":
         """Holds the plan and its rents against a problem, by the library's proved checker.
 
         Parameters
@@ -92,7 +96,7 @@ class Result:
             problem = problem_of(costs, rows, cols, (problem.n_rows, problem.n_cols), self.maximize, self.decimals if self.rounded else None)
         return check_problem(problem, *self._pairs, self.rents)
 
-    def without(self, row, column):
+    def without(self, row: int, column: int) -> "Result":
         """The best plan where this pair is forbidden; what it costs more is what the pair is worth.
 
         Solves again, and looks at the costs again: leave an array that was solved as it was until then.

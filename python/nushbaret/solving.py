@@ -1,10 +1,13 @@
 """The solving calls."""
 import operator
 from array import array
+from typing import Any, Optional, Sequence, Tuple, Union
 
 from . import matching, problem as reading, rents, square
 from .library import Halves
 from .result import Result
+
+Start = Union[Result, Sequence[Any], None]
 
 
 def _no_pairs(problem):
@@ -33,7 +36,7 @@ def _most(problem, start):
     return answer
 
 
-def solve_problem(problem, start=None, as_many_as_can=False):
+def solve_problem(problem, start=None, as_many_as_can=False) -> Result:
     answer = _solved(problem, start)
     if isinstance(answer, square.Short):
         if not as_many_as_can:
@@ -42,7 +45,8 @@ def solve_problem(problem, start=None, as_many_as_can=False):
     return Result(problem, answer)
 
 
-def solve(costs, maximize=False, decimals=None, start=None, as_many_as_can=False):
+def solve(costs: Any, maximize: bool = False, decimals: Optional[int] = None, start: Start = None,
+          as_many_as_can: bool = False) -> Result:
     """A best assignment of the rows and columns of a matrix, with prices that prove it.
 
     Each row gets a column, no column twice; with unequal numbers as many pairs are made as can be, and some rows or columns
@@ -90,8 +94,9 @@ def solve(costs, maximize=False, decimals=None, start=None, as_many_as_can=False
     return solve_problem(reading.of_matrix(costs, maximize, decimals), start, as_many_as_can)
 
 
-def solve_sparse(n_rows, n_cols=None, rows=None, cols=None, costs=None, maximize=False, decimals=None, start=None,
-                 as_many_as_can=False):
+def solve_sparse(n_rows: Any, n_cols: Optional[int] = None, rows: Any = None, cols: Any = None, costs: Any = None,
+                 maximize: bool = False, decimals: Optional[int] = None, start: Start = None,
+                 as_many_as_can: bool = False) -> Result:
     """A best assignment where only the listed pairs may be used.
 
     Parameters
@@ -125,7 +130,7 @@ def solve_sparse(n_rows, n_cols=None, rows=None, cols=None, costs=None, maximize
     return solve_problem(problem, start, as_many_as_can)
 
 
-def linear_sum_assignment(cost_matrix, maximize=False):
+def linear_sum_assignment(cost_matrix: Any, maximize: bool = False) -> Tuple[Any, Any]:
     """The call of scipy.optimize, with its results and errors.
 
     Parameters
