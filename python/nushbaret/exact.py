@@ -199,6 +199,10 @@ def _of_whole_array(numpy, values, places, where):
 
 def _of_float_array(numpy, values, maximize, decimals, where):
     flat = values.ravel()
+    if not decimals and flat.size and numpy.maximum.reduce(numpy.absolute(flat)) <= GREATEST_COST:
+        numbers = flat.astype(numpy.int64)
+        if numpy.logical_and.reduce(numbers == flat):
+            return Costs(numbers, (), 0, False)
     if flat.dtype.itemsize < 8 and not (numpy.rint(flat) == flat).all():
         flat = flat.astype("U32").astype(numpy.float64)
     flat = flat.astype(numpy.float64, copy=False)

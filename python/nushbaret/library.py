@@ -80,13 +80,15 @@ _SPARE = array("Q", [0])
 
 def _lend(values):
     """Address and count; the address is never null."""
-    if not len(values):
-        return _SPARE.buffer_info()[0], 0
     if isinstance(values, array):
-        return values.buffer_info()
-    if isinstance(values, Lent):
-        return values.place, values.count
-    return values.__array_interface__["data"][0], values.size
+        place, count = values.buffer_info()
+    elif isinstance(values, Lent):
+        place, count = values.place, values.count
+    elif isinstance(values, Halves):
+        place, count = values.words.buffer_info()[0], len(values)
+    else:
+        place, count = values.__array_interface__["data"][0], values.size
+    return (place, count) if count else (_SPARE.buffer_info()[0], 0)
 
 
 class Halves:
@@ -117,10 +119,7 @@ def call(name, sense, size, *lists):
     told = Told()
     words = [size] if sense is None else [1 if sense else 0, size]
     for values in lists:
-        if isinstance(values, Halves):
-            words += (_lend(values.words)[0], len(values))
-        else:
-            words += _lend(values)
+        words += _lend(values)
     code = CODES[_calls[name](*words, ctypes.addressof(told))]
     if code == "MEMORY":
         raise MemoryError("the library was refused memory")

@@ -47,10 +47,12 @@ class Result:
     def __init__(self, problem, answer):
         self._problem = problem
         self._answer = answer
-        columns = [item - 1 for item in answer.objects[:problem.n_rows]]
-        rows = [row for row, column in enumerate(columns) if column < problem.n_cols]
-        self._pairs = rows, [columns[row] for row in rows]
-        self.rows, self.columns = map(problem.numbers, self._pairs)
+        rows, columns = range(problem.n_rows), [item - 1 for item in answer.objects[:problem.n_rows]]
+        if answer.size > problem.n_cols:
+            rows = [row for row, column in enumerate(columns) if column < problem.n_cols]
+            columns = [columns[row] for row in rows]
+        self._pairs = list(rows), columns
+        self.rows, self.columns = problem.numbers(self._pairs[0]), problem.numbers(columns)
         self.cost = in_unit(answer.total, problem.places)
         self.scale = (answer.size + 1) * 10**problem.places
         self.decimals, self.rounded, self.maximize = problem.places, problem.rounded, problem.maximize

@@ -12,7 +12,7 @@ Start = Union[Result, Sequence[Any], None]
 
 def _no_pairs(problem):
     """The answer where there is no pair to make: all that there is stays out, at rents of 0."""
-    return square.Answer(0, 0, [problem.n_cols + 1] * problem.n_rows, Halves(problem.n_cols))
+    return square.Answer(problem.n_rows + problem.n_cols, 0, [problem.n_cols + 1] * problem.n_rows, Halves(problem.n_cols))
 
 
 def _solved(problem, start=None, served=None):
