@@ -17,7 +17,7 @@ from unittest import mock
 TOP = pathlib.Path(__file__).resolve().parents[2]
 sys.path.insert(0, str(TOP / "python"))
 
-from nushbaret import command, library
+from nushbaret import answer, command, library
 from nushbaret.answer import Short, listed, plural, sentence
 from nushbaret.roster import read_roster
 
@@ -133,6 +133,13 @@ class Plans(Runs):
         self.assertEqual(self.run_words("other.csv", "--start", "far.json")[0], 0)
         self.refused(3, "far.json: the rent of 'early' is beyond 122055413157.573538",
                      "other.csv", "--start", "far.json", "--decimals", "6")
+
+    def test_start_goes_to_the_library(self):
+        self.file("r.csv", SQUARE.replace("4,1,3", "4.5,1,3"))
+        self.file("s.json", json.dumps({"format": 1, "rents": {"night": "2.5", "early": "1", "noon": "7"}}))
+        with mock.patch("nushbaret.answer.solve_sparse", side_effect=answer.solve_sparse) as called:
+            self.assertEqual(self.run_words("r.csv", "--start", "s.json")[0], 0)
+        self.assertEqual(called.call_args.kwargs["start"], [10, 0, 25])
 
     def test_drawn_rosters(self):
         drawn = random.Random(27)
@@ -331,6 +338,18 @@ class Outputs(Runs):
         self.file("bad.csv", SQUARE + "Dan,1,x,3\n")
         self.refused(3, "bad.csv, line 5, column 3: 'x' is no number", "bad.csv", "--output", "p.csv", "--html", "p.html")
 
+    def test_json_has_points(self):
+        self.file("r.csv", "a;b;c\nAda;x;2,5\n")
+        self.run_words("r.csv", "--decimal-comma", "--output", "p.json")
+        plan = json.loads(self.read("p.json"))
+        self.assertEqual((plan["cost"], plan["pairs"][0]["cost"], plan["rents"]), ("2.5", "2.5", {"x": "0.0"}))
+
+    def test_output_that_comes_meanwhile(self):
+        self.file("p.csv", "old")
+        with self.assertRaises(command.OutputFault):
+            command.write_file("p.csv", "new", False)
+        self.assertEqual(self.read("p.csv"), "old")
+
     def test_page(self):
         self.file("r.csv", SQUARE)
         self.run_words("r.csv", "--html", "p.html")
@@ -392,6 +411,7 @@ def parsed(text):
     page.feed(text)
     page.close()
     assert not page.open, page.open
+    assert "content=\"default-src 'none'; style-src 'unsafe-inline'\"" in text
     assert not page.tags & {"script", "link", "img", "iframe", "object"} and "url(" not in text and "@import" not in text
     return page
 
