@@ -155,7 +155,9 @@ def of_list(values, maximize, decimals, where):
     """The costs of a list. `where(place)` names a place for the caller."""
     if not decimals:
         try:
-            return Costs(array("q", values), (), 0, False)
+            # Before Python 3.10 an array cuts off what stands behind the point.
+            whole = values if sys.version_info >= (3, 10) else map(operator.index, values)
+            return Costs(array("q", whole), (), 0, False)
         except (TypeError, OverflowError):
             pass
     reader = _Decimals(maximize, decimals, where)
