@@ -1,15 +1,39 @@
 #!/usr/bin/env bash
 # Proves the library for C and builds it: c/out/libnushbaret.a and c/out/libnushbaret.so, in which only the names of
 # exports.map can be seen. Wants the kit, and cc with the binutils that it stands on.
+#
+# With the word `gate` it stands on the crates that `rt ci` has just proved, as rt ci's own checks do, and proves the
+# library's crate alone: rt proves the crates below once more after a gate, which leaves them unstamped.
 set -euo pipefail
 top=$(cd "$(dirname "$0")/.." && pwd)
 kit=$(dirname "$(rt doc)")
 out=$top/c/out
+crate=$top/crates/nushbaret
+archive=$crate/out/libnushbaret.a
 log=$(mktemp)
 trap 'rm -f "$log"' EXIT
-(cd "$top/crates/nushbaret" && rt lib > "$log" 2>&1) || { tail -20 "$log"; exit 1; }
+
+# Proves the crate and builds it over the libraries of the crates below as they stand in their out/rlib.
+over_the_gates() {
+    local words=(--crate-name nushbaret src/lib.rt --extern "std=$kit/rlibs/std.rlib" -L "dependency=$kit/rlibs") name
+    for name in $(sed -n 's/^nushbaret staticlib: //p' "$top/crates.txt"); do
+        words+=(--extern "$name=$top/crates/$name/out/rlib/$name.rlib")
+    done
+    for name in "$top"/crates/*/out/rlib; do
+        words+=(-L "dependency=$name")
+    done
+    words+=(--antt-project "$kit/rattle/logic/antt-project.json" --logic-built "$kit/logic_built" --links nushbaret=)
+    mkdir -p "$crate/out"
+    cd "$crate"
+    "$kit/bin/rattle" build "${words[@]}" --crate-type staticlib --toolchain "$kit/toolchain" --backend llvm -o "$archive"
+}
+
+case ${1-} in
+'') (cd "$crate" && rt lib > "$log" 2>&1) || { tail -20 "$log"; exit 1; } ;;
+gate) (over_the_gates > "$log" 2>&1) || { tail -20 "$log"; exit 1; } ;;
+*) echo 'usage: c/build.sh [gate]'; exit 2 ;;
+esac
 mkdir -p "$out"
-archive=$top/crates/nushbaret/out/libnushbaret.a
 
 # One object of the archive and of what it needs of the kit's: its other names become local.
 cc -r -nostdlib -o "$out/nushbaret.o" -Wl,--whole-archive "$archive" -Wl,--no-whole-archive "$kit/c/liblibc_c.a"
