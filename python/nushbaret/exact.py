@@ -2,14 +2,18 @@
 import decimal
 import math
 import operator
+import struct
 import sys
 from array import array
 from fractions import Fraction
+from itertools import chain
 from typing import NamedTuple
 
 from .library import GREATEST_COST
 
 MOST_PLACES = 6
+# Up to so many numbers a copy costs less than a second look at them.
+FEW = 1024
 
 
 class Costs(NamedTuple):
@@ -151,15 +155,46 @@ class _Decimals:
         return number
 
 
+def of_rows(rows, length, maximize, decimals, where):
+    """The costs of rows of one length. `where(place)` names a place for the caller."""
+    if length * len(rows) <= FEW:
+        rows, length = [list(chain.from_iterable(rows))], length * len(rows)
+    numbers = None if decimals else _packed(rows, length)
+    if numbers is not None:
+        return Costs(numbers, (), 0, False)
+    return _of_numbers(list(chain.from_iterable(rows)), maximize, decimals, where)
+
+
 def of_list(values, maximize, decimals, where):
-    """The costs of a list. `where(place)` names a place for the caller."""
-    if not decimals:
-        try:
-            # Before Python 3.10 an array cuts off what stands behind the point.
-            whole = values if sys.version_info >= (3, 10) else map(operator.index, values)
-            return Costs(array("q", whole), (), 0, False)
-        except (TypeError, OverflowError):
-            pass
+    """The costs of a list."""
+    return of_rows([values], len(values), maximize, decimals, where)
+
+
+def _packed(rows, length):
+    """Rows as one array of 64-bit numbers; None where a number isn't whole, or is no number of 64 bits."""
+    pack = struct.Struct(f"{length}q").pack_into
+    numbers = array("q", (0,)) * (length * len(rows))
+    try:
+        for place, row in enumerate(rows):
+            _pack(pack, numbers, 8 * length * place, row)
+    except (struct.error, TypeError, OverflowError):
+        return None
+    return numbers
+
+
+def _pack(pack, numbers, place, row):
+    """Writes a row of whole numbers, or one of floats that hold such. An `array` would take floats as well, and in Python 3.9
+    cut off what stands behind the point."""
+    try:
+        pack(numbers, place, *row)
+    except struct.error:
+        if not all(map(float.is_integer, row)):
+            raise
+        pack(numbers, place, *map(int, row))
+
+
+def _of_numbers(values, maximize, decimals, where):
+    """The costs of a list of numbers of any kind."""
     reader = _Decimals(maximize, decimals, where)
     pairs = [(value, 0) if type(value) is int
              else (int(value), 0) if type(value) is float and value.is_integer()
@@ -190,24 +225,25 @@ def _refuse_first(numpy, beyond, where, places):
 
 def _of_whole_array(numpy, values, places, where):
     flat = values.ravel()
-    if flat.dtype == numpy.uint64 or places and flat.dtype.kind != "b":
+    kind = flat.dtype.kind
+    if kind == "u" and flat.dtype.itemsize == 8 or places and kind != "b":
         most = GREATEST_COST // 10**places
-        beyond = (flat > most) if flat.dtype.kind == "u" else (flat > most) | (flat < -most)
+        beyond = (flat > most) if kind == "u" else (flat > most) | (flat < -most)
         if beyond.any():
             _refuse_first(numpy, beyond, where, places)
-    numbers = numpy.ascontiguousarray(flat, numpy.int64)
+    numbers = flat.astype(numpy.int64, copy=not flat.flags.aligned)
     return Costs(numbers * 10**places if places else numbers, (), places, False)
 
 
 def _of_float_array(numpy, values, maximize, decimals, where):
     flat = values.ravel()
-    if not decimals and flat.size and numpy.maximum.reduce(numpy.absolute(flat)) <= GREATEST_COST:
-        numbers = flat.astype(numpy.int64)
-        if numpy.logical_and.reduce(numbers == flat):
-            return Costs(numbers, (), 0, False)
+    wide = flat.astype(numpy.float64, copy=False)
+    numbers = None if decimals else whole_numbers(numpy, wide)
+    if numbers is not None:
+        return Costs(numbers, (), 0, False)
     if flat.dtype.itemsize < 8 and not (numpy.rint(flat) == flat).all():
-        flat = flat.astype("U32").astype(numpy.float64)
-    flat = flat.astype(numpy.float64, copy=False)
+        wide = flat.astype("U32").astype(numpy.float64)
+    flat = wide
     forbidden = ()
     infinite = ~numpy.isfinite(flat)
     if infinite.any():
@@ -228,6 +264,17 @@ def _of_float_array(numpy, values, maximize, decimals, where):
     numbers = scaled.astype(numpy.int64)
     rounded = decimals is not None and _round_halves(numpy, flat, numbers, places)
     return Costs(numbers, forbidden, places, rounded)
+
+
+def whole_numbers(numpy, flat):
+    """Floats as whole numbers of 64 bits; None where one isn't whole or is too great."""
+    # With such a sum of squares none is beyond 10**18, and none is infinite or NaN.
+    if not flat.dot(flat) <= 1e36:
+        return None
+    numbers = flat.astype(numpy.int64)
+    if flat.size <= FEW and numbers.astype(numpy.float64).tobytes() == flat.tobytes():
+        return numbers
+    return numbers if numpy.logical_and.reduce(numbers == flat) else None
 
 
 def _least_places(numpy, flat, where):

@@ -30,6 +30,7 @@ class Told(ctypes.Structure):
                 for name in ("total", "place", "persons", "objects", "person", "object")]
 
 
+_TOLD = ctypes.sizeof(Told)
 # How many lists each call takes, and whether a sense and what is told stand among its arguments.
 _LISTS = {"dense": 4, "dense_from": 5, "sparse": 6, "sparse_from": 7, "check": 5, "check_hall": 5}
 _loading = threading.Lock()
@@ -76,16 +77,20 @@ class Lent:
 
 
 _SPARE = array("Q", [0])
+# NumPy tells an array's address slowly: up to so many bytes a copy is had sooner.
+_FEW = 8192
 
 
 def _lend(values):
-    """Address and count; the address is never null."""
+    """Address, or bytes that stand for it, and count; the address is never null."""
     if isinstance(values, array):
         place, count = values.buffer_info()
     elif isinstance(values, Lent):
         place, count = values.place, values.count
     elif isinstance(values, Halves):
         place, count = values.words.buffer_info()[0], len(values)
+    elif values.nbytes <= _FEW:
+        return values.tobytes(), values.size
     else:
         place, count = values.__array_interface__["data"][0], values.size
     return (place, count) if count else (_SPARE.buffer_info()[0], 0)
@@ -110,17 +115,34 @@ class Halves:
         return [part + (upper << 64) for part, upper in zip(low, high)]
 
 
-def call(name, sense, size, *lists):
-    """The name of the code, and what is told. `sense` is None for `check_hall`; MemoryError where memory is refused."""
+def _loaded():
+    """The calls by their names."""
     if not _calls:
         with _loading:
             if not _calls:
                 _load()
+    return _calls
+
+
+def call(name, sense, size, *lists):
+    """The name of the code, and what is told. `sense` is None for `check_hall`; MemoryError where memory is refused."""
     told = Told()
     words = [size] if sense is None else [1 if sense else 0, size]
     for values in lists:
         words += _lend(values)
-    code = CODES[_calls[name](*words, ctypes.addressof(told))]
+    code = CODES[_loaded()[name](*words, ctypes.addressof(told))]
     if code == "MEMORY":
         raise MemoryError("the library was refused memory")
     return code, told
+
+
+def best_objects(size, costs, maximize):
+    """An array, and the place in it where the objects of a best assignment of a dense problem stand, in 16 bits each; None
+    where the library has no such answer. All that it fills lies in the array: what is told, prices, objects, persons."""
+    room = array("Q", bytes(_TOLD + 24 * size))
+    told = room.buffer_info()[0]
+    prices = told + _TOLD
+    objects = prices + 16 * size
+    code = _loaded()["dense"](
+        1 if maximize else 0, size, *_lend(costs), objects, size, objects + 2 * size, size, prices, size, told)
+    return (room, objects - told) if CODES[code] == "BEST" else None

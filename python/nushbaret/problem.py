@@ -1,7 +1,6 @@
 """A problem of rows and columns, as the caller gave it, with its costs in whole numbers."""
 import operator
 from array import array
-from itertools import chain
 from typing import Any, NamedTuple
 
 from . import exact
@@ -66,8 +65,7 @@ def _of_view(view, maximize, decimals):
     own = view.format in ("q", "l") and view.itemsize == 8 and view.c_contiguous and not view.readonly
     if own and not decimals and view.nbytes:
         return n_rows, n_cols, exact.Costs(Lent(view), (), 0, False), None
-    flat = list(chain.from_iterable(view.tolist()))
-    return n_rows, n_cols, exact.of_list(flat, maximize, decimals, _place_in(n_cols)), None
+    return n_rows, n_cols, exact.of_rows(view.tolist(), n_cols, maximize, decimals, _place_in(n_cols)), None
 
 
 def _of_array(numpy, costs, maximize, decimals):
@@ -90,8 +88,7 @@ def _read_matrix(costs, maximize, decimals):
             pass
     rows, n_cols = _rows_of(costs)
     _judge_size(len(rows), n_cols)
-    flat = list(chain.from_iterable(rows))
-    return len(rows), n_cols, exact.of_list(flat, maximize, decimals, _place_in(n_cols)), None
+    return len(rows), n_cols, exact.of_rows(rows, n_cols, maximize, decimals, _place_in(n_cols)), None
 
 
 def of_matrix(costs, maximize, decimals):

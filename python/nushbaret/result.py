@@ -14,6 +14,28 @@ def in_unit(number, places):
     return decimal.Decimal(f"{number}E-{places}") if places else number
 
 
+def rows_and_columns(problem, answer):
+    """The numbers of the pairs of an answer, in the form that the caller wants: dummies stand in none."""
+    return _arrays_of(problem.numpy, problem, answer) if problem.numpy else _lists_of(problem, answer)
+
+
+def _lists_of(problem, answer):
+    columns = [item - 1 for item in answer.objects[:problem.n_rows]]
+    if answer.size == problem.n_cols:
+        return list(range(problem.n_rows)), columns
+    rows = [row for row, column in enumerate(columns) if column < problem.n_cols]
+    return rows, [columns[row] for row in rows]
+
+
+def _arrays_of(numpy, problem, answer):
+    columns = numpy.array(answer.objects[:problem.n_rows].tolist(), numpy.intp)
+    columns -= 1
+    if answer.size == problem.n_cols:
+        return numpy.arange(problem.n_rows), columns
+    rows = numpy.flatnonzero(columns < problem.n_cols)
+    return rows, columns[rows]
+
+
 class Result:
     """A best assignment, with prices that prove it.
 
@@ -47,18 +69,17 @@ class Result:
     def __init__(self, problem, answer):
         self._problem = problem
         self._answer = answer
-        rows, columns = range(problem.n_rows), [item - 1 for item in answer.objects[:problem.n_rows]]
-        if answer.size > problem.n_cols:
-            rows = [row for row, column in enumerate(columns) if column < problem.n_cols]
-            columns = [columns[row] for row in rows]
-        self._pairs = list(rows), columns
-        self.rows, self.columns = problem.numbers(self._pairs[0]), problem.numbers(columns)
+        self.rows, self.columns = rows_and_columns(problem, answer)
         self.cost = in_unit(answer.total, problem.places)
         self.scale = (answer.size + 1) * 10**problem.places
         self.decimals, self.rounded, self.maximize = problem.places, problem.rounded, problem.maximize
 
     def __repr__(self):
         return f"<nushbaret.Result: cost {self.cost}, {len(self.rows)} pairs>"
+
+    @cached_property
+    def _pairs(self):
+        return _lists_of(self._problem, self._answer)
 
     @cached_property
     def unserved_rows(self) -> Any:

@@ -3,16 +3,17 @@ import operator
 from array import array
 from typing import Any, Optional, Sequence, Tuple, Union
 
-from . import matching, problem as reading, rents, square
+from . import matching, problem as reading, quick, rents, square
 from .library import Halves
-from .result import Result
+from .result import Result, rows_and_columns
 
 Start = Union[Result, Sequence[Any], None]
 
 
 def _no_pairs(problem):
     """The answer where there is no pair to make: all that there is stays out, at rents of 0."""
-    return square.Answer(problem.n_rows + problem.n_cols, 0, [problem.n_cols + 1] * problem.n_rows, Halves(problem.n_cols))
+    objects = array("H", (problem.n_cols + 1,)) * problem.n_rows
+    return square.Answer(problem.n_rows + problem.n_cols, 0, objects, Halves(problem.n_cols))
 
 
 def _solved(problem, start=None, served=None):
@@ -36,13 +37,17 @@ def _most(problem, start):
     return answer
 
 
-def solve_problem(problem, start=None, as_many_as_can=False) -> Result:
+def _answer(problem, start, as_many_as_can):
     answer = _solved(problem, start)
-    if isinstance(answer, square.Short):
-        if not as_many_as_can:
-            raise square.infeasible(problem, answer, min(problem.n_rows, problem.n_cols))
-        answer = _most(problem, start)
-    return Result(problem, answer)
+    if not isinstance(answer, square.Short):
+        return answer
+    if not as_many_as_can:
+        raise square.infeasible(problem, answer, min(problem.n_rows, problem.n_cols))
+    return _most(problem, start)
+
+
+def solve_problem(problem, start=None, as_many_as_can=False) -> Result:
+    return Result(problem, _answer(problem, start, as_many_as_can))
 
 
 def solve(costs: Any, maximize: bool = False, decimals: Optional[int] = None, start: Start = None,
@@ -150,8 +155,11 @@ def linear_sum_assignment(cost_matrix: Any, maximize: bool = False) -> Tuple[Any
     ValueError, TypeError
         As in `solve`, in SciPy's words where it has such an error.
     """
-    result = solve(cost_matrix, maximize)
-    return result.rows, result.columns
+    found = quick.assignment(cost_matrix, maximize)
+    if found:
+        return found
+    problem = reading.of_matrix(cost_matrix, maximize, None)
+    return rows_and_columns(problem, _answer(problem, None, False))
 
 
 def solve_without(problem, served, row, column):

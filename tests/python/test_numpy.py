@@ -30,6 +30,41 @@ class Arrays(unittest.TestCase):
                 self.assertEqual((result.rows.dtype, result.columns.dtype), (np.intp, np.intp))
                 self.assertTrue(result.verify(form))
 
+    def test_squares_of_either_way(self):
+        """SciPy's call goes a shorter way where a square array holds whole numbers of 64 bits: it finds what `solve` does."""
+        rng = np.random.default_rng(11)
+        for size in 1, 2, 8, 31, 33, 100:
+            costs = rng.integers(-10**12, 10**12 + 1, (size, size))
+            for form in costs, costs.astype(float), np.asfortranarray(costs), costs.astype(">f8"), costs.astype(np.longlong):
+                for maximize in False, True:
+                    form.flags.writeable = False
+                    rows, columns = nushbaret.linear_sum_assignment(form, maximize)
+                    result = nushbaret.solve(form, maximize)
+                    self.assertEqual((rows.tolist(), columns.tolist()), (result.rows.tolist(), result.columns.tolist()))
+                    self.assertEqual((rows.dtype, columns.dtype), (np.intp, np.intp))
+                    rows[:], columns[:] = 7, 7
+        self.assertEqual([part.tolist() for part in nushbaret.linear_sum_assignment(np.eye(2))], [[0, 1], [1, 0]])
+
+    def test_what_is_not_whole_goes_the_longer_way(self):
+        for wrong, words in ((10**12 + 1, "row 1, column 0: the cost is beyond"), (1e300, "row 1, column 0: the cost is beyond"),
+                             (-np.inf, "contains invalid numeric entries"), (np.nan, "nan at row 1, column 0"),
+                             (1 / 3, "row 1, column 0: .* has more than 6 decimal places")):
+            with self.assertRaisesRegex(ValueError, words):
+                nushbaret.linear_sum_assignment(np.array([[1.0, 2.0], [wrong, 4.0]]))
+        for kept, wanted in ((np.inf, [1, 0]), (2.5, [1, 0]), (0.5, [0, 1]), (-0.0, [0, 1])):
+            columns = nushbaret.linear_sum_assignment(np.array([[kept, -0.0], [2.0, 1.0]]))[1]
+            self.assertEqual(columns.tolist(), wanted)
+
+    def test_arrays_at_odd_places(self):
+        for size in 3, 40:
+            room = np.zeros(8 * size * size + 1, np.uint8)
+            for kind in np.int64, np.float64:
+                costs = room[1:].view(kind).reshape(size, size)
+                costs[:] = np.eye(size)
+                self.assertFalse(costs.flags.aligned)
+                self.assertEqual(nushbaret.solve(costs).cost, 0)
+                self.assertEqual(costs[nushbaret.linear_sum_assignment(costs, True)].sum(), size)
+
     def test_floats(self):
         self.assertEqual(nushbaret.solve(np.array([[0.1]], np.float32)).cost, Decimal("0.1"))
         self.assertEqual(nushbaret.solve(np.array([[16777.1, 9], [9, 0.123456]], np.float32), True).cost, Decimal("16777.223456"))

@@ -3,6 +3,7 @@ import pickle
 import threading
 import unittest
 from decimal import Decimal
+from fractions import Fraction
 
 import nushbaret
 from nushbaret import library
@@ -39,6 +40,25 @@ class Drawn(unittest.TestCase):
             n = draw.randint(1, 5)
             costs, maximize = matrix(draw, n, n, draw.choice([1, 9, 10**12])), draw.random() < 0.5
             self.hold(costs, nushbaret.solve(costs, maximize), maximize, n)
+
+    def test_whole_numbers_of_every_kind(self):
+        """Rows are read one by one: whole numbers, floats that hold such, and rows of both or of others."""
+        rows = [[4, 1, 3], [2.0, -0.0, 5.0], [True, 2.0, 2], [Decimal(3), 2, Fraction(4, 2)]]
+        for size in 1, 2, 3, 40:
+            for costs in [row * size for row in rows], [row * size for row in rows[:2]], [row * size for row in rows[1:2]]:
+                exact = [[int(cost) for cost in row] for row in costs]
+                for form in costs, [tuple(row) for row in costs]:
+                    result = nushbaret.solve(form)
+                    self.assertEqual((result.cost, result.columns), (nushbaret.solve(exact).cost, nushbaret.solve(exact).columns))
+                    self.assertEqual((type(result.cost), result.decimals, result.rounded), (int, 0, False))
+        for wrong in 1.5, "1", 2**63, 1e300, float("nan"):
+            for row in [1, 2, wrong], [1.0, 2.0, wrong]:
+                with self.subTest(row=row):
+                    if wrong == 1.5:
+                        self.assertEqual(nushbaret.solve([[9, 9, 9], row]).decimals, 1)
+                    else:
+                        with self.assertRaisesRegex((ValueError, TypeError), "row 1, column 2"):
+                            nushbaret.solve([[9, 9, 9], row])
 
     def test_rectangles(self):
         draw = drawing(2)
