@@ -14,20 +14,25 @@ body { font: 15px/1.4 sans-serif; margin: 2em; color: #1b1b1b; background: #fff 
 table { border-collapse: collapse; margin: 1em 0 }
 th, td { border: 1px solid #d0d0d0; padding: .15em .45em; white-space: nowrap }
 .matrix { overflow: auto; max-height: 85vh }
-.matrix table { margin: 0 }
+.matrix table { margin: 0; border-collapse: separate; border-spacing: 0 }
+.matrix th, .matrix td { border-width: 0 1px 1px 0 }
+.matrix thead th { border-top-width: 1px }
+.matrix th:first-child { border-left-width: 1px }
 .matrix td { text-align: right; font-variant-numeric: tabular-nums }
-.matrix thead th { position: sticky; top: 0; background: #fff; vertical-align: bottom }
+.matrix th { position: sticky; background: #fff }
+.matrix thead th { top: 0; z-index: 2; padding: .5em .15em; vertical-align: bottom }
 .matrix thead th span { writing-mode: vertical-rl }
-.matrix tbody th { position: sticky; left: 0; background: #fff; text-align: left }
+.matrix tbody th { left: 0; z-index: 1; text-align: left }
+.matrix thead th:first-child { left: 0; z-index: 3 }
 .plan td:last-child { text-align: right }
 td.none { background: repeating-linear-gradient(45deg, #fff, #fff 4px, #eee 4px, #eee 6px) }
 td.own { outline: 3px solid #d35400; outline-offset: -3px; font-weight: bold }
 td.fixed { outline-style: double }
 .matrix th.short { color: #b00020; background: #fdecee }
-td.top { border-top: 3px solid #b00020 }
-td.bottom { border-bottom: 3px solid #b00020 }
-td.left { border-left: 3px solid #b00020 }
-td.right { border-right: 3px solid #b00020 }
+.matrix td.top { border-top: 3px solid #b00020 }
+.matrix td.bottom { border-bottom: 3px solid #b00020 }
+.matrix td.left { border-left: 3px solid #b00020 }
+.matrix td.right { border-right: 3px solid #b00020 }
 p.short { color: #b00020; font-weight: bold }
 """
 
