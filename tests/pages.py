@@ -1,10 +1,11 @@
 #!/usr/bin/env python3
 """Whether the pages tell what is: tests/pages.py [PROGRAM].
 
-Runs each `$` line of the pages in RUN with the built program on the path (rt run in crates/auction_cli) and
-compares what it prints, on both streams, with what stands below it. Looks in all pages for links and for names
-of files that lead nowhere, and in those that are WRAPPED for lines of more than 100 characters, tables and code
-apart. Prints what differs, and ends with status 1 then.
+Runs each `$` line of the pages in RUN with the built program on the path (rt run in crates/auction_cli) and the
+Python package over the library that c/build.sh made, and compares what it prints, on both streams, with what
+stands below it. Looks in all pages for links and for names of files that lead nowhere, and in those that are
+WRAPPED for lines of more than 100 characters, tables and code apart. Prints what differs, and ends with status 1
+then.
 """
 import glob
 import os
@@ -70,8 +71,9 @@ def run_page(page, program, told):
         for folder in ("examples", "tests"):
             os.symlink(os.path.join(TOP, folder), os.path.join(work, folder))
         path = os.path.join(work, "bin") + os.pathsep + os.environ["PATH"]
+        places = {"PATH": path, "PYTHONPATH": os.path.join(TOP, "python"), "PYTHONDONTWRITEBYTECODE": "1"}
         for number, command, wanted in sessions(page):
-            ran = subprocess.run(["bash", "-c", command], cwd=work, env={**os.environ, "PATH": path}, text=True,
+            ran = subprocess.run(["bash", "-c", command], cwd=work, env={**os.environ, **places}, text=True,
                                  stdin=subprocess.DEVNULL, stdout=subprocess.PIPE, stderr=subprocess.STDOUT)
             if ran.stdout.rstrip("\n") != wanted:
                 told.append(f"{page}:{number}: {command}\nwanted:\n{wanted}\ngot:\n{ran.stdout}")
