@@ -78,6 +78,11 @@ expect '3 1 1 4 2 1 6 3 2 1 3 3 2' 0 'verified infeasible\n' '' verify --sparse 
 firsts 0 'Read a problem from standard input, and write a best assignment or why there is none' '' solve --help
 firsts 0 'Read a problem from standard input, and check a report on it' '' verify --help
 firsts 0 'Solve assignment problems and check reports; the problem comes on standard input' '' --help
+expect '' 0 'auction_cli 1.0.0\n' '' --version
+firsts 2 '' "error: unexpected argument '-V' found" -V
+for word in solve verify; do
+    firsts 2 '' "error: unexpected argument '--version' found" $word --version
+done
 firsts 2 '' "error: unexpected argument '--greatest' found" solve --greatest
 for number in 0 65 four -1; do
     firsts 2 '' "error: invalid value '$number' for '--workers <K>': $(case $number in four | -1) echo 'invalid digit found in string' ;; *) echo "$number is not in 1..=64" ;; esac)" solve --workers="$number"

@@ -15,6 +15,7 @@ mod sense;
 mod sparse;
 #[cfg(test)]
 mod tests;
+mod version;
 
 pub use assignment::Assignment;
 pub use certificate::Certificate;
@@ -32,3 +33,4 @@ pub use plain::plain_best;
 pub use prices::Prices;
 pub use problem::Problem;
 pub use sense::Sense;
+pub use version::{VERSION, version_text};

@@ -1,17 +1,17 @@
 -- What clap finds in words, and command lines that are written out.
-use Rattle.std.proofs.Common.{◌≡◌, ◌∙◌, ◌≤◌, ℕ, refl, sym, ap, subst, codes, Bool, true, false, List, [], ◌∷◌, Option, Some, None, option_map, unwrap_or}
+use Rattle.std.proofs.Common.{◌≡◌, ◌∙◌, ◌≤◌, ℕ, refl, sym, ap, ap₂, subst, inl, inr, codes, Bool, true, false, List, [], ◌∷◌, Option, Some, None, option_map, unwrap_or}
 use Rattle.std.specs.Borrow.{Bor}
 use Rattle.std.specs.Prelude.{Err, IfOk, Ok, Result}
-use Rattle.clap.specs.Words.{App, HasMatchesOf, Row, Text, fault_of, first_of, found_of, is_simple, is_simple_and_free, kind_of, one_of, one_text, rows_of, subcommand_of, subcommand_rows_of, takes}
+use Rattle.clap.specs.Words.{App, HasKind, HasMatchesOf, Row, Text, fault_of, first_of, found_of, is_simple, is_simple_and_free, kind_of, one_of, one_text, rows_of, subcommand_of, subcommand_rows_of, takes}
 use Rattle.clap.specs.declared.parser.matches.ArgMatches.{ArgMatches}
 use Rattle.clap.proofs.WalkLemmas.{one_text-rows}
 use Rattle.clap.specs.declared.error.Error.{Error}
-use Rattle.clap.specs.declared.error.kind.ErrorKind.TheVariants.{OutOfMemory}
+use Rattle.clap.specs.declared.error.kind.ErrorKind.TheVariants.{DisplayVersion, OutOfMemory}
 use Rattle.clap.proofs.OnLiterals.{clap_on_literals}
 use Rattle.std.specs.Str.Parse.{digits_value, without_leading_plus}
 use Rattle.assign_core.specs.declared.sense.Sense.{Sense}
 use Rattle.assign_core.specs.declared.sense.Sense.TheVariants.{Min, Max}
-use Rattle.auction_cli.specs.Words.{Chooses, ChoosesSolving, IsFlag, IsInRanges, IsNumberFor, NamesNoMode, Solves, Verifies, full_line, full_options, is_max, mode_name, program, usual_options}
+use Rattle.auction_cli.specs.Words.{AsksForVersion, Chooses, ChoosesSolving, IsFlag, IsInRanges, IsNumberFor, NamesNoMode, Solves, Verifies, full_line, full_options, is_max, mode_name, program, usual_options}
 use Rattle.auction_cli.specs.inside.Words.{IsFaultOf}
 use Rattle.auction_cli.specs.declared.words.Mode.{Mode}
 use Rattle.auction_cli.specs.declared.words.Mode.TheVariants.{Rounds, Workers}
@@ -40,6 +40,10 @@ full_is_taken name = refl
 pub file_is_taken : (name : Text) → takes program (name ∷ file_line) ≡ true
 unfolding clap_on_literals
 file_is_taken name = refl
+
+pub version_is_asked : (name : Text) → fault_of program (name ∷ codes "--version" ∷ []) ≡ DisplayVersion ∷ []
+unfolding clap_on_literals
+version_is_asked name = refl
 
 simple_program : is_simple program ≡ true
 unfolding clap_on_literals
@@ -210,6 +214,23 @@ pub is_memory : (error : Error) (fault : WordsFault) → IsFaultOf error fault �
 is_memory error Memory h k = refl
 is_memory error (Clap told) h k = absurd (h.1 k)
 is_memory error wrong.Mode h k = absurd h
+
+-- words that ask for the version have a fault, and no other
+pub version_is_fault : (words : List Text) (name : Text) → words ≡ name ∷ codes "--version" ∷ [] → fault_of program words ≡ [] → ⊥
+version_is_fault words name e none =
+    let bad : DisplayVersion ∷ [] ≡ [] = sym (version_is_asked name) ∙ sym (ap (fault_of program) e) ∙ none in
+    cc
+
+pub version_told : (app : App) (words : List Text) (name : Text) (error : Error) (fault : WordsFault) → app ≡ program → words ≡ name ∷ codes "--version" ∷ [] →
+    (is_simple_and_free app ≡ true → HasKind (fault_of app words) error) → IsFaultOf error fault → AsksForVersion (Err fault)
+version_told app words name error Memory a e h f = refl
+version_told app words name error wrong.Mode a e h f = absurd f
+version_told app words name error (Clap told) a e h f = go (subst (λ k. HasKind k error) (ap₂ fault_of a e ∙ version_is_asked name) (h (ap is_simple_and_free a ∙ free_program)))
+  where
+    go : HasKind (DisplayVersion ∷ []) error → kind_of told ≡ DisplayVersion
+    go (inl memory) = absurd (f.1 memory)
+    go (inr (inl kind)) = ap kind_of f.0 ∙ kind
+    go (inr (inr none)) = absurd none
 
 -- the text behind a reference, or none
 pub text_or_none : (o : Option (Bor Text)) (d : Bor Text) (found : Option Text) → option_map (λ s. s.now) o ≡ found → d.now ≡ [] → (unwrap_or o d).now ≡ unwrap_or found []

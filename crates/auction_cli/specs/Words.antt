@@ -4,9 +4,9 @@ use Rattle.std.specs.Option.{option_map}
 use Rattle.std.specs.String.{string_bytes}
 use Rattle.std.specs.Str.Parse.{digits_value, without_leading_plus}
 use Rattle.clap.specs.Words.{App, IsUnsignedIn, Row, Rule, Text, fault_of, first_of, IsAmong, kind_of, new_app, new_rule, one_of, subcommand_of, with_rule, with_subcommand}
-use Rattle.clap.specs.declared.builder.action.ArgAction.TheVariants.{SetTrue}
+use Rattle.clap.specs.declared.builder.action.ArgAction.TheVariants.{SetTrue, Version}
 use Rattle.clap.specs.declared.builder.value_parser.ValueParser.TheVariants.{Unsigned}
-use Rattle.clap.specs.declared.error.kind.ErrorKind.TheVariants.{OutOfMemory}
+use Rattle.clap.specs.declared.error.kind.ErrorKind.TheVariants.{DisplayVersion, OutOfMemory}
 use Rattle.assign_core.specs.declared.sense.Sense.{Sense}
 use Rattle.assign_core.specs.declared.sense.Sense.TheVariants.{Min, Max}
 use Rattle.auction_cli.specs.declared.words.TheConstants.{MOST_WORKERS, MOST_REFRESH}
@@ -49,9 +49,16 @@ report_rule = record (new_rule (codes "REPORT")) { required = true }
 abbrev pub verify_app : App
 verify_app = with_rule (with_rule (new_app (codes "verify")) (flag_rule (codes "sparse"))) report_rule
 
--- a subcommand is required
+-- the option that asks for the version, without a short name
+abbrev pub version_rule : Rule
+version_rule = record (new_rule (codes "version")) { long = Some (codes "version"); action = Some Version }
+
+-- a subcommand is required, and clap adds no option for the version
+abbrev pub plain_program : App
+plain_program = let plain = new_app (codes "auction_cli") in record plain { top = record plain.top { has_version = true; disable_version_flag = true; subcommand_required = true } }
+
 abbrev pub bare_program : App
-bare_program = let plain = new_app (codes "auction_cli") in record plain { top = record plain.top { subcommand_required = true } }
+bare_program = with_rule plain_program version_rule
 
 -- the program as clap sees it: `solve` and `verify` with their options are the subcommands
 abbrev pub program : App
@@ -157,3 +164,9 @@ Verifies sparse name (Verify lists_pairs report) = (lists_pairs ≡ sparse) × (
 abbrev pub IsTaken : (Words → Type 0) → Result Words WordsFault → Type 0
 IsTaken P (Ok asked) = P asked
 IsTaken P (Err fault) = fault ≡ Memory
+
+-- want of memory apart, the words ask for the version
+abbrev pub AsksForVersion : Result Words WordsFault → Type 0
+AsksForVersion (Ok asked) = ⊥
+AsksForVersion (Err (Clap error)) = kind_of error ≡ DisplayVersion
+AsksForVersion (Err fault) = fault ≡ Memory

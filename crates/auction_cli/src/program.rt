@@ -73,7 +73,7 @@ pub enum ProgramEnd {
     Reported(Ended),
     /// What a report was found to be stands on standard output.
     Checked(Verified),
-    /// The help that was asked for stands on standard output.
+    /// The help or the version that was asked for stands on standard output.
     Helped,
     /// The words are refused, and standard error was told why.
     Refused(Told),

@@ -8,12 +8,12 @@ ghost use Rattle.auction_cli.specs.Words.{Chooses, ChoosesSolving, NamesMode};
 ghost use Rattle.auction_cli.specs.inside.Words.{ChoosesVerifying, IsChoiceFault, NamesCommand};
 ghost use Rattle.auction_cli.specs.Words.{IsNumberFor};
 ghost use Rattle.auction_cli.specs.inside.Words.{HasNumbers, HasNumbersIfSolving, IsNumberIn};
-ghost use Rattle.auction_cli.specs.Words.{IsInRanges, IsTaken, Solves, Verifies, WordsOutcome};
+ghost use Rattle.auction_cli.specs.Words.{AsksForVersion, IsInRanges, IsTaken, Solves, Verifies, WordsOutcome};
 ghost use Rattle.auction_cli.specs.inside.Words.{IsFaultOf};
-ghost use Rattle.auction_cli.specs.Words.{flag_rule, numbered_rule, plain_solve_app, program, solve_app, valued_rule, verify_app};
+ghost use Rattle.auction_cli.specs.Words.{flag_rule, numbered_rule, plain_solve_app, program, solve_app, valued_rule, verify_app, version_rule};
 ghost use Rattle.auction_cli.specs.Words.{full_line, full_options, is_max, mode_name, usual_options};
 
-use assign_core::Sense;
+use assign_core::{Sense, VERSION};
 use clap::builder::ValueParser;
 use clap::error::ErrorKind;
 use clap::{Arg, ArgAction, ArgMatches, Command, Error};
@@ -225,7 +225,18 @@ fn verify_command<'a>(alloc: Global) -> Result<Command<'a>, AllocError>
         .arg(report)
 }
 
-// The program's command with its subcommands.
+// The option that asks for the program's version, by its long name alone.
+fn version_flag<'a>(alloc: Global) -> Arg<'a>
+    ensures rule { rule_of result ≡ version_rule }
+    ensures local { result.global ≡ false }
+{
+    Arg::new(alloc, "version")
+        .long("version")
+        .help("Print the version")
+        .action(ArgAction::Version)
+}
+
+// The program's command with its subcommands. clap's own option for the version has a short name.
 fn command<'a>(alloc: Global) -> Result<Command<'a>, AllocError>
     ensures { IfOk result (λ c. app_of c ≡ program) }
 {
@@ -233,7 +244,10 @@ fn command<'a>(alloc: Global) -> Result<Command<'a>, AllocError>
     let verify = verify_command(alloc)?;
     Command::new(alloc, "auction_cli")
         .about("Solve assignment problems and check reports; the problem comes on standard input")
+        .version(VERSION)
+        .disable_version_flag(true)
         .subcommand_required(true)
+        .arg(version_flag(alloc))?
         .subcommand(solve)?
         .subcommand(verify)
 }
@@ -367,8 +381,8 @@ fn words_fault(error: Error) -> WordsFault
 /// Reads the words of a command line, the program's own name first.
 ///
 /// # Errors
-/// `Clap` for words that are refused and for a request for help, whose text the error prints, `Mode`
-/// for a word behind `--mode` that is neither `rounds` nor `workers`, and `Memory`.
+/// `Clap` for words that are refused and for a request for help or for the version, whose text the
+/// error prints, `Mode` for a word behind `--mode` that is neither `rounds` nor `workers`, and `Memory`.
 pub fn read_words<'a, S: AsStr>(alloc: Global, words: &'a [S]) -> Result<Words, WordsFault>
     ensures outcome { WordsOutcome (map S.text words.entry.now) result }
     ensures ranges { IfOk result IsInRanges }
@@ -380,6 +394,8 @@ pub fn read_words<'a, S: AsStr>(alloc: Global, words: &'a [S]) -> Result<Words, 
         ≡ name ∷ codes "verify" ∷ codes "--sparse" ∷ codes "report" ∷ []
         → IsTaken (Verifies true (codes "report")) result }
     ensures alone { (name : Text) → map S.text words.entry.now ≡ name ∷ [] → IsErr result }
+    ensures version { (name : Text) → map S.text words.entry.now ≡ name ∷ codes "--version" ∷ []
+        → AsksForVersion result }
 {
     let command = command(alloc)?;
     match command.try_get_matches_from(words) {

@@ -1,8 +1,7 @@
 // Which version this is.
 ghost use Rattle.std.specs.Prelude.{◌≡◌, ◌++◌, ◌∷◌, ◌<◌, ◌≤◌, codes, drop, length};
 
-// The version, as `NUSHBARET_VERSION` in the header, with the 0 that ends a text in C.
-const VERSION: [u8; 6] = *b"1.0.0\0";
+use assign_core::VERSION;
 
 /// The length of the version's text. Where the room has a place more than that, the text and a 0 stand at
 /// its beginning then; else it is as it was.
@@ -13,8 +12,9 @@ pub extern "C" fn nushbaret_version(room: &mut [u8]) -> usize
     ensures short { length room.old ≤ 5 → room.new ≡ room.old }
 {
     if room.len() > 5 {
-        let (text, _) = room.split_at_mut(6);
-        text.copy_from_slice(&VERSION);
+        let (text, _) = room.split_at_mut(5);
+        text.copy_from_slice(VERSION.as_bytes());
+        room[5] = 0;
     }
     5
 }

@@ -3,7 +3,7 @@ use Rattle.clap.specs.Words.{Text, subcommand_of, takes}
 use Rattle.auction_cli.specs.Words.{full_options, program, usual_options}
 use Rattle.auction_cli.specs.inside.Words.{HasNumbersIfSolving, NamesCommand}
 use Rattle.auction_cli.proofs.Choices.{chosen_outcome, solve_taken, verify_taken}
-use Rattle.auction_cli.proofs.CommandLines.{file_is_taken, file_of, file_words, flags_of, full_flags, full_is_taken, in_ranges, is_memory, plain_flags, plain_is_taken, taken_words}
+use Rattle.auction_cli.proofs.CommandLines.{file_is_taken, file_of, file_words, flags_of, full_flags, full_is_taken, in_ranges, is_memory, plain_flags, plain_is_taken, taken_words, version_is_fault, version_told}
 use Rattle.auction_cli.proofs.Numbers.{has_numbers}
 use Rattle.auction_cli.proofs.Subcommands.{names_command}
 use Rattle.auction_cli.proofs.words.read_words.Goals as goal
@@ -45,3 +45,12 @@ returns-in-Err-clause-options g c = λ name e. is_memory _ _ c.words_fault.ensur
 
 pub returns-in-Err-clause-verify : goal.returns-in-Err-clause-verify
 returns-in-Err-clause-verify g c = λ name e. is_memory _ _ c.words_fault.ensures (c.in-Err.ensures.passes (ap₂ takes c.in_ok-command.ensures e ∙ file_is_taken name))
+
+pub returns-in-Ok-clause-version : goal.returns-in-Ok-clause-version
+returns-in-Ok-clause-version g c = λ name e.
+    let words = map g.S.AsStr.text c.args.words.now in
+    let t = taken_words _ words _ c.in_ok-command.ensures c.in-Ok.ensures.kinds c.in-Ok.ensures.matches in
+    absurd (version_is_fault words name e t.0)
+
+pub returns-in-Err-clause-version : goal.returns-in-Err-clause-version
+returns-in-Err-clause-version g c = λ name e. version_told _ (map g.S.AsStr.text c.args.words.now) name _ _ c.in_ok-command.ensures e c.in-Err.ensures.kinds c.words_fault.ensures
