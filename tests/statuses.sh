@@ -61,6 +61,18 @@ expect '2 1 2 4 5' 5 'not verified: cost of person 2\n' '' verify "$work/report"
 expect '2 1 2 3' 3 '' 'input: truncated after 4 numbers' verify "$work/report"
 printf '2 1 2 3 5' | "$program" solve --max --prices > "$work/greatest"
 expect '2 1 2 3 5' 0 'verified max cost 6\n' '' verify "$work/greatest"
+expect '2 1 2 3 5' 0 'verified cost 5\n' '' verify --sense min "$work/report"
+expect '2 1 2 3 5' 5 'not verified: sense\n' '' verify "$work/report" --sense=max
+expect '2 1 2 3 5' 5 'not verified: sense\n' '' verify --sense min "$work/greatest"
+expect '2 1 2 3 5' 0 'verified max cost 6\n' '' verify --sense max "$work/greatest"
+expect '2 1 2 4 5' 5 'not verified: sense\n' '' verify --sense max "$work/report"
+expect '2 1 2 3' 3 '' 'input: truncated after 4 numbers' verify --sense max "$work/report"
+tail -n +2 "$work/report" > "$work/first_version"
+expect '2 1 2 3 5' 0 'verified cost 5\n' '' verify --sense min "$work/first_version"
+expect '2 1 2 3 5' 5 'not verified: sense\n' '' verify --sense max "$work/first_version"
+for sense in MIN least ''; do
+    expect '2 1 2 3 5' 2 '' 'usage: sense is min or max' verify --sense "$sense" "$work/report"
+done
 printf 'cost 5\nassign 1 02 2\n' > "$work/bad"
 expect '2 1 2 3 5' 3 '' 'report: bad line 2' verify "$work/bad"
 expect '2 1 2 3 5' 4 '' 'device: read failed' verify "$work"
@@ -75,6 +87,8 @@ expect 'x' 4 '' 'device: cannot open the report' solve --start "$work/none"
 printf '3 1 1 4 2 1 6 3 2 1 3 3 2' | "$program" solve --sparse > "$work/refusal"
 expect '2 1 2 3 5' 3 '' 'start: no prices' solve --start "$work/refusal"
 expect '3 1 1 4 2 1 6 3 2 1 3 3 2' 0 'verified infeasible\n' '' verify --sparse "$work/refusal"
+expect '3 1 1 4 2 1 6 3 2 1 3 3 2' 0 'verified infeasible\n' '' verify --sparse --sense min "$work/refusal"
+expect '3 1 1 4 2 1 6 3 2 1 3 3 2' 5 'not verified: sense\n' '' verify --sparse --sense max "$work/refusal"
 firsts 0 'Read a problem from standard input, and write a best assignment or why there is none' '' solve --help
 firsts 0 'Read a problem from standard input, and check a report on it' '' verify --help
 firsts 0 'Solve assignment problems and check reports; the problem comes on standard input' '' --help
@@ -99,7 +113,7 @@ done
 for option in sparse max prices 'start <REPORT>' 'mode <MODE>' 'workers <K>' 'refresh <R>'; do
     "$program" solve --help | grep -q -- "--$option  *[A-Z]" || { echo "help of solve is silent on --$option"; failed=$((failed + 1)); }
 done
-for option in --sparse '<REPORT>'; do
+for option in --sparse '--sense <SENSE>' '<REPORT>'; do
     "$program" verify --help | grep -q -- "$option  *[A-Z]" || { echo "help of verify is silent on $option"; failed=$((failed + 1)); }
 done
 

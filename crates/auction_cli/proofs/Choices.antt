@@ -1,10 +1,11 @@
 -- What the values of options choose.
-use Rattle.std.proofs.Common.{◌≡◌, ◌∙◌, refl, sym, ap, subst, codes, ℕ, true, List, [], Option, Some, None}
+use Rattle.std.proofs.Common.{◌≡◌, ◌∙◌, refl, sym, ap, subst, codes, ℕ, Bool, List, [], Option, Some, None}
 use Rattle.std.specs.Prelude.{Result, Ok, Err, IfOk, IfErr, IfSome}
 use Rattle.std.specs.Option.{ok_or}
 use Rattle.std.specs.Str.Parse.{ParsesUnsigned, digits_value, without_leading_plus}
 use Rattle.clap.specs.Words.{IsUnsignedIn, ReadsOne, Row, Text, fault_of, first_of, subcommand_of}
-use Rattle.auction_cli.specs.Words.{Chooses, IsTaken, NamesMode, NamesNoMode, Solves, Verifies, WordsOutcome, mode_name, program}
+use Rattle.assign_core.specs.declared.sense.Sense.{Sense}
+use Rattle.auction_cli.specs.Words.{Chooses, IsTaken, NamesMode, NamesNoMode, NamesNoSense, NamesSense, Solves, Verifies, WordsOutcome, mode_name, program, sense_name}
 use Rattle.auction_cli.specs.inside.Words.{IsChoiceFault}
 use Rattle.auction_cli.specs.declared.words.Mode.{Mode}
 use Rattle.auction_cli.specs.declared.words.SolveOpts.{SolveOpts}
@@ -12,7 +13,7 @@ use Rattle.auction_cli.specs.declared.words.Words.{Words}
 use Rattle.auction_cli.specs.declared.words.WordsFault.{WordsFault}
 use Rattle.auction_cli.specs.declared.words.WordsFault.TheVariants as wrong
 use Rattle.auction_cli.specs.declared.words.WordsFault.TheVariants.{Clap, Memory}
-use Rattle.auction_cli.proofs.CommandLines.{file_of, flag_word, flags_of, mode_is_named, no_file_mode, solve_flags, solves, some_is, verifies}
+use Rattle.auction_cli.proofs.CommandLines.{file_of, flags_of, mode_is_named, no_file_mode, no_solve_sense, sense_is_named, solve_flags, solves, some_is, verifies, verify_file}
 
 -- a text of a number in range is read as that number
 pub number_read : (E : Type 0) (G : List ℕ → Result ℕ E → Type 0) (digits : Text) (o : Option ℕ) (least most : ℕ) → ReadsOne G digits o → ((u : List ℕ) (x : Result ℕ E) → G u x → ParsesUnsigned 64 10 u x) →
@@ -33,6 +34,14 @@ pub mode_untold : (rows : List Row) (name : Text) (o : Option Mode) (r : Result 
 mode_untold rows name None r f n e = rw e (refl, λ mode is. n refl mode (some_is _ _ (f ∙ is)))
 mode_untold rows name (Some mode) r f n e = rw e tt
 
+-- the sense that is named, where one is
+pub sense_told : (rows : List Row) (name : Text) (sense : Sense) → Some name ≡ first_of (codes "sense") rows → name ≡ sense_name sense → NamesSense rows (Some sense)
+sense_told rows name sense f s = sym f ∙ ap Some s
+
+pub sense_untold : (rows : List Row) (name : Text) → Some name ≡ first_of (codes "sense") rows → ((sense : Sense) → name ≡ sense_name sense → ⊥) → (sense : Option Sense) → NamesSense rows sense → ⊥
+sense_untold rows name f n None is = none_is_some name (sym (f ∙ is))
+sense_untold rows name f n (Some sense) is = n sense (some_is _ _ (f ∙ is))
+
 pub no_mode : (rows : List Row) → None ≡ first_of (codes "mode") rows → (wrong.Mode ≡ wrong.Mode) × ((mode : Mode) → NamesMode rows mode → ⊥)
 no_mode rows f = (refl, λ mode is. none_is_some _ (f ∙ is))
 
@@ -41,6 +50,7 @@ pub chosen_outcome : (words : List Text) (found : Option (Text × List Row)) (r 
     WordsOutcome words r
 chosen_outcome words found (Ok asked) none is ok err = (none, subst (λ f. Chooses f asked) is ok)
 chosen_outcome words found (Err wrong.Mode) none is ok err = (none, subst NamesNoMode is err)
+chosen_outcome words found (Err wrong.Sense) none is ok err = (none, subst NamesNoSense is err)
 chosen_outcome words found (Err Memory) none is ok err = tt
 chosen_outcome words found (Err (Clap error)) none is ok err = absurd err
 
@@ -50,13 +60,15 @@ pub solve_taken : (found : Option (Text × List Row)) (r : Result Words WordsFau
     IfOk r (Chooses found) → IfErr r (IsChoiceFault found) → IsTaken (Solves wanted start) r
 solve_taken found (Ok asked) wanted workers refresh start e w h ok err = solves found asked wanted workers refresh start e w h ok
 solve_taken found (Err wrong.Mode) wanted workers refresh start e w h ok err = absurd (mode_is_named found wanted workers refresh start e err)
+solve_taken found (Err wrong.Sense) wanted workers refresh start e w h ok err = absurd (no_solve_sense found wanted workers refresh start e err)
 solve_taken found (Err Memory) wanted workers refresh start e w h ok err = refl
 solve_taken found (Err (Clap error)) wanted workers refresh start e w h ok err = absurd err
 
 -- and one of `verify`
-pub verify_taken : (found : Option (Text × List Row)) (r : Result Words WordsFault) (name : Text) → file_of found ≡ Some (codes "verify", (Some (flag_word true), Some name)) → IfOk r (Chooses found) → IfErr r (IsChoiceFault found) →
-    IsTaken (Verifies true name) r
-verify_taken found (Ok asked) name e ok err = verifies found asked true name e ok
-verify_taken found (Err wrong.Mode) name e ok err = absurd (no_file_mode found true name e err)
-verify_taken found (Err Memory) name e ok err = refl
-verify_taken found (Err (Clap error)) name e ok err = absurd err
+pub verify_taken : (found : Option (Text × List Row)) (r : Result Words WordsFault) (s : Bool) (wanted : Option Sense) (name : Text) → file_of found ≡ Some (verify_file s wanted name) → IfOk r (Chooses found) →
+    IfErr r (IsChoiceFault found) → IsTaken (Verifies s wanted name) r
+verify_taken found (Ok asked) s wanted name e ok err = verifies found asked s wanted name e ok
+verify_taken found (Err wrong.Mode) s wanted name e ok err = absurd (no_file_mode found s wanted name e err)
+verify_taken found (Err wrong.Sense) s wanted name e ok err = absurd (sense_is_named found s wanted name e err)
+verify_taken found (Err Memory) s wanted name e ok err = refl
+verify_taken found (Err (Clap error)) s wanted name e ok err = absurd err

@@ -1,5 +1,5 @@
 -- What clap finds in words, and command lines that are written out.
-use Rattle.std.proofs.Common.{◌≡◌, ◌∙◌, ◌≤◌, ℕ, refl, sym, ap, ap₂, subst, inl, inr, codes, Bool, true, false, List, [], ◌∷◌, Option, Some, None, option_map, unwrap_or}
+use Rattle.std.proofs.Common.{arith, ◌≡◌, ◌∙◌, ◌≤◌, ℕ, refl, sym, ap, ap₂, subst, inl, inr, codes, Bool, true, false, List, [], ◌∷◌, Option, Some, None, option_map, unwrap_or}
 use Rattle.std.specs.Borrow.{Bor}
 use Rattle.std.specs.Prelude.{Err, IfOk, Ok, Result}
 use Rattle.clap.specs.Words.{App, HasKind, HasMatchesOf, Row, Text, fault_of, first_of, found_of, is_simple, is_simple_and_free, kind_of, one_of, one_text, rows_of, subcommand_of, subcommand_rows_of, takes}
@@ -11,7 +11,7 @@ use Rattle.clap.proofs.OnLiterals.{clap_on_literals}
 use Rattle.std.specs.Str.Parse.{digits_value, without_leading_plus}
 use Rattle.assign_core.specs.declared.sense.Sense.{Sense}
 use Rattle.assign_core.specs.declared.sense.Sense.TheVariants.{Min, Max}
-use Rattle.auction_cli.specs.Words.{AsksForVersion, Chooses, ChoosesSolving, IsFlag, IsInRanges, IsNumberFor, NamesNoMode, Solves, Verifies, full_line, full_options, is_max, mode_name, program, usual_options}
+use Rattle.auction_cli.specs.Words.{AskForNoMode, AskForNoSense, AsksForVersion, Chooses, ChoosesSolving, IsFlag, IsInRanges, IsNumberFor, NamesNoMode, NamesNoSense, Solves, Verifies, full_line, full_options, full_verify_line, is_max, mode_name, program, sense_name, usual_options}
 use Rattle.auction_cli.specs.inside.Words.{IsFaultOf}
 use Rattle.auction_cli.specs.declared.words.Mode.{Mode}
 use Rattle.auction_cli.specs.declared.words.Mode.TheVariants.{Rounds, Workers}
@@ -40,6 +40,10 @@ full_is_taken name = refl
 pub file_is_taken : (name : Text) → takes program (name ∷ file_line) ≡ true
 unfolding clap_on_literals
 file_is_taken name = refl
+
+pub full_file_is_taken : (name : Text) → takes program (name ∷ full_verify_line) ≡ true
+unfolding clap_on_literals
+full_file_is_taken name = refl
 
 pub version_is_asked : (name : Text) → fault_of program (name ∷ codes "--version" ∷ []) ≡ DisplayVersion ∷ []
 unfolding clap_on_literals
@@ -77,9 +81,21 @@ flags_of = option_map (λ f. record {
   refresh = one_of (codes "refresh") f.1;
 })
 
--- a subcommand, and what the option and the file of `verify` are told by
-abbrev pub file_of : Option (Text × List Row) → Option (Text × (Option Text × Option Text))
-file_of = option_map (λ f. (f.0, (one_of (codes "sparse") f.1, first_of (codes "REPORT") f.1)))
+-- what the options and the file of `verify` are told by
+pub record File : Type 0 where
+  pub name : Text
+  pub sparse : Option Text
+  pub sense : Option Text
+  pub report : Option Text
+
+-- a subcommand, and what they are told by
+abbrev pub file_of : Option (Text × List Row) → Option File
+file_of = option_map (λ f. record {
+  name = f.0;
+  sparse = one_of (codes "sparse") f.1;
+  sense = first_of (codes "sense") f.1;
+  report = first_of (codes "REPORT") f.1;
+})
 
 abbrev pub flag_word : Bool → Text
 flag_word true = codes "true"
@@ -106,9 +122,21 @@ pub full_flags : (name : Text) → flags_of (subcommand_of program (name ∷ ful
 unfolding clap_on_literals
 full_flags name = refl
 
-pub file_words : (name : Text) → file_of (subcommand_of program (name ∷ file_line)) ≡ Some (codes "verify", (Some (flag_word true), Some (codes "report")))
+abbrev pub verify_file : Bool → Option Sense → Text → File
+verify_file sparse wanted report = record {
+  name = codes "verify";
+  sparse = Some (flag_word sparse);
+  sense = option_map sense_name wanted;
+  report = Some report;
+}
+
+pub file_words : (name : Text) → file_of (subcommand_of program (name ∷ file_line)) ≡ Some (verify_file true None (codes "report"))
 unfolding clap_on_literals
 file_words name = refl
+
+pub full_file_words : (name : Text) → file_of (subcommand_of program (name ∷ full_verify_line)) ≡ Some (verify_file true (Some Max) (codes "report"))
+unfolding clap_on_literals
+full_file_words name = refl
 
 flag_is : (text : Option Text) (flag b : Bool) → IsFlag text flag → text ≡ Some (flag_word b) → flag ≡ b
 flag_is text flag true f e = f.set e
@@ -130,6 +158,27 @@ same_sense Max Max e = refl
 same_sense Min Max e = cc
 same_sense Max Min e = cc
 
+abbrev second_code : Text → ℕ
+second_code [] = 0
+second_code (a ∷ []) = 0
+second_code (a ∷ b ∷ rest) = b
+
+same_name : (a b : Sense) → sense_name a ≡ sense_name b → a ≡ b
+same_name Min Min e = refl
+same_name Max Max e = refl
+same_name Min Max e =
+    let bad : 105 ≡ 97 = ap second_code e in
+    absurd (omega arith)
+same_name Max Min e =
+    let bad : 97 ≡ 105 = ap second_code e in
+    absurd (omega arith)
+
+same_wanted : (a b : Option Sense) → option_map sense_name a ≡ option_map sense_name b → a ≡ b
+same_wanted None None e = refl
+same_wanted (Some a) (Some b) e = ap Some (same_name a b (some_is _ _ e))
+same_wanted None (Some b) e = cc
+same_wanted (Some a) None e = cc
+
 same_mode : (a b : Mode) → mode_name a ≡ mode_name b → a ≡ b
 same_mode Rounds Rounds e = refl
 same_mode Workers Workers e = refl
@@ -148,7 +197,7 @@ in_ranges found (Ok (Solve options start)) h = record {
   few_workers = at_most _ _ _ _ h.2.workers;
   few_turns = at_most _ _ _ _ h.2.refresh;
 }
-in_ranges found (Ok (Verify sparse report)) h = tt
+in_ranges found (Ok (Verify sparse sense report)) h = tt
 in_ranges found (Err fault) h = tt
 
 -- the options that a line is told by
@@ -171,7 +220,7 @@ solves found (Solve options file) wanted workers refresh start e w r h =
       options_are h.0 options wanted workers refresh start told h.2 w r,
       h.3 ∙ ap (λ (q : Flags). q.start) (some_is _ _ told),
     )
-solves found (Verify sparse report) wanted workers refresh start e w r h =
+solves found (Verify sparse sense report) wanted workers refresh start e w r h =
     absurd (other_command (ap (λ (q : Flags). q.name) (some_is _ _ (ap flags_of (sym h.1) ∙ e))))
 
 -- a line that names its mode is refused for no mode
@@ -180,20 +229,31 @@ mode_is_named found wanted workers refresh start e h =
     let told : flags_of (Some (codes "solve", h.0)) ≡ Some (solve_flags wanted workers refresh start) = ap flags_of (sym h.1) ∙ e in
     h.2 wanted.mode (ap (λ (q : Flags). q.mode) (some_is _ _ told))
 
-pub verifies : (found : Option (Text × List Row)) (asked : Words) (s : Bool) (name : Text) → file_of found ≡ Some (codes "verify", (Some (flag_word s), Some name)) →
-    Chooses found asked → Verifies s name asked
-verifies found (Solve options start) s name e h =
-    absurd (other_command (sym (ap (λ (q : Text × (Option Text × Option Text)). q.0) (some_is _ _ (ap file_of (sym h.1) ∙ e)))))
-verifies found (Verify sparse report) s name e h =
+-- a line of `solve` is refused for no sense
+pub no_solve_sense : (found : Option (Text × List Row)) (wanted : SolveOpts) (workers refresh : Text) (start : Option Text) → flags_of found ≡ Some (solve_flags wanted workers refresh start) → NamesNoSense found → ⊥
+no_solve_sense found wanted workers refresh start e h = other_command (ap (λ (q : Flags). q.name) (some_is _ _ (ap flags_of (sym h.1) ∙ e)))
+
+pub verifies : (found : Option (Text × List Row)) (asked : Words) (s : Bool) (wanted : Option Sense) (name : Text) → file_of found ≡ Some (verify_file s wanted name) →
+    Chooses found asked → Verifies s wanted name asked
+verifies found (Solve options start) s wanted name e h = absurd (other_command (sym (ap (λ (q : File). q.name) (some_is _ _ (ap file_of (sym h.1) ∙ e)))))
+verifies found (Verify sparse sense report) s wanted name e h =
     let all = some_is _ _ (ap file_of (sym h.1) ∙ e) in (
-      flag_is _ _ s h.2.sparse (ap (λ (q : Text × (Option Text × Option Text)). q.1.0) all),
-      h.2.report ∙ ap (λ (q : Text × (Option Text × Option Text)). unwrap_or q.1.1 []) all,
+      flag_is _ _ s h.2.sparse (ap (λ (q : File). q.sparse) all),
+      same_wanted _ _ (sym h.2.sense ∙ ap (λ (q : File). q.sense) all),
+      h.2.report ∙ ap (λ (q : File). unwrap_or q.report []) all,
     )
 
 -- a line of `verify` is refused for no mode
-pub no_file_mode : (found : Option (Text × List Row)) (s : Bool) (name : Text) → file_of found ≡ Some (codes "verify", (Some (flag_word s), Some name)) → NamesNoMode found → ⊥
-no_file_mode found s name e h =
-    other_command (sym (ap (λ (q : Text × (Option Text × Option Text)). q.0) (some_is _ _ (ap file_of (sym h.1) ∙ e))))
+pub no_file_mode : (found : Option (Text × List Row)) (s : Bool) (wanted : Option Sense) (name : Text) → file_of found ≡ Some (verify_file s wanted name) → NamesNoMode found → ⊥
+no_file_mode found s wanted name e h = other_command (sym (ap (λ (q : File). q.name) (some_is _ _ (ap file_of (sym h.1) ∙ e))))
+
+-- one that names its sense, or none, is refused for no sense
+pub sense_is_named : (found : Option (Text × List Row)) (s : Bool) (wanted : Option Sense) (name : Text) → file_of found ≡ Some (verify_file s wanted name) → NamesNoSense found → ⊥
+sense_is_named found s wanted name e h = h.2 wanted (ap (λ (q : File). q.sense) (some_is _ _ (ap file_of (sym h.1) ∙ e)))
+
+-- words that name no mode are others than those that name no sense
+pub no_mode_or_sense : (words : List Text) → AskForNoMode words → AskForNoSense words → ⊥
+no_mode_or_sense words m s = other_command (ap (λ (q : Text × List Row). q.0) (some_is _ _ (sym s.1.1 ∙ m.1.1)))
 
 -- words that are taken have no fault, and the subcommand of the matches
 pub taken_words : (app : App) (words : List Text) (m : ArgMatches) → app ≡ program → (is_simple_and_free app ≡ true → fault_of app words ≡ []) → HasMatchesOf app words m →
@@ -214,6 +274,7 @@ pub is_memory : (error : Error) (fault : WordsFault) → IsFaultOf error fault �
 is_memory error Memory h k = refl
 is_memory error (Clap told) h k = absurd (h.1 k)
 is_memory error wrong.Mode h k = absurd h
+is_memory error wrong.Sense h k = absurd h
 
 -- words that ask for the version have a fault, and no other
 pub version_is_fault : (words : List Text) (name : Text) → words ≡ name ∷ codes "--version" ∷ [] → fault_of program words ≡ [] → ⊥
@@ -225,6 +286,7 @@ pub version_told : (app : App) (words : List Text) (name : Text) (error : Error)
     (is_simple_and_free app ≡ true → HasKind (fault_of app words) error) → IsFaultOf error fault → AsksForVersion (Err fault)
 version_told app words name error Memory a e h f = refl
 version_told app words name error wrong.Mode a e h f = absurd f
+version_told app words name error wrong.Sense a e h f = absurd f
 version_told app words name error (Clap told) a e h f = go (subst (λ k. HasKind k error) (ap₂ fault_of a e ∙ version_is_asked name) (h (ap is_simple_and_free a ∙ free_program)))
   where
     go : HasKind (DisplayVersion ∷ []) error → kind_of told ≡ DisplayVersion

@@ -4,6 +4,7 @@ use Rattle.std.specs.Io.KnownBytes.{Appends, Keeps}
 use Rattle.std.specs.String.{string_bytes}
 use Rattle.std.specs.declared.alloc.Global.{Global}
 use Rattle.std.proofs.KnownBytes.{Keeps-refl}
+use Rattle.assign_core.specs.declared.sense.Sense.{Sense}
 use Rattle.report.specs.Writing.{IsCutOff}
 use Rattle.auction_cli.specs.Program.{Does, FailsToOpen, InputOutcome, Openings, Opens, SolveEnd, VerifyEnd, line_of, report_name}
 use Rattle.auction_cli.specs.inside.Program.{EndsAbsent}
@@ -27,12 +28,12 @@ solve_done options start input reports text old new (Failed fault told) o s = (t
 solve_done options start input reports text old new end o s = absurd s
 
 -- and one of `verify`
-pub verify_done : (sparse : Bool) (name : String Global) (input : Option (List ℕ)) (reports : Openings) (text old new : Option (List ℕ)) (end : ProgramEnd) →
-    reports (string_bytes name) (Ok text) → VerifyEnd sparse input text old new end → Does (Verify sparse name) input reports old new end
-verify_done sparse name input reports text old new (Checked verified) o v = (text, o, v)
-verify_done sparse name input reports text old new (Failed faults.Memory told) o v = v
-verify_done sparse name input reports text old new (Failed fault told) o v = (text, o, v)
-verify_done sparse name input reports text old new end o v = absurd v
+pub verify_done : (sparse : Bool) (wanted : Option Sense) (name : String Global) (input : Option (List ℕ)) (reports : Openings) (text old new : Option (List ℕ)) (end : ProgramEnd) →
+    reports (string_bytes name) (Ok text) → VerifyEnd sparse wanted input text old new end → Does (Verify sparse wanted name) input reports old new end
+verify_done sparse wanted name input reports text old new (Checked verified) o v = (text, o, v)
+verify_done sparse wanted name input reports text old new (Failed faults.Memory told) o v = v
+verify_done sparse wanted name input reports text old new (Failed fault told) o v = (text, o, v)
+verify_done sparse wanted name input reports text old new end o v = absurd v
 
 -- nothing is done where the report can't be read
 pub absent_done : (asked : Words) (input : Option (List ℕ)) (reports : Openings) (old : Option (List ℕ)) (why : NoReport) (end : ProgramEnd) →
@@ -55,10 +56,10 @@ solve_reads options input text out written old new (Reported ended) s = tt
 solve_reads options input text out written old new (Failed fault told) s = tt
 solve_reads options input text out written old new end s = absurd s
 
-pub verify_reads : (sparse : Bool) (input text out written old new : Option (List ℕ)) (end : ProgramEnd) → VerifyEnd sparse input text out written end → InputOutcome old new end
-verify_reads sparse input text out written old new (Checked verified) v = tt
-verify_reads sparse input text out written old new (Failed fault told) v = tt
-verify_reads sparse input text out written old new end v = absurd v
+pub verify_reads : (sparse : Bool) (wanted : Option Sense) (input text out written old new : Option (List ℕ)) (end : ProgramEnd) → VerifyEnd sparse wanted input text out written end → InputOutcome old new end
+verify_reads sparse wanted input text out written old new (Checked verified) v = tt
+verify_reads sparse wanted input text out written old new (Failed fault told) v = tt
+verify_reads sparse wanted input text out written old new end v = absurd v
 
 nothing_more : (old : Option (List ℕ)) → Appends old old []
 nothing_more None = tt

@@ -1,5 +1,5 @@
 -- A report has one finding.
-use Rattle.std.proofs.Common.{◌≡◌, ℕ, ℤ, pos, List, [], length, sym, ap, ◌∙◌, subst, refl, inl, inr, None, Some}
+use Rattle.std.proofs.Common.{◌≡◌, ℕ, ℤ, pos, List, [], length, sym, ap, ◌∙◌, subst, refl, inl, inr, None, Some, Option}
 use Rattle.assign_core.specs.declared.sense.Sense.{Sense}
 use Rattle.assign_core.specs.Rows.{Listing, IsProblem}
 use Rattle.assign_core.specs.Assignment.{total}
@@ -20,7 +20,7 @@ use Rattle.report.specs.Reports.{Report, best, hall}
 use Rattle.auction_cli.specs.declared.finding.Finding.{Finding}
 use Rattle.auction_cli.specs.declared.finding.Finding.TheVariants.{Hall, OtherCost}
 use Rattle.auction_cli.specs.declared.verify.Verified.TheVariants.{Yes, No}
-use Rattle.auction_cli.specs.Findings.{HaveOneFinding, Follows, HasCost, HasOtherCost, HaveCosts, IsFoundInReport, IsFoundInCosts, IsSo, objects_of, sense_of, verdict_of}
+use Rattle.auction_cli.specs.Findings.{HaveOneFinding, Follows, HasCost, HasOtherCost, HaveCosts, IsFoundInReport, IsFoundInCosts, IsFoundUnder, IsSo, objects_of, sense_of, verdict_of}
 
 no_is_yes : No ≡ Yes → ⊥
 no_is_yes e = cc
@@ -47,13 +47,19 @@ one_follows : (IsBeyond : Finding → Type 0) (v : Verdict) (first second : Find
 one_follows IsBeyond verdicts.Yes first second one a b = one first second a b
 one_follows IsBeyond fault first second one a b = a ∙ sym b
 
-pub findings_differ : HaveOneFinding
-findings_differ rows (best sense cost pairs None) first second problem a b = a ∙ sym b
-findings_differ rows (best sense cost pairs (Some prices)) first second problem a b =
+reports_differ : (rows : List Listing) (report : Report) (first second : Finding) → IsProblem rows → IsFoundInReport rows report first → IsFoundInReport rows report second → first ≡ second
+reports_differ rows (best sense cost pairs None) first second problem a b = a ∙ sym b
+reports_differ rows (best sense cost pairs (Some prices)) first second problem a b =
     let v = differ _ rows _ prices a.0 b.0 a.1 b.1 in
     one_follows _ b.0 first second (costs_differ _ rows cost pairs) (subst (λ w. Follows _ w first) v a.2) b.2
-findings_differ rows (hall sense persons objects) first second problem a b =
+reports_differ rows (hall sense persons objects) first second problem a b =
     let v = halls_differ rows persons objects a.0 b.0 problem a.1 b.1 in cc
+
+pub findings_differ : HaveOneFinding
+findings_differ wanted rows report first second problem (inl a) (inl b) = a.1 ∙ sym b.1
+findings_differ wanted rows report first second problem (inl a) (inr b) = absurd (b.0 a.0)
+findings_differ wanted rows report first second problem (inr a) (inl b) = absurd (a.0 b.0)
+findings_differ wanted rows report first second problem (inr a) (inr b) = reports_differ rows report first second problem a.1 b.1
 
 -- an assignment with prices that prove it best, and its costs with their sum
 costs_are_so : (sense : Sense) (rows : List Listing) (cost : ℤ) (pairs : List (ℕ × ℤ)) (finding : Finding) → IsFoundInCosts sense rows cost pairs finding → verdict_of finding ≡ Yes →
@@ -72,14 +78,18 @@ hall_yes halls.Yes y = refl
 hall_yes fault y = absurd (no_is_yes y)
 
 -- where nothing is wrong, what the report says is so
-pub found_is_so : (rows : List Listing) (report : Report) (finding : Finding) → IsProblem rows → IsFoundInReport rows report finding → verdict_of finding ≡ Yes → IsSo rows report
-found_is_so rows (best sense cost pairs None) finding problem found y = absurd (no_is_yes (sym (ap verdict_of found) ∙ y))
-found_is_so rows (best sense cost pairs (Some prices)) finding problem found y =
+found_in_is_so : (rows : List Listing) (report : Report) (finding : Finding) → IsProblem rows → IsFoundInReport rows report finding → verdict_of finding ≡ Yes → IsSo rows report
+found_in_is_so rows (best sense cost pairs None) finding problem found y = absurd (no_is_yes (sym (ap verdict_of found) ∙ y))
+found_in_is_so rows (best sense cost pairs (Some prices)) finding problem found y =
     let beyond = follows_yes _ found.0 finding found.2 y in
     let costs = costs_are_so (sense_of sense) rows cost pairs finding beyond.1 y in
     let certificate = subst (IsVerdict (sense_of sense) rows (objects_of pairs) prices) beyond.0 found.1 in
     (best_by_slack (sense_of sense) rows (objects_of pairs) prices problem certificate.assigned certificate.slack, costs.0, costs.1)
-found_is_so rows (hall sense persons objects) finding problem found y =
+found_in_is_so rows (hall sense persons objects) finding problem found y =
     let v = hall_yes found.0 (sym (ap verdict_of found.2) ∙ y) in
     let set = subst (IsHallVerdict rows persons objects) v found.1 in
     (set, λ xs a. no_assignment rows persons objects xs set a)
+
+pub found_is_so : (wanted : Option Sense) (rows : List Listing) (report : Report) (finding : Finding) → IsProblem rows → IsFoundUnder wanted rows report finding → verdict_of finding ≡ Yes → IsSo rows report
+found_is_so wanted rows report finding problem (inl other) y = absurd (no_is_yes (sym (ap verdict_of other.1) ∙ y))
+found_is_so wanted rows report finding problem (inr found) y = found_in_is_so rows report finding problem found.1 y

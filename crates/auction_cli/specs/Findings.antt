@@ -17,7 +17,7 @@ use Rattle.dual_checker.specs.declared.hall_verdict.HallVerdict.{HallVerdict}
 use Rattle.dual_checker.specs.declared.hall_verdict.HallVerdict.TheVariants as halls
 use Rattle.report.specs.Reports.{Report, best, hall}
 use Rattle.auction_cli.specs.declared.finding.Finding.{Finding}
-use Rattle.auction_cli.specs.declared.finding.Finding.TheVariants.{NoPrices, Unproved, OtherCost, OtherTotal, Best, Hall}
+use Rattle.auction_cli.specs.declared.finding.Finding.TheVariants.{OtherSense, NoPrices, Unproved, OtherCost, OtherTotal, Best, Hall}
 use Rattle.auction_cli.specs.declared.verify.Verified.{Verified}
 use Rattle.auction_cli.specs.declared.verify.Verified.TheVariants.{Yes, No}
 
@@ -85,10 +85,27 @@ IsFoundInReport rows (best sense cost pairs (Some prices)) finding =
     IsFoundInBest (sense_of sense) rows cost pairs prices finding
 IsFoundInReport rows (hall sense persons objects) finding = IsFoundInHall rows persons objects finding
 
--- a problem and a report have one finding
+-- the sense that a report is on, an infeasible one too
+abbrev pub report_sense : Report → Sense
+report_sense (best sense cost pairs prices) = sense_of sense
+report_sense (hall sense persons objects) = sense_of sense
+
+-- a sense is asked for, and it isn't this one
+abbrev pub IsOtherSense : Option Sense → Sense → Type 0
+IsOtherSense None sense = ⊥
+IsOtherSense (Some wanted) sense = wanted ≢ sense
+
+-- what is found in a report where this sense is asked for, or any: that it is on the other one, or
+-- else what is found in it
+abbrev pub IsFoundUnder : Option Sense → List Listing → Report → Finding → Type 0
+IsFoundUnder wanted rows report finding =
+    (IsOtherSense wanted (report_sense report) × (finding ≡ OtherSense))
+    ⊎ ((IsOtherSense wanted (report_sense report) → ⊥) × IsFoundInReport rows report finding)
+
+-- a problem and a report have one finding, whatever sense is asked for
 abbrev pub HaveOneFinding : Type 0
-HaveOneFinding = (rows : List Listing) (report : Report) (first second : Finding) → IsProblem rows
-    → IsFoundInReport rows report first → IsFoundInReport rows report second → first ≡ second
+HaveOneFinding = (wanted : Option Sense) (rows : List Listing) (report : Report) (first second : Finding) → IsProblem rows
+    → IsFoundUnder wanted rows report first → IsFoundUnder wanted rows report second → first ≡ second
 
 -- whether nothing is wrong
 abbrev pub verdict_of : Finding → Verified
@@ -107,6 +124,7 @@ IsSo rows (hall sense persons objects) =
 
 -- what is told of a finding, without the line feed
 abbrev pub finding_line : Finding → List ℕ
+finding_line OtherSense = codes "not verified: sense"
 finding_line NoPrices = codes "not verified: no prices"
 finding_line (Unproved verdicts.Length) = codes "not verified: length"
 finding_line (Unproved (verdicts.Unlisted i)) = codes "not verified: person " ++ decimal i ++ codes " unlisted"

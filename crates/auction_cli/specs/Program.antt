@@ -6,10 +6,11 @@ use Rattle.clap.specs.declared.error.kind.ErrorKind.{ErrorKind}
 use Rattle.clap.specs.declared.error.kind.ErrorKind.TheVariants.{DisplayHelp, DisplayVersion, OutOfMemory}
 use Rattle.std.specs.Option.{IsSomeAnd, option_map}
 use Rattle.std.specs.String.{string_bytes}
+use Rattle.assign_core.specs.declared.sense.Sense.{Sense}
 use Rattle.report.specs.Writing.{IsCutOff}
 use Rattle.auction_cli.specs.Solve.{SolveOutcome, end_status, fault_line, status}
 use Rattle.auction_cli.specs.Verify.{VerifyOutcome}
-use Rattle.auction_cli.specs.Words.{AskFor, AskForNoMode, program}
+use Rattle.auction_cli.specs.Words.{AskFor, AskForNoMode, AskForNoSense, program}
 use Rattle.auction_cli.specs.declared.words.SolveOpts.{SolveOpts}
 use Rattle.auction_cli.specs.declared.words.Words.{Words}
 use Rattle.auction_cli.specs.declared.words.Words.TheVariants.{Solve, Verify}
@@ -55,9 +56,9 @@ abbrev pub AreMistaken : List Text → Type 0
 AreMistaken words =
     (kind : ErrorKind) × IsAmong kind (fault_of program words) × (kind ≢ OutOfMemory) × IsMistake kind
 
--- clap finds a mistake in the words, they name no mode, or one of them is no text
+-- clap finds a mistake in the words, they name no mode or no sense, or one of them is no text
 abbrev pub AreRefused : Given → Type 0
-AreRefused (Ok words) = AreMistaken words ⊎ AskForNoMode words
+AreRefused (Ok words) = AreMistaken words ⊎ AskForNoMode words ⊎ AskForNoSense words
 AreRefused (Err none) = none ≡ no_words.NoText
 
 -- what opening a report comes to: the bytes that are then left to be read, where the reader tells them, or why it can't be read
@@ -75,7 +76,7 @@ Openings = Text → Opening → Type 0
 -- the report that is to be checked, or to be begun at
 abbrev pub report_name : Words → Option Text
 report_name (Solve options start) = option_map string_bytes start
-report_name (Verify sparse name) = Some (string_bytes name)
+report_name (Verify sparse sense name) = Some (string_bytes name)
 
 -- opening came to these bytes, where a report is named, and none was opened where none is
 abbrev pub Opens : Openings → Option Text → Option (Option (List ℕ)) → Type 0
@@ -95,11 +96,11 @@ SolveEnd options input start old new (Failed fault told) = SolveOutcome options 
 SolveEnd options input start old new end = ⊥
 
 -- and one of `verify`
-abbrev pub VerifyEnd : Bool → Option (List ℕ) → Option (List ℕ) → Option (List ℕ) → Option (List ℕ) →
+abbrev pub VerifyEnd : Bool → Option Sense → Option (List ℕ) → Option (List ℕ) → Option (List ℕ) → Option (List ℕ) →
     ProgramEnd → Type 0
-VerifyEnd sparse input text old new (Checked verified) = VerifyOutcome sparse input text old new (Ok verified)
-VerifyEnd sparse input text old new (Failed fault told) = VerifyOutcome sparse input text old new (Err fault)
-VerifyEnd sparse input text old new end = ⊥
+VerifyEnd sparse wanted input text old new (Checked verified) = VerifyOutcome sparse wanted input text old new (Ok verified)
+VerifyEnd sparse wanted input text old new (Failed fault told) = VerifyOutcome sparse wanted input text old new (Err fault)
+VerifyEnd sparse wanted input text old new end = ⊥
 
 -- what is asked for was done, with the report opened that it names, and the program ended so: nothing went out where the
 -- report can't be opened or memory is refused
@@ -110,8 +111,8 @@ Does asked input reports old new (Failed Memory told) = Keeps old new
 Does (Solve options start) input reports old new end =
     (text : Option (Option (List ℕ))) × Opens reports (option_map string_bytes start) text
     × SolveEnd options input text old new end
-Does (Verify sparse name) input reports old new end =
-    (text : Option (List ℕ)) × reports (string_bytes name) (Ok text) × VerifyEnd sparse input text old new end
+Does (Verify sparse sense name) input reports old new end =
+    (text : Option (List ℕ)) × reports (string_bytes name) (Ok text) × VerifyEnd sparse sense input text old new end
 
 -- the words are refused or ask for help, of which a beginning went out where writing fails, or memory is refused
 abbrev pub EndsAtWords : Given → Option (List ℕ) → Option (List ℕ) → ProgramEnd → Type 0
@@ -140,9 +141,11 @@ abbrev pub Tells : Option (List ℕ) → Option (List ℕ) → List ℕ → Told
 Tells old new text Whole = Appends old new text
 Tells old new text Part = IsCutOff old new text
 
--- why the words are refused: which modes there are, that one of them is no text, or in clap's words, which are open
+-- why the words are refused: which modes or which senses there are, that one of them is no text, or in clap's words, which are open
 abbrev pub IsRefusal : Given → List ℕ → Type 0
-IsRefusal (Ok words) text = AskForNoMode words → text ≡ codes "usage: mode is rounds or workers\n"
+IsRefusal (Ok words) text =
+    (AskForNoMode words → text ≡ codes "usage: mode is rounds or workers\n")
+    × (AskForNoSense words → text ≡ codes "usage: sense is min or max\n")
 IsRefusal (Err none) text = text ≡ codes "error: the words are no text\n"
 
 -- a fault's line, with its line feed

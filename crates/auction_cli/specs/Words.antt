@@ -23,13 +23,17 @@ use Rattle.auction_cli.specs.declared.words.WordsFault.TheVariants.{Clap, Memory
 abbrev pub flag_rule : Text → Rule
 flag_rule name = record (new_rule name) { long = Some name; action = Some SetTrue }
 
+-- an option with a value, which may be given
+abbrev pub optional_rule : Text → Rule
+optional_rule name = record (new_rule name) { long = Some name; value_names = 1 }
+
 -- the name of a file, which may be given behind `--start`
 abbrev pub start_rule : Rule
-start_rule = record (new_rule (codes "start")) { long = Some (codes "start"); value_names = 1 }
+start_rule = optional_rule (codes "start")
 
 -- an option with a value, and the value that it has where it isn't given
 abbrev pub valued_rule : Text → Text → Rule
-valued_rule name usual = record (new_rule name) { long = Some name; value_names = 1; defaults = usual ∷ [] }
+valued_rule name usual = record (optional_rule name) { defaults = usual ∷ [] }
 
 -- and one whose value is a number from `least` to `most`
 abbrev pub numbered_rule : Text → Text → ℕ → ℕ → Rule
@@ -47,7 +51,7 @@ abbrev pub report_rule : Rule
 report_rule = record (new_rule (codes "REPORT")) { required = true }
 
 abbrev pub verify_app : App
-verify_app = with_rule (with_rule (new_app (codes "verify")) (flag_rule (codes "sparse"))) report_rule
+verify_app = with_rule (with_rule (with_rule (new_app (codes "verify")) (flag_rule (codes "sparse"))) (optional_rule (codes "sense"))) report_rule
 
 -- the option that asks for the version, without a short name
 abbrev pub version_rule : Rule
@@ -82,6 +86,14 @@ mode_name Workers = codes "workers"
 abbrev pub NamesMode : List Row → Mode → Type 0
 NamesMode rows mode = first_of (codes "mode") rows ≡ Some (mode_name mode)
 
+abbrev pub sense_name : Sense → Text
+sense_name Min = codes "min"
+sense_name Max = codes "max"
+
+-- the value of `--sense` is the name of the sense that is asked for; without it any will do
+abbrev pub NamesSense : List Row → Option Sense → Type 0
+NamesSense rows sense = first_of (codes "sense") rows ≡ option_map sense_name sense
+
 -- the text that clap has for an option is a number in range, and this is the number
 pub record IsNumberFor (text : Option Text) (least most number : ℕ) : Type 0 where
   pub digits : Text
@@ -98,9 +110,10 @@ pub record ChoosesSolving (rows : List Row) (options : SolveOpts) : Type 0 where
   pub prices : IsFlag (one_of (codes "prices") rows) options.prices
   pub sense : IsFlag (one_of (codes "max") rows) (is_max options.sense)
 
--- the option and the file of `verify`, by what clap finds behind it
-pub record ChoosesFile (rows : List Row) (lists_pairs : Bool) (name : Text) : Type 0 where
+-- the options and the file of `verify`, by what clap finds behind it
+pub record ChoosesFile (rows : List Row) (lists_pairs : Bool) (wanted : Option Sense) (name : Text) : Type 0 where
   pub sparse : IsFlag (one_of (codes "sparse") rows) lists_pairs
+  pub sense : NamesSense rows wanted
   pub report : name ≡ unwrap_or (first_of (codes "REPORT") rows) []
 
 -- what is to be done, by a subcommand and what clap finds behind it
@@ -108,11 +121,15 @@ abbrev pub Chooses : Option (Text × List Row) → Words → Type 0
 Chooses found (Solve options start) =
     (rows : List Row) × (found ≡ Some (codes "solve", rows)) × ChoosesSolving rows options
     × (option_map string_bytes start ≡ first_of (codes "start") rows)
-Chooses found (Verify sparse report) = (rows : List Row) × (found ≡ Some (codes "verify", rows)) × ChoosesFile rows sparse (string_bytes report)
+Chooses found (Verify sparse sense report) = (rows : List Row) × (found ≡ Some (codes "verify", rows)) × ChoosesFile rows sparse sense (string_bytes report)
 
 -- `solve` is to be done, in a mode that has no such name
 abbrev pub NamesNoMode : Option (Text × List Row) → Type 0
 NamesNoMode found = (rows : List Row) × (found ≡ Some (codes "solve", rows)) × ((mode : Mode) → NamesMode rows mode → ⊥)
+
+-- `verify` is to be done, under a sense that has no such name
+abbrev pub NamesNoSense : Option (Text × List Row) → Type 0
+NamesNoSense found = (rows : List Row) × (found ≡ Some (codes "verify", rows)) × ((sense : Option Sense) → NamesSense rows sense → ⊥)
 
 -- clap finds no fault in the words, and this is what they choose
 abbrev pub AskFor : List Text → Words → Type 0
@@ -122,10 +139,15 @@ AskFor words asked = (fault_of program words ≡ []) × Chooses (subcommand_of p
 abbrev pub AskForNoMode : List Text → Type 0
 AskForNoMode words = (fault_of program words ≡ []) × NamesNoMode (subcommand_of program words)
 
--- words are taken where clap finds no fault in them and the mode is one, with what clap finds behind the subcommand, and else one of their faults is told; requests for help count as faults
+-- clap finds no fault in the words, but they name no sense
+abbrev pub AskForNoSense : List Text → Type 0
+AskForNoSense words = (fault_of program words ≡ []) × NamesNoSense (subcommand_of program words)
+
+-- words are taken where clap finds no fault in them and the mode and the sense that they name are one, with what clap finds behind the subcommand, and else one of their faults is told; requests for help count as faults
 abbrev pub WordsOutcome : List Text → Result Words WordsFault → Type 0
 WordsOutcome words (Ok asked) = AskFor words asked
 WordsOutcome words (Err wrong.Mode) = AskForNoMode words
+WordsOutcome words (Err wrong.Sense) = AskForNoSense words
 WordsOutcome words (Err (Clap error)) = IsAmong (kind_of error) (fault_of program words) × (kind_of error ≢ OutOfMemory)
 WordsOutcome words (Err Memory) = ⊤
 
@@ -137,12 +159,12 @@ pub record HasRanges (options : SolveOpts) : Type 0 where
 
 abbrev pub IsInRanges : Words → Type 0
 IsInRanges (Solve options start) = HasRanges options
-IsInRanges (Verify sparse report) = ⊤
+IsInRanges (Verify sparse sense report) = ⊤
 
 -- a problem is to be solved with these options, and with the first prices of the report in the file of this name, if there is one
 abbrev pub Solves : SolveOpts → Option Text → Words → Type 0
 Solves wanted name (Solve options start) = (options ≡ wanted) × (option_map string_bytes start ≡ name)
-Solves wanted name (Verify lists_pairs report) = ⊥
+Solves wanted name (Verify lists_pairs sense report) = ⊥
 
 -- what `solve` alone chooses
 abbrev pub usual_options : SolveOpts
@@ -155,10 +177,14 @@ full_line = codes "solve" ∷ codes "--sparse" ∷ codes "--max" ∷ codes "--pr
 abbrev pub full_options : SolveOpts
 full_options = record { sparse = true; mode = Workers; workers = 64; refresh = 0; prices = true; sense = Max }
 
--- a report is to be checked: whether the problem's text lists pairs, and the name of the report's file
-abbrev pub Verifies : Bool → Text → Words → Type 0
-Verifies sparse name (Solve options start) = ⊥
-Verifies sparse name (Verify lists_pairs report) = (lists_pairs ≡ sparse) × (string_bytes report ≡ name)
+-- a report is to be checked: whether the problem's text lists pairs, the sense that is asked for, if any, and the name of the report's file
+abbrev pub Verifies : Bool → Option Sense → Text → Words → Type 0
+Verifies sparse wanted name (Solve options start) = ⊥
+Verifies sparse wanted name (Verify lists_pairs sense report) = (lists_pairs ≡ sparse) × (sense ≡ wanted) × (string_bytes report ≡ name)
+
+-- a line of `verify` with every option, behind the program's name
+abbrev pub full_verify_line : List Text
+full_verify_line = codes "verify" ∷ codes "--sparse" ∷ codes "--sense" ∷ codes "max" ∷ codes "report" ∷ []
 
 -- want of memory apart, the words are taken so
 abbrev pub IsTaken : (Words → Type 0) → Result Words WordsFault → Type 0

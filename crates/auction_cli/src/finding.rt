@@ -11,6 +11,8 @@ use std::fmt;
 /// a report on an assignment down to `Best`. The `Display` text is the line for standard output.
 #[derive(Clone, Copy, Debug, PartialEq, Eq)]
 pub enum Finding {
+    /// It is of another sense than the one that is asked for.
+    OtherSense,
     /// It has no prices, so that nothing is proved.
     NoPrices,
     /// The fault that `check` finds in the objects and the prices, and never its `Yes`, behind
@@ -47,6 +49,7 @@ impl fmt::Display for Finding {
 
     fn fmt<W: fmt::Write>(&self, f: &mut fmt::Formatter<W>) -> fmt::Result {
         match self {
+            Finding::OtherSense => write!(f, "not verified: sense"),
             Finding::NoPrices => write!(f, "not verified: no prices"),
             Finding::Unproved(Verdict::Length) => write!(f, "not verified: length"),
             Finding::Unproved(Verdict::Unlisted(person)) => {
@@ -88,7 +91,8 @@ impl fmt::Display for Finding {
     }
 }
 
-/// A problem and a report have one finding: no other is the first that applies.
+/// A problem and a report have one finding, whatever sense is asked for: no other is the first that
+/// applies.
 pub fn one_finding()
     ensures { HaveOneFinding }
 {}

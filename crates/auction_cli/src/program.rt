@@ -11,9 +11,10 @@ ghost use Rattle.auction_cli.specs.Words.{IsInRanges, WordsOutcome};
 ghost use Rattle.auction_cli.specs.declared.words.WordsFault.TheVariants.{Clap};
 
 use crate::run::{CliFault, Ended, end_status_of, run_solve, run_solve_from, status_of};
-use crate::verify::{Verified, run_verify};
+use crate::verify::{Verified, run_verify_under};
 use crate::words::{SolveOpts, Words, WordsFault, read_words};
 use arrayvec::ArrayString;
+use assign_core::Sense;
 use async_workers::OpenGate;
 use clap::Error;
 use report::{WriteFault, write_text};
@@ -176,17 +177,18 @@ fn solve<Q: Read + Drop, R: Read, W: Write, E: Write>(
 fn verify<Q: Read + Drop, R: Read, W: Write, E: Write>(
     alloc: Global,
     sparse: bool,
+    wanted: Option<Sense>,
     mut report: Q,
     r: &mut R,
     w: &mut W,
     e: &mut E,
 ) -> ProgramEnd
-    ensures output { VerifyEnd sparse (R.remaining r.old) (Q.remaining report)
+    ensures output { VerifyEnd sparse wanted (R.remaining r.old) (Q.remaining report)
         (W.contents w.old) (W.contents w.new) result }
     ensures errors { (given : Given)
         → ErrorOutcome given (E.contents e.old) (E.contents e.new) result }
 {
-    match run_verify(alloc, r, &mut report, sparse, w) {
+    match run_verify_under(alloc, r, &mut report, sparse, wanted, w) {
         Ok(verified) => ProgramEnd::Checked(verified),
         Err(fault) => fail(e, fault),
     }
@@ -242,8 +244,12 @@ fn run_asked<F: Reports, R: Read, W: Write, E: Write>(
             Ok(start) => solve(rt, alloc, options, start, r, w, e),
             Err(absent) => tell_absent(absent, e),
         },
-        Words::Verify { sparse, report } => match reports.open(report.as_str()) {
-            Ok(report) => verify(alloc, sparse, report, r, w, e),
+        Words::Verify {
+            sparse,
+            sense,
+            report,
+        } => match reports.open(report.as_str()) {
+            Ok(report) => verify(alloc, sparse, sense, report, r, w, e),
             Err(absent) => tell_absent(absent, e),
         },
     }
@@ -270,6 +276,7 @@ fn run_words<S: AsStr, F: Reports, R: Read, W: Write, E: Write>(
         Err(WordsFault::Mode) => {
             ProgramEnd::Refused(tell(e, b"usage: mode is rounds or workers\n"))
         }
+        Err(WordsFault::Sense) => { ProgramEnd::Refused(tell(e, b"usage: sense is min or max\n")) }
         Err(WordsFault::Clap(error)) => refuse(alloc, error, w, e),
         Err(WordsFault::Memory) => fail(e, CliFault::Memory),
     }

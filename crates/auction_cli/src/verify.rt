@@ -1,10 +1,10 @@
 // Holds a report against its problem. Whoever wrote it is not trusted.
-ghost use Rattle.std.specs.Prelude.{◌≡◌, ◌↔◌, ◌≤◌, Ok, Some, IfOk, IfSome, IsTrue, MatchOption, length};
+ghost use Rattle.std.specs.Prelude.{◌≡◌, ◌↔◌, ◌≤◌, None, Ok, Some, IfOk, IfSome, IsTrue, MatchOption, length};
 ghost use Rattle.assign_core.specs.Rows.{listed_in, row_of};
 ghost use Rattle.assign_core.specs.Assignment.{total};
 ghost use Rattle.dual_checker.specs.Faults.{IsFirst};
 ghost use Rattle.report.specs.SeenReports.{seen_report};
-ghost use Rattle.auction_cli.specs.Findings.{HasOtherCost, HaveCosts, IsFoundInReport, IsFoundInBest, IsFoundInCosts, objects_of};
+ghost use Rattle.auction_cli.specs.Findings.{HasOtherCost, HaveCosts, IsFoundInReport, IsFoundInBest, IsFoundInCosts, IsFoundUnder, IsOtherSense, objects_of, report_sense, sense_of};
 ghost use Rattle.auction_cli.specs.Verify.{VerifyOutcome};
 
 use crate::finding::Finding;
@@ -108,6 +108,13 @@ fn found_in_priced(
     }
 }
 
+// A report without a sense is on the least cost.
+fn told_sense(sense: Option<Sense>) -> Sense
+    ensures { result ≡ sense_of sense }
+{
+    sense.unwrap_or(Sense::Min)
+}
+
 // What is found in a report.
 fn found_in(alloc: Global, problem: &Problem, report: &Report) -> Result<Finding, AllocError>
     ensures { IfOk result (λ finding. IsFoundInReport problem.now (seen_report report.now) finding) }
@@ -121,7 +128,7 @@ fn found_in(alloc: Global, problem: &Problem, report: &Report) -> Result<Finding
         } => match prices {
             None => Ok(Finding::NoPrices),
             Some(prices) => {
-                let sense = sense.unwrap_or(Sense::Min);
+                let sense = told_sense(*sense);
                 found_in_priced(
                     alloc,
                     problem,
@@ -141,6 +148,42 @@ fn found_in(alloc: Global, problem: &Problem, report: &Report) -> Result<Finding
             Ok(Finding::Hall(verdict))
         }
     }
+}
+
+// The sense that a report is on.
+fn sense_in(report: &Report) -> Sense
+    ensures { result ≡ report_sense (seen_report report.now) }
+{
+    match report {
+        Report::Best { sense, .. } => told_sense(*sense),
+        Report::Hall { sense, .. } => told_sense(*sense),
+    }
+}
+
+// Whether a sense is asked for, and not this one.
+fn is_other(wanted: Option<Sense>, sense: Sense) -> bool
+    ensures { IsTrue result ↔ IsOtherSense wanted sense }
+{
+    match wanted {
+        Some(wanted) => wanted != sense,
+        None => false,
+    }
+}
+
+// What is found in a report where this sense is asked for, or any.
+fn found_under(
+    alloc: Global,
+    problem: &Problem,
+    wanted: Option<Sense>,
+    report: &Report,
+) -> Result<Finding, AllocError>
+    ensures { IfOk result (λ finding.
+        IsFoundUnder wanted problem.now (seen_report report.now) finding) }
+{
+    if is_other(wanted, sense_in(report)) {
+        return Ok(Finding::OtherSense);
+    }
+    found_in(alloc, problem, report)
 }
 
 /// Reads a problem and then a report, of either version, holds the report against the problem, and
@@ -164,12 +207,32 @@ pub fn run_verify<P: Read, Q: Read, W: Write>(
     sparse: bool,
     w: &mut W,
 ) -> Result<Verified, CliFault>
-    ensures { VerifyOutcome sparse (P.remaining problem.old) (Q.remaining report.old)
+    ensures { VerifyOutcome sparse None (P.remaining problem.old) (Q.remaining report.old)
+        (W.contents w.old) (W.contents w.new) result }
+{
+    run_verify_under(alloc, problem, report, sparse, None, w)
+}
+
+/// Does what `run_verify` does, but where this sense is asked for, it finds first of all that a
+/// report is on the other one, an infeasible report too. A report that names none is on the least
+/// cost.
+///
+/// # Errors
+/// As `run_verify`. A fault of the problem or of the report is told whatever sense is asked for.
+pub fn run_verify_under<P: Read, Q: Read, W: Write>(
+    alloc: Global,
+    problem: &mut P,
+    report: &mut Q,
+    sparse: bool,
+    wanted: Option<Sense>,
+    w: &mut W,
+) -> Result<Verified, CliFault>
+    ensures { VerifyOutcome sparse wanted (P.remaining problem.old) (Q.remaining report.old)
         (W.contents w.old) (W.contents w.new) result }
 {
     let problem = read_problem(alloc, problem, sparse)?;
     let report = read_report(alloc, report)?;
-    let finding = found_in(alloc, &problem, &report)?;
+    let finding = found_under(alloc, &problem, wanted, &report)?;
     let line = format!(in alloc; "{finding}\n")?;
     write_text(w, line.as_bytes())?;
     Ok(finding.verified())

@@ -1,17 +1,18 @@
 // The command line.
-ghost use Rattle.std.specs.Prelude.{◌≡◌, ◌^◌, ℕ, [], ◌∷◌, codes, map, true, false, None, Some, IfErr, IfOk, IfSome, IsErr};
+ghost use Rattle.std.specs.Prelude.{◌≡◌, ◌^◌, ℕ, [], ◌∷◌, codes, map, true, false, Option, None, Some, IfErr, IfOk, IfSome, IsErr};
 ghost use Rattle.std.specs.Option.{option_map};
 ghost use Rattle.std.specs.String.{string_bytes};
+ghost use Rattle.assign_core.specs.declared.sense.Sense.{Sense};
 ghost use Rattle.assign_core.specs.declared.sense.Sense.TheVariants.{Max, Min};
 ghost use Rattle.clap.specs.Words.{app_of, first_of, found_of, one_of, rows_of, rule_of, subcommand_rows_of, Text};
-ghost use Rattle.auction_cli.specs.Words.{Chooses, ChoosesSolving, NamesMode};
+ghost use Rattle.auction_cli.specs.Words.{Chooses, ChoosesSolving, NamesMode, NamesSense};
 ghost use Rattle.auction_cli.specs.inside.Words.{ChoosesVerifying, IsChoiceFault, NamesCommand};
 ghost use Rattle.auction_cli.specs.Words.{IsNumberFor};
 ghost use Rattle.auction_cli.specs.inside.Words.{HasNumbers, HasNumbersIfSolving, IsNumberIn};
 ghost use Rattle.auction_cli.specs.Words.{AsksForVersion, IsInRanges, IsTaken, Solves, Verifies, WordsOutcome};
 ghost use Rattle.auction_cli.specs.inside.Words.{IsFaultOf};
 ghost use Rattle.auction_cli.specs.Words.{flag_rule, numbered_rule, plain_solve_app, program, solve_app, valued_rule, verify_app, version_rule};
-ghost use Rattle.auction_cli.specs.Words.{full_line, full_options, is_max, mode_name, usual_options};
+ghost use Rattle.auction_cli.specs.Words.{full_line, full_options, full_verify_line, is_max, mode_name, sense_name, usual_options};
 
 use assign_core::{Sense, VERSION};
 use clap::builder::ValueParser;
@@ -68,9 +69,11 @@ pub enum Words {
         options: SolveOpts,
         start: Option<String>,
     },
-    /// Check the report in the file of this name; the problem's text lists pairs where `sparse`.
+    /// Check the report in the file of this name, which is to be of the sense that is asked for, if
+    /// any; the problem's text lists pairs where `sparse`.
     Verify {
         sparse: bool,
+        sense: Option<Sense>,
         report: String,
     },
 }
@@ -80,6 +83,8 @@ pub enum Words {
 pub enum WordsFault {
     /// The word behind `--mode` names no mode.
     Mode,
+    /// The word behind `--sense` names no sense.
+    Sense,
     Clap(Error),
     Memory,
 }
@@ -216,12 +221,17 @@ fn solve_command<'a>(alloc: Global) -> Result<Command<'a>, AllocError>
 fn verify_command<'a>(alloc: Global) -> Result<Command<'a>, AllocError>
     ensures { IfOk result (λ c. app_of c ≡ verify_app) }
 {
+    let sense = Arg::new(alloc, "sense")
+        .long("sense")
+        .value_name("SENSE")
+        .help("The sense that the report must have: min or max");
     let report = Arg::new(alloc, "REPORT").required(true).help(
         "The file with the report; one on an assignment must have prices",
     );
     Command::new(alloc, "verify")
         .about("Read a problem from standard input, and check a report on it")
         .arg(sparse_flag(alloc))?
+        .arg(sense)?
         .arg(report)
 }
 
@@ -339,16 +349,60 @@ fn solve_words(alloc: Global, solve: &ArgMatches<'_>) -> Result<Words, WordsFaul
     })
 }
 
-// What the words behind `verify` choose.
-fn verify_options(alloc: Global, verify: &ArgMatches<'_>) -> Result<Words, AllocError>
+// The sense of this name.
+fn named_sense(name: &str) -> Option<Sense>
+    ensures some { IfSome result (λ sense. name.now ≡ sense_name sense) }
+    ensures none { result ≡ None → (sense : Sense) → name.now ≡ sense_name sense → ⊥ }
+{
+    if name == "min" {
+        Some(Sense::Min)
+    } else if name == "max" {
+        Some(Sense::Max)
+    } else {
+        None
+    }
+}
+
+// The sense that is asked for, if any.
+fn chosen_sense(verify: &ArgMatches<'_>) -> Result<Option<Sense>, WordsFault>
+    ensures ok { IfOk result (NamesSense (rows_of (found_of verify.now))) }
+    ensures err { IfErr result (λ fault. (fault ≡ WordsFault.Sense)
+        × ((sense : Option Sense) → NamesSense (rows_of (found_of verify.now)) sense → ⊥)) }
+{
+    match verify.get_str("sense") {
+        Some(name) => match named_sense(name) {
+            Some(sense) => Ok(Some(sense)),
+            None => Err(WordsFault::Sense),
+        },
+        None => Ok(None),
+    }
+}
+
+// What the words behind `verify` choose, with this sense.
+fn verify_options(
+    alloc: Global,
+    verify: &ArgMatches<'_>,
+    sense: Option<Sense>,
+) -> Result<Words, AllocError>
+    requires { NamesSense (rows_of (found_of verify.now)) sense }
     ensures { IfOk result (ChoosesVerifying (rows_of (found_of verify.now))) }
 {
     // The empty name, which no file has, stands for none: clap takes no words without one.
     let name = verify.get_str("REPORT").unwrap_or("");
     Ok(Words::Verify {
         sparse: verify.get_flag("sparse"),
+        sense,
         report: String::from_str(alloc, name)?,
     })
+}
+
+// What the words behind `verify` choose.
+fn verify_words(alloc: Global, verify: &ArgMatches<'_>) -> Result<Words, WordsFault>
+    ensures ok { IfOk result (ChoosesVerifying (rows_of (found_of verify.now))) }
+    ensures err { IfErr result (IsChoiceFault (Some (codes "verify", rows_of (found_of verify.now)))) }
+{
+    let sense = chosen_sense(verify)?;
+    Ok(verify_options(alloc, verify, sense)?)
 }
 
 // What words choose that clap takes.
@@ -361,7 +415,7 @@ fn chosen(alloc: Global, matches: &ArgMatches<'_>) -> Result<Words, WordsFault>
     match matches.subcommand_matches("solve") {
         Some(solve) => solve_words(alloc, solve),
         None => match matches.subcommand_matches("verify") {
-            Some(verify) => Ok(verify_options(alloc, verify)?),
+            Some(verify) => verify_words(alloc, verify),
             None => unreachable!(),
         },
     }
@@ -382,7 +436,8 @@ fn words_fault(error: Error) -> WordsFault
 ///
 /// # Errors
 /// `Clap` for words that are refused and for a request for help or for the version, whose text the
-/// error prints, `Mode` for a word behind `--mode` that is neither `rounds` nor `workers`, and `Memory`.
+/// error prints, `Mode` for a word behind `--mode` that is neither `rounds` nor `workers`, `Sense` for
+/// one behind `--sense` that is neither `min` nor `max`, and `Memory`.
 pub fn read_words<'a, S: AsStr>(alloc: Global, words: &'a [S]) -> Result<Words, WordsFault>
     ensures outcome { WordsOutcome (map S.text words.entry.now) result }
     ensures ranges { IfOk result IsInRanges }
@@ -392,7 +447,9 @@ pub fn read_words<'a, S: AsStr>(alloc: Global, words: &'a [S]) -> Result<Words, 
         → IsTaken (Solves full_options (Some (codes "report"))) result }
     ensures verify { (name : Text) → map S.text words.entry.now
         ≡ name ∷ codes "verify" ∷ codes "--sparse" ∷ codes "report" ∷ []
-        → IsTaken (Verifies true (codes "report")) result }
+        → IsTaken (Verifies true None (codes "report")) result }
+    ensures sense { (name : Text) → map S.text words.entry.now ≡ name ∷ full_verify_line
+        → IsTaken (Verifies true (Some Max) (codes "report")) result }
     ensures alone { (name : Text) → map S.text words.entry.now ≡ name ∷ [] → IsErr result }
     ensures version { (name : Text) → map S.text words.entry.now ≡ name ∷ codes "--version" ∷ []
         → AsksForVersion result }

@@ -3,7 +3,7 @@ use Rattle.std.specs.Prelude.{◌≡◌, ◌≢◌, ◌⊎◌, ℕ, List, Option
 use Rattle.clap.specs.Words.{Row, Text, kind_of, one_of}
 use Rattle.clap.specs.declared.error.Error.{Error}
 use Rattle.clap.specs.declared.error.kind.ErrorKind.TheVariants.{OutOfMemory}
-use Rattle.auction_cli.specs.Words.{Chooses, IsNumberFor, NamesNoMode}
+use Rattle.auction_cli.specs.Words.{Chooses, IsNumberFor, NamesNoMode, NamesNoSense}
 use Rattle.auction_cli.specs.declared.words.TheConstants.{MOST_WORKERS, MOST_REFRESH}
 use Rattle.auction_cli.specs.declared.words.Words.{Words}
 use Rattle.auction_cli.specs.declared.words.WordsFault.{WordsFault}
@@ -25,6 +25,7 @@ ChoosesVerifying rows words = Chooses (Some (codes "verify", rows)) words
 -- why nothing is chosen by a subcommand and what clap finds behind it
 abbrev pub IsChoiceFault : Option (Text × List Row) → WordsFault → Type 0
 IsChoiceFault found wrong.Mode = NamesNoMode found
+IsChoiceFault found wrong.Sense = NamesNoSense found
 IsChoiceFault found Memory = ⊤
 IsChoiceFault found (Clap error) = ⊥
 
@@ -37,6 +38,7 @@ abbrev pub IsFaultOf : Error → WordsFault → Type 0
 IsFaultOf error Memory = kind_of error ≡ OutOfMemory
 IsFaultOf error (Clap told) = (told ≡ error) × (kind_of error ≢ OutOfMemory)
 IsFaultOf error wrong.Mode = ⊥
+IsFaultOf error wrong.Sense = ⊥
 
 -- behind `solve` both numbers are in range
 abbrev pub HasNumbersIfSolving : Option (Text × List Row) → Type 0

@@ -39,6 +39,12 @@ fn lines_that_are_taken(rt: HostRuntime) -> Result<(), Fail> {
         ("verify --sparse report", 0, "verified max cost 9"),
         ("verify report --sparse", 0, "verified max cost 9"),
         ("verify -- report", 5, slack),
+        (
+            "verify --sparse --sense max report",
+            0,
+            "verified max cost 9",
+        ),
+        ("verify report --sense=min", 5, "not verified: sense"),
         ("--help", 0, HELP),
         ("solve --help", 0, SOLVE_HELP),
         ("verify --help", 0, VERIFY_HELP),
@@ -83,6 +89,15 @@ fn lines_that_are_refused(rt: HostRuntime) -> Result<(), Fail> {
         (
             "verify --max report",
             "error: unexpected argument '--max' found",
+        ),
+        ("verify --sense most report", "usage: sense is min or max"),
+        (
+            "verify report --sense",
+            "error: a value is required for '--sense <SENSE>' but none was supplied",
+        ),
+        (
+            "solve --sense min",
+            "error: unexpected argument '--sense' found",
         ),
         ("solve --fast", "error: unexpected argument '--fast' found"),
         ("--fast solve", "error: unexpected argument '--fast' found"),

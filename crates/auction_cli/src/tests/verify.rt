@@ -2,8 +2,8 @@
 use crate::finding::Finding;
 use crate::run::CliFault;
 use crate::tests::streams::{Pieces, blank_sheet, whole_text};
-use crate::verify::{Verified, run_verify};
-use assign_core::Object;
+use crate::verify::{Verified, run_verify, run_verify_under};
+use assign_core::{Object, Sense};
 use dual_checker::{HallVerdict, Verdict};
 use std::alloc::{AllocError, Global};
 use std::test::Fail;
@@ -277,6 +277,72 @@ fn hall_sets(rt: HostRuntime) -> Result<(), Fail> {
         "verified infeasible",
     )];
     assert_eq!(rt; told(alloc, b"3", true, "", &nothing)?, 1);
+    Ok(())
+}
+
+// The run where this sense is asked for.
+fn asked(alloc: Global, problem: &[u8], report: &[u8], wanted: Sense) -> Seen {
+    let mut problem = whole_text(problem, 16);
+    let mut report = whole_text(report, 16);
+    let mut sheet = blank_sheet(alloc, 1 << 20, 1 << 20, true);
+    let wanted = Some(wanted);
+    let answer = run_verify_under(alloc, &mut problem, &mut report, true, wanted, &mut sheet);
+    Seen {
+        answer,
+        out: sheet.taken,
+    }
+}
+
+// Each report with its line where the least cost is asked for, and where the greatest is.
+#[test]
+fn senses_that_are_asked_for(rt: HostRuntime) -> Result<(), Fail> {
+    let roster = b"2 1 1 1 1 2 2 2 1 3 2 2 5";
+    let nothing = b"3 1 1 4 2 1 6 3 2 1 3 3 2";
+    let least = "assign 1 2 2\nassign 2 1 3\nprice 1 14\nprice 2 12\n";
+    let greatest = "assign 1 1 1\nassign 2 2 5\nprice 1 12\nprice 2 14\n";
+    let hall = "infeasible\npersons 2 1 2\nobjects 1 1\n";
+    let other = "not verified: sense";
+    let none = "verified infeasible";
+    let slack = "not verified: slack of person 2 at object 1";
+    let unproved = "not verified: no prices";
+    let table: [(&[u8], &str, &str, &str, &str); 9] = [
+        (roster, "cost 5\n", least, "verified cost 5", other),
+        (
+            roster,
+            "sense min\ncost 5\n",
+            least,
+            "verified cost 5",
+            other,
+        ),
+        (
+            roster,
+            "sense max\ncost 6\n",
+            greatest,
+            other,
+            "verified max cost 6",
+        ),
+        (roster, "sense min\ncost 6\n", greatest, slack, other),
+        (roster, "cost 2\n", "assign 1 2 2\n", unproved, other),
+        (nothing, "", hall, none, other),
+        (nothing, "sense min\n", hall, none, other),
+        (nothing, "sense max\n", hall, other, none),
+        (
+            nothing,
+            "sense max\n",
+            "infeasible\npersons 1 2\nobjects 1 1\n",
+            other,
+            "not verified: not fewer",
+        ),
+    ];
+    for (problem, front, body, min, max) in table {
+        let report = format!(in rt.alloc(); "{front}{body}")?;
+        let run = asked(rt.alloc(), problem, report.as_bytes(), Sense::Min);
+        assert!(rt; tells(&run, min), "{front}{body}");
+        let run = asked(rt.alloc(), problem, report.as_bytes(), Sense::Max);
+        assert!(rt; tells(&run, max), "{front}{body}");
+    }
+    let run = asked(rt.alloc(), roster, b"sense max\ncost 6", Sense::Min);
+    assert!(rt; matches!(run.answer, Err(CliFault::Report(_))));
     Ok(())
 }
 

@@ -6,3 +6,6 @@ returns-in-Err-NoText-clause-errors g c = rw c.in-Err-NoText.is (codes "error: t
 
 pub returns-in-Ok-clause-output : goal.returns-in-Ok-clause-output
 returns-in-Ok-clause-output g c = rw (c.in-Ok.is, ← c.as_slice.ensures.value) c.run_words.ensures.output
+
+pub returns-in-Ok-clause-errors : goal.returns-in-Ok-clause-errors
+returns-in-Ok-clause-errors g c = rw (c.in-Ok.is, ← c.as_slice.ensures.value) c.run_words.ensures.errors

@@ -1,9 +1,10 @@
-use Rattle.std.proofs.Common.{◌∙◌, List, ap, ap₂, codes, map, refl, subst, sym}
+use Rattle.std.proofs.Common.{◌∙◌, List, None, Some, true, ap, ap₂, codes, map, refl, subst, sym}
+use Rattle.assign_core.specs.declared.sense.Sense.TheVariants.{Max}
 use Rattle.clap.specs.Words.{Text, subcommand_of, takes}
 use Rattle.auction_cli.specs.Words.{full_options, program, usual_options}
 use Rattle.auction_cli.specs.inside.Words.{HasNumbersIfSolving, NamesCommand}
 use Rattle.auction_cli.proofs.Choices.{chosen_outcome, solve_taken, verify_taken}
-use Rattle.auction_cli.proofs.CommandLines.{file_is_taken, file_of, file_words, flags_of, full_flags, full_is_taken, in_ranges, is_memory, plain_flags, plain_is_taken, taken_words, version_is_fault, version_told}
+use Rattle.auction_cli.proofs.CommandLines.{file_is_taken, file_of, file_words, flags_of, full_file_is_taken, full_file_words, full_flags, full_is_taken, in_ranges, is_memory, plain_flags, plain_is_taken, taken_words, version_is_fault, version_told}
 use Rattle.auction_cli.proofs.Numbers.{has_numbers}
 use Rattle.auction_cli.proofs.Subcommands.{names_command}
 use Rattle.auction_cli.proofs.words.read_words.Goals as goal
@@ -35,7 +36,12 @@ returns-in-Ok-clause-options g c = λ name e.
 pub returns-in-Ok-clause-verify : goal.returns-in-Ok-clause-verify
 returns-in-Ok-clause-verify g c = λ name e.
     let t = taken_words _ (map g.S.AsStr.text c.args.words.now) _ c.in_ok-command.ensures c.in-Ok.ensures.kinds c.in-Ok.ensures.matches in
-    verify_taken _ c.chosen.result _ (ap file_of t.1 ∙ ap (λ (words : List Text). file_of (subcommand_of program words)) e ∙ file_words name) c.chosen.ensures.ok c.chosen.ensures.err
+    verify_taken _ c.chosen.result true None _ (ap file_of t.1 ∙ ap (λ (words : List Text). file_of (subcommand_of program words)) e ∙ file_words name) c.chosen.ensures.ok c.chosen.ensures.err
+
+pub returns-in-Ok-clause-sense : goal.returns-in-Ok-clause-sense
+returns-in-Ok-clause-sense g c = λ name e.
+    let t = taken_words _ (map g.S.AsStr.text c.args.words.now) _ c.in_ok-command.ensures c.in-Ok.ensures.kinds c.in-Ok.ensures.matches in
+    verify_taken _ c.chosen.result true (Some Max) _ (ap file_of t.1 ∙ ap (λ (words : List Text). file_of (subcommand_of program words)) e ∙ full_file_words name) c.chosen.ensures.ok c.chosen.ensures.err
 
 pub returns-in-Err-clause-solve : goal.returns-in-Err-clause-solve
 returns-in-Err-clause-solve g c = λ name e. is_memory _ _ c.words_fault.ensures (c.in-Err.ensures.passes (ap₂ takes c.in_ok-command.ensures e ∙ plain_is_taken name))
@@ -45,6 +51,9 @@ returns-in-Err-clause-options g c = λ name e. is_memory _ _ c.words_fault.ensur
 
 pub returns-in-Err-clause-verify : goal.returns-in-Err-clause-verify
 returns-in-Err-clause-verify g c = λ name e. is_memory _ _ c.words_fault.ensures (c.in-Err.ensures.passes (ap₂ takes c.in_ok-command.ensures e ∙ file_is_taken name))
+
+pub returns-in-Err-clause-sense : goal.returns-in-Err-clause-sense
+returns-in-Err-clause-sense g c = λ name e. is_memory _ _ c.words_fault.ensures (c.in-Err.ensures.passes (ap₂ takes c.in_ok-command.ensures e ∙ full_file_is_taken name))
 
 pub returns-in-Ok-clause-version : goal.returns-in-Ok-clause-version
 returns-in-Ok-clause-version g c = λ name e.

@@ -12,6 +12,7 @@ returns c =
       refl,
       record {
         sparse = flag_told c.args.verify.now (codes "sparse") c.get_flag.result c.get_flag.ensures.none c.get_flag.ensures.value c.get_flag.ensures.other;
+        sense = c.requires;
         report = c.in_ok-from_str.ensures.ok ∙ ap (λ (s : Bor Text). s.now) c.unwrap_or-name.ensures
             ∙ text_or_none c.get_str.result _ _ (c.get_str.ensures ∙ first_value-rows found (codes "REPORT")) refl;
       },
