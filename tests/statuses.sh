@@ -117,6 +117,17 @@ for option in --sparse '--sense <SENSE>' '<REPORT>'; do
     "$program" verify --help | grep -q -- "$option  *[A-Z]" || { echo "help of verify is silent on $option"; failed=$((failed + 1)); }
 done
 
+# Help says what is read and from where, in both layouts, each status and an example.
+for word in solve verify; do
+    for line in 'Reads the problem from standard input' 'dense:  *n, then' '--sparse:  *n, then PERSON OBJECT COST' 'Exit status:' 'Example:' "auction_cli $word .*< "; do
+        "$program" $word --help | grep -q -- "^ *$line" || { echo "help of $word is silent on '$line'"; failed=$((failed + 1)); }
+    done
+done
+for status in 'solve 0' 'solve 1' 'solve 2' 'solve 3' 'solve 4' 'verify 0' 'verify 2' 'verify 3' 'verify 4' 'verify 5'; do
+    "$program" ${status% *} --help | grep -q "^  ${status#* }  [a-z]" || { echo "help of ${status% *} is silent on status ${status#* }"; failed=$((failed + 1)); }
+done
+"$program" --help | grep -q '^      --version  *[A-Z]' || { echo 'help is silent on --version'; failed=$((failed + 1)); }
+
 # closed STREAM STATUS OUT ERR WORD..: with a problem on standard input, and one of the three streams closed (0, 1 or 2).
 closed() {
     local stream=$1 wanted=$2 out=$3 err=$4 status=0

@@ -27,6 +27,51 @@ pub const MOST_WORKERS: u64 = 64;
 /// The most turns behind which a worker takes today's prices.
 pub const MOST_REFRESH: u64 = 1_000_000;
 
+// What help says behind the subcommands.
+const PROGRAM_NOTES: &str = "Example:
+  auction_cli solve --prices < costs.txt > report.txt
+  auction_cli verify report.txt < costs.txt
+
+'auction_cli solve --help' has the layouts of a problem, and the exit statuses.";
+
+// What help says behind the options of `solve`.
+const SOLVE_NOTES: &str = "Reads the problem from standard input: numbers between white space
+  dense:     n, then the n costs of person 1 to objects 1 to n, those of person 2, ..
+  --sparse:  n, then PERSON OBJECT COST for each pair that is allowed
+Writes the report to standard output.
+
+Modes:
+  rounds   no use is made of --workers and --refresh; the report depends on the
+           input and the options alone
+  workers  with --workers and --refresh; of several best assignments any
+
+Exit status:
+  0  solved
+  1  there is no assignment
+  2  the words of the command line are refused
+  3  the problem is refused, or the report of --start
+  4  a read or a write failed, the report of --start can't be opened, or memory
+     was refused
+
+Example:
+  auction_cli solve --max --prices < sales.txt > report.txt";
+
+// What help says behind the options of `verify`.
+const VERIFY_NOTES: &str = "Reads the problem from standard input: numbers between white space
+  dense:     n, then the n costs of person 1 to objects 1 to n, those of person 2, ..
+  --sparse:  n, then PERSON OBJECT COST for each pair that is allowed
+Writes one line to standard output: 'verified ..' or 'not verified: ..'.
+
+Exit status:
+  0  verified
+  2  the words of the command line are refused
+  3  the problem or the report is refused
+  4  a read or a write failed, the report can't be opened, or memory was refused
+  5  not verified
+
+Example:
+  auction_cli verify --sense max report.txt < sales.txt";
+
 /// Which number each limit is.
 pub fn word_limits()
     ensures workers { MOST_WORKERS ≡ 64 }
@@ -178,6 +223,7 @@ fn plain_solve_command<'a>(alloc: Global) -> Result<Command<'a>, AllocError>
         .about(
             "Read a problem from standard input, and write a best assignment or why there is none",
         )
+        .after_help(SOLVE_NOTES)
         .arg(sparse_flag(alloc))?
         .arg(max)?
         .arg(prices)?
@@ -230,6 +276,7 @@ fn verify_command<'a>(alloc: Global) -> Result<Command<'a>, AllocError>
     );
     Command::new(alloc, "verify")
         .about("Read a problem from standard input, and check a report on it")
+        .after_help(VERIFY_NOTES)
         .arg(sparse_flag(alloc))?
         .arg(sense)?
         .arg(report)
@@ -254,6 +301,7 @@ fn command<'a>(alloc: Global) -> Result<Command<'a>, AllocError>
     let verify = verify_command(alloc)?;
     Command::new(alloc, "auction_cli")
         .about("Solve assignment problems and check reports; the problem comes on standard input")
+        .after_help(PROGRAM_NOTES)
         .version(VERSION)
         .disable_version_flag(true)
         .subcommand_required(true)

@@ -6,7 +6,7 @@ use Rattle.auction_cli.proofs.words.plain_solve_command.Goals as goal
 
 pub returns : goal.returns
 returns c =
-    let plain : app_of c.about.result ≡ new_app (codes "solve") = search rules in
+    let plain : app_of c.after_help.result ≡ new_app (codes "solve") = search rules in
     let first : app_of c.in_ok-arg.field-0 ≡ with_rule (new_app (codes "solve")) (flag_rule (codes "sparse")) = c.in_ok-arg.ensures.shape (search rules) ∙ ap₂ with_rule plain c.sparse_flag.ensures.rule in
     let second : app_of c.in_ok-arg-2.field-0 ≡ with_rule (with_rule (new_app (codes "solve")) (flag_rule (codes "sparse"))) (flag_rule (codes "max")) = c.in_ok-arg-2.ensures.shape (search rules) ∙ ap₂ with_rule first c.flag-max.ensures.rule in
     let third : app_of c.in_ok-arg-3.field-0 ≡ with_rule (with_rule (with_rule (new_app (codes "solve")) (flag_rule (codes "sparse"))) (flag_rule (codes "max"))) (flag_rule (codes "prices")) = c.in_ok-arg-3.ensures.shape (search rules) ∙ ap₂ with_rule second c.flag-prices.ensures.rule in

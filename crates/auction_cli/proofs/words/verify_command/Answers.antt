@@ -6,7 +6,7 @@ use Rattle.auction_cli.proofs.words.verify_command.Goals as goal
 
 pub returns : goal.returns
 returns c =
-    let plain : app_of c.about.result ≡ new_app (codes "verify") = search rules in
+    let plain : app_of c.after_help.result ≡ new_app (codes "verify") = search rules in
     let first : app_of c.in_ok-arg.field-0 ≡ with_rule (new_app (codes "verify")) (flag_rule (codes "sparse")) = c.in_ok-arg.ensures.shape (search rules) ∙ ap₂ with_rule plain c.sparse_flag.ensures.rule in
     let sense : rule_of c.help-sense.result ≡ optional_rule (codes "sense") = search rules in
     let second : app_of c.in_ok-arg-2.field-0 ≡ with_rule (with_rule (new_app (codes "verify")) (flag_rule (codes "sparse"))) (optional_rule (codes "sense")) = c.in_ok-arg-2.ensures.shape (search rules) ∙ ap₂ with_rule first sense in
