@@ -27,15 +27,11 @@ fn outcome_of(alloc: Global, scaled: Arc<Scaled>, first: &[Halves]) -> Result<Ou
     requires { All IsFirst first.now }
     ensures { IfOk result (λ outcome. let s = arc_value scaled in IsProof s.sense s.problem outcome) }
 {
-    let found = if first.len() == scaled.n() as usize {
+    if first.len() == scaled.n() as usize {
         let prices = first_prices(alloc, first)?;
         solve_paths_from(alloc, scaled, prices)
     } else {
         solve_paths(alloc, scaled)
-    };
-    match found {
-        Ok(outcome) => Ok(outcome),
-        Err(_) => Err(AllocError),
     }
 }
 

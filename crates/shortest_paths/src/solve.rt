@@ -1,5 +1,5 @@
 // The solver.
-ghost use Rattle.std.specs.Prelude.{◌≡◌, length, IfOk, IfSome, IfErr};
+ghost use Rattle.std.specs.Prelude.{◌≡◌, length, IfOk, IfSome};
 ghost use Rattle.std.specs.Arc.{arc_value};
 ghost use Rattle.rounds.specs.Outcomes.{IsDecided, IsProof};
 
@@ -9,7 +9,7 @@ use super::market::Market;
 use super::path::{raise, walk_back};
 use super::prices::{given_prices, rounded, usual_prices};
 use super::search::{End, Search};
-use assign_core::{Outcome, Person, Prices, SolveFault};
+use assign_core::{Outcome, Person, Prices};
 use rounds::solve_rounds_alone;
 use scaled_values::Scaled;
 use std::alloc::{AllocError, Global};
@@ -199,17 +199,19 @@ pub fn try_paths_from(
 fn settled(
     alloc: Global,
     scaled: Arc<Scaled>,
-    found: Result<Option<Outcome>, AllocError>,
-) -> Result<Outcome, SolveFault>
-    requires { IfOk found (λ found. IfSome found (IsProof (arc_value scaled))) }
+    found: Option<Outcome>,
+) -> Result<Outcome, AllocError>
+    requires { IfSome found (IsProof (arc_value scaled)) }
     ensures proof { IfOk result (IsProof (arc_value scaled)) }
     ensures decided { IfOk result (IsDecided (arc_value scaled)) }
-    ensures memory { IfErr result (λ fault. fault ≡ SolveFault.Memory) }
 {
     match found {
-        Ok(Some(outcome)) => Ok(outcome),
-        Ok(None) => solve_rounds_alone(alloc, scaled),
-        Err(_) => Err(SolveFault::Memory),
+        Some(outcome) => Ok(outcome),
+        None => match solve_rounds_alone(alloc, scaled) {
+            Ok(outcome) => Ok(outcome),
+            // The one fault of rounds is that memory was refused.
+            Err(_) => Err(AllocError),
+        },
     }
 }
 
@@ -219,12 +221,11 @@ fn settled(
 ///
 /// # Errors
 /// Only where memory is refused.
-pub fn solve_paths(alloc: Global, scaled: Arc<Scaled>) -> Result<Outcome, SolveFault>
+pub fn solve_paths(alloc: Global, scaled: Arc<Scaled>) -> Result<Outcome, AllocError>
     ensures proof { IfOk result (IsProof (arc_value scaled)) }
     ensures decided { IfOk result (IsDecided (arc_value scaled)) }
-    ensures memory { IfErr result (λ fault. fault ≡ SolveFault.Memory) }
 {
-    let found = try_paths(alloc, &scaled);
+    let found = try_paths(alloc, &scaled)?;
     settled(alloc, scaled, found)
 }
 
@@ -237,12 +238,11 @@ pub fn solve_paths_from(
     alloc: Global,
     scaled: Arc<Scaled>,
     prices: Prices,
-) -> Result<Outcome, SolveFault>
+) -> Result<Outcome, AllocError>
     requires { length prices ≡ length (arc_value scaled).problem }
     ensures proof { IfOk result (IsProof (arc_value scaled)) }
     ensures decided { IfOk result (IsDecided (arc_value scaled)) }
-    ensures memory { IfErr result (λ fault. fault ≡ SolveFault.Memory) }
 {
-    let found = try_paths_from(alloc, &scaled, &prices);
+    let found = try_paths_from(alloc, &scaled, &prices)?;
     settled(alloc, scaled, found)
 }

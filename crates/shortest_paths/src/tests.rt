@@ -13,7 +13,7 @@ mod worked;
 use super::{solve_paths, solve_paths_from, try_paths, try_paths_from};
 use assign_core::{
     Cost, GREATEST_COST, GREATEST_FIRST_PRICE, MOST_PERSONS, Object, Outcome, Person, Price,
-    Prices, Problem, Sense, SolveFault,
+    Prices, Problem, Sense,
 };
 use scaled_values::{Scaled, scale};
 use std::alloc::{AllocError, Global};

@@ -72,15 +72,6 @@ fn as_many_persons_as_there_may_be(rt: HostRuntime) -> Result<(), Fail> {
     Ok(())
 }
 
-// What a public call comes to: the cost, and none where there is no assignment.
-fn settled(came: Result<Outcome, SolveFault>, scaled: &Scaled) -> Result<Option<Cost>, AllocError> {
-    match came {
-        Ok(Outcome::Best(best)) => Ok(Some(cost_by(scaled, best.assignment.objects()))),
-        Ok(Outcome::Hall(_)) => Ok(None),
-        Err(_) => Err(AllocError),
-    }
-}
-
 // The sum of the costs of these objects of persons 1, 2, ..
 fn cost_by(scaled: &Scaled, objects: &[Object]) -> Cost {
     let mut sum: Cost = 0;
@@ -93,7 +84,8 @@ fn cost_by(scaled: &Scaled, objects: &[Object]) -> Cost {
     sum
 }
 
-// What the public calls come to, from first prices where they are given.
+// What the public calls come to, from first prices where they are given: the cost, and none where
+// there is no assignment.
 fn solved(
     alloc: Global,
     n: u16,
@@ -104,11 +96,14 @@ fn solved(
     let problem = problem_of(alloc, n, pairs)?;
     let scaled = Arc::new(alloc, scale(alloc, problem, Sense::Min)?)?;
     let again = scaled.clone()?;
-    let came = match first {
-        Some(first) => solve_paths_from(alloc, scaled, first_prices(alloc, n, first)?),
-        None => solve_paths(alloc, scaled),
+    let outcome = match first {
+        Some(first) => solve_paths_from(alloc, scaled, first_prices(alloc, n, first)?)?,
+        None => solve_paths(alloc, scaled)?,
     };
-    settled(came, &again)
+    match outcome {
+        Outcome::Best(best) => Ok(Some(cost_by(&again, best.assignment.objects()))),
+        Outcome::Hall(_) => Ok(None),
+    }
 }
 
 #[test]
