@@ -2,26 +2,28 @@
 // best, or by eps more. Without eps it is the augmenting row reduction of Jonker and Volgenant (A
 // shortest augmenting path algorithm for dense and sparse linear assignment problems, 1987), with it
 // Bertsekas's auction.
-ghost use Rattle.std.specs.Prelude.{◌≡◌, length};
+ghost use Rattle.std.specs.Prelude.{◌≡◌, length, pos, ◌<ℤ◌};
 
 use super::market::Market;
+use super::prices::rounded;
 use super::rows::{place_of, row_at};
 use assign_core::{Benefit, Object};
 use scaled_values::{Row, Scaled};
 
-// The two best objects of a person, with their values.
+// How many objects of a full row are looked at together.
+const BLOCK: usize = 32;
+
+// The best object of a person with its value, and the second best value.
 #[derive(Clone, Copy)]
 struct Two {
     object: Option<usize>,
     best: i64,
-    other: Option<usize>,
     second: i64,
 }
 
 const NOTHING: Two = Two {
     object: None,
     best: i64::MIN,
-    other: None,
     second: i64::MIN,
 };
 
@@ -31,30 +33,43 @@ impl Two {
             Two {
                 object: Some(object),
                 best: value,
-                other: self.object,
                 second: self.best,
             }
-        } else if value > self.second {
+        } else {
             Two {
-                other: Some(object),
-                second: value,
+                second: self.second.max(value),
                 ..self
             }
-        } else {
-            self
         }
+    }
+
+    // With the objects of a block, which begins at this place.
+    fn with_block(self, at: usize, benefits: &[Benefit], prices: &[i64]) -> Two {
+        let mut two = self;
+        for (k, (benefit, price)) in benefits.iter().zip(prices).enumerate() {
+            two = two.with(at.wrapping_add(k), benefit.wrapping_sub(*price));
+        }
+        two
     }
 }
 
-fn two_of_full(benefits: &[Benefit], prices: &[i64]) -> Two
-    requires { length benefits.now ≡ length prices.now }
-{
+// The greatest value. Compilers make vectors of this loop.
+fn greatest_value(benefits: &[Benefit], prices: &[i64]) -> i64 {
+    let mut greatest = i64::MIN;
+    for (benefit, price) in benefits.iter().zip(prices) {
+        greatest = greatest.max(benefit.wrapping_sub(*price));
+    }
+    greatest
+}
+
+fn two_of_full(benefits: &[Benefit], prices: &[i64]) -> Two {
     let mut two = NOTHING;
-    for k in 0..benefits.len() {
-        let value = benefits[k].wrapping_sub(prices[k]);
-        if value > two.second {
-            two = two.with(k, value);
+    let mut at = 0usize;
+    for (benefits, prices) in benefits.chunks(BLOCK).zip(prices.chunks(BLOCK)) {
+        if greatest_value(benefits, prices) > two.second {
+            two = two.with_block(at, benefits, prices);
         }
+        at = at.wrapping_add(BLOCK);
     }
     two
 }
@@ -71,9 +86,7 @@ fn two_of_pairs(pairs: &[(Object, Benefit)], prices: &[i64]) -> Two {
 }
 
 // The two best objects of the person at this place.
-fn two_of(scaled: &Scaled, prices: &[i64], person: usize) -> Two
-    requires { length prices.now ≡ length scaled.now.problem }
-{
+fn two_of(scaled: &Scaled, prices: &[i64], person: usize) -> Two {
     match row_at(scaled, person) {
         Some(Row::Full(benefits)) => two_of_full(benefits, prices),
         Some(Row::Pairs(pairs)) => two_of_pairs(pairs, prices),
@@ -89,22 +102,26 @@ enum Came {
     Evicted(usize),
 }
 
+// How much a price is raised: to where the second best is as good, in steps, and by eps.
+fn raise_of(two: Two, eps: i64, step: i64) -> i64
+    requires { pos 0 <ℤ step }
+{
+    if two.second == i64::MIN {
+        return eps;
+    }
+    let gap = two.best.wrapping_sub(two.second).wrapping_add(1);
+    rounded(gap, step).wrapping_add(eps)
+}
+
 // One bid of a person that owns nothing. Where the price stays nobody is evicted.
-fn bid(market: &mut Market, two: Two, person: usize, eps: i64) -> Came
+fn bid(market: &mut Market, two: Two, person: usize, eps: i64, step: i64) -> Came
+    requires { pos 0 <ℤ step }
     ensures { length market.new.prices.items ≡ length market.old.prices.items }
 {
-    let Some(best) = two.object else {
+    let Some(object) = two.object else {
         return Came::Done;
     };
-    let raise = if two.second == i64::MIN {
-        eps
-    } else {
-        two.best.wrapping_sub(two.second).wrapping_add(eps)
-    };
-    let object = match two.other {
-        Some(other) if raise == 0 && market.owner(best).is_some() => other,
-        _ => best,
-    };
+    let raise = raise_of(two, eps, step);
     let owner = market.owner(object);
     if raise == 0 && owner.is_some() {
         return Came::Done;
@@ -125,10 +142,11 @@ fn bid_on(scaled: &Scaled, market: &mut Market, first: usize, eps: i64, most: us
     requires { length market.old.prices.items ≡ length scaled.now.problem }
     ensures { length market.new.prices.items ≡ length scaled.now.problem }
 {
+    let step = i64::from(scaled.n()) + 1;
     let mut person = first;
     for k in 0..most {
         let two = two_of(scaled, market.prices.as_slice(), person);
-        match bid(market, two, person, eps) {
+        match bid(market, two, person, eps, step) {
             Came::Done => return most - k - 1,
             Came::Evicted(other) => person = other,
         }

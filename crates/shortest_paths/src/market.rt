@@ -3,7 +3,9 @@ ghost use Rattle.std.specs.Prelude.{◌≡◌, length, IfOk};
 
 use std::alloc::{AllocError, Global};
 
-// The price and the owner of each object, and the object of each person, by places from 0.
+// The price and the owner of each object, and the object of each person, by places from 0. The price
+// of an object that nobody owns stands here less 1: benefits and prices are multiples of one number
+// above 1, so of objects that are alike to a person those come first that nobody owns.
 #[derive(Drop)]
 pub struct Market {
     pub prices: Vec<i64>,
@@ -17,12 +19,31 @@ fn clear(places: &mut [Option<usize>]) {
     }
 }
 
+// The prices of objects that nobody owns.
+fn lower(prices: &mut [i64]) {
+    for price in prices.iter_mut() {
+        *price = price.wrapping_sub(1);
+    }
+}
+
+// Nobody owns an object any more.
+fn leave(owners: &mut [Option<usize>], prices: &mut [i64]) {
+    for k in 0..owners.len() {
+        if owners[k].is_some() && k < prices.len() {
+            prices[k] = prices[k].wrapping_sub(1);
+        }
+        owners[k] = None;
+    }
+}
+
 impl Market {
     // Nobody owns anything.
     pub fn new(alloc: Global, prices: Vec<i64>) -> Result<Market, AllocError>
         ensures { IfOk result (λ m. length m.prices.items ≡ length prices.items) }
     {
         let n = prices.len();
+        let mut prices = prices;
+        lower(prices.as_mut_slice());
         let owners = vec![in alloc; None; n]?;
         let objects = vec![in alloc; None; n]?;
         Ok(Market {
@@ -56,6 +77,9 @@ impl Market {
     pub fn give(&mut self, object: usize, person: usize)
         ensures { length self.new.prices.items ≡ length self.old.prices.items }
     {
+        if self.owner(object).is_none() {
+            self.set_price(object, self.price(object).wrapping_add(1));
+        }
         if object < self.owners.len() {
             self.owners[object] = Some(person);
         }
@@ -77,7 +101,7 @@ impl Market {
     pub fn release_all(&mut self)
         ensures { length self.new.prices.items ≡ length self.old.prices.items }
     {
-        clear(self.owners.as_mut_slice());
+        leave(self.owners.as_mut_slice(), self.prices.as_mut_slice());
         clear(self.objects.as_mut_slice());
     }
 }

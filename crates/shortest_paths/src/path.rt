@@ -7,8 +7,10 @@ use scaled_values::Scaled;
 // Raises the prices of the objects that were passed, up to the level of the object at the end.
 pub fn raise(market: &mut Market, search: &Search, level: i64) {
     for object in &search.passed {
-        let price = level.wrapping_sub(search.costs.get(*object).copied().unwrap_or(0));
-        market.set_price(*object, price.max(market.price(*object)));
+        if market.owner(*object).is_some() {
+            let price = level.wrapping_sub(search.costs.get(*object).copied().unwrap_or(0));
+            market.set_price(*object, price.max(market.price(*object)));
+        }
     }
 }
 

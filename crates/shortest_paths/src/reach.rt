@@ -11,7 +11,10 @@ use std::collections::BinaryHeap;
 pub const FAR: i64 = 1 << 61;
 
 // No object is reached at this distance.
-const END: i64 = 1 << 60;
+pub const END: i64 = 1 << 60;
+
+// How many objects are looked at together for those at a distance.
+const BLOCK: usize = 32;
 
 // A full row: the costs afterwards, and the least distance.
 pub fn reach_full(benefits: &[Benefit], base: i64, costs: &mut [i64], keys: &[i64]) -> i64
@@ -37,30 +40,54 @@ pub fn reach_pairs(pairs: &[(Object, Benefit)], base: i64, costs: &mut [i64]) {
 }
 
 // The least distance.
-pub fn least_of(costs: &[i64], keys: &[i64]) -> i64
-    requires { length keys.now ≡ length costs.now }
-{
+pub fn least_of(costs: &[i64], keys: &[i64]) -> i64 {
     let mut least = i64::MAX;
-    for k in 0..costs.len() {
-        least = least.min(costs[k].wrapping_add(keys[k]));
+    for (cost, key) in costs.iter().zip(keys) {
+        least = least.min(cost.wrapping_add(*key));
     }
     least
 }
 
-// The first object at this distance.
-pub fn object_at(costs: &[i64], keys: &[i64], least: i64) -> Option<usize>
-    requires { length keys.now ≡ length costs.now }
-    ensures { IfSome result (λ k. k < length costs.now) }
-{
-    if least >= END {
-        return None;
-    }
-    for k in 0..costs.len() {
-        if costs[k].wrapping_add(keys[k]) == least {
-            return Some(k);
+// The objects of a block at this distance, which begins at this place.
+fn gather_block(
+    costs: &[i64],
+    keys: &[i64],
+    at: usize,
+    least: i64,
+    places: &mut Vec<usize>,
+) -> Result<(), AllocError> {
+    for (k, (cost, key)) in costs.iter().zip(keys).enumerate() {
+        if cost.wrapping_add(*key) == least {
+            places.push(at.wrapping_add(k))?;
         }
     }
-    None
+    Ok(())
+}
+
+// The objects at this distance.
+pub fn gather(
+    costs: &[i64],
+    keys: &[i64],
+    least: i64,
+    places: &mut Vec<usize>,
+) -> Result<(), AllocError> {
+    let mut at = 0usize;
+    for (costs, keys) in costs.chunks(BLOCK).zip(keys.chunks(BLOCK)) {
+        if least_of(costs, keys) == least {
+            gather_block(costs, keys, at, least, places)?;
+        }
+        at = at.wrapping_add(BLOCK);
+    }
+    Ok(())
+}
+
+// Objects from this one of a list on aren't found again.
+pub fn hide(keys: &mut [i64], places: &[usize], from: usize) {
+    for place in places.iter().skip(from) {
+        if *place < keys.len() {
+            keys[*place] = FAR;
+        }
+    }
 }
 
 // Objects with their distances negated, the nearest first. One that got nearer stands there again.

@@ -1,10 +1,11 @@
 // The search for a shortest way from a person that owns nothing to an object that nobody owns
 // (Dijkstra's; Edmonds and Karp 1972, Tomizawa 1971).
-ghost use Rattle.std.specs.Prelude.{◌≡◌, ◌<◌, length, IfSome, IfOk};
+ghost use Rattle.std.specs.Prelude.{◌≡◌, length, IfOk};
+ghost use Rattle.scaled_values.specs.Held.{HasForm};
 
 use super::market::Market;
 use super::reach::{
-    FAR, Heap, least_of, object_at, pop, push_full, push_pairs, reach_full, reach_pairs,
+    END, FAR, Heap, gather, hide, least_of, pop, push_full, push_pairs, reach_full, reach_pairs,
 };
 use super::rows::{benefit_at, place_of, row_at};
 use scaled_values::{Row, Scaled};
@@ -19,13 +20,15 @@ pub struct Scanned {
 }
 
 // Costs and keys of the objects, whose sums are distances; who was scanned, and which objects were
-// passed.
+// passed or are to be.
 #[derive(Drop)]
 pub struct Search {
     pub costs: Vec<i64>,
     pub keys: Vec<i64>,
     pub scanned: Vec<Scanned>,
     pub passed: Vec<usize>,
+    // The distance of the last of these.
+    pub level: i64,
     pub heap: Heap,
     // Whether persons list so few objects that a heap finds the nearest sooner than a scan.
     pub by_heap: bool,
@@ -44,17 +47,13 @@ pub enum End {
     Long,
 }
 
-// An object isn't reached. Prices and benefits are all multiples of one number above 1, so of objects
-// at one distance those come first that nobody owns.
+// An object isn't reached.
 fn restore(market: &Market, place: usize, costs: &mut [i64], keys: &mut [i64])
     requires { length keys.old ≡ length costs.old }
 {
     if place < costs.len() {
         costs[place] = FAR;
-        keys[place] = match market.owner(place) {
-            None => market.price(place).wrapping_sub(1),
-            Some(_) => market.price(place),
-        };
+        keys[place] = market.price(place);
     }
 }
 
@@ -111,6 +110,7 @@ impl Search {
             keys,
             scanned,
             passed,
+            level: i64::MIN,
             heap,
             by_heap,
         })
@@ -131,41 +131,88 @@ impl Search {
         }
         self.scanned.clear();
         self.passed.clear();
+        self.level = i64::MIN;
         self.heap.clear();
     }
 
-    // One person more is scanned. The nearest object that wasn't passed.
-    fn scan(&mut self, scaled: &Scaled, one: Scanned) -> Result<Option<usize>, AllocError>
+    // By a heap: the nearest object is passed.
+    fn scan_by_heap(&mut self, row: Row<'_>, base: i64) -> Result<(), AllocError>
+        requires { length self.old.keys.items ≡ length self.old.costs.items }
+        ensures costs { length self.new.costs.items ≡ length self.old.costs.items }
+        ensures keys { length self.new.keys.items ≡ length self.old.keys.items }
+    {
+        let keys = self.keys.as_slice();
+        let costs = self.costs.as_mut_slice();
+        match row {
+            Row::Full(benefits) => push_full(&mut self.heap, benefits, base, costs, keys)?,
+            Row::Pairs(pairs) => push_pairs(&mut self.heap, pairs, base, costs, keys)?,
+        }
+        if let Some(at) = pop(&mut self.heap, costs, keys) {
+            self.keys[at] = FAR;
+            self.passed.push(at)?;
+        }
+        Ok(())
+    }
+
+    // By looks at all objects: those that are nearest are to be passed, once none waits for it or they
+    // are as near as those that wait.
+    fn scan_all(&mut self, row: Row<'_>, base: i64) -> Result<(), AllocError>
+        requires costs { HasForm (length self.old.costs.items) row }
+        requires keys { length self.old.keys.items ≡ length self.old.costs.items }
+        ensures costs { length self.new.costs.items ≡ length self.old.costs.items }
+        ensures keys { length self.new.keys.items ≡ length self.old.keys.items }
+    {
+        let keys = self.keys.as_slice();
+        let costs = self.costs.as_mut_slice();
+        let least = match row {
+            Row::Full(benefits) => reach_full(benefits, base, costs, keys),
+            Row::Pairs(pairs) => {
+                reach_pairs(pairs, base, costs);
+                least_of(costs, keys)
+            }
+        };
+        let from = self.passed.len();
+        if least < END && (from < self.scanned.len() || least <= self.level) {
+            self.level = least;
+            gather(costs, keys, least, &mut self.passed)?;
+            hide(self.keys.as_mut_slice(), self.passed.as_slice(), from);
+        }
+        Ok(())
+    }
+
+    // One person more is scanned.
+    fn scan(&mut self, scaled: &Scaled, one: Scanned) -> Result<(), AllocError>
         requires costs { length self.old.costs.items ≡ length scaled.now.problem }
         requires keys { length self.old.keys.items ≡ length scaled.now.problem }
         ensures costs { length self.new.costs.items ≡ length scaled.now.problem }
         ensures keys { length self.new.keys.items ≡ length scaled.now.problem }
-        ensures at { IfOk result (λ at. IfSome at (λ k. k < length scaled.now.problem)) }
     {
         self.scanned.push(one)?;
-        let Some(row) = row_at(scaled, one.person) else {
-            return Ok(None);
-        };
-        let keys = self.keys.as_slice();
-        let costs = self.costs.as_mut_slice();
-        if self.by_heap {
-            match row {
-                Row::Full(benefits) => push_full(&mut self.heap, benefits, one.base, costs, keys)?,
-                Row::Pairs(pairs) => push_pairs(&mut self.heap, pairs, one.base, costs, keys)?,
+        match row_at(scaled, one.person) {
+            None => Ok(()),
+            Some(row) => {
+                if self.by_heap {
+                    self.scan_by_heap(row, one.base)
+                } else {
+                    self.scan_all(row, one.base)
+                }
             }
-            return Ok(pop(&mut self.heap, costs, keys));
         }
-        let least = match row {
-            Row::Full(benefits) => reach_full(benefits, one.base, costs, keys),
-            Row::Pairs(pairs) => {
-                reach_pairs(pairs, one.base, costs);
-                least_of(costs, keys)
-            }
-        };
-        Ok(object_at(costs, keys, least))
     }
 
-    // The search from a person.
+    // The owner of an object that was passed is scanned next.
+    fn next(&self, scaled: &Scaled, market: &Market, object: usize) -> Option<Scanned> {
+        let person = market.owner(object)?;
+        let benefit = row_at(scaled, person).and_then(|row| benefit_at(row, object))?;
+        let cost = self.costs.get(object).copied()?;
+        Some(Scanned {
+            person,
+            base: cost.wrapping_add(benefit),
+        })
+    }
+
+    // The search from a person. Objects at one distance are passed in the order in which they were
+    // reached, which leads to a free one far sooner than the order of their numbers.
     pub fn run(&mut self, scaled: &Scaled, market: &Market, first: usize) -> Result<End, AllocError>
         requires costs { length self.old.costs.items ≡ length scaled.now.problem }
         requires keys { length self.old.keys.items ≡ length scaled.now.problem }
@@ -177,22 +224,20 @@ impl Search {
             person: first,
             base: 0,
         };
-        for _turn in 0..scaled.n() {
-            let Some(at) = self.scan(scaled, one)? else {
+        for turn in 0..scaled.n() {
+            self.scan(scaled, one)?;
+            if let Some(last) = self.passed.last() {
+                if market.owner(*last).is_none() {
+                    return Ok(End::Free(*last));
+                }
+            }
+            let Some(at) = self.passed.get(turn as usize).copied() else {
                 return Ok(End::Blocked);
             };
-            let Some(owner) = market.owner(at) else {
-                return Ok(End::Free(at));
-            };
-            self.keys[at] = FAR;
-            self.passed.push(at)?;
-            let Some(benefit) = row_at(scaled, owner).and_then(|row| benefit_at(row, at)) else {
+            let Some(next) = self.next(scaled, market, at) else {
                 return Ok(End::Lost);
             };
-            one = Scanned {
-                person: owner,
-                base: self.costs[at].wrapping_add(benefit),
-            };
+            one = next;
         }
         Ok(End::Lost)
     }

@@ -21,11 +21,14 @@ const HEAP_BELOW: usize = 8;
 // Bids for each person before the searches, without slackness.
 const BIDS_BEFORE: u16 = 4;
 
-// Bids for each person in each phase of an auction, at most.
-const BIDS_A_PHASE: u16 = 64;
+// Bids for each person in each phase of an auction, at most; and where few pairs are listed, and an
+// auction comes before any search.
+const BIDS_A_PHASE: u16 = 32;
+
+const SPARSE_BIDS_A_PHASE: u16 = 8;
 
 // Where searches scan more persons than so many for each person, an auction goes first.
-const SCANS_A_PERSON: usize = 64;
+const SCANS_A_PERSON: usize = 80;
 
 // The most phases of an auction: slackness falls to a fifth from one to the next.
 const PHASES: usize = 24;
@@ -55,7 +58,7 @@ fn augment(
     let end = search.run(scaled, market, person)?;
     if let End::Free(object) = end {
         let cost = search.costs.get(object).copied().unwrap_or(0);
-        let level = cost.wrapping_add(market.price(object));
+        let level = cost.wrapping_add(market.price(object)).wrapping_add(1);
         raise(market, search, level);
         if !walk_back(scaled, market, search, object) {
             return Ok(End::Lost);
@@ -92,7 +95,7 @@ fn augment_all(
 
 // Prices of an auction in phases of falling slackness, all multiples of n + 1. Nobody owns anything
 // afterwards.
-fn auction(scaled: &Scaled, market: &mut Market)
+fn auction(scaled: &Scaled, market: &mut Market, bids_a_phase: u16)
     requires { length market.old.prices.items ≡ length scaled.now.problem }
     ensures { length market.new.prices.items ≡ length scaled.now.problem }
 {
@@ -101,7 +104,7 @@ fn auction(scaled: &Scaled, market: &mut Market)
     for _phase in 0..PHASES {
         if eps >= step {
             market.release_all();
-            bid_all(scaled, market, rounded(eps, step), BIDS_A_PHASE);
+            bid_all(scaled, market, rounded(eps, step), bids_a_phase);
             eps = eps / 5;
         }
     }
@@ -130,12 +133,13 @@ fn paths_after_auction(
     alloc: Global,
     scaled: &Scaled,
     prices: Vec<i64>,
+    bids_a_phase: u16,
 ) -> Result<Option<Outcome>, AllocError>
     requires { length prices.items ≡ length scaled.now.problem }
     ensures { IfOk result (λ found. IfSome found (IsProof scaled.now)) }
 {
     let mut market = Market::new(alloc, prices)?;
-    auction(scaled, &mut market);
+    auction(scaled, &mut market, bids_a_phase);
     bid_all(scaled, &mut market, 0, BIDS_BEFORE);
     let mut search = Search::new(alloc, scaled.n() as usize, is_sparse(scaled))?;
     let end = augment_all(scaled, &mut market, &mut search, usize::MAX)?;
@@ -157,7 +161,7 @@ fn paths_from(
     let most = scaled.n() as usize * SCANS_A_PERSON;
     let end = augment_all(scaled, &mut market, &mut search, most)?;
     if let Some(End::Long) = end {
-        return paths_after_auction(alloc, scaled, prices);
+        return paths_after_auction(alloc, scaled, prices, BIDS_A_PHASE);
     }
     answer_of(alloc, scaled, &market, &search, end)
 }
@@ -175,7 +179,12 @@ fn paths_from(
 pub fn try_paths(alloc: Global, scaled: &Scaled) -> Result<Option<Outcome>, AllocError>
     ensures { IfOk result (λ found. IfSome found (IsProof scaled.now)) }
 {
-    paths_from(alloc, scaled, usual_prices(alloc, scaled)?)
+    let prices = usual_prices(alloc, scaled)?;
+    if is_sparse(scaled) {
+        paths_after_auction(alloc, scaled, prices, SPARSE_BIDS_A_PHASE)
+    } else {
+        paths_from(alloc, scaled, prices)
+    }
 }
 
 /// Looks for a proof as `try_paths` does, beginning at these prices, one for each object. Prices of
