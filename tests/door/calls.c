@@ -107,6 +107,16 @@ static struct call two(uint32_t sense, int64_t a, int64_t b, int64_t c, int64_t 
     return call;
 }
 
+/* Makes a dense problem a sparse one that lists each pair. */
+static void list_pairs(struct call *c) {
+    size_t k;
+    c->is_sparse = 1;
+    for (k = 0; k < c->pairs; k++) {
+        c->of_persons[k] = (uint16_t)(k / c->n + 1);
+        c->of_objects[k] = (uint16_t)(k % c->n + 1);
+    }
+}
+
 /* A sparse problem of three persons. Person 1 and person 2 list object 1 alone. */
 static struct call three(void) {
     static const uint16_t i[] = {1, 2, 3, 3}, j[] = {1, 1, 1, 2};
@@ -316,8 +326,12 @@ int main(void) {
     refused(c, NUSHBARET_BEST, check, "check");
     c.is_from = 1;
     refused(c, NUSHBARET_BEST, solve, "dense_from");
+    list_pairs(&c);
+    refused(c, NUSHBARET_BEST, solve, "sparse_from, best");
     c = three();
     refused(c, NUSHBARET_HALL, solve, "sparse");
+    c.is_from = 1;
+    refused(c, NUSHBARET_HALL, solve, "sparse_from");
     WANT(solve(&c) == NUSHBARET_HALL);
     refused(c, NUSHBARET_HALL, check_hall, "check_hall");
     /* The threads' own stack takes what the header names beside what this program's functions take. */
