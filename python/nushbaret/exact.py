@@ -14,6 +14,7 @@ from .library import GREATEST_COST
 MOST_PLACES = 6
 # Up to so many numbers a copy costs less than a second look at them.
 FEW = 1024
+_PLAIN = frozenset((int, float, bool, type(None)))
 
 
 class Costs(NamedTuple):
@@ -193,8 +194,38 @@ def _pack(pack, numbers, place, row):
         pack(numbers, place, *map(int, row))
 
 
+def _of_plain(values, maximize):
+    """The costs of a list of ints, floats and None; None where they have too many places, or one is out of range or NaN."""
+    forbids = -math.inf if maximize else math.inf
+    forbidden = [place for place, value in enumerate(values) if value is None or value == forbids]
+    for place in forbidden:
+        values[place] = 0
+    try:
+        places = _places_of_plain(values)
+        numbers = [round(value * 10**places) for value in values] if places is not None else ()
+    except (OverflowError, ValueError):
+        return None
+    if places is None or max(map(abs, numbers), default=0) > GREATEST_COST:
+        return None
+    return Costs(array("q", numbers), forbidden, places, False)
+
+
+def _places_of_plain(values):
+    """As `_least_places`; None where there are too many."""
+    for places in range(MOST_PLACES + 1):
+        power = 10**places
+        values = [value for value in values if round(value * power) / power != value]
+        if not values:
+            return places
+    return None
+
+
 def _of_numbers(values, maximize, decimals, where):
     """The costs of a list of numbers of any kind."""
+    if decimals is None and _PLAIN.issuperset(map(type, values)):
+        read = _of_plain(values.copy(), maximize)
+        if read is not None:
+            return read
     reader = _Decimals(maximize, decimals, where)
     pairs = [(value, 0) if type(value) is int
              else (int(value), 0) if type(value) is float and value.is_integer()
