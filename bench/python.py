@@ -1,6 +1,6 @@
 #!/usr/bin/env python3
-"""Times the Python package, beside the bare call of the library and, where it is there, SciPy: seconds, the least of three runs
-in turns. Wants c/out/libnushbaret.so; PYTHONPATH=python."""
+"""Times the Python package, beside the bare call of the library and, where it is there, SciPy: seconds, the least of three or ten
+runs in turns. Wants c/out/libnushbaret.so; PYTHONPATH=python."""
 import random
 import time
 from array import array
@@ -49,7 +49,7 @@ def compare(what, n, most, count, times=3):
     measure(what, [(name, lambda call=call: [call() for _ in range(count)]) for name, call in calls], times)
 
 
-compare("1000 problems of n = 8", 8, 100, 1000)
-compare("n = 300", 300, 1000, 1)
+compare("1000 problems of n = 8", 8, 100, 1000, 10)
+compare("n = 300", 300, 1000, 1, 10)
 compare("n = 2000, costs to 1000", 2000, 1000, 1)
 compare("n = 2000, costs to a million", 2000, 10**6, 1)
