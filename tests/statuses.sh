@@ -42,6 +42,14 @@ for mode in '--mode rounds' '--mode workers' '--mode workers --workers 1 --refre
     expect '3 1 1 4 2 1 6 3 2 1 3 3 2' 1 'sense min\ninfeasible\npersons 2 1 2\nobjects 1 1\n' '' solve --sparse $mode
     expect '1 7 8' 3 '' 'input: extra data at byte 4' solve $mode
 done
+for method in '--method auction' '--method paths' '--method=paths --mode workers --workers 64 --refresh 0'; do
+    expect '1 7' 0 'sense min\ncost 7\nassign 1 1 7\n' '' solve $method
+    expect '2 1 2 3 5' 0 'sense min\ncost 5\nassign 1 2 2\nassign 2 1 3\n' '' solve $method
+    expect '2 1 2 3 5' 0 'sense max\ncost 6\nassign 1 1 1\nassign 2 2 5\n' '' solve --max $method
+    expect '3 1 1 4 2 1 6 3 2 1 3 3 2' 1 'sense min\ninfeasible\npersons 2 1 2\nobjects 1 1\n' '' solve --sparse $method
+    expect '1 7 8' 3 '' 'input: extra data at byte 4' solve $method
+done
+expect '1 7' 2 '' 'usage: mode is rounds or workers' solve --method paths --mode round
 for mode in round WORKERS ''; do
     expect '1 7' 2 '' 'usage: mode is rounds or workers' solve --mode "$mode"
 done
@@ -84,6 +92,14 @@ expect '2 1 2 3 5' 3 '' 'report: bad line 2' solve --start "$work/bad"
 expect '2 1 2 3 5' 4 '' 'device: read failed' solve --start "$work"
 expect 'x' 3 '' 'input: bad number at byte 0' solve --start "$work"
 expect 'x' 4 '' 'device: cannot open the report' solve --start "$work/none"
+for method in auction paths; do
+    expect '2 1 2 3 5' 0 'sense min\ncost 5\nassign 1 2 2\nassign 2 1 3\n' '' solve --method $method --start "$work/report"
+    expect '1 7' 3 '' 'start: 2 prices' solve --method $method --start "$work/report"
+    expect '2 1 2 3 5' 3 '' 'report: bad line 2' solve --method $method --start "$work/bad"
+    expect 'x' 4 '' 'device: cannot open the report' solve --method $method --start "$work/none"
+    printf '3 9 9 1 9 1 9 1 9 9' | "$program" solve --method $method --prices > "$work/three"
+    expect '3 9 9 1 9 1 9 1 9 9' 0 'verified cost 3\n' '' verify "$work/three"
+done
 printf '3 1 1 4 2 1 6 3 2 1 3 3 2' | "$program" solve --sparse > "$work/refusal"
 expect '2 1 2 3 5' 3 '' 'start: no prices' solve --start "$work/refusal"
 expect '3 1 1 4 2 1 6 3 2 1 3 3 2' 0 'verified infeasible\n' '' verify --sparse "$work/refusal"
@@ -102,6 +118,11 @@ for number in 0 65 four -1; do
     firsts 2 '' "error: invalid value '$number' for '--workers <K>': $(case $number in four | -1) echo 'invalid digit found in string' ;; *) echo "$number is not in 1..=64" ;; esac)" solve --workers="$number"
 done
 firsts 2 '' "error: invalid value '1000001' for '--refresh <R>': 1000001 is not in 0..=1000000" solve --refresh 1000001
+for method in path Paths rounds; do
+    firsts 2 '' "error: invalid value '$method' for '--method <METHOD>'" solve --method $method
+done
+"$program" solve --method path < /dev/null 2>&1 | grep -q 'possible values: auction, paths' || { echo "the methods aren't listed"; failed=$((failed + 1)); }
+firsts 2 '' "error: the argument '--method <METHOD>' cannot be used multiple times" solve --method paths --method auction
 firsts 2 '' 'error: the following required arguments were not provided:' verify
 firsts 2 '' "error: 'auction_cli' requires a subcommand but one was not provided"
 firsts 2 '' 'error: the words are no text' solve $'\xff'
@@ -110,7 +131,7 @@ firsts 2 '' 'error: the words are no text' solve $'\xff'
 for word in solve verify; do
     "$program" --help | grep -q "^  $word  *[A-Z]" || { echo "help is silent on $word"; failed=$((failed + 1)); }
 done
-for option in sparse max prices 'start <REPORT>' 'mode <MODE>' 'workers <K>' 'refresh <R>'; do
+for option in sparse max prices 'start <REPORT>' 'method <METHOD>' 'mode <MODE>' 'workers <K>' 'refresh <R>'; do
     "$program" solve --help | grep -q -- "--$option  *[A-Z]" || { echo "help of solve is silent on --$option"; failed=$((failed + 1)); }
 done
 for option in --sparse '--sense <SENSE>' '<REPORT>'; do

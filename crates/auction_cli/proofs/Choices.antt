@@ -1,12 +1,14 @@
 -- What the values of options choose.
-use Rattle.std.proofs.Common.{◌≡◌, ◌∙◌, refl, sym, ap, subst, codes, ℕ, Bool, List, [], Option, Some, None}
+use Rattle.std.proofs.Common.{◌≡◌, ◌∙◌, ◌↔◌, refl, sym, ap, subst, codes, ℕ, Bool, List, [], Option, Some, None}
 use Rattle.std.specs.Prelude.{Result, Ok, Err, IfOk, IfErr, IfSome}
 use Rattle.std.specs.Option.{ok_or}
 use Rattle.std.specs.Str.Parse.{ParsesUnsigned, digits_value, without_leading_plus}
 use Rattle.clap.specs.Words.{IsUnsignedIn, ReadsOne, Row, Text, fault_of, first_of, subcommand_of}
 use Rattle.assign_core.specs.declared.sense.Sense.{Sense}
-use Rattle.auction_cli.specs.Words.{Chooses, IsTaken, NamesMode, NamesNoMode, NamesNoSense, NamesSense, Solves, Verifies, WordsOutcome, mode_name, program, sense_name}
+use Rattle.auction_cli.specs.Words.{Chooses, IsTaken, NamesMethod, NamesMode, NamesNoMode, NamesNoSense, NamesSense, Places, SolvesBy, Verifies, WordsOutcome, mode_name, program, sense_name}
 use Rattle.auction_cli.specs.inside.Words.{IsChoiceFault}
+use Rattle.auction_cli.specs.declared.words.Method.{Method}
+use Rattle.auction_cli.specs.declared.words.Method.TheVariants.{Auction, Paths}
 use Rattle.auction_cli.specs.declared.words.Mode.{Mode}
 use Rattle.auction_cli.specs.declared.words.SolveOpts.{SolveOpts}
 use Rattle.auction_cli.specs.declared.words.Words.{Words}
@@ -45,24 +47,30 @@ sense_untold rows name f n (Some sense) is = n sense (some_is _ _ (f ∙ is))
 pub no_mode : (rows : List Row) → None ≡ first_of (codes "mode") rows → (wrong.Mode ≡ wrong.Mode) × ((mode : Mode) → NamesMode rows mode → ⊥)
 no_mode rows f = (refl, λ mode is. none_is_some _ (f ∙ is))
 
+pub method_told : (rows : List Row) (name : Text) (method : Method) → Some name ≡ first_of (codes "method") rows → (method ≡ Paths) ↔ (name ≡ codes "paths") → NamesMethod rows method
+method_told rows name method f is = ((λ p. sym f ∙ ap Some (is.0 p)), (λ p. is.1 (some_is _ _ (f ∙ p))))
+
+pub method_untold : (rows : List Row) → None ≡ first_of (codes "method") rows → NamesMethod rows Auction
+method_untold rows f = ((λ p. cc), (λ p. absurd (none_is_some _ (f ∙ p))))
+
 -- what words without a fault of clap's come to
-pub chosen_outcome : (words : List Text) (found : Option (Text × List Row)) (r : Result Words WordsFault) → fault_of program words ≡ [] → found ≡ subcommand_of program words → IfOk r (Chooses found) → IfErr r (IsChoiceFault found) →
+pub chosen_outcome : (at : Places) (words : List Text) (found : Option (Text × List Row)) (r : Result Words WordsFault) → fault_of (program at) words ≡ [] → found ≡ subcommand_of (program at) words → IfOk r (Chooses found) → IfErr r (IsChoiceFault found) →
     WordsOutcome words r
-chosen_outcome words found (Ok asked) none is ok err = (none, subst (λ f. Chooses f asked) is ok)
-chosen_outcome words found (Err wrong.Mode) none is ok err = (none, subst NamesNoMode is err)
-chosen_outcome words found (Err wrong.Sense) none is ok err = (none, subst NamesNoSense is err)
-chosen_outcome words found (Err Memory) none is ok err = tt
-chosen_outcome words found (Err (Clap error)) none is ok err = absurd err
+chosen_outcome at words found (Ok asked) none is ok err = (at, none, subst (λ f. Chooses f asked) is ok)
+chosen_outcome at words found (Err wrong.Mode) none is ok err = (at, (none, subst NamesNoMode is err))
+chosen_outcome at words found (Err wrong.Sense) none is ok err = (at, (none, subst NamesNoSense is err))
+chosen_outcome at words found (Err Memory) none is ok err = tt
+chosen_outcome at words found (Err (Clap error)) none is ok err = absurd err
 
 -- a line of `solve`, by what its options are told by
-pub solve_taken : (found : Option (Text × List Row)) (r : Result Words WordsFault) (wanted : SolveOpts) (workers refresh : Text) (start : Option Text) → flags_of found ≡ Some (solve_flags wanted workers refresh start) →
+pub solve_taken : (found : Option (Text × List Row)) (r : Result Words WordsFault) (method : Method) (wanted : SolveOpts) (workers refresh : Text) (start : Option Text) → flags_of found ≡ Some (solve_flags method wanted workers refresh start) →
     wanted.workers ≡ digits_value 10 (without_leading_plus workers) → wanted.refresh ≡ digits_value 10 (without_leading_plus refresh) →
-    IfOk r (Chooses found) → IfErr r (IsChoiceFault found) → IsTaken (Solves wanted start) r
-solve_taken found (Ok asked) wanted workers refresh start e w h ok err = solves found asked wanted workers refresh start e w h ok
-solve_taken found (Err wrong.Mode) wanted workers refresh start e w h ok err = absurd (mode_is_named found wanted workers refresh start e err)
-solve_taken found (Err wrong.Sense) wanted workers refresh start e w h ok err = absurd (no_solve_sense found wanted workers refresh start e err)
-solve_taken found (Err Memory) wanted workers refresh start e w h ok err = refl
-solve_taken found (Err (Clap error)) wanted workers refresh start e w h ok err = absurd err
+    IfOk r (Chooses found) → IfErr r (IsChoiceFault found) → IsTaken (SolvesBy method wanted start) r
+solve_taken found (Ok asked) method wanted workers refresh start e w h ok err = solves found asked method wanted workers refresh start e w h ok
+solve_taken found (Err wrong.Mode) method wanted workers refresh start e w h ok err = absurd (mode_is_named found method wanted workers refresh start e err)
+solve_taken found (Err wrong.Sense) method wanted workers refresh start e w h ok err = absurd (no_solve_sense found method wanted workers refresh start e err)
+solve_taken found (Err Memory) method wanted workers refresh start e w h ok err = refl
+solve_taken found (Err (Clap error)) method wanted workers refresh start e w h ok err = absurd err
 
 -- and one of `verify`
 pub verify_taken : (found : Option (Text × List Row)) (r : Result Words WordsFault) (s : Bool) (wanted : Option Sense) (name : Text) → file_of found ≡ Some (verify_file s wanted name) → IfOk r (Chooses found) →

@@ -1,8 +1,8 @@
 -- What clap finds in words, and command lines that are written out.
-use Rattle.std.proofs.Common.{arith, ◌≡◌, ◌∙◌, ◌≤◌, ℕ, refl, sym, ap, ap₂, subst, inl, inr, codes, Bool, true, false, List, [], ◌∷◌, Option, Some, None, option_map, unwrap_or}
+use Rattle.std.proofs.Common.{arith, ◌≡◌, ◌≢◌, ◌∙◌, ◌≤◌, ℕ, refl, sym, ap, ap₂, subst, inl, inr, codes, map, Bool, true, false, List, [], ◌∷◌, Option, Some, None, option_map, unwrap_or}
 use Rattle.std.specs.Borrow.{Bor}
 use Rattle.std.specs.Prelude.{Err, IfOk, Ok, Result}
-use Rattle.clap.specs.Words.{App, HasKind, HasMatchesOf, Row, Text, fault_of, first_of, found_of, is_simple, is_simple_and_free, kind_of, one_of, one_text, rows_of, subcommand_of, subcommand_rows_of, takes}
+use Rattle.clap.specs.Words.{App, HasKind, HasMatchesOf, IsAmong, Row, Text, fault_of, first_of, found_of, is_simple, is_simple_and_free, kind_of, one_of, one_text, rows_of, subcommand_of, subcommand_rows_of, takes}
 use Rattle.clap.specs.declared.parser.matches.ArgMatches.{ArgMatches}
 use Rattle.clap.proofs.WalkLemmas.{one_text-rows}
 use Rattle.clap.specs.declared.error.Error.{Error}
@@ -11,8 +11,10 @@ use Rattle.clap.proofs.OnLiterals.{clap_on_literals}
 use Rattle.std.specs.Str.Parse.{digits_value, without_leading_plus}
 use Rattle.assign_core.specs.declared.sense.Sense.{Sense}
 use Rattle.assign_core.specs.declared.sense.Sense.TheVariants.{Min, Max}
-use Rattle.auction_cli.specs.Words.{AskForNoMode, AskForNoSense, AsksForVersion, Chooses, ChoosesSolving, IsFlag, IsInRanges, IsNumberFor, NamesNoMode, NamesNoSense, Solves, Verifies, full_line, full_options, full_verify_line, is_max, mode_name, program, sense_name, usual_options}
+use Rattle.auction_cli.specs.Words.{AskForNoModeAt, AskForNoSenseAt, AsksForVersion, Chooses, ChoosesSolving, IsFlag, IsInRanges, IsNumberFor, NamesMethod, NamesNoMode, NamesNoSense, Places, SolvesBy, Verifies, WordsOutcome, full_line, full_options, full_verify_line, is_max, lying, method_names, mode_name, program, sense_name, usual_options}
 use Rattle.auction_cli.specs.inside.Words.{IsFaultOf}
+use Rattle.auction_cli.specs.declared.words.Method.{Method}
+use Rattle.auction_cli.specs.declared.words.Method.TheVariants.{Auction, Paths}
 use Rattle.auction_cli.specs.declared.words.Mode.{Mode}
 use Rattle.auction_cli.specs.declared.words.Mode.TheVariants.{Rounds, Workers}
 use Rattle.auction_cli.specs.declared.words.SolveOpts.{SolveOpts}
@@ -26,36 +28,43 @@ use Rattle.auction_cli.specs.declared.words.WordsFault.TheVariants.{Clap, Memory
 abbrev pub plain_line : List Text
 plain_line = codes "solve" ∷ []
 
+abbrev pub paths_line : List Text
+paths_line = codes "solve" ∷ codes "--method" ∷ codes "paths" ∷ []
+
 abbrev pub file_line : List Text
 file_line = codes "verify" ∷ codes "--sparse" ∷ codes "report" ∷ []
 
-pub plain_is_taken : (name : Text) → takes program (name ∷ plain_line) ≡ true
+pub plain_is_taken : (at : Places) (name : Text) → takes (program at) (name ∷ plain_line) ≡ true
 unfolding clap_on_literals
-plain_is_taken name = refl
+plain_is_taken at name = refl
 
-pub full_is_taken : (name : Text) → takes program (name ∷ full_line) ≡ true
+pub full_is_taken : (at : Places) (name : Text) → takes (program at) (name ∷ full_line) ≡ true
 unfolding clap_on_literals
-full_is_taken name = refl
+full_is_taken at name = refl
 
-pub file_is_taken : (name : Text) → takes program (name ∷ file_line) ≡ true
+pub paths_is_taken : (at : Places) (name : Text) → takes (program at) (name ∷ paths_line) ≡ true
 unfolding clap_on_literals
-file_is_taken name = refl
+paths_is_taken at name = refl
 
-pub full_file_is_taken : (name : Text) → takes program (name ∷ full_verify_line) ≡ true
+pub file_is_taken : (at : Places) (name : Text) → takes (program at) (name ∷ file_line) ≡ true
 unfolding clap_on_literals
-full_file_is_taken name = refl
+file_is_taken at name = refl
 
-pub version_is_asked : (name : Text) → fault_of program (name ∷ codes "--version" ∷ []) ≡ DisplayVersion ∷ []
+pub full_file_is_taken : (at : Places) (name : Text) → takes (program at) (name ∷ full_verify_line) ≡ true
 unfolding clap_on_literals
-version_is_asked name = refl
+full_file_is_taken at name = refl
 
-simple_program : is_simple program ≡ true
+pub version_is_asked : (at : Places) (name : Text) → fault_of (program at) (name ∷ codes "--version" ∷ []) ≡ DisplayVersion ∷ []
 unfolding clap_on_literals
-simple_program = refl
+version_is_asked at name = refl
 
-free_program : is_simple_and_free program ≡ true
+simple_program : (at : Places) → is_simple (program at) ≡ true
 unfolding clap_on_literals
-free_program = refl
+simple_program at = refl
+
+free_program : (at : Places) → is_simple_and_free (program at) ≡ true
+unfolding clap_on_literals
+free_program at = refl
 
 -- what the options of `solve` are told by, and its file
 pub record Flags : Type 0 where
@@ -64,6 +73,7 @@ pub record Flags : Type 0 where
   pub max : Option Text
   pub prices : Option Text
   pub start : Option Text
+  pub method : Option Text
   pub mode : Option Text
   pub workers : Option Text
   pub refresh : Option Text
@@ -76,6 +86,7 @@ flags_of = option_map (λ f. record {
   max = one_of (codes "max") f.1;
   prices = one_of (codes "prices") f.1;
   start = first_of (codes "start") f.1;
+  method = first_of (codes "method") f.1;
   mode = first_of (codes "mode") f.1;
   workers = one_of (codes "workers") f.1;
   refresh = one_of (codes "refresh") f.1;
@@ -101,26 +112,35 @@ abbrev pub flag_word : Bool → Text
 flag_word true = codes "true"
 flag_word false = codes "false"
 
+abbrev pub method_word : Method → Text
+method_word Auction = codes "auction"
+method_word Paths = codes "paths"
+
 -- what the options are told by, with the digits of both numbers
-abbrev pub solve_flags : SolveOpts → Text → Text → Option Text → Flags
-solve_flags o workers refresh start = record {
+abbrev pub solve_flags : Method → SolveOpts → Text → Text → Option Text → Flags
+solve_flags method o workers refresh start = record {
   name = codes "solve";
   sparse = Some (flag_word o.sparse);
   max = Some (flag_word (is_max o.sense));
   prices = Some (flag_word o.prices);
   start = start;
+  method = Some (method_word method);
   mode = Some (mode_name o.mode);
   workers = Some workers;
   refresh = Some refresh;
 }
 
-pub plain_flags : (name : Text) → flags_of (subcommand_of program (name ∷ plain_line)) ≡ Some (solve_flags usual_options (codes "4") (codes "1") None)
+pub plain_flags : (at : Places) (name : Text) → flags_of (subcommand_of (program at) (name ∷ plain_line)) ≡ Some (solve_flags Auction usual_options (codes "4") (codes "1") None)
 unfolding clap_on_literals
-plain_flags name = refl
+plain_flags at name = refl
 
-pub full_flags : (name : Text) → flags_of (subcommand_of program (name ∷ full_line)) ≡ Some (solve_flags full_options (codes "64") (codes "0") (Some (codes "report")))
+pub paths_flags : (at : Places) (name : Text) → flags_of (subcommand_of (program at) (name ∷ paths_line)) ≡ Some (solve_flags Paths usual_options (codes "4") (codes "1") None)
 unfolding clap_on_literals
-full_flags name = refl
+paths_flags at name = refl
+
+pub full_flags : (at : Places) (name : Text) → flags_of (subcommand_of (program at) (name ∷ full_line)) ≡ Some (solve_flags Auction full_options (codes "64") (codes "0") (Some (codes "report")))
+unfolding clap_on_literals
+full_flags at name = refl
 
 abbrev pub verify_file : Bool → Option Sense → Text → File
 verify_file sparse wanted report = record {
@@ -130,13 +150,13 @@ verify_file sparse wanted report = record {
   report = Some report;
 }
 
-pub file_words : (name : Text) → file_of (subcommand_of program (name ∷ file_line)) ≡ Some (verify_file true None (codes "report"))
+pub file_words : (at : Places) (name : Text) → file_of (subcommand_of (program at) (name ∷ file_line)) ≡ Some (verify_file true None (codes "report"))
 unfolding clap_on_literals
-file_words name = refl
+file_words at name = refl
 
-pub full_file_words : (name : Text) → file_of (subcommand_of program (name ∷ full_verify_line)) ≡ Some (verify_file true (Some Max) (codes "report"))
+pub full_file_words : (at : Places) (name : Text) → file_of (subcommand_of (program at) (name ∷ full_verify_line)) ≡ Some (verify_file true (Some Max) (codes "report"))
 unfolding clap_on_literals
-full_file_words name = refl
+full_file_words at name = refl
 
 flag_is : (text : Option Text) (flag b : Bool) → IsFlag text flag → text ≡ Some (flag_word b) → flag ≡ b
 flag_is text flag true f e = f.set e
@@ -192,7 +212,7 @@ at_least : (text : Option Text) (least most number : ℕ) → IsNumberFor text l
 at_least text least most number h = rw h.value h.in_range.2
 
 pub in_ranges : (found : Option (Text × List Row)) (r : Result Words WordsFault) → IfOk r (Chooses found) → IfOk r IsInRanges
-in_ranges found (Ok (Solve options start)) h = record {
+in_ranges found (Ok (Solve options start asked)) h = record {
   some_workers = at_least _ _ _ _ h.2.workers;
   few_workers = at_most _ _ _ _ h.2.workers;
   few_turns = at_most _ _ _ _ h.2.refresh;
@@ -201,8 +221,8 @@ in_ranges found (Ok (Verify sparse sense report)) h = tt
 in_ranges found (Err fault) h = tt
 
 -- the options that a line is told by
-pub options_are : (rows : List Row) (o wanted : SolveOpts) (workers refresh : Text) (start : Option Text) → flags_of (Some (codes "solve", rows)) ≡ Some (solve_flags wanted workers refresh start) → ChoosesSolving rows o → wanted.workers ≡ digits_value 10 (without_leading_plus workers) → wanted.refresh ≡ digits_value 10 (without_leading_plus refresh) → o ≡ wanted
-options_are rows o wanted workers refresh start e h w r =
+pub options_are : (rows : List Row) (method : Method) (o wanted : SolveOpts) (workers refresh : Text) (start : Option Text) → flags_of (Some (codes "solve", rows)) ≡ Some (solve_flags method wanted workers refresh start) → ChoosesSolving rows o → wanted.workers ≡ digits_value 10 (without_leading_plus workers) → wanted.refresh ≡ digits_value 10 (without_leading_plus refresh) → o ≡ wanted
+options_are rows method o wanted workers refresh start e h w r =
     let all = some_is _ _ e in
     let sparse : o.sparse ≡ wanted.sparse = flag_is _ _ wanted.sparse h.sparse (ap (λ (q : Flags). q.sparse) all) in
     let mode : o.mode ≡ wanted.mode = same_mode _ _ (some_is _ _ (sym h.mode ∙ ap (λ (q : Flags). q.mode) all)) in
@@ -212,30 +232,38 @@ options_are rows o wanted workers refresh start e h w r =
     let sense : o.sense ≡ wanted.sense = same_sense _ _ (flag_is _ _ (is_max wanted.sense) h.sense (ap (λ (q : Flags). q.max) all)) in
     λ i. record { sparse = sparse i; mode = mode i; workers = many i; refresh = often i; prices = prices i; sense = sense i }
 
-pub solves : (found : Option (Text × List Row)) (asked : Words) (wanted : SolveOpts) (workers refresh : Text) (start : Option Text) → flags_of found ≡ Some (solve_flags wanted workers refresh start) →
+same_method : (rows : List Row) (m method : Method) → NamesMethod rows m → first_of (codes "method") rows ≡ Some (method_word method) → m ≡ method
+same_method rows m Paths h e = h.1 e
+same_method rows Auction Auction h e = refl
+same_method rows Paths Auction h e =
+    let other : codes "auction" ≡ codes "paths" = some_is _ _ (sym e ∙ h.0 refl) in
+    cc
+
+pub solves : (found : Option (Text × List Row)) (asked : Words) (method : Method) (wanted : SolveOpts) (workers refresh : Text) (start : Option Text) → flags_of found ≡ Some (solve_flags method wanted workers refresh start) →
     wanted.workers ≡ digits_value 10 (without_leading_plus workers) → wanted.refresh ≡ digits_value 10 (without_leading_plus refresh) →
-    Chooses found asked → Solves wanted start asked
-solves found (Solve options file) wanted workers refresh start e w r h =
-    let told : flags_of (Some (codes "solve", h.0)) ≡ Some (solve_flags wanted workers refresh start) = ap flags_of (sym h.1) ∙ e in (
-      options_are h.0 options wanted workers refresh start told h.2 w r,
+    Chooses found asked → SolvesBy method wanted start asked
+solves found (Solve options file asked) method wanted workers refresh start e w r h =
+    let told : flags_of (Some (codes "solve", h.0)) ≡ Some (solve_flags method wanted workers refresh start) = ap flags_of (sym h.1) ∙ e in (
+      options_are h.0 method options wanted workers refresh start told h.2 w r,
       h.3 ∙ ap (λ (q : Flags). q.start) (some_is _ _ told),
+      same_method h.0 asked.method method h.4 (ap (λ (q : Flags). q.method) (some_is _ _ told)),
     )
-solves found (Verify sparse sense report) wanted workers refresh start e w r h =
+solves found (Verify sparse sense report) method wanted workers refresh start e w r h =
     absurd (other_command (ap (λ (q : Flags). q.name) (some_is _ _ (ap flags_of (sym h.1) ∙ e))))
 
 -- a line that names its mode is refused for no mode
-pub mode_is_named : (found : Option (Text × List Row)) (wanted : SolveOpts) (workers refresh : Text) (start : Option Text) → flags_of found ≡ Some (solve_flags wanted workers refresh start) → NamesNoMode found → ⊥
-mode_is_named found wanted workers refresh start e h =
-    let told : flags_of (Some (codes "solve", h.0)) ≡ Some (solve_flags wanted workers refresh start) = ap flags_of (sym h.1) ∙ e in
+pub mode_is_named : (found : Option (Text × List Row)) (method : Method) (wanted : SolveOpts) (workers refresh : Text) (start : Option Text) → flags_of found ≡ Some (solve_flags method wanted workers refresh start) → NamesNoMode found → ⊥
+mode_is_named found method wanted workers refresh start e h =
+    let told : flags_of (Some (codes "solve", h.0)) ≡ Some (solve_flags method wanted workers refresh start) = ap flags_of (sym h.1) ∙ e in
     h.2 wanted.mode (ap (λ (q : Flags). q.mode) (some_is _ _ told))
 
 -- a line of `solve` is refused for no sense
-pub no_solve_sense : (found : Option (Text × List Row)) (wanted : SolveOpts) (workers refresh : Text) (start : Option Text) → flags_of found ≡ Some (solve_flags wanted workers refresh start) → NamesNoSense found → ⊥
-no_solve_sense found wanted workers refresh start e h = other_command (ap (λ (q : Flags). q.name) (some_is _ _ (ap flags_of (sym h.1) ∙ e)))
+pub no_solve_sense : (found : Option (Text × List Row)) (method : Method) (wanted : SolveOpts) (workers refresh : Text) (start : Option Text) → flags_of found ≡ Some (solve_flags method wanted workers refresh start) → NamesNoSense found → ⊥
+no_solve_sense found method wanted workers refresh start e h = other_command (ap (λ (q : Flags). q.name) (some_is _ _ (ap flags_of (sym h.1) ∙ e)))
 
 pub verifies : (found : Option (Text × List Row)) (asked : Words) (s : Bool) (wanted : Option Sense) (name : Text) → file_of found ≡ Some (verify_file s wanted name) →
     Chooses found asked → Verifies s wanted name asked
-verifies found (Solve options start) s wanted name e h = absurd (other_command (sym (ap (λ (q : File). q.name) (some_is _ _ (ap file_of (sym h.1) ∙ e)))))
+verifies found (Solve options start asked) s wanted name e h = absurd (other_command (sym (ap (λ (q : File). q.name) (some_is _ _ (ap file_of (sym h.1) ∙ e)))))
 verifies found (Verify sparse sense report) s wanted name e h =
     let all = some_is _ _ (ap file_of (sym h.1) ∙ e) in (
       flag_is _ _ s h.2.sparse (ap (λ (q : File). q.sparse) all),
@@ -252,16 +280,28 @@ pub sense_is_named : (found : Option (Text × List Row)) (s : Bool) (wanted : Op
 sense_is_named found s wanted name e h = h.2 wanted (ap (λ (q : File). q.sense) (some_is _ _ (ap file_of (sym h.1) ∙ e)))
 
 -- words that name no mode are others than those that name no sense
-pub no_mode_or_sense : (words : List Text) → AskForNoMode words → AskForNoSense words → ⊥
-no_mode_or_sense words m s = other_command (ap (λ (q : Text × List Row). q.0) (some_is _ _ (sym s.1.1 ∙ m.1.1)))
+pub no_mode_or_sense : (at : Places) (words : List Text) → AskForNoModeAt at words → AskForNoSenseAt at words → ⊥
+no_mode_or_sense at words m s = other_command (ap (λ (q : Text × List Row). q.0) (some_is _ _ (sym s.1.1 ∙ m.1.1)))
 
 -- words that are taken have no fault, and the subcommand of the matches
-pub taken_words : (app : App) (words : List Text) (m : ArgMatches) → app ≡ program → (is_simple_and_free app ≡ true → fault_of app words ≡ []) → HasMatchesOf app words m →
-    (fault_of program words ≡ []) × (subcommand_rows_of m ≡ subcommand_of program words)
-taken_words app words m a none h = (
-  subst (λ x. fault_of x words ≡ []) a (none (ap is_simple_and_free a ∙ free_program)),
-  (h (ap is_simple a ∙ simple_program)).1 ∙ ap (λ x. subcommand_of x words) a,
+pub taken_words : (at : Places) (app : App) (words : List Text) (m : ArgMatches) → app ≡ program at → (is_simple_and_free app ≡ true → fault_of app words ≡ []) → HasMatchesOf app words m →
+    (fault_of (program at) words ≡ []) × (subcommand_rows_of m ≡ subcommand_of (program at) words)
+taken_words at app words m a none h = (
+  subst (λ x. fault_of x words ≡ []) a (none (ap is_simple_and_free a ∙ free_program at)),
+  (h (ap is_simple a ∙ simple_program at)).1 ∙ ap (λ x. subcommand_of x words) a,
 )
+
+-- what is told of words in which clap finds a fault
+pub told_outcome : (at : Places) (app : App) (words : List Text) (error : Error) (fault : WordsFault) → app ≡ program at → (is_simple_and_free app ≡ true → HasKind (fault_of app words) error) → IsFaultOf error fault →
+    WordsOutcome words (Err fault)
+told_outcome at app words error Memory a kinds f = tt
+told_outcome at app words error wrong.Mode a kinds f = absurd f
+told_outcome at app words error wrong.Sense a kinds f = absurd f
+told_outcome at app words error (Clap told) a kinds f = go (subst (λ x. HasKind (fault_of x words) error) a (kinds (ap is_simple_and_free a ∙ free_program at)))
+  where
+    go : HasKind (fault_of (program at) words) error → WordsOutcome words (Err (Clap told))
+    go (inl memory) = absurd (f.1 memory)
+    go (inr among) = (at, subst (λ (e : Error). IsAmong (kind_of e) (fault_of (program at) words)) (sym f.0) among, subst (λ (e : Error). kind_of e ≢ OutOfMemory) (sym f.0) f.1)
 
 -- a flag of the matches is that of their rows
 pub flag_told : (m : ArgMatches) (name : Text) (flag : Bool) → (one_text (found_of m) name ≡ None → flag ≡ false) → (one_text (found_of m) name ≡ Some (codes "true") → flag ≡ true) →
@@ -270,6 +310,25 @@ flag_told m name flag absent set unset =
     let same = one_text-rows (found_of m) name in
     record { set = λ e. set (same ∙ e); unset = λ e. unset (same ∙ e); absent = λ e. absent (same ∙ e) }
 
+-- two texts that lie somewhere are the names of the methods
+pub names_are : (names : Bor (List (Bor Text))) → map (λ s. s.now) names.now ≡ codes "auction" ∷ codes "paths" ∷ [] → (at : Places) × (names ≡ method_names at)
+names_are names e = go names.now refl e
+  where
+    two : (a b : Bor Text) → a.now ≡ codes "auction" → b.now ≡ codes "paths" → names.now ≡ a ∷ b ∷ [] → (at : Places) × (names ≡ method_names at)
+    two a b f g is = (
+      record { list = names.ref_ptr; auction = a.ref_ptr; paths = b.ref_ptr },
+      λ i. record { ref_ptr = names.ref_ptr; now = (is ∙ ap₂ (λ x y. lying a.ref_ptr x ∷ lying b.ref_ptr y ∷ []) f g) i },
+    )
+
+    go : (l : List (Bor Text)) → names.now ≡ l → map (λ s. s.now) l ≡ codes "auction" ∷ codes "paths" ∷ [] → (at : Places) × (names ≡ method_names at)
+    go [] is e = cc
+    go (a ∷ []) is e = cc
+    go (a ∷ b ∷ []) is e =
+        let f : a.now ≡ codes "auction" = cc in
+        let g : b.now ≡ codes "paths" = cc in
+        two a b f g is
+    go (a ∷ b ∷ c ∷ l) is e = cc
+
 pub is_memory : (error : Error) (fault : WordsFault) → IsFaultOf error fault → kind_of error ≡ OutOfMemory → fault ≡ Memory
 is_memory error Memory h k = refl
 is_memory error (Clap told) h k = absurd (h.1 k)
@@ -277,17 +336,17 @@ is_memory error wrong.Mode h k = absurd h
 is_memory error wrong.Sense h k = absurd h
 
 -- words that ask for the version have a fault, and no other
-pub version_is_fault : (words : List Text) (name : Text) → words ≡ name ∷ codes "--version" ∷ [] → fault_of program words ≡ [] → ⊥
-version_is_fault words name e none =
-    let bad : DisplayVersion ∷ [] ≡ [] = sym (version_is_asked name) ∙ sym (ap (fault_of program) e) ∙ none in
+pub version_is_fault : (at : Places) (words : List Text) (name : Text) → words ≡ name ∷ codes "--version" ∷ [] → fault_of (program at) words ≡ [] → ⊥
+version_is_fault at words name e none =
+    let bad : DisplayVersion ∷ [] ≡ [] = sym (version_is_asked at name) ∙ sym (ap (fault_of (program at)) e) ∙ none in
     cc
 
-pub version_told : (app : App) (words : List Text) (name : Text) (error : Error) (fault : WordsFault) → app ≡ program → words ≡ name ∷ codes "--version" ∷ [] →
+pub version_told : (at : Places) (app : App) (words : List Text) (name : Text) (error : Error) (fault : WordsFault) → app ≡ program at → words ≡ name ∷ codes "--version" ∷ [] →
     (is_simple_and_free app ≡ true → HasKind (fault_of app words) error) → IsFaultOf error fault → AsksForVersion (Err fault)
-version_told app words name error Memory a e h f = refl
-version_told app words name error wrong.Mode a e h f = absurd f
-version_told app words name error wrong.Sense a e h f = absurd f
-version_told app words name error (Clap told) a e h f = go (subst (λ k. HasKind k error) (ap₂ fault_of a e ∙ version_is_asked name) (h (ap is_simple_and_free a ∙ free_program)))
+version_told at app words name error Memory a e h f = refl
+version_told at app words name error wrong.Mode a e h f = absurd f
+version_told at app words name error wrong.Sense a e h f = absurd f
+version_told at app words name error (Clap told) a e h f = go (subst (λ k. HasKind k error) (ap₂ fault_of a e ∙ version_is_asked at name) (h (ap is_simple_and_free a ∙ free_program at)))
   where
     go : HasKind (DisplayVersion ∷ []) error → kind_of told ≡ DisplayVersion
     go (inl memory) = absurd (f.1 memory)

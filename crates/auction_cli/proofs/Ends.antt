@@ -15,17 +15,19 @@ use Rattle.auction_cli.specs.declared.program.NoReport.{NoReport}
 use Rattle.auction_cli.specs.declared.program.NoReport.TheVariants as no_report
 use Rattle.auction_cli.specs.declared.program.ProgramEnd.{ProgramEnd}
 use Rattle.auction_cli.specs.declared.program.ProgramEnd.TheVariants.{Reported, Checked, Helped, Refused, Unopened, Failed}
+use Rattle.auction_cli.specs.declared.words.Asked.{Asked}
+use Rattle.auction_cli.specs.declared.words.Method.{Method}
 use Rattle.auction_cli.specs.declared.words.SolveOpts.{SolveOpts}
 use Rattle.auction_cli.specs.declared.words.Words.{Words}
 use Rattle.auction_cli.specs.declared.words.Words.TheVariants.{Solve, Verify}
 
 -- a run of `solve` does what is asked for
-pub solve_done : (options : SolveOpts) (start : Option (String Global)) (input : Option (List ℕ)) (reports : Openings) (text : Option (Option (List ℕ))) (old new : Option (List ℕ)) (end : ProgramEnd) →
-    Opens reports (option_map string_bytes start) text → SolveEnd options input text old new end → Does (Solve options start) input reports old new end
-solve_done options start input reports text old new (Reported ended) o s = (text, o, s)
-solve_done options start input reports text old new (Failed faults.Memory told) o s = s
-solve_done options start input reports text old new (Failed fault told) o s = (text, o, s)
-solve_done options start input reports text old new end o s = absurd s
+pub solve_done : (options : SolveOpts) (asked : Asked) (start : Option (String Global)) (input : Option (List ℕ)) (reports : Openings) (text : Option (Option (List ℕ))) (old new : Option (List ℕ)) (end : ProgramEnd) →
+    Opens reports (option_map string_bytes start) text → SolveEnd asked.method options input text old new end → Does (Solve options start asked) input reports old new end
+solve_done options asked start input reports text old new (Reported ended) o s = (text, o, s)
+solve_done options asked start input reports text old new (Failed faults.Memory told) o s = s
+solve_done options asked start input reports text old new (Failed fault told) o s = (text, o, s)
+solve_done options asked start input reports text old new end o s = absurd s
 
 -- and one of `verify`
 pub verify_done : (sparse : Bool) (wanted : Option Sense) (name : String Global) (input : Option (List ℕ)) (reports : Openings) (text old new : Option (List ℕ)) (end : ProgramEnd) →
@@ -50,11 +52,11 @@ nothing_read old (Refused told) = refl
 nothing_read old (Unopened told) = refl
 nothing_read old (Failed fault told) = tt
 
-pub solve_reads : (options : SolveOpts) (input : Option (List ℕ)) (text : Option (Option (List ℕ))) (out written old new : Option (List ℕ)) (end : ProgramEnd) → SolveEnd options input text out written end →
+pub solve_reads : (method : Method) (options : SolveOpts) (input : Option (List ℕ)) (text : Option (Option (List ℕ))) (out written old new : Option (List ℕ)) (end : ProgramEnd) → SolveEnd method options input text out written end →
     InputOutcome old new end
-solve_reads options input text out written old new (Reported ended) s = tt
-solve_reads options input text out written old new (Failed fault told) s = tt
-solve_reads options input text out written old new end s = absurd s
+solve_reads method options input text out written old new (Reported ended) s = tt
+solve_reads method options input text out written old new (Failed fault told) s = tt
+solve_reads method options input text out written old new end s = absurd s
 
 pub verify_reads : (sparse : Bool) (wanted : Option Sense) (input text out written old new : Option (List ℕ)) (end : ProgramEnd) → VerifyEnd sparse wanted input text out written end → InputOutcome old new end
 verify_reads sparse wanted input text out written old new (Checked verified) v = tt

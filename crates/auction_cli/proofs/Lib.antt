@@ -5,6 +5,7 @@ pub mod Ends
 pub mod Findings
 pub mod Subcommands
 pub mod Verdicts
+pub mod Settled
 pub mod Starts
 pub mod Rows
 pub mod Numbers

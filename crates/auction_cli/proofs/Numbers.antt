@@ -2,7 +2,7 @@
 use Rattle.std.proofs.Common.{◌≡◌, ap, sym, refl, subst, codes, Bool, true, false, true≢false, List, [], ◌∷◌, Option, None, Some}
 use Rattle.std.specs.Prelude.{find, if◌then◌else◌, option_map}
 use Rattle.std.specs.Option.{option_map_or}
-use Rattle.auction_cli.specs.Words.{program, solve_app, verify_app}
+use Rattle.auction_cli.specs.Words.{Places, program, solve_app, verify_app}
 use Rattle.auction_cli.specs.inside.Words.{HasNumbers, HasNumbersIfSolving}
 use Rattle.auction_cli.specs.declared.words.TheConstants.{MOST_WORKERS, MOST_REFRESH}
 use Rattle.auction_cli.proofs.CommandLines.{other_command, some_is}
@@ -13,28 +13,28 @@ use Rattle.clap.specs.Simple.{Shape, argument_words, built, built_leaf, entered,
 use Rattle.clap.specs.Walk.{Row, Text, answers_to, nothing_held, rows_after, stop_after, walk_from}
 
 -- a subcommand as it is built
-abbrev built_sub : Shape → Shape
-built_sub s = built_leaf (inherited (with_leaf_noted (marked_built program.top)) s)
+abbrev built_sub : Places → Shape → Shape
+built_sub at s = built_leaf (inherited (with_leaf_noted (marked_built (program at).top)) s)
 
-abbrev solve_shape : Shape
-solve_shape = built_sub solve_app.top
+abbrev solve_shape : Places → Shape
+solve_shape at = built_sub at (solve_app at).top
 
 never : {A : Type 0} → false ≡ true → A
 never e = absurd (true≢false (sym e))
 
-knows_workers : AllKnown (codes "workers") (codes "4") 1 MOST_WORKERS solve_shape.rules
-knows_workers = (never, (never, (never, (never, (never, ((λ e. refl), (never, (never, tt))))))))
+knows_workers : (at : Places) → AllKnown (codes "workers") (codes "4") 1 MOST_WORKERS (solve_shape at).rules
+knows_workers at = (never, (never, (never, (never, (never, (never, ((λ e. refl), (never, (never, tt)))))))))
 
-knows_refresh : AllKnown (codes "refresh") (codes "1") 0 MOST_REFRESH solve_shape.rules
-knows_refresh = (never, (never, (never, (never, (never, (never, ((λ e. refl), (never, tt))))))))
+knows_refresh : (at : Places) → AllKnown (codes "refresh") (codes "1") 0 MOST_REFRESH (solve_shape at).rules
+knows_refresh at = (never, (never, (never, (never, (never, (never, (never, ((λ e. refl), (never, tt)))))))))
 
 help_is_other : codes "help" ≡ codes "solve" → ⊥
 help_is_other e = cc
 
-solve_numbers : (words : List Text) → level_fault solve_shape [] nothing_held words false [] ≡ [] → HasNumbers (rows_after solve_shape.rules [] words)
-solve_numbers words e = record {
-  workers = number_there (codes "workers") (codes "4") 1 MOST_WORKERS solve_shape words knows_workers refl e;
-  refresh = number_there (codes "refresh") (codes "1") 0 MOST_REFRESH solve_shape words knows_refresh refl e;
+solve_numbers : (at : Places) (words : List Text) → level_fault (solve_shape at) [] nothing_held words false [] ≡ [] → HasNumbers (rows_after (solve_shape at).rules [] words)
+solve_numbers at words e = record {
+  workers = number_there (codes "workers") (codes "4") 1 MOST_WORKERS (solve_shape at) words (knows_workers at) refl e;
+  refresh = number_there (codes "refresh") (codes "1") 0 MOST_REFRESH (solve_shape at) words (knows_refresh at) refl e;
 }
 
 find_numbers : (p : Text × List Text) (solve verify help : Shape) → ((words : List Text) → level_fault solve [] nothing_held words false [] ≡ [] → HasNumbers (rows_after solve.rules [] words)) →
@@ -51,11 +51,11 @@ find_numbers p solve verify help numbers v h e = go (answers_to p.0 (label_of so
     go false false false e = λ rows is. cc
 
 -- the words of a command line without a fault
-pub has_numbers : (words : List Text) → fault_of program words ≡ [] → HasNumbersIfSolving (subcommand_of program words)
-has_numbers words e =
-    go (stop_after (built program).top.rules (names_of (built program)) (argument_words program words))
-    (first_none _ _ (then_none (walk_fault (built program).top (names_of (built program)) (walk_from nothing_held) (argument_words program words)) _ e))
+pub has_numbers : (at : Places) (words : List Text) → fault_of (program at) words ≡ [] → HasNumbersIfSolving (subcommand_of (program at) words)
+has_numbers at words e =
+    go (stop_after (built (program at)).top.rules (names_of (built (program at))) (argument_words (program at) words))
+    (first_none _ _ (then_none (walk_fault (built (program at)).top (names_of (built (program at))) (walk_from nothing_held) (argument_words (program at) words)) _ e))
   where
-    go : (stop : Option (Text × List Text)) → entered_fault (built program) stop ≡ [] → HasNumbersIfSolving (entered (built program) stop)
+    go : (stop : Option (Text × List Text)) → entered_fault (built (program at)) stop ≡ [] → HasNumbersIfSolving (entered (built (program at)) stop)
     go None e = λ rows is. cc
-    go (Some p) e = find_numbers p solve_shape (built_sub verify_app.top) (built_leaf help_shape) solve_numbers other_command help_is_other e
+    go (Some p) e = find_numbers p (solve_shape at) (built_sub at verify_app.top) (built_leaf help_shape) (solve_numbers at) other_command help_is_other e

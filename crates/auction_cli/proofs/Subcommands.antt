@@ -3,7 +3,7 @@ use Rattle.std.proofs.Common.{◌≡◌, ap, sym, refl, subst, inl, inr, codes, 
 use Rattle.std.specs.Prelude.{⊤, ◌||◌, ◌&&◌, find, fold, option_map, if◌then◌else◌}
 use Rattle.std.specs.Str.{bytes_eq}
 use Rattle.std.proofs.lemmas.Slice.Eq.{bytes_eq-Decides}
-use Rattle.auction_cli.specs.Words.{program}
+use Rattle.auction_cli.specs.Words.{Places, program}
 use Rattle.auction_cli.specs.inside.Words.{NamesCommand}
 use Rattle.clap.specs.Kinds.{Kinds, or_else}
 use Rattle.clap.specs.Walk.{Held, Names, Outcome, Rule, Row, Step, Text, Waiting, Walk, walk, walk_from, walked, walked_from, after_step, to_positional, arg_by_index, word_met, subcommand_or_other, subcommand_met, long_or_other, short_or_plain, after_flag, plain_word, next, trailing, subcommand, value, idle, option, positional, done, waits, plain, refused, answers_to, nothing_held, stop_after, long_met, arg_by_long, bundle, finished}
@@ -145,10 +145,10 @@ find_named p solve verify help x y z n e = go (answers_to p.0 (label_of solve)) 
         cc
 
 -- the words of a command line without a fault
-pub names_command : (words : List Text) → fault_of program words ≡ [] → NamesCommand (subcommand_of program words)
-names_command words e = go (stop_after (built program).top.rules (names_of (built program)) (argument_words program words)) (stops (built program) (argument_words program words) refl refl refl e)
+pub names_command : (at : Places) (words : List Text) → fault_of (program at) words ≡ [] → NamesCommand (subcommand_of (program at) words)
+names_command at words e = go (stop_after (built (program at)).top.rules (names_of (built (program at))) (argument_words (program at) words)) (stops (built (program at)) (argument_words (program at) words) refl refl refl e)
   where
-    go : (stop : Option (Text × List Text)) → StopsElsewhere (built program) stop → NamesCommand (entered (built program) stop)
+    go : (stop : Option (Text × List Text)) → StopsElsewhere (built (program at)) stop → NamesCommand (entered (built (program at)) stop)
     go None h =
         let bad = h.entered in
         cc

@@ -8,9 +8,10 @@ use Rattle.std.specs.Option.{IsSomeAnd, option_map}
 use Rattle.std.specs.String.{string_bytes}
 use Rattle.assign_core.specs.declared.sense.Sense.{Sense}
 use Rattle.report.specs.Writing.{IsCutOff}
-use Rattle.auction_cli.specs.Solve.{SolveOutcome, end_status, fault_line, status}
+use Rattle.auction_cli.specs.Solve.{SolveOutcomeBy, end_status, fault_line, status}
 use Rattle.auction_cli.specs.Verify.{VerifyOutcome}
-use Rattle.auction_cli.specs.Words.{AskFor, AskForNoMode, AskForNoSense, program}
+use Rattle.auction_cli.specs.Words.{AskFor, AskForNoMode, AskForNoModeAt, AskForNoSense, AskForNoSenseAt, Places, program}
+use Rattle.auction_cli.specs.declared.words.Method.{Method}
 use Rattle.auction_cli.specs.declared.words.SolveOpts.{SolveOpts}
 use Rattle.auction_cli.specs.declared.words.Words.{Words}
 use Rattle.auction_cli.specs.declared.words.Words.TheVariants.{Solve, Verify}
@@ -48,13 +49,13 @@ IsMistake kind = (kind ≢ DisplayHelp) × (kind ≢ DisplayVersion)
 -- clap finds a fault in the words that is no mistake: they ask for help
 abbrev pub AsksForHelp : Given → Type 0
 AsksForHelp (Ok words) =
-    (kind : ErrorKind) × IsAmong kind (fault_of program words) × (IsMistake kind → ⊥)
+    (at : Places) × (kind : ErrorKind) × IsAmong kind (fault_of (program at) words) × (IsMistake kind → ⊥)
 AsksForHelp (Err none) = ⊥
 
 -- clap finds a mistake in the words
 abbrev pub AreMistaken : List Text → Type 0
 AreMistaken words =
-    (kind : ErrorKind) × IsAmong kind (fault_of program words) × (kind ≢ OutOfMemory) × IsMistake kind
+    (at : Places) × (kind : ErrorKind) × IsAmong kind (fault_of (program at) words) × (kind ≢ OutOfMemory) × IsMistake kind
 
 -- clap finds a mistake in the words, they name no mode or no sense, or one of them is no text
 abbrev pub AreRefused : Given → Type 0
@@ -75,7 +76,7 @@ Openings = Text → Opening → Type 0
 
 -- the report that is to be checked, or to be begun at
 abbrev pub report_name : Words → Option Text
-report_name (Solve options start) = option_map string_bytes start
+report_name (Solve options start asked) = option_map string_bytes start
 report_name (Verify sparse sense name) = Some (string_bytes name)
 
 -- opening came to these bytes, where a report is named, and none was opened where none is
@@ -89,11 +90,11 @@ abbrev pub FailsToOpen : Openings → Option Text → NoReport → Type 0
 FailsToOpen reports name absent = IsSomeAnd name (λ n. reports n (Err absent))
 
 -- how a run of `solve` ends the program
-abbrev pub SolveEnd : SolveOpts → Option (List ℕ) → Option (Option (List ℕ)) → Option (List ℕ) →
+abbrev pub SolveEnd : Method → SolveOpts → Option (List ℕ) → Option (Option (List ℕ)) → Option (List ℕ) →
     Option (List ℕ) → ProgramEnd → Type 0
-SolveEnd options input start old new (Reported ended) = SolveOutcome options input start old new (Ok ended)
-SolveEnd options input start old new (Failed fault told) = SolveOutcome options input start old new (Err fault)
-SolveEnd options input start old new end = ⊥
+SolveEnd method options input start old new (Reported ended) = SolveOutcomeBy method options input start old new (Ok ended)
+SolveEnd method options input start old new (Failed fault told) = SolveOutcomeBy method options input start old new (Err fault)
+SolveEnd method options input start old new end = ⊥
 
 -- and one of `verify`
 abbrev pub VerifyEnd : Bool → Option Sense → Option (List ℕ) → Option (List ℕ) → Option (List ℕ) → Option (List ℕ) →
@@ -108,9 +109,9 @@ abbrev pub Does : Words → Option (List ℕ) → Openings → Option (List ℕ)
 Does asked input reports old new (Unopened told) =
     FailsToOpen reports (report_name asked) no_report.Unopened × Keeps old new
 Does asked input reports old new (Failed Memory told) = Keeps old new
-Does (Solve options start) input reports old new end =
+Does (Solve options start asked) input reports old new end =
     (text : Option (Option (List ℕ))) × Opens reports (option_map string_bytes start) text
-    × SolveEnd options input text old new end
+    × SolveEnd asked.method options input text old new end
 Does (Verify sparse sense name) input reports old new end =
     (text : Option (List ℕ)) × reports (string_bytes name) (Ok text) × VerifyEnd sparse sense input text old new end
 
@@ -144,8 +145,8 @@ Tells old new text Part = IsCutOff old new text
 -- why the words are refused: which modes or which senses there are, that one of them is no text, or in clap's words, which are open
 abbrev pub IsRefusal : Given → List ℕ → Type 0
 IsRefusal (Ok words) text =
-    (AskForNoMode words → text ≡ codes "usage: mode is rounds or workers\n")
-    × (AskForNoSense words → text ≡ codes "usage: sense is min or max\n")
+    (((at : Places) → AskForNoModeAt at words) → text ≡ codes "usage: mode is rounds or workers\n")
+    × (((at : Places) → AskForNoSenseAt at words) → text ≡ codes "usage: sense is min or max\n")
 IsRefusal (Err none) text = text ≡ codes "error: the words are no text\n"
 
 -- a fault's line, with its line feed

@@ -8,7 +8,7 @@ use Rattle.assign_core.specs.Assignment.{IsAssignment, IsBest}
 use Rattle.assign_core.specs.declared.outcome.Outcome.{Outcome}
 use Rattle.assign_core.specs.declared.outcome.Outcome.TheVariants.{Best, Hall}
 use Rattle.scaled_values.specs.Scaled.{ScaledProblem}
-use Rattle.rounds.specs.Outcomes.{IsOfRounds, IsProof}
+use Rattle.rounds.specs.Outcomes.{IsDecided, IsOfRounds, IsProof}
 use Rattle.async_workers.specs.declared.solving.Tally.{Tally}
 use Rattle.async_workers.specs.Solving.{IsSolved}
 use Rattle.report.specs.Lines.{report_text}
@@ -25,6 +25,8 @@ use Rattle.report.specs.declared.fault.StartFault.{StartFault}
 use Rattle.report.specs.Answers.{Answers as ReportAnswers}
 use Rattle.report.specs.Reports as reports
 use Rattle.report.specs.Starts.{HasStartFault, IsStart}
+use Rattle.auction_cli.specs.declared.words.Method.{Method}
+use Rattle.auction_cli.specs.declared.words.Method.TheVariants.{Auction, Paths}
 use Rattle.auction_cli.specs.declared.words.Mode.{Mode}
 use Rattle.auction_cli.specs.declared.words.Mode.TheVariants.{Rounds, Workers}
 use Rattle.auction_cli.specs.declared.words.SolveOpts.{SolveOpts}
@@ -52,9 +54,14 @@ abbrev pub IsOutcomeIn : Mode → ℕ → ScaledProblem → List ℤ → Outcome
 IsOutcomeIn Rounds workers s prices outcome = IsOfRounds s prices outcome
 IsOutcomeIn Workers workers s prices outcome = (told : List Tally) × IsSolved s prices workers outcome told
 
--- what the mode that is asked for comes to from these prices: with prices that prove it best, or a Hall set
-pub record IsSolution (options : SolveOpts) (rows : List Listing) (prices : List ℤ) (outcome : Outcome) : Type 0 where
-  pub mode : IsOutcomeIn options.mode options.workers (problem_under options.sense rows) prices outcome
+-- what a method comes to from these prices: the auction to what its mode comes to; shortest paths, from any prices, to an assignment exactly where there is one
+abbrev pub IsOutcomeBy : Method → SolveOpts → ScaledProblem → List ℤ → Outcome → Type 0
+IsOutcomeBy Auction options s prices outcome = IsOutcomeIn options.mode options.workers s prices outcome
+IsOutcomeBy Paths options s prices outcome = IsDecided s outcome
+
+-- what the method that is asked for comes to from these prices: with prices that prove it best, or a Hall set
+pub record IsSolution (method : Method) (options : SolveOpts) (rows : List Listing) (prices : List ℤ) (outcome : Outcome) : Type 0 where
+  pub reached : IsOutcomeBy method options (problem_under options.sense rows) prices outcome
   pub proof : IsProof (problem_under options.sense rows) outcome
   pub settled : IsSettled options.sense rows outcome
 
@@ -62,10 +69,10 @@ abbrev pub end_of : Outcome → Ended
 end_of (Best c) = Optimal
 end_of (Hall h) = Infeasible
 
--- the text reports what the mode that is asked for comes to from these prices, under the sense that is asked for, with its prices where they are
-pub record IsReportOn (options : SolveOpts) (rows : List Listing) (prices : List ℤ) (ended : Ended) (text : List ℕ) : Type 0 where
+-- the text reports what the method that is asked for comes to from these prices, under the sense that is asked for, with its prices where they are
+pub record IsReportOn (method : Method) (options : SolveOpts) (rows : List Listing) (prices : List ℤ) (ended : Ended) (text : List ℕ) : Type 0 where
   pub outcome : Outcome
-  pub solution : IsSolution options rows prices outcome
+  pub solution : IsSolution method options rows prices outcome
   pub end : ended ≡ end_of outcome
   pub told : text ≡ report_text (outcome_report rows options.sense outcome options.prices)
 
@@ -76,10 +83,10 @@ BeginsAt (Some text) rows prices =
     (report : reports.Report) × IfSome text (λ bytes. ReportAnswers bytes (Ok report)) × IsStart report (length rows) prices
 
 -- known bytes are a problem that has this report, from the first prices
-abbrev pub IsAnswer : SolveOpts → Option (List ℕ) → Option (Option (List ℕ)) → Ended → List ℕ → Type 0
-IsAnswer options input start ended text =
+abbrev pub IsAnswer : Method → SolveOpts → Option (List ℕ) → Option (Option (List ℕ)) → Ended → List ℕ → Type 0
+IsAnswer method options input start ended text =
     (rows : List Listing) × (prices : List ℤ) × IfSome input (λ bytes. Reads options.sparse bytes (Ok rows))
-    × BeginsAt start rows prices × IsReportOn options rows prices ended text
+    × BeginsAt start rows prices × IsReportOn method options rows prices ended text
 
 -- known bytes are no problem, and this is their first fault; nothing went out
 pub record IsRefused (sparse : Bool) (input old new : Option (List ℕ)) (fault : InputFault) : Type 0 where
@@ -102,21 +109,26 @@ pub record IsRefusedStart (sparse : Bool) (input text old new : Option (List ℕ
   pub unfit : HasStartFault report (length rows) fault
   pub kept : Keeps old new
 
--- what a run has read, of the problem and of the report that is named, if one is, and written, by how it ended: the report and nothing else, or a beginning of
+-- what a run by a method has read, of the problem and of the report that is named, if one is, and written, by how it ended: the report and nothing else, or a beginning of
 -- it where writing fails, or nothing
+abbrev pub SolveOutcomeBy : Method → SolveOpts → Option (List ℕ) → Option (Option (List ℕ)) → Option (List ℕ) →
+    Option (List ℕ) → Result Ended CliFault → Type 0
+SolveOutcomeBy method options input start old new (Ok ended) =
+    (text : List ℕ) × IsAnswer method options input start ended text × Appends old new text
+SolveOutcomeBy method options input start old new (Err Write) =
+    (ended : Ended) × (text : List ℕ) × IsAnswer method options input start ended text × IsCutOff old new text
+SolveOutcomeBy method options input start old new (Err (Input fault)) = IsRefused options.sparse input old new fault
+SolveOutcomeBy method options input start old new (Err (Report fault)) =
+    IsSomeAnd start (λ text. IsRefusedReport options.sparse input text old new fault)
+SolveOutcomeBy method options input start old new (Err (Start fault)) =
+    IsSomeAnd start (λ text. IsRefusedStart options.sparse input text old new fault)
+SolveOutcomeBy method options input start old new (Err Memory) = Keeps old new
+SolveOutcomeBy method options input start old new (Err (Stuck person)) = ⊥
+
+-- the same of a run by auction
 abbrev pub SolveOutcome : SolveOpts → Option (List ℕ) → Option (Option (List ℕ)) → Option (List ℕ) →
     Option (List ℕ) → Result Ended CliFault → Type 0
-SolveOutcome options input start old new (Ok ended) =
-    (text : List ℕ) × IsAnswer options input start ended text × Appends old new text
-SolveOutcome options input start old new (Err Write) =
-    (ended : Ended) × (text : List ℕ) × IsAnswer options input start ended text × IsCutOff old new text
-SolveOutcome options input start old new (Err (Input fault)) = IsRefused options.sparse input old new fault
-SolveOutcome options input start old new (Err (Report fault)) =
-    IsSomeAnd start (λ text. IsRefusedReport options.sparse input text old new fault)
-SolveOutcome options input start old new (Err (Start fault)) =
-    IsSomeAnd start (λ text. IsRefusedStart options.sparse input text old new fault)
-SolveOutcome options input start old new (Err Memory) = Keeps old new
-SolveOutcome options input start old new (Err (Stuck person)) = ⊥
+SolveOutcome options input start old new result = SolveOutcomeBy Auction options input start old new result
 
 -- 4 where the device failed or memory was refused, and 3 for a text that is refused
 abbrev pub input_status : InputFault → ℕ

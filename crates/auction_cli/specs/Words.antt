@@ -1,11 +1,12 @@
 -- Which command lines are taken, and what they choose.
-use Rattle.std.specs.Prelude.{◌≡◌, ◌≢◌, ◌≤◌, ℕ, List, [], ◌∷◌, Bool, true, false, Option, Some, None, Result, Ok, Err, codes, unwrap_or, ⊤}
+use Rattle.std.specs.Prelude.{◌≡◌, ◌≢◌, ◌≤◌, ◌↔◌, ℕ, List, [], ◌∷◌, Bool, true, false, Option, Some, None, Result, Ok, Err, codes, unwrap_or, ⊤}
+use Rattle.std.specs.Borrow.{Bor}
 use Rattle.std.specs.Option.{option_map}
 use Rattle.std.specs.String.{string_bytes}
 use Rattle.std.specs.Str.Parse.{digits_value, without_leading_plus}
 use Rattle.clap.specs.Words.{App, IsUnsignedIn, Row, Rule, Text, fault_of, first_of, IsAmong, kind_of, new_app, new_rule, one_of, subcommand_of, with_rule, with_subcommand}
 use Rattle.clap.specs.declared.builder.action.ArgAction.TheVariants.{SetTrue, Version}
-use Rattle.clap.specs.declared.builder.value_parser.ValueParser.TheVariants.{Unsigned}
+use Rattle.clap.specs.declared.builder.value_parser.ValueParser.TheVariants.{Names, Unsigned}
 use Rattle.clap.specs.declared.error.kind.ErrorKind.TheVariants.{DisplayVersion, OutOfMemory}
 use Rattle.assign_core.specs.declared.sense.Sense.{Sense}
 use Rattle.assign_core.specs.declared.sense.Sense.TheVariants.{Min, Max}
@@ -13,6 +14,9 @@ use Rattle.auction_cli.specs.declared.words.TheConstants.{MOST_WORKERS, MOST_REF
 use Rattle.auction_cli.specs.declared.words.SolveOpts.{SolveOpts}
 use Rattle.auction_cli.specs.declared.words.Words.{Words}
 use Rattle.auction_cli.specs.declared.words.Words.TheVariants.{Solve, Verify}
+use Rattle.auction_cli.specs.declared.words.Asked.{Asked}
+use Rattle.auction_cli.specs.declared.words.Method.{Method}
+use Rattle.auction_cli.specs.declared.words.Method.TheVariants.{Auction, Paths}
 use Rattle.auction_cli.specs.declared.words.Mode.{Mode}
 use Rattle.auction_cli.specs.declared.words.Mode.TheVariants.{Rounds, Workers}
 use Rattle.auction_cli.specs.declared.words.WordsFault.{WordsFault}
@@ -39,12 +43,32 @@ valued_rule name usual = record (optional_rule name) { defaults = usual ∷ [] }
 abbrev pub numbered_rule : Text → Text → ℕ → ℕ → Rule
 numbered_rule name usual least most = record (valued_rule name usual) { parser = Some (Unsigned least most) }
 
--- `solve`, but for the options on its mode
+-- and one whose value is one of these names
+abbrev pub named_rule : Text → Text → Bor (List (Bor Text)) → Rule
+named_rule name usual names = record (valued_rule name usual) { parser = Some (Names names) }
+
+-- where the names of the methods lie in memory: clap's commands have it, and no meaning rests on it
+pub record Places : Type 0 where
+  pub list : ℕ × ℕ
+  pub auction : ℕ × ℕ
+  pub paths : ℕ × ℕ
+
+abbrev pub lying : {X : Type 0} → ℕ × ℕ → X → Bor X
+lying place value = record { ref_ptr = place; now = value }
+
+-- the names of the methods
+abbrev pub method_names : Places → Bor (List (Bor Text))
+method_names at = lying at.list (lying at.auction (codes "auction") ∷ lying at.paths (codes "paths") ∷ [])
+
+abbrev pub method_rule : Places → Rule
+method_rule at = named_rule (codes "method") (codes "auction") (method_names at)
+
+-- `solve`, but for the options on its method and mode
 abbrev pub plain_solve_app : App
 plain_solve_app = with_rule (with_rule (with_rule (with_rule (new_app (codes "solve")) (flag_rule (codes "sparse"))) (flag_rule (codes "max"))) (flag_rule (codes "prices"))) start_rule
 
-abbrev pub solve_app : App
-solve_app = with_rule (with_rule (with_rule plain_solve_app (valued_rule (codes "mode") (codes "rounds"))) (numbered_rule (codes "workers") (codes "4") 1 MOST_WORKERS)) (numbered_rule (codes "refresh") (codes "1") 0 MOST_REFRESH)
+abbrev pub solve_app : Places → App
+solve_app at = with_rule (with_rule (with_rule (with_rule plain_solve_app (method_rule at)) (valued_rule (codes "mode") (codes "rounds"))) (numbered_rule (codes "workers") (codes "4") 1 MOST_WORKERS)) (numbered_rule (codes "refresh") (codes "1") 0 MOST_REFRESH)
 
 -- the name of a file, which must be given
 abbrev pub report_rule : Rule
@@ -65,8 +89,8 @@ abbrev pub bare_program : App
 bare_program = with_rule plain_program version_rule
 
 -- the program as clap sees it: `solve` and `verify` with their options are the subcommands
-abbrev pub program : App
-program = with_subcommand (with_subcommand bare_program solve_app.top) verify_app.top
+abbrev pub program : Places → App
+program at = with_subcommand (with_subcommand bare_program (solve_app at).top) verify_app.top
 
 -- a flag, by the text that clap has for its option
 pub record IsFlag (text : Option Text) (flag : Bool) : Type 0 where
@@ -94,6 +118,10 @@ sense_name Max = codes "max"
 abbrev pub NamesSense : List Row → Option Sense → Type 0
 NamesSense rows sense = first_of (codes "sense") rows ≡ option_map sense_name sense
 
+-- shortest paths just where the value of `--method` is `paths`
+abbrev pub NamesMethod : List Row → Method → Type 0
+NamesMethod rows method = (method ≡ Paths) ↔ (first_of (codes "method") rows ≡ Some (codes "paths"))
+
 -- the text that clap has for an option is a number in range, and this is the number
 pub record IsNumberFor (text : Option Text) (least most number : ℕ) : Type 0 where
   pub digits : Text
@@ -118,9 +146,9 @@ pub record ChoosesFile (rows : List Row) (lists_pairs : Bool) (wanted : Option S
 
 -- what is to be done, by a subcommand and what clap finds behind it
 abbrev pub Chooses : Option (Text × List Row) → Words → Type 0
-Chooses found (Solve options start) =
+Chooses found (Solve options start asked) =
     (rows : List Row) × (found ≡ Some (codes "solve", rows)) × ChoosesSolving rows options
-    × (option_map string_bytes start ≡ first_of (codes "start") rows)
+    × (option_map string_bytes start ≡ first_of (codes "start") rows) × NamesMethod rows asked.method
 Chooses found (Verify sparse sense report) = (rows : List Row) × (found ≡ Some (codes "verify", rows)) × ChoosesFile rows sparse sense (string_bytes report)
 
 -- `solve` is to be done, in a mode that has no such name
@@ -133,22 +161,28 @@ NamesNoSense found = (rows : List Row) × (found ≡ Some (codes "verify", rows)
 
 -- clap finds no fault in the words, and this is what they choose
 abbrev pub AskFor : List Text → Words → Type 0
-AskFor words asked = (fault_of program words ≡ []) × Chooses (subcommand_of program words) asked
+AskFor words asked = (at : Places) × (fault_of (program at) words ≡ []) × Chooses (subcommand_of (program at) words) asked
 
 -- clap finds no fault in the words, but they name no mode
+abbrev pub AskForNoModeAt : Places → List Text → Type 0
+AskForNoModeAt at words = (fault_of (program at) words ≡ []) × NamesNoMode (subcommand_of (program at) words)
+
 abbrev pub AskForNoMode : List Text → Type 0
-AskForNoMode words = (fault_of program words ≡ []) × NamesNoMode (subcommand_of program words)
+AskForNoMode words = (at : Places) × AskForNoModeAt at words
 
 -- clap finds no fault in the words, but they name no sense
+abbrev pub AskForNoSenseAt : Places → List Text → Type 0
+AskForNoSenseAt at words = (fault_of (program at) words ≡ []) × NamesNoSense (subcommand_of (program at) words)
+
 abbrev pub AskForNoSense : List Text → Type 0
-AskForNoSense words = (fault_of program words ≡ []) × NamesNoSense (subcommand_of program words)
+AskForNoSense words = (at : Places) × AskForNoSenseAt at words
 
 -- words are taken where clap finds no fault in them and the mode and the sense that they name are one, with what clap finds behind the subcommand, and else one of their faults is told; requests for help count as faults
 abbrev pub WordsOutcome : List Text → Result Words WordsFault → Type 0
 WordsOutcome words (Ok asked) = AskFor words asked
 WordsOutcome words (Err wrong.Mode) = AskForNoMode words
 WordsOutcome words (Err wrong.Sense) = AskForNoSense words
-WordsOutcome words (Err (Clap error)) = IsAmong (kind_of error) (fault_of program words) × (kind_of error ≢ OutOfMemory)
+WordsOutcome words (Err (Clap error)) = (at : Places) × IsAmong (kind_of error) (fault_of (program at) words) × (kind_of error ≢ OutOfMemory)
 WordsOutcome words (Err Memory) = ⊤
 
 -- at least one worker, and no more workers or turns than there may be
@@ -158,19 +192,24 @@ pub record HasRanges (options : SolveOpts) : Type 0 where
   pub few_turns : options.refresh ≤ MOST_REFRESH
 
 abbrev pub IsInRanges : Words → Type 0
-IsInRanges (Solve options start) = HasRanges options
+IsInRanges (Solve options start asked) = HasRanges options
 IsInRanges (Verify sparse sense report) = ⊤
 
--- a problem is to be solved with these options, and with the first prices of the report in the file of this name, if there is one
+-- a problem is to be solved by this method with these options, and with the first prices of the report in the file of this name, if there is one
+abbrev pub SolvesBy : Method → SolveOpts → Option Text → Words → Type 0
+SolvesBy method wanted name (Solve options start asked) =
+    (options ≡ wanted) × (option_map string_bytes start ≡ name) × (asked.method ≡ method)
+SolvesBy method wanted name (Verify lists_pairs sense report) = ⊥
+
+-- the same by auction
 abbrev pub Solves : SolveOpts → Option Text → Words → Type 0
-Solves wanted name (Solve options start) = (options ≡ wanted) × (option_map string_bytes start ≡ name)
-Solves wanted name (Verify lists_pairs sense report) = ⊥
+Solves wanted name asked = SolvesBy Auction wanted name asked
 
 -- what `solve` alone chooses
 abbrev pub usual_options : SolveOpts
 usual_options = record { sparse = false; mode = Rounds; workers = 4; refresh = 1; prices = false; sense = Min }
 
--- a line with every option, behind the program's name, and what it chooses
+-- a line with every option of the auction, behind the program's name, and what it chooses
 abbrev pub full_line : List Text
 full_line = codes "solve" ∷ codes "--sparse" ∷ codes "--max" ∷ codes "--prices" ∷ codes "--start" ∷ codes "report" ∷ codes "--mode" ∷ codes "workers" ∷ codes "--workers" ∷ codes "64" ∷ codes "--refresh" ∷ codes "0" ∷ []
 
@@ -179,7 +218,7 @@ full_options = record { sparse = true; mode = Workers; workers = 64; refresh = 0
 
 -- a report is to be checked: whether the problem's text lists pairs, the sense that is asked for, if any, and the name of the report's file
 abbrev pub Verifies : Bool → Option Sense → Text → Words → Type 0
-Verifies sparse wanted name (Solve options start) = ⊥
+Verifies sparse wanted name (Solve options start asked) = ⊥
 Verifies sparse wanted name (Verify lists_pairs sense report) = (lists_pairs ≡ sparse) × (sense ≡ wanted) × (string_bytes report ≡ name)
 
 -- a line of `verify` with every option, behind the program's name

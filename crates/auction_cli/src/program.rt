@@ -10,9 +10,9 @@ ghost use Rattle.auction_cli.specs.Program.{ErrorOutcome, InputOutcome, ProgramO
 ghost use Rattle.auction_cli.specs.Words.{IsInRanges, WordsOutcome};
 ghost use Rattle.auction_cli.specs.declared.words.WordsFault.TheVariants.{Clap};
 
-use crate::run::{CliFault, Ended, end_status_of, run_solve, run_solve_from, status_of};
+use crate::run::{CliFault, Ended, end_status_of, run_solve_by, status_of};
 use crate::verify::{Verified, run_verify_under};
-use crate::words::{SolveOpts, Words, WordsFault, read_words};
+use crate::words::{Method, SolveOpts, Words, WordsFault, read_words};
 use arrayvec::ArrayString;
 use assign_core::Sense;
 use async_workers::OpenGate;
@@ -152,22 +152,19 @@ fn solve<Q: Read + Drop, R: Read, W: Write, E: Write>(
     rt: &(impl Threads + Wait + Sync),
     alloc: Global,
     options: SolveOpts,
+    method: Method,
     start: Option<Q>,
     r: &mut R,
     w: &mut W,
     e: &mut E,
 ) -> ProgramEnd
     requires { 0 < options.workers }
-    ensures output { SolveEnd options (R.remaining r.old) (option_map Q.remaining start)
+    ensures output { SolveEnd method options (R.remaining r.old) (option_map Q.remaining start)
         (W.contents w.old) (W.contents w.new) result }
     ensures errors { (given : Given)
         → ErrorOutcome given (E.contents e.old) (E.contents e.new) result }
 {
-    let ended = match start {
-        None => run_solve(rt, alloc, r, w, options, &OpenGate),
-        Some(mut report) => run_solve_from(rt, alloc, r, &mut report, w, options, &OpenGate),
-    };
-    match ended {
+    match run_solve_by(rt, alloc, r, start, w, options, method, &OpenGate) {
         Ok(ended) => ProgramEnd::Reported(ended),
         Err(fault) => fail(e, fault),
     }
@@ -240,8 +237,12 @@ fn run_asked<F: Reports, R: Read, W: Write, E: Write>(
     ensures unread { InputOutcome (R.remaining r.old) (R.remaining r.new) result }
 {
     match asked {
-        Words::Solve { options, start } => match open_start(reports, start) {
-            Ok(start) => solve(rt, alloc, options, start, r, w, e),
+        Words::Solve {
+            options,
+            start,
+            asked,
+        } => match open_start(reports, start) {
+            Ok(start) => solve(rt, alloc, options, asked.method, start, r, w, e),
             Err(absent) => tell_absent(absent, e),
         },
         Words::Verify {

@@ -1,30 +1,27 @@
 // From the bytes that come in to the bytes that go out.
-ghost use Rattle.std.specs.Prelude.{◌≡◌, ℕ, ◌<◌, ◌≤◌, All, List, None, Some, IfOk, IfErr, IfSome, length};
+ghost use Rattle.std.specs.Prelude.{◌≡◌, ◌<◌, ◌≤◌, All, List, None, Some, IfOk, IfErr, IfSome, length};
 ghost use Rattle.std.specs.Arc.{arc_value};
-ghost use Rattle.assign_core.specs.Assignment.{IsAssignment, IsBest};
-ghost use Rattle.assign_core.specs.Hall.{IsHallSet};
-ghost use Rattle.assign_core.specs.Slackness.{IsCertificate};
-ghost use Rattle.rounds.specs.Outcomes.{IsProof};
+ghost use Rattle.std.specs.Option.{option_map};
+ghost use Rattle.assign_core.specs.Rows.{Listing};
+ghost use Rattle.rounds.specs.Outcomes.{IsDecided, IsProof};
 ghost use Rattle.report.specs.Reports.{IsReport};
 ghost use Rattle.report.specs.SeenReports.{seen_report};
 ghost use Rattle.report.specs.Starts.{IsFirstPrice, IsStart};
-ghost use Rattle.auction_cli.specs.Solve.{IsOutcomeIn, IsSettled, IsSolution, problem_under};
-ghost use Rattle.auction_cli.specs.inside.Solve.{HasNoStart};
-ghost use Rattle.auction_cli.specs.Solve.{Reads, SolveOutcome, end_of, end_status, status};
-ghost use Rattle.auction_cli.specs.inside.Solve.{Reports};
+ghost use Rattle.auction_cli.specs.Solve.{BeginsAt, IsOutcomeBy, IsOutcomeIn, IsSolution, problem_under};
+ghost use Rattle.auction_cli.specs.Solve.{Reads, SolveOutcome, SolveOutcomeBy, end_of, end_status, status};
+ghost use Rattle.auction_cli.specs.inside.Solve.{FailsToBegin, HasNoStart, Reports};
 
-use crate::words::{Mode, SolveOpts};
-use assign_core::{
-    Certificate, HallSet, MOST_PERSONS, Outcome, Person, Prices, Problem, Sense, SolveFault,
-};
+use crate::words::{Method, Mode, SolveOpts};
+use assign_core::{MOST_PERSONS, Outcome, Person, Prices, Problem, Sense, SolveFault};
 use async_workers::{Gate, solve_workers_from};
-use dual_checker::{HallVerdict, Verdict, check, check_hall};
+use dual_checker::confirms;
 use orlib_reader::{InputFault, read_dense, read_sparse};
 use report::{
     Report, ReportFault, StartFault, WriteFault, read_report, start_prices, write_report,
 };
 use rounds::solve_rounds_from;
 use scaled_values::{Scaled, scale};
+use shortest_paths::{solve_paths, solve_paths_from};
 use std::alloc::{AllocError, Global};
 use std::fmt;
 use std::io::{Read, Write};
@@ -168,53 +165,6 @@ pub fn read_problem<R: Read>(alloc: Global, r: &mut R, sparse: bool) -> Result<P
     }
 }
 
-// Looks with the checker whether the prices prove the assignment best, as they do.
-fn check_best(
-    alloc: Global,
-    problem: &Problem,
-    sense: Sense,
-    certificate: &Certificate,
-) -> Result<(), AllocError>
-    requires { let c = certificate.now in IsCertificate sense problem.now c.assignment c.prices }
-    ensures { IfOk result (λ _. IsBest sense problem.now certificate.now.assignment) }
-{
-    let objects = certificate.assignment.objects();
-    let prices = certificate.prices.as_slice();
-    let verdict = check(alloc, problem, sense, objects, prices)?;
-    if verdict != Verdict::Yes {
-        unreachable!();
-    }
-    Ok(())
-}
-
-// Looks with the checker whether it is a Hall set, as it is.
-fn check_none(alloc: Global, problem: &Problem, hall: &HallSet) -> Result<(), AllocError>
-    requires { IsHallSet problem.now hall.now.persons hall.now.objects }
-    ensures { IfOk result (λ _. (xs : List ℕ) → IsAssignment problem.now xs → ⊥) }
-{
-    let verdict = check_hall(alloc, problem, hall.persons(), hall.objects())?;
-    if verdict != HallVerdict::Yes {
-        unreachable!();
-    }
-    Ok(())
-}
-
-// Looks with the checkers at an outcome.
-fn check_outcome(
-    alloc: Global,
-    problem: &Problem,
-    sense: Sense,
-    outcome: &Outcome,
-) -> Result<(), AllocError>
-    requires { IsProof (problem_under sense problem.now) outcome.now }
-    ensures { IfOk result (λ _. IsSettled sense problem.now outcome.now) }
-{
-    match outcome {
-        Outcome::Best(certificate) => check_best(alloc, problem, sense, certificate),
-        Outcome::Hall(hall) => check_none(alloc, problem, hall),
-    }
-}
-
 // The problem with its benefits under a sense.
 fn shared(alloc: Global, problem: Problem, sense: Sense) -> Result<Arc<Scaled>, AllocError>
     ensures { IfOk result (λ scaled. arc_value scaled ≡ problem_under sense problem) }
@@ -250,6 +200,46 @@ fn solve_in_mode<G: Gate + Sync, T: Threads + Wait + Sync>(
     }
 }
 
+// What shortest paths come to from these first prices. Prices that are all 0 tell nothing, so the
+// search then begins at its own.
+fn solve_by_paths(alloc: Global, scaled: Arc<Scaled>, prices: Prices) -> Result<Outcome, SolveFault>
+    requires { length prices ≡ length (arc_value scaled).problem }
+    ensures proof { IfOk result (IsProof (arc_value scaled)) }
+    ensures decided { IfOk result (IsDecided (arc_value scaled)) }
+{
+    let found = if prices.as_slice().iter().all(|price| *price == 0) {
+        solve_paths(alloc, scaled)
+    } else {
+        solve_paths_from(alloc, scaled, prices)
+    };
+    match found {
+        Ok(outcome) => Ok(outcome),
+        Err(_) => Err(SolveFault::Memory),
+    }
+}
+
+// What the method comes to from these first prices.
+fn solve_by<G: Gate + Sync, T: Threads + Wait + Sync>(
+    rt: &T,
+    alloc: Global,
+    scaled: Arc<Scaled>,
+    prices: Prices,
+    options: SolveOpts,
+    method: Method,
+    gate: &G,
+) -> Result<Outcome, SolveFault>
+    requires workers { 0 < options.workers }
+    requires long { length prices ≡ length (arc_value scaled).problem }
+    requires low { All IsFirstPrice prices }
+    ensures method { IfOk result (IsOutcomeBy method options (arc_value scaled) prices) }
+    ensures proof { IfOk result (IsProof (arc_value scaled)) }
+{
+    match method {
+        Method::Auction => solve_in_mode(rt, alloc, scaled, prices, options, gate),
+        Method::Paths => solve_by_paths(alloc, scaled, prices),
+    }
+}
+
 // A problem, and what its run came to.
 #[derive(Drop)]
 struct Solved {
@@ -264,6 +254,7 @@ fn solve_checked<G: Gate + Sync, T: Threads + Wait + Sync>(
     problem: Problem,
     prices: Prices,
     options: SolveOpts,
+    method: Method,
     gate: &G,
 ) -> Result<Solved, CliFault>
     requires workers { 0 < options.workers }
@@ -272,16 +263,18 @@ fn solve_checked<G: Gate + Sync, T: Threads + Wait + Sync>(
     ensures problem { IfOk result (λ solved.
         arc_value solved.scaled ≡ problem_under options.sense problem) }
     ensures solution { IfOk result (λ solved.
-        IsSolution options problem prices solved.outcome) }
+        IsSolution method options problem prices solved.outcome) }
     ensures memory { IfErr result (λ fault. fault ≡ CliFault.Memory) }
 {
     let scaled = shared(alloc, problem, options.sense)?;
     let kept = scaled.clone()?;
-    let outcome = match solve_in_mode(rt, alloc, scaled, prices, options, gate) {
+    let outcome = match solve_by(rt, alloc, scaled, prices, options, method, gate) {
         Ok(outcome) => outcome,
         Err(_) => return Err(CliFault::Memory),
     };
-    check_outcome(alloc, kept.problem(), options.sense, &outcome)?;
+    if !confirms(alloc, kept.problem(), options.sense, &outcome)? {
+        unreachable!();
+    }
     Ok(Solved {
         scaled: kept,
         outcome,
@@ -306,21 +299,22 @@ fn report_from<G: Gate + Sync, T: Threads + Wait + Sync, W: Write>(
     prices: Prices,
     w: &mut W,
     options: SolveOpts,
+    method: Method,
     gate: &G,
 ) -> Result<Ended, CliFault>
     requires workers { 0 < options.workers }
     requires long { length prices ≡ length problem }
     requires low { All IsFirstPrice prices }
-    ensures { Reports options problem prices (W.contents w.old) (W.contents w.new) result }
+    ensures { Reports method options problem prices (W.contents w.old) (W.contents w.new) result }
 {
-    let solved = solve_checked(rt, alloc, problem, prices, options, gate)?;
+    let solved = solve_checked(rt, alloc, problem, prices, options, method, gate)?;
     let problem = solved.scaled.problem();
     write_report(w, problem, options.sense, &solved.outcome, options.prices)?;
     Ok(ended_by(&solved.outcome))
 }
 
 // The prices of a report as the first of a run with `n` objects.
-fn first_prices(alloc: Global, report: &Report, n: u16) -> Result<Prices, CliFault>
+fn report_prices(alloc: Global, report: &Report, n: u16) -> Result<Prices, CliFault>
     requires few { n ≤ MOST_PERSONS }
     requires report { IsReport (seen_report report.now) }
     ensures start { IfOk result (IsStart (seen_report report.now) n) }
@@ -329,6 +323,54 @@ fn first_prices(alloc: Global, report: &Report, n: u16) -> Result<Prices, CliFau
     let prices = start_prices(report, n)?;
     let prices = Vec::from_slice(alloc, prices)?;
     Ok(Prices::new(alloc, prices)?)
+}
+
+// The first prices of a run with `n` objects: those of a report, or 0 where there is none.
+fn first_prices<Q: Read + Drop>(alloc: Global, start: Option<Q>, n: u16) -> Result<Prices, CliFault>
+    requires few { n ≤ MOST_PERSONS }
+    ensures begun { IfOk result (λ prices. (rows : List Listing) → length rows ≡ n
+        → BeginsAt (option_map Q.remaining start) rows prices) }
+    ensures long { IfOk result (λ prices. length prices ≡ n) }
+    ensures low { IfOk result (All IsFirstPrice) }
+    ensures fault { IfErr result (FailsToBegin (option_map Q.remaining start) n) }
+{
+    match start {
+        None => Ok(Prices::zeros(alloc, n)?),
+        Some(mut start) => {
+            let report = read_report(alloc, &mut start)?;
+            report_prices(alloc, &report, n)
+        }
+    }
+}
+
+/// Reads a problem, and a report of either version where there is one for its start, and solves the
+/// problem by a method. The auction is run as `run_solve` does and `run_solve_from` does; mode,
+/// workers and refresh are its options alone.
+///
+/// By shortest paths the report that is written is on an outcome that is a proof, best exactly where
+/// there is an assignment, from whatever prices it begins. Which of several best assignments it is,
+/// and at which prices, no clause says; nothing is drawn and no thread is started, so the same bytes
+/// come from the same bytes, as tests show.
+///
+/// # Errors
+/// As `run_solve_from`; `Report` and `Start` only where there is a report for the start.
+pub fn run_solve_by<G: Gate + Sync, T: Threads + Wait + Sync, R: Read, Q: Read + Drop, W: Write>(
+    rt: &T,
+    alloc: Global,
+    r: &mut R,
+    start: Option<Q>,
+    w: &mut W,
+    options: SolveOpts,
+    method: Method,
+    gate: &G,
+) -> Result<Ended, CliFault>
+    requires { 0 < options.workers }
+    ensures { SolveOutcomeBy method options (R.remaining r.old) (option_map Q.remaining start)
+        (W.contents w.old) (W.contents w.new) result }
+{
+    let problem = read_problem(alloc, r, options.sparse)?;
+    let prices = first_prices(alloc, start, problem.n())?;
+    report_from(rt, alloc, problem, prices, w, options, method, gate)
 }
 
 /// Reads a problem, and writes the report on a best assignment, or on persons who list fewer
@@ -355,9 +397,8 @@ pub fn run_solve<G: Gate + Sync, T: Threads + Wait + Sync, R: Read, W: Write>(
     ensures { SolveOutcome options (R.remaining r.old) None
         (W.contents w.old) (W.contents w.new) result }
 {
-    let problem = read_problem(alloc, r, options.sparse)?;
-    let prices = Prices::zeros(alloc, problem.n())?;
-    report_from(rt, alloc, problem, prices, w, options, gate)
+    let start: Option<&[u8]> = None;
+    run_solve_by(rt, alloc, r, start, w, options, Method::Auction, gate)
 }
 
 /// Reads a problem and then a report, of either version, and solves the problem as `run_solve` does,
@@ -384,8 +425,6 @@ pub fn run_solve_from<G: Gate + Sync, T: Threads + Wait + Sync, R: Read, Q: Read
     ensures { SolveOutcome options (R.remaining r.old) (Some (Q.remaining start.old))
         (W.contents w.old) (W.contents w.new) result }
 {
-    let problem = read_problem(alloc, r, options.sparse)?;
-    let report = read_report(alloc, start)?;
-    let prices = first_prices(alloc, &report, problem.n())?;
-    report_from(rt, alloc, problem, prices, w, options, gate)
+    let start = Some(start);
+    run_solve_by(rt, alloc, r, start, w, options, Method::Auction, gate)
 }

@@ -1,6 +1,7 @@
 // Runs of the program and of its parts, over streams that are watched.
 mod command;
 mod faults;
+mod methods;
 mod modes;
 mod reports;
 mod schedules;

@@ -1,17 +1,17 @@
 // The command line.
-ghost use Rattle.std.specs.Prelude.{◌≡◌, ◌^◌, ℕ, [], ◌∷◌, codes, map, true, false, Option, None, Some, IfErr, IfOk, IfSome, IsErr};
+ghost use Rattle.std.specs.Prelude.{◌≡◌, ◌↔◌, ◌^◌, ℕ, [], ◌∷◌, codes, map, true, false, Option, None, Some, IfErr, IfOk, IfSome, IsErr};
 ghost use Rattle.std.specs.Option.{option_map};
 ghost use Rattle.std.specs.String.{string_bytes};
 ghost use Rattle.assign_core.specs.declared.sense.Sense.{Sense};
 ghost use Rattle.assign_core.specs.declared.sense.Sense.TheVariants.{Max, Min};
 ghost use Rattle.clap.specs.Words.{app_of, first_of, found_of, one_of, rows_of, rule_of, subcommand_rows_of, Text};
-ghost use Rattle.auction_cli.specs.Words.{Chooses, ChoosesSolving, NamesMode, NamesSense};
+ghost use Rattle.auction_cli.specs.Words.{Chooses, ChoosesSolving, NamesMethod, NamesMode, NamesSense, Places};
 ghost use Rattle.auction_cli.specs.inside.Words.{ChoosesVerifying, IsChoiceFault, NamesCommand};
 ghost use Rattle.auction_cli.specs.Words.{IsNumberFor};
 ghost use Rattle.auction_cli.specs.inside.Words.{HasNumbers, HasNumbersIfSolving, IsNumberIn};
-ghost use Rattle.auction_cli.specs.Words.{AsksForVersion, IsInRanges, IsTaken, Solves, Verifies, WordsOutcome};
+ghost use Rattle.auction_cli.specs.Words.{AsksForVersion, IsInRanges, IsTaken, Solves, SolvesBy, Verifies, WordsOutcome};
 ghost use Rattle.auction_cli.specs.inside.Words.{IsFaultOf};
-ghost use Rattle.auction_cli.specs.Words.{flag_rule, numbered_rule, plain_solve_app, program, solve_app, valued_rule, verify_app, version_rule};
+ghost use Rattle.auction_cli.specs.Words.{flag_rule, method_rule, named_rule, numbered_rule, plain_solve_app, program, solve_app, valued_rule, verify_app, version_rule};
 ghost use Rattle.auction_cli.specs.Words.{full_line, full_options, full_verify_line, is_max, mode_name, sense_name, usual_options};
 
 use assign_core::{Sense, VERSION};
@@ -39,6 +39,10 @@ const SOLVE_NOTES: &str = "Reads the problem from standard input: numbers betwee
   dense:     n, then the n costs of person 1 to objects 1 to n, those of person 2, ..
   --sparse:  n, then PERSON OBJECT COST for each pair that is allowed
 Writes the report to standard output.
+
+Methods:
+  auction  in a mode
+  paths    no use is made of --mode, --workers and --refresh
 
 Modes:
   rounds   no use is made of --workers and --refresh; the report depends on the
@@ -105,6 +109,22 @@ pub struct SolveOpts {
     pub sense: Sense,
 }
 
+/// How an answer is looked for.
+#[derive(Clone, Copy, Debug, PartialEq, Eq)]
+pub enum Method {
+    /// Persons bid for objects, in a `Mode`.
+    Auction,
+    /// Shortest augmenting paths, person by person, in one thread.
+    Paths,
+}
+
+/// What is asked for beside `SolveOpts`.
+#[derive(Clone, Copy, Debug, PartialEq, Eq)]
+pub struct Asked {
+    /// The auction or shortest paths; mode, workers and refresh are the auction's.
+    pub method: Method,
+}
+
 /// What the words ask for.
 #[derive(Debug, Drop)]
 pub enum Words {
@@ -113,6 +133,7 @@ pub enum Words {
     Solve {
         options: SolveOpts,
         start: Option<String>,
+        asked: Asked,
     },
     /// Check the report in the file of this name, which is to be of the sense that is asked for, if
     /// any; the problem's text lists pairs where `sparse`.
@@ -201,6 +222,39 @@ fn numbered<'a>(
     valued(alloc, name, value, usual, help).value_parser(ValueParser::unsigned(range.0, range.1))
 }
 
+// The names of the methods.
+static METHODS: [&str; 2] = ["auction", "paths"];
+
+// An option whose value is one of these names.
+fn named<'a>(
+    alloc: Global,
+    name: &'a str,
+    value: &'a str,
+    usual: &'a str,
+    names: &'a [&'a str],
+    help: &'a str,
+) -> Arg<'a>
+    ensures rule { rule_of result ≡ named_rule name.now usual.now names.entry }
+    ensures local { result.global ≡ false }
+{
+    valued(alloc, name, value, usual, help).value_parser(ValueParser::Names(names))
+}
+
+// The option on the method.
+fn method_option<'a>(alloc: Global) -> Arg<'a>
+    ensures rule { (at : Places) × (rule_of result ≡ method_rule at) }
+    ensures local { result.global ≡ false }
+{
+    named(
+        alloc,
+        "method",
+        "METHOD",
+        "auction",
+        METHODS.as_slice(),
+        "Solve by an auction, or by shortest paths, which make no use of --mode, --workers and --refresh",
+    )
+}
+
 // The subcommand `solve`, but for the options on its mode.
 fn plain_solve_command<'a>(alloc: Global) -> Result<Command<'a>, AllocError>
     ensures { IfOk result (λ c. app_of c ≡ plain_solve_app) }
@@ -232,7 +286,7 @@ fn plain_solve_command<'a>(alloc: Global) -> Result<Command<'a>, AllocError>
 
 // The subcommand `solve`.
 fn solve_command<'a>(alloc: Global) -> Result<Command<'a>, AllocError>
-    ensures { IfOk result (λ c. app_of c ≡ solve_app) }
+    ensures { IfOk result (λ c. (at : Places) × (app_of c ≡ solve_app at)) }
 {
     let mode = valued(
         alloc,
@@ -258,6 +312,7 @@ fn solve_command<'a>(alloc: Global) -> Result<Command<'a>, AllocError>
         "After how many turns a worker takes the newest prices, 0 to 1000000; 0: only after a bid that was too low",
     );
     plain_solve_command(alloc)?
+        .arg(method_option(alloc))?
         .arg(mode)?
         .arg(workers)?
         .arg(refresh)
@@ -295,7 +350,7 @@ fn version_flag<'a>(alloc: Global) -> Arg<'a>
 
 // The program's command with its subcommands. clap's own option for the version has a short name.
 fn command<'a>(alloc: Global) -> Result<Command<'a>, AllocError>
-    ensures { IfOk result (λ c. app_of c ≡ program) }
+    ensures { IfOk result (λ c. (at : Places) × (app_of c ≡ program at)) }
 {
     let solve = solve_command(alloc)?;
     let verify = verify_command(alloc)?;
@@ -328,6 +383,17 @@ fn named_mode(name: &str) -> Option<Mode>
         Some(Mode::Workers)
     } else {
         None
+    }
+}
+
+// Shortest paths where this is their name.
+fn named_method(name: &str) -> Method
+    ensures { (result ≡ Method.Paths) ↔ (name.now ≡ codes "paths") }
+{
+    if name == "paths" {
+        Method::Paths
+    } else {
+        Method::Auction
     }
 }
 
@@ -373,6 +439,16 @@ fn solve_options(solve: &ArgMatches<'_>, mode: Mode) -> SolveOpts
     }
 }
 
+// The method that is named: clap takes no other name than these two.
+fn chosen_method(solve: &ArgMatches<'_>) -> Method
+    ensures { NamesMethod (rows_of (found_of solve.now)) result }
+{
+    match solve.get_str("method") {
+        Some(name) => named_method(name),
+        None => Method::Auction,
+    }
+}
+
 // The file whose prices are to be the first.
 fn start_name(alloc: Global, solve: &ArgMatches<'_>) -> Result<Option<String>, AllocError>
     ensures { IfOk result (λ name. option_map string_bytes name
@@ -394,6 +470,9 @@ fn solve_words(alloc: Global, solve: &ArgMatches<'_>) -> Result<Words, WordsFaul
     Ok(Words::Solve {
         options: solve_options(solve, mode),
         start: start_name(alloc, solve)?,
+        asked: Asked {
+            method: chosen_method(solve),
+        },
     })
 }
 
@@ -493,6 +572,9 @@ pub fn read_words<'a, S: AsStr>(alloc: Global, words: &'a [S]) -> Result<Words, 
         → IsTaken (Solves usual_options None) result }
     ensures options { (name : Text) → map S.text words.entry.now ≡ name ∷ full_line
         → IsTaken (Solves full_options (Some (codes "report"))) result }
+    ensures method { (name : Text) → map S.text words.entry.now
+        ≡ name ∷ codes "solve" ∷ codes "--method" ∷ codes "paths" ∷ []
+        → IsTaken (SolvesBy Method.Paths usual_options None) result }
     ensures verify { (name : Text) → map S.text words.entry.now
         ≡ name ∷ codes "verify" ∷ codes "--sparse" ∷ codes "report" ∷ []
         → IsTaken (Verifies true None (codes "report")) result }

@@ -164,7 +164,7 @@ fn cost_line(text: &[u8]) -> &[u8] {
 }
 
 // The report of a run that ends with an assignment, and else nothing.
-fn report_of(
+pub fn report_of(
     rt: &(impl Threads + Wait + Sync),
     alloc: Global,
     line: &str,
@@ -196,7 +196,7 @@ fn same_cost(
 }
 
 // The texts of a drawn problem, and of one with another cost at one place.
-fn neighbours_of(alloc: Global, seed: &mut u64) -> Result<(String, String), AllocError> {
+pub fn neighbours_of(alloc: Global, seed: &mut u64) -> Result<(String, String), AllocError> {
     let n = (next_number(seed) % 8) as u8 + 1;
     let mut costs = draw_costs(alloc, n, seed)?;
     let before = dense_text(alloc, n, costs.as_slice())?;
@@ -209,7 +209,7 @@ fn neighbours_of(alloc: Global, seed: &mut u64) -> Result<(String, String), Allo
 }
 
 // The words of a run from zeros, and of one from its prices.
-const PAIRS: [(&str, &str); 4] = [
+const PAIRS: [(&str, &str); 6] = [
     ("solve --prices", "solve --start report"),
     ("solve --prices --max", "solve --max --start report"),
     (
@@ -219,6 +219,11 @@ const PAIRS: [(&str, &str); 4] = [
     (
         "solve --prices --max --mode=workers",
         "solve --max --start=report --mode=workers --refresh=0",
+    ),
+    ("solve --prices", "solve --method paths --start report"),
+    (
+        "solve --prices --max --method paths",
+        "solve --max --start=report --method=paths",
     ),
 ];
 

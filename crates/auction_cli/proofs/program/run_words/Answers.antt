@@ -1,20 +1,34 @@
-use Rattle.std.proofs.Common.{Ok, codes, map, refl}
+use Rattle.std.proofs.Common.{Err, Ok, codes, inl, map, refl, subst}
+use Rattle.auction_cli.specs.Words.{WordsOutcome}
+use Rattle.auction_cli.specs.declared.words.WordsFault.{WordsFault}
 use Rattle.auction_cli.proofs.CommandLines.{no_mode_or_sense}
 use Rattle.auction_cli.proofs.program.run_words.Goals as goal
 
 pub returns-in-Ok-clause-errors : goal.returns-in-Ok-clause-errors
 returns-in-Ok-clause-errors g c = c.run_asked.ensures.errors (Ok (map g.S.AsStr.text c.args.words.now))
 
+pub returns-in-Err-Clap-clause-output : goal.returns-in-Err-Clap-clause-output
+returns-in-Err-Clap-clause-output g c =
+    let words = map g.S.AsStr.text c.args.words.now in
+    inl (c.refuse.ensures.output words (subst (λ (fault : WordsFault). WordsOutcome words (Err fault)) c.in-Err-Clap.field-0-is c.in-Err-Clap.ensures.outcome))
+
+pub returns-in-Err-Clap-clause-errors : goal.returns-in-Err-Clap-clause-errors
+returns-in-Err-Clap-clause-errors g c =
+    let words = map g.S.AsStr.text c.args.words.now in
+    c.refuse.ensures.errors words (subst (λ (fault : WordsFault). WordsOutcome words (Err fault)) c.in-Err-Clap.field-0-is c.in-Err-Clap.ensures.outcome)
+
 pub returns-in-Err-Mode-clause-errors : goal.returns-in-Err-Mode-clause-errors
-returns-in-Err-Mode-clause-errors g c = (
-  codes "usage: mode is rounds or workers\n",
-  ((λ m. refl), (λ s. absurd (no_mode_or_sense _ c.in-Err-Mode.ensures.outcome s))),
-  c.tell.ensures,
-)
+returns-in-Err-Mode-clause-errors g c =
+    let none = c.in-Err-Mode.ensures.outcome in (
+      codes "usage: mode is rounds or workers\n",
+      ((λ m. refl), (λ s. absurd (no_mode_or_sense none.0 _ none.1 (s none.0)))),
+      c.tell.ensures,
+    )
 
 pub returns-in-Err-Sense-clause-errors : goal.returns-in-Err-Sense-clause-errors
-returns-in-Err-Sense-clause-errors g c = (
-  codes "usage: sense is min or max\n",
-  ((λ m. absurd (no_mode_or_sense _ m c.in-Err-Sense.ensures.outcome)), (λ s. refl)),
-  c.tell-in-Err-Sense.ensures,
-)
+returns-in-Err-Sense-clause-errors g c =
+    let none = c.in-Err-Sense.ensures.outcome in (
+      codes "usage: sense is min or max\n",
+      ((λ m. absurd (no_mode_or_sense none.0 _ (m none.0) none.1)), (λ s. refl)),
+      c.tell-in-Err-Sense.ensures,
+    )
