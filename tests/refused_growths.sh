@@ -74,12 +74,12 @@ try_all "$work/three_persons" solve --sparse --prices
 printf '2 1 1 9 1 1 3 1 2 4 2 1 5 2 2 8' > "$work/twice"
 try_all "$work/twice" solve --sparse --prices
 for input in "$work/one_person" "$top/examples/two_persons.txt" "$top/examples/eight_persons.txt"; do
-    try_all_but 0 "$input" solve --method paths --prices
+    try_all_but 2 "$input" solve --method paths --prices
 done
-try_all_but 0 "$work/three_persons" solve --sparse --method paths
-try_all_but 0 "$top/examples/roster.txt" solve --sparse --max --method paths
+try_all_but 2 "$work/three_persons" solve --sparse --method paths
+try_all_but 2 "$top/examples/roster.txt" solve --sparse --max --method paths
 "$program" solve --prices < "$top/examples/two_persons.txt" > "$work/report"
-try_all_but 0 "$top/examples/two_persons.txt" solve --method paths --start "$work/report"
+try_all_but 2 "$top/examples/two_persons.txt" solve --method paths --start "$work/report"
 try_all "$top/examples/two_persons.txt" verify "$work/report"
 "$program" solve --sparse < "$top/examples/short_roster.txt" > "$work/refusal" || true
 try_all "$top/examples/short_roster.txt" verify --sparse "$work/refusal"

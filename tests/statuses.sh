@@ -121,7 +121,7 @@ firsts 2 '' "error: invalid value '1000001' for '--refresh <R>': 1000001 is not 
 for method in path Paths rounds; do
     firsts 2 '' "error: invalid value '$method' for '--method <METHOD>'" solve --method $method
 done
-"$program" solve --method path < /dev/null 2>&1 | grep -q 'possible values: auction, paths' || { echo "the methods aren't listed"; failed=$((failed + 1)); }
+compare 'the methods that there are' '  [possible values: auction, paths]' "$(sed -n 2p "$work/err")"
 firsts 2 '' "error: the argument '--method <METHOD>' cannot be used multiple times" solve --method paths --method auction
 firsts 2 '' 'error: the following required arguments were not provided:' verify
 firsts 2 '' "error: 'auction_cli' requires a subcommand but one was not provided"
