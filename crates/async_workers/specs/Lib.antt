@@ -6,3 +6,4 @@ pub mod Hand
 pub mod Session
 pub mod Turns
 pub mod Solving
+pub mod Pauses

@@ -5,6 +5,7 @@
 mod alone;
 mod boxed;
 mod gate;
+mod pause;
 mod place;
 mod rule;
 mod solving;

@@ -7,6 +7,7 @@ ghost use Rattle.async_workers.specs.Turns.{CanTurn};
 
 mod beside;
 mod drawn;
+mod pauses;
 mod problems;
 mod whole_runs;
 mod worked;

@@ -5,35 +5,19 @@ ghost use Rattle.async_workers.specs.Solving.{HasWorked, IsLastTurn, IsMemory, d
 ghost use Rattle.async_workers.specs.Turns.{CanTurn, WorksOn};
 
 use crate::gate::{Gate, Turn, TurnFault};
+use crate::pause::FIRST_PAUSE;
 use crate::place::{BookPlace, Desk, ask_stop, turn};
 use crossbeam_utils::CachePadded;
 use std::alloc::{AllocError, Global};
 use std::sync::Wait;
 use std::thread;
 use std::thread::{Parker, Threads};
-use std::time::Duration;
 
 /// A desk, and the fault that its worker met.
 #[derive(Drop)]
 pub struct Worker {
     pub desk: Desk,
     pub fault: Option<TurnFault>,
-}
-
-/// So many times in a row a worker that finds nobody to claim lets other threads run. From then on
-/// it sleeps between its turns, so that it neither burns a core nor keeps the book from the others.
-const YIELDS: u32 = 4;
-
-const SLEEP_MICROS: u64 = 50;
-
-// A worker that found nobody to claim for so many turns waits a little. One turn more.
-fn pause<R: Wait>(rt: &R, parker: &Parker, idle: u32) -> u32 {
-    if idle < YIELDS {
-        thread::yield_now();
-    } else {
-        parker.park_timeout(rt, Duration::from_micros(SLEEP_MICROS));
-    }
-    idle.saturating_add(1)
 }
 
 // A worker's turns, until one ends its run. The fault, if there was one.
@@ -52,11 +36,14 @@ fn take_turns<G: Gate, R: Wait>(
     ensures last { (before : DeskData) × IsLastTurn refresh before desk.new result }
 {
     let parker = Parker::new();
-    let mut idle = 0;
+    let mut pause = FIRST_PAUSE;
     for _ in rt.forever() {
         match turn(rt, alloc, place, desk, refresh, gate) {
-            Ok(Turn::Claimed) => idle = 0,
-            Ok(Turn::Idle) => idle = pause(rt, &parker, idle),
+            Ok(Turn::Claimed) => pause = FIRST_PAUSE,
+            Ok(Turn::Idle) => {
+                pause.wait(rt, &parker);
+                pause = pause.longer();
+            }
             Ok(Turn::Done) => return None,
             Ok(Turn::Refuted) => return None,
             Ok(Turn::Stopped) => return None,
