@@ -28,7 +28,7 @@ nothing_or wanted.Cost = inr (λ e. cc)
 nothing_or (wanted.Index n) = inr (λ e. cc)
 nothing_or wanted.Nothing = inl refl
 
-begun_is : (w : Wanted) (at b : ℕ) → IsOpen w → begun_where w at b ≡ Ok (begun at b)
+pub begun_is : (w : Wanted) (at b : ℕ) → IsOpen w → begun_where w at b ≡ Ok (begun at b)
 begun_is wanted.Size at b h = refl
 begun_is wanted.Cost at b h = refl
 begun_is (wanted.Index n) at b h = refl

@@ -4,3 +4,4 @@ pub mod Numbers
 pub mod Grammar
 pub mod Gathered
 pub mod Taking
+pub mod Runs

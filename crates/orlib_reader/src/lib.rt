@@ -27,7 +27,7 @@ use pairs::Pairs;
 use std::alloc::Global;
 use std::io::Read;
 
-// The problem that a text gives, taken byte by byte. Each turn takes a byte at least, so that the
+// The problem that a text gives, taken block by block. Each turn takes a byte at least, so that the
 // turns suffice for every text within the limit.
 fn read_all<R: Read>(pairs: Pairs, r: &mut R) -> Result<Problem, InputFault>
     requires { found_in pairs ≡ [] }

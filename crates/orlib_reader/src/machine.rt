@@ -1,7 +1,7 @@
-// Takes a text byte by byte.
-ghost use Rattle.std.specs.Prelude.{◌≡◌, ◌≤◌, ◌+◌, [], Ok, OnOk, length};
-ghost use Rattle.orlib_reader.specs.Texts.{Gives, Meets};
-ghost use Rattle.orlib_reader.specs.inside.Steps.{State, step, after, start, finished};
+// Takes a text: a token with its digits at once where it begins within a block, else byte by byte.
+ghost use Rattle.std.specs.Prelude.{◌≡◌, ◌<◌, ◌≤◌, ◌+◌, [], Ok, IfErr, IfOk, IsTrue, OnOk, length};
+ghost use Rattle.orlib_reader.specs.Texts.{Fails, Gives, Meets};
+ghost use Rattle.orlib_reader.specs.inside.Steps.{State, Begins, HasTaken, step, after, start, finished};
 ghost use Rattle.orlib_reader.specs.inside.Held.{layout_in, found_in};
 
 use super::fault::InputFault;
@@ -76,7 +76,55 @@ impl Machine {
         Ok(())
     }
 
-    // Takes these bytes, one after the other.
+    // Whether a token begins with the first of these bytes, and the limit is behind the last of them.
+    fn begins_token(&self, bytes: &[u8]) -> bool
+        requires { 0 < length bytes.now }
+        ensures { IsTrue result → Begins self.now bytes.now }
+    {
+        self.token.is_none()
+            && !is_white(bytes[0])
+            && bytes.len() as u64 <= TEXT_LIMIT - self.at
+            && !self.pairs.are_complete()
+    }
+
+    // Takes the token that begins with these bytes, with its digits, and the white byte behind
+    // these, if it comes. How many bytes that are.
+    fn feed_token(&mut self, bytes: &[u8]) -> Result<usize, InputFault>
+        requires { Begins self.old bytes.now }
+        ensures taken { IfOk result (HasTaken self.old self.new bytes.now) }
+        ensures fault { IfErr result (λ e. Fails e (after (Ok self.old) bytes.now)) }
+        ensures bound { self.new.at ≤ TEXT_LIMIT }
+    {
+        let (token, digits) = OpenToken::begin(self.at, bytes[0]).go_on_by_digits(
+            bytes.split_at(1).1,
+        );
+        let count = digits + 1;
+        if count < bytes.len() && is_white(bytes[count]) {
+            self.pairs.take(token)?;
+            self.at += count as u64 + 1;
+            return Ok(count + 1);
+        }
+        self.token = Some(token);
+        self.at += count as u64;
+        Ok(count)
+    }
+
+    // Takes the token that begins with these bytes, or else the first of them. How many bytes that
+    // are.
+    fn feed_some(&mut self, bytes: &[u8]) -> Result<usize, InputFault>
+        requires { 0 < length bytes.now }
+        ensures taken { IfOk result (HasTaken self.old self.new bytes.now) }
+        ensures fault { IfErr result (λ e. Fails e (after (Ok self.old) bytes.now)) }
+        ensures bound { self.new.at ≤ TEXT_LIMIT }
+    {
+        if self.begins_token(bytes) {
+            return self.feed_token(bytes);
+        }
+        self.feed(bytes[0])?;
+        Ok(1)
+    }
+
+    // Takes these bytes.
     pub fn feed_all(&mut self, bytes: &[u8]) -> Result<(), InputFault>
         ensures after { Gives (λ _. self.new) result (after (Ok self.old) bytes.now) }
         ensures layout { OnOk result (self.new.layout ≡ self.old.layout) }
@@ -86,8 +134,10 @@ impl Machine {
         // That the bytes so far are within the limit, also before the first of these, follows from
         // this look at them.
         let _bytes_so_far = self.at;
-        for b in bytes {
-            self.feed(*b)?;
+        let mut taken = 0;
+        while taken < bytes.len() {
+            let rest = bytes.split_at(taken).1;
+            taken += self.feed_some(rest)?;
         }
         Ok(())
     }

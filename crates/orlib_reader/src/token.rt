@@ -1,12 +1,14 @@
 // A token, taken byte by byte, and the number that it is.
-ghost use Rattle.std.specs.Prelude.{◌≡◌, ◌≤◌, pos, true, false, IfOk, IsTrue, MatchOption, MatchResult};
+ghost use Rattle.std.specs.Prelude.{◌≡◌, ◌≤◌, ◌+◌, ℕ, ℤ, List, Ok, drop, length, pos, true, false, IfOk, IsTrue, MatchOption, MatchResult};
 ghost use Rattle.assign_core.specs.Numbered.{IsNumber};
 ghost use Rattle.assign_core.specs.Rows.{IsCost, IsSize};
 ghost use Rattle.orlib_reader.specs.Tokens.{is_space};
 ghost use Rattle.orlib_reader.specs.Numbers.{Tells, is_among, judged_number};
 ghost use Rattle.orlib_reader.specs.Numbers;
 ghost use Rattle.orlib_reader.specs.Wanted;
-ghost use Rattle.orlib_reader.specs.inside.Steps.{begun, continued, token_number};
+ghost use Rattle.orlib_reader.specs.inside.Steps.{after, begun, continued, token_number, within_token};
+ghost use Rattle.orlib_reader.specs.declared.layout.Layout.{Layout};
+ghost use Rattle.orlib_reader.specs.declared.machine.TheConstants.{TEXT_LIMIT};
 
 use super::fault::InputFault;
 use assign_core::{Cost, GREATEST_COST, MOST_PERSONS};
@@ -70,6 +72,28 @@ impl OpenToken {
                 value: self.value,
             }
         }
+    }
+
+    // The token with the digits that come next, and how many of them there are.
+    pub fn go_on_by_digits(self, bytes: &[u8]) -> (OpenToken, usize)
+        requires { self.value ≤ VALUE_LIMIT }
+        ensures count { result.1 ≤ length bytes.now }
+        ensures after { (layout : Layout) (at : ℕ) (found : List ℤ)
+            → at + length bytes.now ≤ TEXT_LIMIT
+            → after (Ok (within_token layout (at + result.1) result.0 found))
+            (drop result.1 bytes.now)
+            ≡ after (Ok (within_token layout at self found)) bytes.now }
+        ensures bound { result.0.value ≤ VALUE_LIMIT }
+    {
+        let mut token = self;
+        for i in 0..bytes.len() {
+            let b = bytes[i];
+            if !b.is_ascii_digit() {
+                return (token, i);
+            }
+            token = token.go_on(b);
+        }
+        (token, bytes.len())
     }
 
     // The number that the token is, or that it is none.

@@ -1,5 +1,5 @@
 -- The same texts, taken byte by byte.
-use Rattle.std.specs.Prelude.{ℕ, ◌+◌, ◌-◌, ◌*◌, ℤ, List, [], ◌∷◌, ◌++◌, Option, None, Some, Result, Ok, Err, nat_le, ◌==◌, if◌then◌else◌, true, false, min, IfSome, ◌≤◌, length}
+use Rattle.std.specs.Prelude.{ℕ, ◌+◌, ◌-◌, ◌*◌, ℤ, List, [], ◌∷◌, ◌++◌, Option, None, Some, Result, Ok, Err, nat_le, ◌==◌, if◌then◌else◌, true, false, min, IfSome, ◌≡◌, ◌<◌, ◌≤◌, length, drop, get_or}
 use Rattle.orlib_reader.specs.Tokens.{is_space}
 use Rattle.orlib_reader.specs.Numbers.{is_digit, is_sign, signed, judged_number}
 use Rattle.orlib_reader.specs.Texts.{wanted_in, ended, and_then}
@@ -84,3 +84,23 @@ pub record IsUnderway (at : ℕ) (token : Option OpenToken) (found : List ℤ) :
   pub near : at ≤ TEXT_LIMIT
   pub value : IfSome token (λ t. t.value ≤ VALUE_LIMIT)
   pub count : length found + open_count token ≤ at
+
+-- where the reader is in a token
+abbrev pub within_token : Layout → ℕ → OpenToken → List ℤ → State
+within_token layout at token found = record { layout = layout; at = at; token = Some token; found = found }
+
+-- a token begins with the first of these bytes, and the limit is behind the last of them
+pub record Begins (s : State) (bytes : List ℕ) : Type 0 where
+  pub some : 0 < length bytes
+  pub near : s.at + length bytes ≤ TEXT_LIMIT
+  pub none_open : s.token ≡ None
+  pub wanted : wanted_in s.layout s.found ≡ wanted.Nothing → ⊥
+  pub dark : is_space (get_or bytes 0 0) ≡ false
+
+-- so many of these bytes are taken: what is left leads to where all of them do
+pub record HasTaken (old new : State) (bytes : List ℕ) (count : ℕ) : Type 0 where
+  pub some : 0 < count
+  pub few : count ≤ length bytes
+  pub after_rest : after (Ok new) (drop count bytes) ≡ after (Ok old) bytes
+  pub layout : new.layout ≡ old.layout
+  pub at : new.at ≡ old.at + count
