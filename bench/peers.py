@@ -4,10 +4,11 @@
 bench/peers.py [PROGRAM] at the top of the repository, after `rt run` built the program and c/build.sh the library. Of the
 others it takes those that it finds, and says which: SciPy where python3 has it, LEMON and dlib where c++ finds their headers
 (in Debian python3-scipy, liblemon-dev, libdlib-dev). It writes its inputs below bench/out. Solvers take turns, and of each
-the least of three times counts; all find the same cost, or it stops. Prints a table: seconds by the clock, of whole runs
-(reading and printing included) and of solving alone, when the costs lie in memory.
+the least of three times counts; all find the same cost, or it stops. It prints two tables of seconds, of processor time and
+by the clock: of a whole run, reading and printing included, and in brackets of solving alone, when the costs lie in memory.
 """
 import os
+import resource
 import subprocess
 import sys
 import time
@@ -53,23 +54,46 @@ def cost_told(printed):
     return next(int(line.split()[1]) for line in printed.decode().splitlines() if line.startswith("cost"))
 
 
+class Times:
+    """The least seconds that a solver took: of whole runs by the clock and of processor time, and of solving alone."""
+
+    def __init__(self):
+        self.told = {}
+
+    def take(self, **seconds):
+        for kind, taken in seconds.items():
+            self.told[kind] = min(taken, self.told.get(kind, taken))
+
+    def shown(self, measure):
+        forms = (("whole_" + measure, "{:.3f}"), ("alone_" + measure, "({:.3f})"))
+        return " ".join(form.format(self.told[kind]) for kind, form in forms if kind in self.told)
+
+
+def of_children():
+    used = resource.getrusage(resource.RUSAGE_CHILDREN)
+    return used.ru_utime + used.ru_stime
+
+
 def whole_run(words):
-    """A solver that is a program: seconds of the whole run; of solving alone too, where it tells them."""
-    def run(path, _):
+    """A solver that is a program. A peer tells the processor time of solving alone."""
+    def run(path, _, times):
         with open(path) as text:
-            begin = time.perf_counter()
+            clock, processor = time.perf_counter(), of_children()
             ran = subprocess.run(words, stdin=text, stdout=subprocess.PIPE, stderr=subprocess.PIPE, check=True)
-            gone = time.perf_counter() - begin
-        return cost_told(ran.stdout), gone, float(ran.stderr) if ran.stderr else None
+            times.take(whole_clock=time.perf_counter() - clock, whole_processor=of_children() - processor)
+        if ran.stderr:
+            times.take(alone_processor=float(ran.stderr))
+        return cost_told(ran.stdout)
     return run
 
 
 def solve_alone(solve):
     """A solver that is a call."""
-    def run(_, costs):
-        begin = time.perf_counter()
+    def run(_, costs, times):
+        clock, processor = time.perf_counter(), time.process_time()
         cost = solve(costs)
-        return cost, None, time.perf_counter() - begin
+        times.take(alone_clock=time.perf_counter() - clock, alone_processor=time.process_time() - processor)
+        return cost
     return run
 
 
@@ -124,22 +148,25 @@ def solvers(is_sparse, lemon, dlib):
     return found
 
 
-def least(times):
-    told = [seconds for seconds in times if seconds is not None]
-    return f"{min(told):.3f}" if told else ""
-
-
 def measure(what, path, is_sparse, lemon, dlib):
+    """The times of each solver that takes this problem."""
     costs = Costs(path, is_sparse) if scipy else None
     times, answers = {}, set()
     for _ in range(REPEATS):
         for name, run in solvers(is_sparse, lemon, dlib):
-            cost, whole, alone = run(path, costs)
-            answers.add(cost)
-            times.setdefault(name, []).append((whole, alone))
+            answers.add(run(path, costs, times.setdefault(name, Times())))
     assert len(answers) == 1, (what, answers)
-    for name, runs in times.items():
-        print(f"| {what} | {name} | {least(whole for whole, _ in runs)} | {least(alone for _, alone in runs)} |", flush=True)
+    return times
+
+
+def table(measured, measure):
+    """A line a solver, a column a problem."""
+    names = list(dict.fromkeys(name for times in measured.values() for name in times))
+    yield "| seconds " + ("of processor time" if measure == "processor" else "by the clock") + " | " + " | ".join(measured) + " |"
+    yield "|---" * (len(measured) + 1) + "|"
+    for name in names:
+        shown = [times[name].shown(measure) if name in times else "" for times in measured.values()]
+        yield f"| {name} | " + " | ".join(shown) + " |"
 
 
 def main():
@@ -148,10 +175,12 @@ def main():
     there = [f"SciPy {scipy.__version__}"] if scipy else []
     there += [name for name, program in (("LEMON", lemon), ("dlib", dlib)) if program]
     print("found:", ", ".join(there) or "no peer", f"; load {os.getloadavg()[0]:.1f} on {os.cpu_count()} processors")
-    print("\n| problem | solver | whole run | solving alone |\n|---|---|---|---|")
+    measured = {}
     for what, (maker, *words), is_sparse in PROBLEMS:
         path = problem("_".join(["peers", *words]) + ".txt", *words, maker=maker)
-        measure(what, path, is_sparse, lemon, dlib)
+        measured[what] = measure(what, path, is_sparse, lemon, dlib)
+    for kind in "processor", "clock":
+        print("", *table(measured, kind), sep="\n")
 
 
 if __name__ == "__main__":

@@ -1,9 +1,9 @@
-/* Reads a problem's text (docs/FORMATS.md) for the peers: the pairs, and the time that solving takes. */
-#include <chrono>
+/* Reads a problem's text (docs/FORMATS.md) for the peers, and takes the time that solving takes. */
 #include <cstdint>
 #include <cstdio>
 #include <cstdlib>
 #include <cstring>
+#include <ctime>
 #include <iostream>
 #include <iterator>
 #include <string>
@@ -38,14 +38,14 @@ struct Text {
     }
 };
 
-/* Prints the cost, and the seconds since it was made on standard error. */
+/* Prints the cost, and on standard error the seconds of processor time since it was made. */
 class Watch {
-    std::chrono::steady_clock::time_point begin = std::chrono::steady_clock::now();
+    std::clock_t begin = std::clock();
 
 public:
     void tell(int64_t cost) const {
-        std::chrono::duration<double> gone = std::chrono::steady_clock::now() - begin;
+        double gone = static_cast<double>(std::clock() - begin) / CLOCKS_PER_SEC;
         std::printf("cost %lld\n", static_cast<long long>(cost));
-        std::fprintf(stderr, "%.6f\n", gone.count());
+        std::fprintf(stderr, "%.6f\n", gone);
     }
 };
