@@ -1,6 +1,6 @@
 #!/usr/bin/env python3
-"""Times the Python package, beside the bare call of the library and, where it is there, SciPy: seconds, the least of three or ten
-runs in turns. Wants c/out/libnushbaret.so; PYTHONPATH=python."""
+"""Times the Python package, beside the bare call of the library and, where it is there, SciPy: seconds of processor time, the least
+of three or ten runs in turns. Wants c/out/libnushbaret.so; PYTHONPATH=python."""
 import random
 import time
 from array import array
@@ -31,21 +31,25 @@ def measure(what, runs, times=3):
     least = {}
     for _ in range(times):
         for name, run in runs:
-            begin = time.perf_counter()
+            begin = time.process_time()
             run()
-            least[name] = min(time.perf_counter() - begin, least.get(name, 1e9))
+            least[name] = min(time.process_time() - begin, least.get(name, 1e9))
     print(what, *(f"{name} {seconds:.4f}" for name, seconds in least.items()), sep="; ")
 
 
 def compare(what, n, most, count, times=3):
     flat, rows = drawn(n, most)
+    floats = [list(map(float, row)) for row in rows]
+    hundredths = [[cost / 100 for cost in row] for row in rows]
     calls = [("library alone", lambda: bare(flat, n)), ("solve, lists", lambda: nushbaret.solve(rows)),
-             ("linear_sum_assignment, lists", lambda: nushbaret.linear_sum_assignment(rows))]
+             ("linear_sum_assignment, lists", lambda: nushbaret.linear_sum_assignment(rows)),
+             ("lists of floats", lambda: nushbaret.linear_sum_assignment(floats)),
+             ("lists of hundredths", lambda: nushbaret.linear_sum_assignment(hundredths))]
     if np:
-        whole, floats = np.array(rows), np.array(rows, float)
+        whole, reals = np.array(rows), np.array(rows, float)
         calls += [("linear_sum_assignment, int64", lambda: nushbaret.linear_sum_assignment(whole)),
-                  ("linear_sum_assignment, float64", lambda: nushbaret.linear_sum_assignment(floats)),
-                  ("SciPy, int64", lambda: linear_sum_assignment(whole)), ("SciPy, float64", lambda: linear_sum_assignment(floats))]
+                  ("linear_sum_assignment, float64", lambda: nushbaret.linear_sum_assignment(reals)),
+                  ("SciPy, int64", lambda: linear_sum_assignment(whole)), ("SciPy, float64", lambda: linear_sum_assignment(reals))]
     measure(what, [(name, lambda call=call: [call() for _ in range(count)]) for name, call in calls], times)
 
 
