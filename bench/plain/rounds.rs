@@ -29,7 +29,7 @@ struct Auction<P> {
 /// An object and a level, if some object is worth the floor.
 type Offer<P> = Option<(usize, P)>;
 
-const LEAST_PAIRS: usize = 1 << 16;
+const LEAST_PAIRS: usize = 1 << 21;
 
 impl<P: Price> Auction<P> {
     fn offer(&self, person: usize) -> Offer<P> {

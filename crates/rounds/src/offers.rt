@@ -14,9 +14,9 @@ use std::thread::Threads;
 /// A round is cut into pieces of so many listed pairs or more, each for a thread of its own, where
 /// it has at least four times as many; a smaller one is computed by the calling thread. Pieces have
 /// equally many persons, so one whose persons list less than others do has fewer pairs, and the last
-/// one may be short. A thread costs some 15 microseconds to start, which is what some 15,000 pairs
-/// cost.
-pub const LEAST_PAIRS: usize = 1 << 16;
+/// one may be short. A piece is worth a millisecond or more: where other work runs, a round waits
+/// for the thread that starts last.
+pub const LEAST_PAIRS: usize = 1 << 21;
 
 // What stands in a buffer before it is filled.
 const NOTHING: Offer = Offer::Below(BelowFloor {
