@@ -188,10 +188,10 @@ same_name Min Min e = refl
 same_name Max Max e = refl
 same_name Min Max e =
     let bad : 105 ≡ 97 = ap second_code e in
-    absurd (omega arith)
+    absurd (omega (arith, bad))
 same_name Max Min e =
     let bad : 97 ≡ 105 = ap second_code e in
-    absurd (omega arith)
+    absurd (omega (arith, bad))
 
 same_wanted : (a b : Option Sense) → option_map sense_name a ≡ option_map sense_name b → a ≡ b
 same_wanted None None e = refl

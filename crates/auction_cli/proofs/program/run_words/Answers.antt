@@ -1,5 +1,5 @@
-use Rattle.std.proofs.Common.{Err, Ok, codes, inl, map, refl, subst}
-use Rattle.auction_cli.specs.Words.{WordsOutcome}
+use Rattle.std.proofs.Common.{Err, Ok, codes, inl, map, refl, rules, subst}
+use Rattle.auction_cli.specs.Words.{AskForNoMode, AskForNoSense, WordsOutcome}
 use Rattle.auction_cli.specs.declared.words.WordsFault.{WordsFault}
 use Rattle.auction_cli.proofs.CommandLines.{no_mode_or_sense}
 use Rattle.auction_cli.proofs.program.run_words.Goals as goal
@@ -19,16 +19,18 @@ returns-in-Err-Clap-clause-errors g c =
 
 pub returns-in-Err-Mode-clause-errors : goal.returns-in-Err-Mode-clause-errors
 returns-in-Err-Mode-clause-errors g c =
-    let none = c.in-Err-Mode.ensures.outcome in (
+    let words = map g.S.AsStr.text c.args.words.now in
+    let none : AskForNoMode words = search rules in (
       codes "usage: mode is rounds or workers\n",
-      ((λ m. refl), (λ s. absurd (no_mode_or_sense none.0 _ none.1 (s none.0)))),
+      ((λ m. refl), (λ s. absurd (no_mode_or_sense none.0 words none.1 (s none.0)))),
       c.tell.ensures,
     )
 
 pub returns-in-Err-Sense-clause-errors : goal.returns-in-Err-Sense-clause-errors
 returns-in-Err-Sense-clause-errors g c =
-    let none = c.in-Err-Sense.ensures.outcome in (
+    let words = map g.S.AsStr.text c.args.words.now in
+    let none : AskForNoSense words = search rules in (
       codes "usage: sense is min or max\n",
-      ((λ m. absurd (no_mode_or_sense none.0 _ (m none.0) none.1)), (λ s. refl)),
+      ((λ m. absurd (no_mode_or_sense none.0 words (m none.0) none.1)), (λ s. refl)),
       c.tell-in-Err-Sense.ensures,
     )
