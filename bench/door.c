@@ -1,0 +1,239 @@
+/* Times calls of the library for C beside plain Rust (bench/plain/paths.rs as a library): processor time of this
+   thread, the least of so many calls in turns. What both find is compared. A call judges its lists and builds a problem
+   of them before it solves; what that takes is told too, by a call of nushbaret_check, which does so as well.
+     door text TIMES FORM [alone]   a problem from standard input, dense or sparse: seconds of the library, of plain Rust
+                                (0 with the word alone: it isn't called), and of the check
+     door drawn N COUNT TIMES   so many dense problems of N persons, costs 1..1000: the same
+     door starts TIMES          N = 2000, costs 1..1000: cold, then from the prices of the same problem, of one with one
+                                row drawn anew, and with one row in a hundred; seconds
+     door wide                  three equal objects with first prices 0, 0 and 10^21, and prices 1, 5 and 7: seconds */
+#define _POSIX_C_SOURCE 200809L
+#include "../c/nushbaret.h"
+#include <stdio.h>
+#include <stdlib.h>
+#include <string.h>
+#include <time.h>
+
+extern int64_t plain_dense(size_t n, const int64_t *costs, uint16_t *columns);
+extern int64_t plain_sparse(size_t n, size_t pairs, const uint16_t *of_rows, const uint16_t *of_columns,
+    const int64_t *costs, uint16_t *columns);
+
+struct problem {
+    size_t n, pairs;
+    int is_sparse;
+    uint16_t *of_persons, *of_objects;
+    int64_t *costs;
+    uint16_t *objects, *persons;
+    struct nushbaret_price *prices;
+    int64_t total;
+};
+
+static void *room(size_t bytes) {
+    void *block = malloc(bytes + 1);
+    if (block == NULL) exit(4);
+    return block;
+}
+
+static struct problem problem(size_t n, size_t pairs, int is_sparse) {
+    struct problem p;
+    p.n = n, p.pairs = pairs, p.is_sparse = is_sparse, p.total = 0;
+    p.of_persons = (uint16_t *)room(pairs * 2), p.of_objects = (uint16_t *)room(pairs * 2);
+    p.costs = (int64_t *)room(pairs * 8);
+    p.objects = (uint16_t *)room(n * 2), p.persons = (uint16_t *)room(n * 2);
+    p.prices = (struct nushbaret_price *)room(n * sizeof *p.prices);
+    return p;
+}
+
+static double now(void) {
+    struct timespec at;
+    clock_gettime(CLOCK_THREAD_CPUTIME_ID, &at);
+    return (double)at.tv_sec + (double)at.tv_nsec / 1e9;
+}
+
+/* The seconds of a solve, from first prices where they are given. */
+static double proved(struct problem *p, const struct nushbaret_price *first) {
+    struct nushbaret_told told;
+    double begin = now();
+    int32_t code;
+    size_t n = p->n;
+    if (p->is_sparse)
+        code = nushbaret_sparse(NUSHBARET_MIN, n, p->of_persons, p->pairs, p->of_objects, p->pairs, p->costs, p->pairs,
+            p->objects, n, p->persons, n, p->prices, n, &told);
+    else if (first != NULL)
+        code = nushbaret_dense_from(NUSHBARET_MIN, n, p->costs, p->pairs, first, n, p->objects, n, p->persons, n,
+            p->prices, n, &told);
+    else
+        code = nushbaret_dense(NUSHBARET_MIN, n, p->costs, p->pairs, p->objects, n, p->persons, n, p->prices, n, &told);
+    begin = now() - begin;
+    if (code != NUSHBARET_BEST && code != NUSHBARET_HALL) exit(3);
+    p->total = code == NUSHBARET_BEST ? told.total : INT64_MIN;
+    return begin;
+}
+
+static double plain(struct problem *p) {
+    double begin = now();
+    int64_t total;
+    if (p->is_sparse)
+        total = plain_sparse(p->n, p->pairs, p->of_persons, p->of_objects, p->costs, p->objects);
+    else
+        total = plain_dense(p->n, p->costs, p->objects);
+    begin = now() - begin;
+    if (total != p->total) {
+        fprintf(stderr, "other sums: %lld and %lld\n", (long long)p->total, (long long)total);
+        exit(5);
+    }
+    return begin;
+}
+
+/* The seconds of a check of what was found, which builds the problem too. */
+static double checked(struct problem *p) {
+    struct nushbaret_told told;
+    double begin = now();
+    size_t n = p->n, pairs = p->is_sparse ? p->pairs : 0;
+    nushbaret_check(NUSHBARET_MIN, n, p->of_persons, pairs, p->of_objects, pairs, p->costs, p->pairs, p->objects, n,
+        p->prices, n, &told);
+    return now() - begin;
+}
+
+static void less(double *least, double seconds) {
+    if (seconds < *least) *least = seconds;
+}
+
+/* The next number of a text, and 0 at its end. */
+static int64_t number(const char **text) {
+    int64_t value = 0;
+    while (**text != '\0' && (**text < '0' || **text > '9')) ++*text;
+    for (; **text >= '0' && **text <= '9'; ++*text) value = value * 10 + (**text - '0');
+    return value;
+}
+
+static int by_pair(const void *a, const void *b) {
+    const int64_t *x = (const int64_t *)a, *y = (const int64_t *)b;
+    int k;
+    for (k = 0; k < 3; k++)
+        if (x[k] != y[k]) return x[k] < y[k] ? -1 : 1;
+    return 0;
+}
+
+/* The problem of a text; of a pair that stands there several times the least cost. */
+static struct problem read_text(int is_sparse) {
+    size_t size = 0, most = 1 << 20, k, n, pairs;
+    char *text = (char *)room(most);
+    const char *at;
+    int64_t *triples;
+    struct problem p;
+    while ((k = fread(text + size, 1, most - size, stdin)) > 0)
+        if ((size += k) == most && (text = (char *)realloc(text, (most *= 2) + 1)) == NULL) exit(4);
+    text[size] = '\0';
+    at = text;
+    n = (size_t)number(&at);
+    if (!is_sparse) {
+        p = problem(n, n * n, 0);
+        for (k = 0; k < p.pairs; k++) p.costs[k] = number(&at);
+        free(text);
+        return p;
+    }
+    triples = (int64_t *)room(size * 12);
+    for (pairs = 0; (triples[3 * pairs] = number(&at)) != 0; pairs++)
+        triples[3 * pairs + 1] = number(&at), triples[3 * pairs + 2] = number(&at);
+    qsort(triples, pairs, 3 * sizeof *triples, by_pair);
+    p = problem(n, pairs, 1);
+    p.pairs = 0;
+    for (k = 0; k < pairs; k++) {
+        const int64_t *one = triples + 3 * k;
+        if (k > 0 && one[-3] == one[0] && one[-2] == one[1]) continue;
+        p.of_persons[p.pairs] = (uint16_t)one[0], p.of_objects[p.pairs] = (uint16_t)one[1];
+        p.costs[p.pairs++] = one[2];
+    }
+    free(triples);
+    free(text);
+    return p;
+}
+
+static uint64_t state = 7;
+
+static void draw(int64_t *costs, size_t count) {
+    while (count-- > 0) {
+        state = state * UINT64_C(6364136223846793005) + UINT64_C(1442695040888963407);
+        *costs++ = 1 + (int64_t)((state >> 33) % 1000);
+    }
+}
+
+static void tell(const char *what, double seconds, double beside, double check) {
+    printf("%s %.6f %.6f %.6f\n", what, seconds, beside, check);
+}
+
+static void starts(int times) {
+    static const size_t every[] = {0, 2000, 100};
+    static const char *names[] = {"same", "one row", "1 %"};
+    size_t n = 2000, k, i;
+    struct problem p = problem(n, n * n, 0);
+    struct nushbaret_price *first = (struct nushbaret_price *)room(n * sizeof *first);
+    draw(p.costs, p.pairs);
+    proved(&p, NULL);
+    memcpy(first, p.prices, n * sizeof *first);
+    for (k = 0; k < 3; k++) {
+        double cold = 1e9, warm = 1e9, check = 1e9;
+        int turn;
+        for (i = 0; every[k] > 0 && i < n; i += every[k]) draw(p.costs + i * n, n);
+        for (turn = 0; turn < times; turn++) {
+            int64_t total;
+            less(&cold, proved(&p, NULL));
+            total = p.total;
+            less(&warm, proved(&p, first));
+            if (total != p.total) exit(5);
+            less(&check, checked(&p));
+        }
+        tell(names[k], warm, cold, check);
+    }
+}
+
+static void wide(void) {
+    struct problem p = problem(3, 9, 0);
+    struct nushbaret_price far[3] = {{0, 0}, {0, 0}, {UINT64_C(3875820019684212736), 54}};
+    struct nushbaret_price odd[3] = {{1, 0}, {5, 0}, {7, 0}};
+    size_t k;
+    for (k = 0; k < 9; k++) p.costs[k] = 2;
+    tell("0, 0, 10^21", proved(&p, far), 0, 0);
+    tell("1, 5, 7", proved(&p, odd), 0, 0);
+    for (k = 0; k < 3; k++)
+        if (p.prices[k].low % 4 != 0 || p.prices[k].high != 0 || p.total != 6) exit(5);
+}
+
+int main(int argc, char **argv) {
+    double least = 1e9, beside = 1e9, check = 1e9;
+    const char *what = argc > 1 ? argv[1] : "";
+    if (strcmp(what, "text") == 0 && argc > 3) {
+        struct problem p = read_text(strcmp(argv[3], "sparse") == 0);
+        int turn;
+        for (turn = 0; turn < atoi(argv[2]); turn++) {
+            less(&least, proved(&p, NULL));
+            less(&check, checked(&p));
+            less(&beside, argc > 4 ? 0 : plain(&p));
+        }
+        tell("text", least, beside, check);
+    } else if (strcmp(what, "drawn") == 0 && argc > 4) {
+        size_t n = (size_t)atoi(argv[2]), k, count = (size_t)atoi(argv[3]);
+        struct problem p = problem(n, n * n, 0);
+        int turn;
+        for (turn = 0; turn < atoi(argv[4]); turn++) {
+            double seconds = 0, others = 0, checks = 0;
+            state = 7;
+            for (k = 0; k < count; k++) {
+                draw(p.costs, p.pairs);
+                seconds += proved(&p, NULL);
+                checks += checked(&p);
+                others += plain(&p);
+            }
+            less(&least, seconds), less(&beside, others), less(&check, checks);
+        }
+        tell("drawn", least, beside, check);
+    } else if (strcmp(what, "starts") == 0 && argc > 2) {
+        starts(atoi(argv[2]));
+    } else if (strcmp(what, "wide") == 0) {
+        wide();
+    } else {
+        return 2;
+    }
+    return 0;
+}
