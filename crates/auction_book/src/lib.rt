@@ -4,13 +4,11 @@
 
 mod answers;
 mod book;
-#[cfg(test)]
-mod book_tests;
 mod law;
 mod schedule;
-#[cfg(test)]
-mod schedule_tests;
 mod session;
+#[cfg(test)]
+mod tests;
 
 pub use answers::{Accepted, Claim, Note, Refused, Submission};
 pub use book::Book;
