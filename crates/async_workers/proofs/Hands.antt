@@ -14,7 +14,7 @@ use Rattle.async_workers.specs.declared.rule.Told.{Told}
 use Rattle.async_workers.specs.declared.rule.View.TheVariants.{Away, Holding}
 use Rattle.async_workers.specs.PlaceRule.{Gave, Took}
 use Rattle.async_workers.specs.Desk.{DeskData, IsAway, told_by}
-use Rattle.async_workers.specs.Hand.{IsInHand}
+use Rattle.async_workers.specs.inside.Hand.{IsInHand}
 use Rattle.async_workers.specs.Session.{counted, with_table}
 use Rattle.async_workers.specs.Turns.{Serves, WorksOn}
 use Rattle.async_workers.specs.Views.{told_of}

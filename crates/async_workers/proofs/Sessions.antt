@@ -26,7 +26,7 @@ use Rattle.scaled_values.specs.Scaled.{ScaledProblem}
 use Rattle.auction_book.specs.declared.answers.Note.{Note}
 use Rattle.async_workers.specs.declared.rule.Known.{Known}
 use Rattle.async_workers.specs.Desk.{DeskData}
-use Rattle.async_workers.specs.Hand.{IsInHand}
+use Rattle.async_workers.specs.inside.Hand.{IsInHand}
 use Rattle.async_workers.specs.Session.{Ends, EndsUndone, Leaves, caught_in, with_table}
 use Rattle.async_workers.proofs.Hands.{hand_follows, hand_own}
 

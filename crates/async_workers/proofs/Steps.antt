@@ -12,8 +12,10 @@ use Rattle.async_workers.specs.declared.rule.Known.{Known}
 use Rattle.async_workers.specs.declared.rule.Told.{Told}
 use Rattle.async_workers.specs.declared.rule.View.{View}
 use Rattle.async_workers.specs.declared.rule.View.TheVariants.{Fresh, Opening, Away, Holding, Meeting, Spent}
-use Rattle.async_workers.specs.Views.{claim_in, claim_with, desk_made, keeps_empty, met, opener_at, opener_next, told_at, told_first}
-use Rattle.async_workers.specs.PlaceRule.{ExtendsBy, Fits, Gave, IsClosing, IsRunning, IsSeated, IsTold, IsUnopened, IsUntouched, IsVacant, MayFollow, MetIsTold, Rule, Takes, Took, content}
+use Rattle.async_workers.specs.Views.{claim_in, claim_with, desk_made, keeps_empty, met, opener_next, told_at, told_first}
+use Rattle.async_workers.specs.inside.Passing.{opener_at}
+use Rattle.async_workers.specs.PlaceRule.{ExtendsBy, Fits, Gave, IsRunning, IsSeated, IsTold, IsUnopened, IsUntouched, MayFollow, Rule, Takes, Took, content}
+use Rattle.async_workers.specs.inside.Passing.{IsClosing, IsVacant, MetIsTold}
 use Rattle.async_workers.proofs.Extending.{extends_itself, extends_through, own_extended}
 use Rattle.async_workers.proofs.Untouched.{first_told}
 

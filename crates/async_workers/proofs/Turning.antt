@@ -27,7 +27,7 @@ use Rattle.auction_book.specs.declared.answers.Note.{Note}
 use Rattle.async_workers.specs.declared.gate.Turn.{Turn}
 use Rattle.async_workers.specs.declared.place.Claimed.{Claimed}
 use Rattle.async_workers.specs.Desk.{DeskData, HeldData, IsAway, told_by}
-use Rattle.async_workers.specs.Hand.{IsInHand}
+use Rattle.async_workers.specs.inside.Hand.{IsInHand}
 use Rattle.async_workers.specs.declared.rule.Known.{Known}
 use Rattle.async_workers.specs.PlaceRule.{IsTold, Took}
 use Rattle.async_workers.specs.Session.{EndsUndone, EndsWell, with_table}

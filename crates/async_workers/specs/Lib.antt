@@ -2,8 +2,8 @@ pub mod Views
 pub mod PlaceRule
 pub mod Desk
 pub mod Lending
-pub mod Hand
 pub mod Session
 pub mod Turns
 pub mod Solving
 pub mod Pauses
+pub mod inside

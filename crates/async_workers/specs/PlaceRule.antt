@@ -108,13 +108,3 @@ Took before b after = (t : Told) → before ≡ Away t → Takes t b after
 -- what a desk that knows this learns when it puts the book back
 abbrev pub Gave : Known → View → BookData → View → Type 0
 Gave k before b after = (t : Told) (taken : BookData) → before ≡ Holding t taken → t.known.number ≡ k.number → after ≡ Away (told_at k taken b)
-
-abbrev pub IsVacant : View → List BookData → Type 0
-IsVacant v items = keeps_empty v ≡ true → items ≡ []
-
-abbrev pub MetIsTold : View → Type 0
-MetIsTold v = (t : Told) (taken : BookData) (u : Told) → v ≡ Meeting t taken u → IsTold taken u
-
--- a closer with this book in hand
-abbrev pub IsClosing : View → Told → BookData → Type 0
-IsClosing v t taken = (v ≡ Holding t taken) ⊎ ((u : Told) × (v ≡ Meeting t taken u))

@@ -1,43 +1,16 @@
 -- What a run of workers answers.
-use Rattle.std.specs.Prelude.{◌≡◌, ℕ, ℤ, zero, suc, ◌+◌, ◌≤◌, List, [], ◌∷◌, ◌++◌, Option, Some, true, MatchOption}
-use Rattle.crossbeam_utils.specs.declared.cache_padded.CachePadded.{CachePadded}
-use Rattle.crossbeam_utils.specs.Padded.{padded_value}
+use Rattle.std.specs.Prelude.{◌≡◌, ℕ, ℤ, zero, suc, ◌+◌, ◌≤◌, List, [], ◌∷◌, ◌++◌, Some, true}
 use Rattle.assign_core.specs.Hall.{IsHallSet}
 use Rattle.assign_core.specs.Numbered.{numbered}
 use Rattle.assign_core.specs.declared.outcome.Outcome.{Outcome}
 use Rattle.assign_core.specs.declared.outcome.Outcome.TheVariants.{Best, Hall}
-use Rattle.assign_core.specs.declared.outcome.SolveFault.{SolveFault}
-use Rattle.assign_core.specs.declared.outcome.SolveFault.TheVariants as fault
 use Rattle.scaled_values.specs.Scaled.{ScaledProblem}
 use Rattle.auction_book.specs.Answers.{IsAnswer}
 use Rattle.auction_book.specs.Book.{BookData}
 use Rattle.auction_book.specs.Follows.{GoesOn}
 use Rattle.auction_book.specs.Free.{IsFree}
 use Rattle.auction_book.specs.Phases.{is_done, opened}
-use Rattle.async_workers.specs.declared.gate.Turn.{Turn}
 use Rattle.async_workers.specs.declared.solving.Tally.{Tally}
-use Rattle.async_workers.specs.declared.working.Worker.{Worker}
-use Rattle.async_workers.specs.Desk.{DeskData}
-use Rattle.async_workers.specs.Turns.{EndsRun, Faulted, Turned, WorksOn}
-
-abbrev pub desk_in : CachePadded Worker → DeskData
-desk_in w = (padded_value w).desk
-
-abbrev pub fault_in : CachePadded Worker → Option SolveFault
-fault_in w = (padded_value w).fault
-
--- no other fault than want of memory
-abbrev pub IsMemory : Option SolveFault → Type 0
-IsMemory met = MatchOption met (Unit {0}) (λ f. f ≡ fault.Memory)
-
--- the turn that ends a worker's run: one that answers so, or one that met a fault
-abbrev pub IsLastTurn : ℕ → DeskData → DeskData → Option SolveFault → Type 0
-IsLastTurn refresh before after met = MatchOption met ((answer : Turn) × Turned refresh before after answer × EndsRun answer) (λ f. Faulted refresh before after)
-
--- a worker after its run
-pub record HasWorked (old new : CachePadded Worker) : Type 0 where
-  pub works : WorksOn (desk_in old) (desk_in new)
-  pub fault : IsMemory (fault_in new)
 
 -- the book answers this: everybody is assigned in the last phase, by its owners at its prices, or it has this Hall set
 abbrev pub IsAnsweredBy : BookData → Outcome → Type 0

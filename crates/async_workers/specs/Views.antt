@@ -1,10 +1,8 @@
 -- What a pass knows of the book, and how its steps change that.
-use Rattle.std.specs.Prelude.{ℕ, zero, suc, ◌+◌, [], Option, None, Some, Bool, true, false}
-use Rattle.assign_core.specs.declared.sense.Sense.TheVariants.{Min}
+use Rattle.std.specs.Prelude.{ℕ, ◌+◌, Option, None, Some, Bool, true, false}
 use Rattle.assign_core.specs.Numbered.{numbered}
 use Rattle.bidder.specs.declared.offers.Ask.{Ask}
 use Rattle.auction_book.specs.Book.{BookData, ask_of, prices_of}
-use Rattle.auction_book.specs.Phases.{opened}
 use Rattle.async_workers.specs.declared.place.Claimed.{Claimed}
 use Rattle.async_workers.specs.declared.rule.Known.{Known}
 use Rattle.async_workers.specs.declared.rule.Told.{Told}
@@ -42,11 +40,6 @@ first_known b number = record {
 abbrev pub told_first : BookData → ℕ → Told
 told_first b number = record { base = b.base; known = first_known b number; taken = b; put = b }
 
--- the opener's view when it has made this many desks
-abbrev pub opener_at : BookData → ℕ → View
-opener_at b zero = Fresh
-opener_at b (suc made) = Opening b (suc made)
-
 -- and after one desk more
 abbrev pub opener_next : BookData → View → View
 opener_next b Fresh = Opening b 1
@@ -70,7 +63,3 @@ abbrev pub keeps_empty : View → Bool
 keeps_empty (Away t) = false
 keeps_empty Spent = false
 keeps_empty v = true
-
--- stands where a proof has to name some book
-abbrev pub no_book : BookData
-no_book = opened (record { problem = []; sense = Min }) [] 0

@@ -1,7 +1,7 @@
 // A book on the heap, so that one word goes through the place.
 ghost use Rattle.std.specs.Prelude.{◌≡◌, IfOk};
 ghost use Rattle.std.specs.Borrow.{sem};
-ghost use Rattle.async_workers.specs.Lending.{LendsBoxed};
+ghost use Rattle.async_workers.specs.inside.Boxed.{LendsBoxed};
 
 use auction_book::Book;
 use std::alloc::{AllocError, Global};

@@ -73,7 +73,8 @@ pub trait Giver {
 }
 
 impl Giver for Brand {
-    ghost use Rattle.async_workers.specs.Views.{first_known, no_book};
+    ghost use Rattle.async_workers.specs.Views.{first_known};
+    ghost use Rattle.async_workers.specs.inside.Passing.{no_book};
 
     ghost known = { first_known no_book 0 };
 }
@@ -90,7 +91,7 @@ impl<G: Giver> Outcome<BoxedBook, View> for Give<G> {
 }
 
 impl<G: Giver> Lesson<BoxedBook, View> for Give<G> {
-    ghost use Rattle.async_workers.specs.PlaceRule.{IsVacant};
+    ghost use Rattle.async_workers.specs.inside.Passing.{IsVacant};
 
     ghost fact = { IsVacant };
 }
@@ -103,7 +104,7 @@ pub trait Opening {
 }
 
 impl Opening for Brand {
-    ghost use Rattle.async_workers.specs.Views.{no_book};
+    ghost use Rattle.async_workers.specs.inside.Passing.{no_book};
 
     ghost book = { no_book };
 }
@@ -132,7 +133,7 @@ impl Outcome<BoxedBook, View> for PutIn {
 }
 
 impl Lesson<BoxedBook, View> for PutIn {
-    ghost use Rattle.async_workers.specs.PlaceRule.{IsVacant};
+    ghost use Rattle.async_workers.specs.inside.Passing.{IsVacant};
 
     ghost fact = { IsVacant };
 }
@@ -150,7 +151,7 @@ impl Join<View> for Meet {
 }
 
 impl Lesson<BoxedBook, View> for Meet {
-    ghost use Rattle.async_workers.specs.PlaceRule.{MetIsTold};
+    ghost use Rattle.async_workers.specs.inside.Passing.{MetIsTold};
 
     ghost fact = { λ v items. MetIsTold v };
 }

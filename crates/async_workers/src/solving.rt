@@ -6,7 +6,8 @@ ghost use Rattle.scaled_values.specs.Scaled.{greatest_of};
 ghost use Rattle.auction_book.specs.Follows.{GoesOn};
 ghost use Rattle.auction_book.specs.Free.{IsFree};
 ghost use Rattle.async_workers.specs.PlaceRule.{Extends, IsUntouched};
-ghost use Rattle.async_workers.specs.Solving.{IsAnsweredBy, IsEndOf, IsEnough, IsMemory, IsSolved, tallies};
+ghost use Rattle.async_workers.specs.Solving.{IsAnsweredBy, IsEndOf, IsEnough, IsSolved, tallies};
+ghost use Rattle.async_workers.specs.inside.Working.{IsMemory};
 
 use crate::alone::{go_alone, outcome_of};
 use crate::gate::{Gate, TurnFault};

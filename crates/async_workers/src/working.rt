@@ -1,7 +1,7 @@
 // Each worker's run, in a thread of its own where one can be started.
 ghost use Rattle.std.specs.Prelude.{◌≡◌, ◌<◌, ◌≤◌, [], All, IfOk, OnSome, length, map, reverse, slice_index_or, true, vec_capacity, vec_len, ℕ};
 ghost use Rattle.async_workers.specs.Desk.{DeskData};
-ghost use Rattle.async_workers.specs.Solving.{HasWorked, IsLastTurn, IsMemory, desk_in, fault_in};
+ghost use Rattle.async_workers.specs.inside.Working.{HasWorked, IsLastTurn, IsMemory, desk_in, fault_in};
 ghost use Rattle.async_workers.specs.Turns.{CanTurn, WorksOn};
 
 use crate::gate::{Gate, Turn, TurnFault};

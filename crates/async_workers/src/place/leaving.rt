@@ -2,7 +2,7 @@
 ghost use Rattle.std.specs.Prelude.{◌≡◌, ◌||◌, false, is_some, true};
 ghost use Rattle.auction_book.specs.Book.{BookData};
 ghost use Rattle.async_workers.specs.Desk.{IsReady};
-ghost use Rattle.async_workers.specs.Hand.{IsInHand};
+ghost use Rattle.async_workers.specs.inside.Hand.{IsInHand};
 ghost use Rattle.async_workers.specs.Turns.{CanTurn, StepsOut, WorksOn, stopped_if, without_claim};
 
 use super::{BookPlace, Desk, Held};

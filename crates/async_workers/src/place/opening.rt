@@ -2,7 +2,7 @@
 ghost use Rattle.std.specs.Prelude.{◌≡◌, None, false, length, IfOk};
 ghost use Rattle.crossbeam_queue.specs.Passes.{view, IsPassOf, IsSamePass};
 ghost use Rattle.async_workers.specs.PlaceRule.{IsUntouched};
-ghost use Rattle.async_workers.specs.Views.{opener_at};
+ghost use Rattle.async_workers.specs.inside.Passing.{opener_at};
 ghost use Rattle.async_workers.specs.Desk.{new_desks};
 
 use super::{BookPlace, Desk};

@@ -1,6 +1,6 @@
 use Rattle.std.proofs.Common.{◌≡◌, ◌∙◌, ap, map, reverse, length, arith}
 use Rattle.async_workers.specs.Desk.{new_desks}
-use Rattle.async_workers.specs.Solving.{desk_in}
+use Rattle.async_workers.specs.inside.Working.{desk_in}
 use Rattle.async_workers.proofs.Runs.{back_extends, back_ready, faults_in, length_back, length_workers, workers_can}
 use Rattle.async_workers.proofs.solving.worked_book.Goals as goal
 

@@ -1,5 +1,5 @@
 use Rattle.std.proofs.Common.{◌≡◌, ◌++◌, map, reverse, vec_len}
-use Rattle.async_workers.specs.Solving.{desk_in}
+use Rattle.async_workers.specs.inside.Working.{desk_in}
 use Rattle.async_workers.proofs.working.seat_workers.Given as goal
 
 abbrev pub invariant-loop-desk : goal.invariant-loop-desk

@@ -2,7 +2,7 @@ use Rattle.std.proofs.Common.{◌≡◌, ◌∙◌, ◌++◌, ◌∷◌, [], ◌
 use Rattle.std.proofs.lemmas.List.{length_push}
 use Rattle.std.proofs.lemmas.List.Elements.{All-pop}
 use Rattle.async_workers.specs.declared.working.Worker.{Worker}
-use Rattle.async_workers.specs.Solving.{IsMemory, desk_in, fault_in}
+use Rattle.async_workers.specs.inside.Working.{IsMemory, desk_in, fault_in}
 use Rattle.async_workers.proofs.Runs.{moved_out}
 use Rattle.async_workers.proofs.working.unseat_workers.Goals as goal
 

@@ -2,7 +2,8 @@ use Rattle.std.proofs.Common.{◌∙◌, sym, ap, subst}
 use Rattle.crossbeam_queue.specs.Fifo.{Learns}
 use Rattle.async_workers.specs.declared.rule.View.{View}
 use Rattle.async_workers.specs.Views.{met}
-use Rattle.async_workers.specs.PlaceRule.{MetIsTold, Rule}
+use Rattle.async_workers.specs.PlaceRule.{Rule}
+use Rattle.async_workers.specs.inside.Passing.{MetIsTold}
 use Rattle.async_workers.proofs.Steps.{hears_meeting, merges_from, met-closing}
 use Rattle.async_workers.proofs.place.closing.meet.Goals as goal
 

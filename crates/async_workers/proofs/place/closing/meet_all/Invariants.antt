@@ -3,7 +3,7 @@ use Rattle.std.specs.List.{All}
 use Rattle.crossbeam_queue.specs.Passes.{view, IsSamePass}
 use Rattle.auction_book.specs.Book.{BookData}
 use Rattle.async_workers.specs.declared.rule.Told.{Told}
-use Rattle.async_workers.specs.PlaceRule.{IsClosing}
+use Rattle.async_workers.specs.inside.Passing.{IsClosing}
 use Rattle.async_workers.specs.Desk.{IsReady, IsTrueOf}
 use Rattle.async_workers.proofs.place.closing.meet_all.Given as goal
 

@@ -1,6 +1,6 @@
 use Rattle.std.proofs.Common.{◌≡◌}
 use Rattle.crossbeam_queue.specs.Passes.{view, IsSamePass}
-use Rattle.async_workers.specs.Views.{opener_at}
+use Rattle.async_workers.specs.inside.Passing.{opener_at}
 use Rattle.async_workers.specs.Desk.{new_desks}
 use Rattle.async_workers.proofs.place.opening.seat_desks.Given as goal
 

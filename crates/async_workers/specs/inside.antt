@@ -1,0 +1,5 @@
+-- Definitions that no public contract names, by which the program is proved.
+pub mod Boxed
+pub mod Hand
+pub mod Passing
+pub mod Working

@@ -1,0 +1,29 @@
+-- What the steps of openers and closers want of a view.
+use Rattle.std.specs.Prelude.{ℕ, zero, suc, [], true, ◌≡◌, ◌⊎◌, List}
+use Rattle.assign_core.specs.declared.sense.Sense.TheVariants.{Min}
+use Rattle.auction_book.specs.Book.{BookData}
+use Rattle.auction_book.specs.Phases.{opened}
+use Rattle.async_workers.specs.declared.rule.Told.{Told}
+use Rattle.async_workers.specs.declared.rule.View.{View}
+use Rattle.async_workers.specs.declared.rule.View.TheVariants.{Fresh, Opening, Holding, Meeting}
+use Rattle.async_workers.specs.Views.{keeps_empty}
+use Rattle.async_workers.specs.PlaceRule.{IsTold}
+
+-- the opener's view when it has made this many desks
+abbrev pub opener_at : BookData → ℕ → View
+opener_at b zero = Fresh
+opener_at b (suc made) = Opening b (suc made)
+
+-- stands where a proof has to name some book
+abbrev pub no_book : BookData
+no_book = opened (record { problem = []; sense = Min }) [] 0
+
+abbrev pub IsVacant : View → List BookData → Type 0
+IsVacant v items = keeps_empty v ≡ true → items ≡ []
+
+abbrev pub MetIsTold : View → Type 0
+MetIsTold v = (t : Told) (taken : BookData) (u : Told) → v ≡ Meeting t taken u → IsTold taken u
+
+-- a closer with this book in hand
+abbrev pub IsClosing : View → Told → BookData → Type 0
+IsClosing v t taken = (v ≡ Holding t taken) ⊎ ((u : Told) × (v ≡ Meeting t taken u))
