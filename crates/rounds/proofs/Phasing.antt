@@ -11,7 +11,7 @@ use Rattle.auction_book.specs.Phases.{is_assigned, is_done, is_over, persons}
 use Rattle.auction_book.specs.Session.{next_if_over}
 use Rattle.auction_book.proofs.Opening.{length-persons}
 use Rattle.auction_book.proofs.Following.{over_is}
-use Rattle.rounds.specs.Books.{HaveOffered, IsAtRest, IsClaimed, plain_of}
+use Rattle.rounds.specs.inside.Books.{HaveOffered, IsAtRest, IsClaimed, plain_of}
 use Rattle.rounds.specs.Offers.{offers_of}
 use Rattle.rounds.specs.Plain.{Plain, all_turned, begun, ready, ready_by, round}
 use Rattle.rounds.proofs.Waiting.{assigned_empty, empty_assigned}

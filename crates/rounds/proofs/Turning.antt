@@ -25,7 +25,7 @@ use Rattle.auction_book.specs.Submissions.{IsFitting, IsHigh}
 use Rattle.auction_book.specs.Free.{IsFree}
 use Rattle.auction_book.proofs.Claiming.{ask_is}
 use Rattle.auction_book.proofs.Accepting.{accepted_follows, bid_range, eps_least}
-use Rattle.rounds.specs.Books.{AreClaimed, AreTurned, HaveOffered, IsGoing, book_after, book_turned, plain_of, room}
+use Rattle.rounds.specs.inside.Books.{AreClaimed, AreTurned, HaveOffered, IsGoing, book_after, book_turned, plain_of, room}
 use Rattle.rounds.specs.Offers.{CanOffer}
 use Rattle.rounds.specs.Plain.{after_bid, all_turned}
 use Rattle.rounds.proofs.Claiming.{claimed_less}

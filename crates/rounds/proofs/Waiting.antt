@@ -16,7 +16,7 @@ use Rattle.auction_book.specs.Claims.{after_claim, claim_front, claim_of}
 use Rattle.auction_book.specs.Free.{IsFree}
 use Rattle.auction_book.specs.Phases.{is_assigned, is_done}
 use Rattle.auction_book.proofs.Places.{everyone, held_person}
-use Rattle.rounds.specs.Books.{IsAtRest, IsGoing}
+use Rattle.rounds.specs.inside.Books.{IsAtRest, IsGoing}
 
 -- a claimed person is a person
 pub claimed_number : (b : BookData) (worker person : ℕ) → IsFree b → numbered b.claims worker None ≡ Some person → IsNumber (persons_of b) person

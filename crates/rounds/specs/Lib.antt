@@ -1,4 +1,4 @@
 pub mod Offers
 pub mod Plain
-pub mod Books
 pub mod Outcomes
+pub mod inside

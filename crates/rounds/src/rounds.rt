@@ -10,7 +10,7 @@ ghost use Rattle.auction_book.specs.Free.{IsFree};
 ghost use Rattle.auction_book.specs.Phases.{is_over};
 ghost use Rattle.auction_book.specs.Submissions.{IsFitting};
 ghost use Rattle.rounds.specs.Plain.{Finished, Halted};
-ghost use Rattle.rounds.specs.Books.{plain_of, AreTurned, HaveOffered, IsAtRest, IsBelowFloor, IsClaimed, IsGoing, IsRound, book_turned};
+ghost use Rattle.rounds.specs.inside.Books.{plain_of, AreTurned, HaveOffered, IsAtRest, IsBelowFloor, IsClaimed, IsGoing, IsRound, book_turned};
 ghost use Rattle.rounds.specs.Outcomes.{IsDecided, IsOfRounds, IsOutcome, IsProof};
 
 use super::offers::{Alone, InPieces, LEAST_PAIRS, Offering};

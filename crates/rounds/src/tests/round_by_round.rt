@@ -1,6 +1,6 @@
 // Runs told round by round: what each phase asks, its table, and the offers with their answers.
 ghost use Rattle.std.specs.Prelude.{◌≡◌, true, IfOk};
-ghost use Rattle.rounds.specs.Books.{IsAtRest};
+ghost use Rattle.rounds.specs.inside.Books.{IsAtRest};
 
 use super::*;
 use crate::rounds::{Round, run_round};

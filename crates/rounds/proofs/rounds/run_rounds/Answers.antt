@@ -1,7 +1,7 @@
 use Rattle.std.proofs.Common.{length, ap, ◌∙◌, subst}
 use Rattle.std.specs.Arc.{arc_value}
 use Rattle.scaled_values.specs.Scaled.{ScaledProblem}
-use Rattle.rounds.specs.Books.{IsRound, plain_of}
+use Rattle.rounds.specs.inside.Books.{IsRound, plain_of}
 use Rattle.rounds.specs.Outcomes.{IsOfRounds, IsOutcome, IsProof}
 use Rattle.rounds.specs.Plain.{Finished, Halted}
 use Rattle.rounds.proofs.Phasing.{next_rests}

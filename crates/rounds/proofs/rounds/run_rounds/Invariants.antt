@@ -1,6 +1,6 @@
 use Rattle.std.specs.Arc.{arc_value}
 use Rattle.auction_book.specs.Book.{prices_of}
-use Rattle.rounds.specs.Books.{room}
+use Rattle.rounds.specs.inside.Books.{room}
 use Rattle.rounds.proofs.Running.{IsRunning}
 use Rattle.rounds.proofs.rounds.run_rounds.Given as goal
 

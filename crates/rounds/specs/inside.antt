@@ -1,0 +1,2 @@
+-- Definitions that no public contract names, by which the program is proved.
+pub mod Books
