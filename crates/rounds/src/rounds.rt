@@ -24,7 +24,7 @@ use std::sync::Arc;
 use std::thread::Threads;
 
 /// What a round comes to.
-#[derive(Clone, Copy, Debug, PartialEq, Eq)]
+#[derive(Clone, Copy)]
 pub enum Round {
     /// Nobody waited.
     Over,
