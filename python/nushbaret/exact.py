@@ -201,23 +201,34 @@ def _of_plain(values, maximize):
     for place in forbidden:
         values[place] = 0
     try:
-        places = _places_of_plain(values)
-        numbers = [round(value * 10**places) for value in values] if places is not None else ()
+        numbers, places = _scaled_plain(values)
     except (OverflowError, ValueError):
         return None
-    if places is None or max(map(abs, numbers), default=0) > GREATEST_COST:
+    if max(map(abs, numbers), default=0) > GREATEST_COST:
         return None
-    return Costs(array("q", numbers), forbidden, places, False)
+    return Costs(numbers, forbidden, places, False)
 
 
-def _places_of_plain(values):
-    """As `_least_places`; None where there are too many."""
-    for places in range(MOST_PLACES + 1):
+def _scaled_plain(values):
+    """The numbers times the least power of ten that makes all whole, and which one that is."""
+    numbers, places = array("q"), 0
+    for begin in range(0, len(values), FEW):
+        before = places
+        whole, places = _block_scaled(values[begin:begin + FEW], places)
+        if places > before:
+            numbers = array("q", [number * 10**(places - before) for number in numbers])
+        numbers.extend(whole)
+    return numbers, places
+
+
+def _block_scaled(block, least):
+    """As `_scaled_plain`, with `least` places or more. What `_least_places` says holds here too."""
+    for places in range(least, MOST_PLACES + 1):
         power = 10**places
-        values = [value for value in values if round(value * power) / power != value]
-        if not values:
-            return places
-    return None
+        whole = array("q", [round(value * power) for value in block])
+        if [number / power for number in whole] == block:
+            return whole, places
+    raise ValueError(f"more than {MOST_PLACES} decimal places")
 
 
 def _of_numbers(values, maximize, decimals, where):
