@@ -83,17 +83,17 @@ def told(seconds):
     return f"over {LIMIT}" if seconds is None else f"{seconds:.4f}"
 
 
-def kind(name, n, repeats=TIMES, alone_words=()):
+def kind(name, n, calls=TIMES, runs=TIMES, words_of_door=()):
     sparse = "=" in name
     path = text_of(name, n)
     bad = os.path.join(OUT, "bad.txt")
     with open(path, "rb") as source, open(bad, "wb") as file:
         file.write(source.read() + b"x\n")
     with open(path) as file:
-        [(_, (call, plain, check))] = door("text", repeats, "sparse" if sparse else "dense", *alone_words, stdin=file)
+        [(_, (call, plain, check))] = door("text", calls, "sparse" if sparse else "dense", *words_of_door, stdin=file)
     paths = max(call - check, 0.0001)
     words = ["--sparse"] if sparse else []
-    rounds, worker = (alone([*words, *mode], path, bad, repeats) for mode in (ROUNDS, WORKER))
+    rounds, worker = (alone([*words, *mode], path, bad, runs) for mode in (ROUNDS, WORKER))
     best = min((seconds for seconds in (rounds, worker) if seconds is not None), default=None)
     beside = "" if best is None else f"{paths / best:.2f}"
     ratio = f"{paths / plain:.2f}" if plain else ""
@@ -105,13 +105,13 @@ def kinds():
     for name in DENSE:
         kind(name, 1000)
     for name, n in SPARSE:
-        kind(name, n, 3)
+        kind(name, n, 3, 3)
 
 
 def large():
     # Plain Rust takes minutes for the products.
     for name in DENSE:
-        kind(name, 4000, 1, ["alone"] if name == "products" else ())
+        kind(name, 4000, 3, 1, ["alone"] if name == "products" else ())
 
 
 def starts():
