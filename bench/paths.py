@@ -3,16 +3,15 @@
 `auction_cli solve` in rounds and with one worker; starts from first prices; and calls from C.
 
 Run it at the top of the repository after c/build.sh and `rt run` in crates/auction_cli: bench/paths.py [PROGRAM
-[kinds | large | starts | calls]]. It writes its inputs below bench/out and needs rustc and cc. Calls and plain Rust take turns in one
+[kinds | large | starts | calls | whole]]. It writes its inputs below bench/out and needs rustc and cc. Calls and plain Rust take turns in one
 process (bench/door.c), and of each the least processor time counts. Of a call, where the solve alone is wanted, the time of a
 check is taken off, which builds the same problem. Of the program it is that of the whole run, on one processor, less that
 of reading the same text with a word too many behind it. A run of more than LIMIT seconds is cut off,
-one of more than a second isn't repeated.
+one of more than a second isn't repeated. Whole runs by shortest paths are told last.
 """
 import os
 import subprocess
 import sys
-import time
 
 from measure import HERE, OUT, PEAK, PROGRAM, build
 
@@ -25,6 +24,7 @@ SPARSE = (("pairs=5", 8192), ("pairs=10", 8192), ("pairs=50", 8192), ("contested
           ("contested=1000", 1000), ("contested=1000", 8192))
 ROUNDS = ["--mode", "rounds"]
 WORKER = ["--mode", "workers", "--workers", "1"]
+PATHS = ["--method", "paths"]
 
 
 def build_door():
@@ -51,12 +51,11 @@ def door(*words, stdin=None):
         yield name, [float(number) for number in numbers]
 
 
-def spent(words, path, statuses):
-    """The processor time of a run of the program, or None where it was cut off; and the time by the clock."""
+def spent(words, path, statuses, limit=LIMIT):
+    """The processor time of a run of the program, or None where it was cut off."""
     peak = os.path.join(OUT, "peak.txt")
-    begin = time.monotonic()
     with open(path) as file:
-        ran = subprocess.run(["taskset", "-c", "0", "timeout", str(LIMIT), PEAK, peak, PROGRAM, "solve", *words], stdin=file,
+        ran = subprocess.run(["taskset", "-c", "0", "timeout", str(limit), PEAK, peak, PROGRAM, "solve", *words], stdin=file,
                              stdout=subprocess.DEVNULL, stderr=subprocess.DEVNULL)
     if ran.returncode == 124:
         return None
@@ -126,13 +125,21 @@ def calls():
     for n, count, times in ((8, 1000, TIMES), (2000, 1, TIMES), (8192, 1, 1)):
         [(_, (call, plain, check))] = door("drawn", n, count, times)
         print(f"{count} problems of n = {n} from C: {call:.4f} s, {call - check:.4f} s without a check; plain {plain:.4f} s, {call / plain:.2f}", flush=True)
+        program = min(spent(PATHS, text_of("to_1000", n), (0,), 120) for _ in range(times))
+        print(f"the program on one problem of n = {n}, reading and printing included: {program:.4f} s", flush=True)
+
+
+def whole():
+    for name in DENSE:
+        least = min(spent(PATHS, text_of(name, 1000), (0, 1)) for _ in range(TIMES))
+        print(f"whole run by shortest paths, {name}, n = 1000: {least:.3f} s", flush=True)
 
 
 def main():
     build_door()
-    wanted = sys.argv[2:] or ["kinds", "large", "starts", "calls"]
+    wanted = sys.argv[2:] or ["kinds", "large", "starts", "calls", "whole"]
     for part in wanted:
-        {"kinds": kinds, "large": large, "starts": starts, "calls": calls}[part]()
+        {"kinds": kinds, "large": large, "starts": starts, "calls": calls, "whole": whole}[part]()
 
 
 if __name__ == "__main__":
