@@ -1,6 +1,6 @@
 /* Calls each function of the library, as C and as C++; ends with 0 where all is as it has to be. Problems worked by
-   hand, drawn ones beside a slow search, each fault and each code, each growth refused in turn, and eight threads at
-   a time, each on the stack that the header names. After each call no block may be left. */
+   hand, drawn ones beside a slow search, each fault and each code, each growth refused in turn, a thread with
+   just the stack that the header names, and eight threads at a time. After each call no block may be left. */
 #include "nushbaret.h"
 #include <pthread.h>
 #include <stdio.h>
@@ -312,6 +312,39 @@ static void refused(struct call c, int32_t wanted, int32_t (*call)(struct call *
     printf("%s: %ld growths, %ld answered with MEMORY\n", name, k - 1, told);
 }
 
+/* Persons and objects at costs i * j, whose searches are long. */
+enum { WIDE = 300 };
+static int64_t wide_costs[WIDE * WIDE];
+static uint16_t wide_objects[WIDE], wide_persons[WIDE];
+static struct nushbaret_price wide_prices[WIDE];
+static struct nushbaret_told wide_told;
+
+/* NULL where the greatest sum is found, that of the squares, and no block is left. */
+static void *wide(void *unused) {
+    int32_t code = nushbaret_dense(NUSHBARET_MAX, WIDE, wide_costs, WIDE * WIDE, wide_objects, WIDE, wide_persons, WIDE, wide_prices, WIDE, &wide_told);
+    (void)unused;
+    return code == NUSHBARET_BEST && wide_told.total == (int64_t)WIDE * (WIDE + 1) * (2 * WIDE + 1) / 6 && blocks == 0 ? NULL : wide_objects;
+}
+
+/* A thread with just the stack that the header names; the compiler's own checks of addresses want more of it. */
+static void on_its_stack(void) {
+    pthread_attr_t attributes;
+    pthread_t thread;
+    void *wrong = wide_objects;
+    size_t k;
+#ifdef __SANITIZE_ADDRESS__
+    size_t stack = 48 << 10;
+#else
+    size_t stack = 32 << 10;
+#endif
+    for (k = 0; k < WIDE * WIDE; k++) wide_costs[k] = (int64_t)((k / WIDE + 1) * (k % WIDE + 1));
+    pthread_attr_init(&attributes);
+    WANT(pthread_attr_setstacksize(&attributes, stack) == 0);
+    WANT(pthread_create(&thread, &attributes, wide, NULL) == 0);
+    pthread_join(thread, &wrong);
+    WANT(wrong == NULL);
+}
+
 int main(void) {
     struct call c;
     pthread_t threads[8];
@@ -334,6 +367,7 @@ int main(void) {
     refused(c, NUSHBARET_HALL, solve, "sparse_from");
     WANT(solve(&c) == NUSHBARET_HALL);
     refused(c, NUSHBARET_HALL, check_hall, "check_hall");
+    on_its_stack();
     /* The threads' own stack takes what the header names beside what this program's functions take. */
     pthread_attr_init(&attributes);
     WANT(pthread_attr_setstacksize(&attributes, 48 << 10) == 0);
