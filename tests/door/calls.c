@@ -345,6 +345,24 @@ static void on_its_stack(void) {
     WANT(wrong == NULL);
 }
 
+/* As many persons as there may be; each lists the object of its number at 2 and the next one at 1. */
+static void full_size(void) {
+    enum { FULL = NUSHBARET_MOST_PERSONS };
+    static uint16_t of_persons[2 * FULL], of_objects[2 * FULL], objects[FULL], persons[FULL];
+    static int64_t costs[2 * FULL];
+    static struct nushbaret_price prices[FULL];
+    struct nushbaret_told told;
+    size_t k;
+    for (k = 0; k < 2 * FULL; k++) {
+        of_persons[k] = (uint16_t)(k / 2 + 1);
+        of_objects[k] = (uint16_t)((k / 2 + k % 2) % FULL + 1);
+        costs[k] = 2 - (int64_t)(k % 2);
+    }
+    WANT(nushbaret_sparse(NUSHBARET_MIN, FULL, of_persons, 2 * FULL, of_objects, 2 * FULL, costs, 2 * FULL, objects, FULL, persons, FULL, prices, FULL, &told) == NUSHBARET_BEST);
+    WANT(told.total == FULL && objects[0] == 2 && objects[FULL - 1] == 1 && blocks == 0);
+    WANT(nushbaret_check(NUSHBARET_MIN, FULL, of_persons, 2 * FULL, of_objects, 2 * FULL, costs, 2 * FULL, objects, FULL, prices, FULL, &told) == NUSHBARET_BEST);
+}
+
 int main(void) {
     struct call c;
     pthread_t threads[8];
@@ -367,6 +385,7 @@ int main(void) {
     refused(c, NUSHBARET_HALL, solve, "sparse_from");
     WANT(solve(&c) == NUSHBARET_HALL);
     refused(c, NUSHBARET_HALL, check_hall, "check_hall");
+    full_size();
     on_its_stack();
     /* The threads' own stack takes what the header names beside what this program's functions take. */
     pthread_attr_init(&attributes);
