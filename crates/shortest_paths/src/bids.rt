@@ -54,7 +54,7 @@ impl Two {
 }
 
 // The greatest value. Compilers make vectors of this loop.
-fn greatest_value(benefits: &[Benefit], prices: &[i64]) -> i64 {
+pub fn greatest_value(benefits: &[Benefit], prices: &[i64]) -> i64 {
     let mut greatest = i64::MIN;
     for (benefit, price) in benefits.iter().zip(prices) {
         greatest = greatest.max(benefit.wrapping_sub(*price));
@@ -137,7 +137,7 @@ fn bid(market: &mut Market, two: Two, person: usize, eps: i64, step: i64) -> Cam
     }
 }
 
-// Bids of a person and of those that are evicted, at most so many. What is left of these.
+// Bids of a person and of those that are evicted, at most so many. How many there were.
 fn bid_on(scaled: &Scaled, market: &mut Market, first: usize, eps: i64, most: usize) -> usize
     requires { length market.old.prices.items ≡ length scaled.now.problem }
     ensures { length market.new.prices.items ≡ length scaled.now.problem }
@@ -147,24 +147,32 @@ fn bid_on(scaled: &Scaled, market: &mut Market, first: usize, eps: i64, most: us
     for k in 0..most {
         let two = two_of(scaled, market.prices.as_slice(), person);
         match bid(market, two, person, eps, step) {
-            Came::Done => return most - k - 1,
+            Came::Done => return k + 1,
             Came::Evicted(other) => person = other,
         }
     }
-    0
+    most
 }
 
-// Each person bids that owns nothing, and so do those that are evicted, with so many bids for each
-// person, all together.
-pub fn bid_all(scaled: &Scaled, market: &mut Market, eps: i64, bids_a_person: u16)
+// How many bids there may be: for each person, all together; and in a row, of a person and of those
+// that are evicted one by another.
+#[derive(Clone, Copy)]
+pub struct Bids {
+    pub a_person: u16,
+    pub in_a_row: usize,
+}
+
+// Each person bids that owns nothing, and so do those that are evicted.
+pub fn bid_all(scaled: &Scaled, market: &mut Market, eps: i64, most: Bids)
     requires { length market.old.prices.items ≡ length scaled.now.problem }
     ensures { length market.new.prices.items ≡ length scaled.now.problem }
 {
     let n = scaled.n() as usize;
-    let mut left = n.saturating_mul(bids_a_person as usize);
+    let mut left = n.saturating_mul(most.a_person as usize);
     for person in 0..n {
         if market.object(person).is_none() {
-            left = bid_on(scaled, market, person, eps, left);
+            let made = bid_on(scaled, market, person, eps, left.min(most.in_a_row));
+            left = left.saturating_sub(made);
         }
     }
 }

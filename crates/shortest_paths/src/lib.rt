@@ -6,6 +6,7 @@ mod answer;
 mod bids;
 mod market;
 mod path;
+mod plan;
 mod prices;
 mod reach;
 mod rows;
@@ -13,5 +14,6 @@ mod search;
 mod solve;
 #[cfg(test)]
 mod tests;
+mod ties;
 
 pub use solve::{solve_paths, solve_paths_from, try_paths, try_paths_from};

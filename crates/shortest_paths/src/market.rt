@@ -26,6 +26,17 @@ fn lower(prices: &mut [i64]) {
     }
 }
 
+// How many of these are none.
+fn count_none(places: &[Option<usize>]) -> usize {
+    let mut count = 0usize;
+    for place in places {
+        if place.is_none() {
+            count = count.saturating_add(1);
+        }
+    }
+    count
+}
+
 // Nobody owns an object any more.
 fn leave(owners: &mut [Option<usize>], prices: &mut [i64]) {
     for k in 0..owners.len() {
@@ -86,6 +97,11 @@ impl Market {
         if person < self.objects.len() {
             self.objects[person] = Some(object);
         }
+    }
+
+    // How many persons own nothing.
+    pub fn unserved(&self) -> usize {
+        count_none(self.objects.as_slice())
     }
 
     // Leaves a person without an object.

@@ -1,6 +1,6 @@
 // Which objects a person reaches, and the nearest of all that were reached. The distance of an
 // object is its cost, at which it is reached, and its key.
-ghost use Rattle.std.specs.Prelude.{◌≡◌, ◌<◌, length, IfSome};
+ghost use Rattle.std.specs.Prelude.{◌≡◌, ◌≤◌, ◌<◌, length, IfSome};
 
 use super::rows::place_of;
 use assign_core::{Benefit, Object};
@@ -13,21 +13,56 @@ pub const FAR: i64 = 1 << 61;
 // No object is reached at this distance.
 pub const END: i64 = 1 << 60;
 
-// How many objects are looked at together for those at a distance.
-const BLOCK: usize = 32;
+// How many objects make a block. Only blocks with an object that is nearest are looked at again.
+const BLOCK: usize = 64;
 
-// A full row: the costs afterwards, and the least distance.
-pub fn reach_full(benefits: &[Benefit], base: i64, costs: &mut [i64], keys: &[i64]) -> i64
+// The objects of a full row from one place to another: the costs afterwards, and the least distance.
+fn reach_block(
+    benefits: &[Benefit],
+    base: i64,
+    costs: &mut [i64],
+    keys: &[i64],
+    from: usize,
+    to: usize,
+) -> i64
     requires benefits { length benefits.now ≡ length costs.old }
     requires keys { length keys.now ≡ length costs.old }
+    requires to { to ≤ length costs.old }
 {
     let mut least = i64::MAX;
-    for k in 0..benefits.len() {
+    for k in from..to {
         let cost = costs[k].min(base.wrapping_sub(benefits[k]));
         costs[k] = cost;
         least = least.min(cost.wrapping_add(keys[k]));
     }
     least
+}
+
+// A full row: the costs afterwards, and the least distance of each block. With an object nearer than
+// `near` a search is at its end, and the blocks behind it are left as they are.
+pub fn reach_full(
+    benefits: &[Benefit],
+    base: i64,
+    costs: &mut [i64],
+    keys: &[i64],
+    near: i64,
+    blocks: &mut Vec<i64>,
+) -> Result<(), AllocError>
+    requires benefits { length benefits.now ≡ length costs.old }
+    requires keys { length keys.now ≡ length costs.old }
+{
+    let n = benefits.len();
+    let mut at = 0usize;
+    for _block in 0..n / BLOCK + 1 {
+        let to = at.saturating_add(BLOCK).min(n);
+        let least = reach_block(benefits, base, costs, keys, at, to);
+        blocks.push(least)?;
+        if least < near {
+            return Ok(());
+        }
+        at = to;
+    }
+    Ok(())
 }
 
 pub fn reach_pairs(pairs: &[(Object, Benefit)], base: i64, costs: &mut [i64]) {
@@ -40,10 +75,31 @@ pub fn reach_pairs(pairs: &[(Object, Benefit)], base: i64, costs: &mut [i64]) {
 }
 
 // The least distance.
-pub fn least_of(costs: &[i64], keys: &[i64]) -> i64 {
+fn least_of(costs: &[i64], keys: &[i64]) -> i64 {
     let mut least = i64::MAX;
     for (cost, key) in costs.iter().zip(keys) {
         least = least.min(cost.wrapping_add(*key));
+    }
+    least
+}
+
+// The least distance of each block.
+pub fn look_at_blocks(
+    costs: &[i64],
+    keys: &[i64],
+    blocks: &mut Vec<i64>,
+) -> Result<(), AllocError> {
+    for (costs, keys) in costs.chunks(BLOCK).zip(keys.chunks(BLOCK)) {
+        blocks.push(least_of(costs, keys))?;
+    }
+    Ok(())
+}
+
+// The least of some distances.
+pub fn least_in(distances: &[i64]) -> i64 {
+    let mut least = i64::MAX;
+    for distance in distances {
+        least = least.min(*distance);
     }
     least
 }
@@ -64,16 +120,17 @@ fn gather_block(
     Ok(())
 }
 
-// The objects at this distance.
+// The objects at this distance, which is the least, in the blocks that were looked at.
 pub fn gather(
     costs: &[i64],
     keys: &[i64],
+    blocks: &[i64],
     least: i64,
     places: &mut Vec<usize>,
 ) -> Result<(), AllocError> {
     let mut at = 0usize;
-    for (costs, keys) in costs.chunks(BLOCK).zip(keys.chunks(BLOCK)) {
-        if least_of(costs, keys) == least {
+    for ((costs, keys), block) in costs.chunks(BLOCK).zip(keys.chunks(BLOCK)).zip(blocks) {
+        if *block == least {
             gather_block(costs, keys, at, least, places)?;
         }
         at = at.wrapping_add(BLOCK);

@@ -5,7 +5,8 @@ ghost use Rattle.scaled_values.specs.Held.{HasForm};
 
 use super::market::Market;
 use super::reach::{
-    END, FAR, Heap, gather, hide, least_of, pop, push_full, push_pairs, reach_full, reach_pairs,
+    END, FAR, Heap, gather, hide, least_in, look_at_blocks, pop, push_full, push_pairs, reach_full,
+    reach_pairs,
 };
 use super::rows::{benefit_at, place_of, row_at};
 use scaled_values::{Row, Scaled};
@@ -29,6 +30,8 @@ pub struct Search {
     pub passed: Vec<usize>,
     // The distance of the last of these.
     pub level: i64,
+    // The least distance of each block of objects, of those that the last look at all objects saw.
+    pub blocks: Vec<i64>,
     pub heap: Heap,
     // Whether persons list so few objects that a heap finds the nearest sooner than a scan.
     pub by_heap: bool,
@@ -104,6 +107,7 @@ impl Search {
         let keys = vec![in alloc; 0i64; n]?;
         let scanned = Vec::new(alloc);
         let passed = Vec::new(alloc);
+        let blocks = Vec::new(alloc);
         let heap = BinaryHeap::new(alloc);
         Ok(Search {
             costs,
@@ -111,6 +115,7 @@ impl Search {
             scanned,
             passed,
             level: i64::MIN,
+            blocks,
             heap,
             by_heap,
         })
@@ -162,19 +167,27 @@ impl Search {
         ensures costs { length self.new.costs.items ≡ length self.old.costs.items }
         ensures keys { length self.new.keys.items ≡ length self.old.keys.items }
     {
+        let from = self.passed.len();
+        let waits = from >= self.scanned.len();
+        // Only an object that nobody owns can be nearer than those that wait.
+        let near = if waits { self.level } else { i64::MIN };
         let keys = self.keys.as_slice();
         let costs = self.costs.as_mut_slice();
-        let least = match row {
-            Row::Full(benefits) => reach_full(benefits, base, costs, keys),
+        self.blocks.clear();
+        match row {
+            Row::Full(benefits) => {
+                reach_full(benefits, base, costs, keys, near, &mut self.blocks)?;
+            }
             Row::Pairs(pairs) => {
                 reach_pairs(pairs, base, costs);
-                least_of(costs, keys)
+                look_at_blocks(costs, keys, &mut self.blocks)?;
             }
-        };
-        let from = self.passed.len();
-        if least < END && (from < self.scanned.len() || least <= self.level) {
+        }
+        let blocks = self.blocks.as_slice();
+        let least = least_in(blocks);
+        if least < END && (!waits || least <= self.level) {
             self.level = least;
-            gather(costs, keys, least, &mut self.passed)?;
+            gather(costs, keys, blocks, least, &mut self.passed)?;
             hide(self.keys.as_mut_slice(), self.passed.as_slice(), from);
         }
         Ok(())

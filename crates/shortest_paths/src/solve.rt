@@ -7,41 +7,21 @@ use super::answer::{best_of, hall_of};
 use super::bids::bid_all;
 use super::market::Market;
 use super::path::{raise, walk_back};
+use super::plan::{Plan, plan_of, started_plan};
 use super::prices::{given_prices, rounded, usual_prices};
 use super::search::{End, Search};
-use assign_core::{Outcome, Person, Prices};
+use super::ties::match_ties;
+use assign_core::{Outcome, Prices};
 use rounds::solve_rounds_alone;
 use scaled_values::Scaled;
 use std::alloc::{AllocError, Global};
 use std::sync::Arc;
 
-// A search looks for the nearest object in a heap where fewer than one in so many pairs are listed.
-const HEAP_BELOW: usize = 8;
-
 // Bids for each person before the searches, without slackness.
 const BIDS_BEFORE: u16 = 4;
 
-// Bids for each person in each phase of an auction, at most; and where few pairs are listed, and an
-// auction comes before any search.
-const BIDS_A_PHASE: u16 = 32;
-
-const SPARSE_BIDS_A_PHASE: u16 = 8;
-
-// Where searches scan more persons than so many for each person, an auction goes first.
-const SCANS_A_PERSON: usize = 80;
-
 // The most phases of an auction: slackness falls to a fifth from one to the next.
 const PHASES: usize = 24;
-
-// Whether so few pairs are listed.
-fn is_sparse(scaled: &Scaled) -> bool {
-    let n = scaled.n();
-    let mut pairs = 0usize;
-    for i in 0..n {
-        pairs = pairs.saturating_add(scaled.problem().row(Person(i + 1)).len());
-    }
-    pairs < n as usize * n as usize / HEAP_BELOW
-}
 
 // One person more gets an object, if it reaches one that nobody owns.
 fn augment(
@@ -95,7 +75,7 @@ fn augment_all(
 
 // Prices of an auction in phases of falling slackness, all multiples of n + 1. Nobody owns anything
 // afterwards.
-fn auction(scaled: &Scaled, market: &mut Market, bids_a_phase: u16)
+fn auction(scaled: &Scaled, market: &mut Market, plan: Plan)
     requires { length market.old.prices.items ≡ length scaled.now.problem }
     ensures { length market.new.prices.items ≡ length scaled.now.problem }
 {
@@ -104,7 +84,12 @@ fn auction(scaled: &Scaled, market: &mut Market, bids_a_phase: u16)
     for _phase in 0..PHASES {
         if eps >= step {
             market.release_all();
-            bid_all(scaled, market, rounded(eps, step), bids_a_phase);
+            bid_all(
+                scaled,
+                market,
+                rounded(eps, step),
+                plan.bids(plan.bids_a_phase),
+            );
             eps = eps / 5;
         }
     }
@@ -133,35 +118,42 @@ fn paths_after_auction(
     alloc: Global,
     scaled: &Scaled,
     prices: Vec<i64>,
-    bids_a_phase: u16,
+    plan: Plan,
 ) -> Result<Option<Outcome>, AllocError>
     requires { length prices.items ≡ length scaled.now.problem }
     ensures { IfOk result (λ found. IfSome found (IsProof scaled.now)) }
 {
     let mut market = Market::new(alloc, prices)?;
-    auction(scaled, &mut market, bids_a_phase);
-    bid_all(scaled, &mut market, 0, BIDS_BEFORE);
-    let mut search = Search::new(alloc, scaled.n() as usize, is_sparse(scaled))?;
+    auction(scaled, &mut market, plan);
+    bid_all(scaled, &mut market, 0, plan.bids(BIDS_BEFORE));
+    let mut search = Search::new(alloc, scaled.n() as usize, plan.by_heap)?;
     let end = augment_all(scaled, &mut market, &mut search, usize::MAX)?;
     answer_of(alloc, scaled, &market, &search, end)
 }
 
-// Paths from these prices, and where the searches turn out long once more after an auction.
+// Paths from these prices, and where much is left to search for or the searches turn out long once
+// more after an auction.
 fn paths_from(
     alloc: Global,
     scaled: &Scaled,
     prices: Vec<i64>,
+    plan: Plan,
 ) -> Result<Option<Outcome>, AllocError>
     requires { length prices.items ≡ length scaled.now.problem }
     ensures { IfOk result (λ found. IfSome found (IsProof scaled.now)) }
 {
     let mut market = Market::new(alloc, prices.as_slice().to_vec(alloc)?)?;
-    bid_all(scaled, &mut market, 0, BIDS_BEFORE);
-    let mut search = Search::new(alloc, scaled.n() as usize, is_sparse(scaled))?;
-    let most = scaled.n() as usize * SCANS_A_PERSON;
-    let end = augment_all(scaled, &mut market, &mut search, most)?;
+    if plan.ties_first {
+        match_ties(alloc, scaled, &mut market)?;
+    }
+    bid_all(scaled, &mut market, 0, plan.bids(BIDS_BEFORE));
+    if market.unserved() > plan.most_unserved {
+        return paths_after_auction(alloc, scaled, prices, plan);
+    }
+    let mut search = Search::new(alloc, scaled.n() as usize, plan.by_heap)?;
+    let end = augment_all(scaled, &mut market, &mut search, plan.most_scans)?;
     if let Some(End::Long) = end {
-        return paths_after_auction(alloc, scaled, prices, BIDS_A_PHASE);
+        return paths_after_auction(alloc, scaled, prices, plan);
     }
     answer_of(alloc, scaled, &market, &search, end)
 }
@@ -180,11 +172,7 @@ pub fn try_paths(alloc: Global, scaled: &Scaled) -> Result<Option<Outcome>, Allo
     ensures { IfOk result (λ found. IfSome found (IsProof scaled.now)) }
 {
     let prices = usual_prices(alloc, scaled)?;
-    if is_sparse(scaled) {
-        paths_after_auction(alloc, scaled, prices, SPARSE_BIDS_A_PHASE)
-    } else {
-        paths_from(alloc, scaled, prices)
-    }
+    paths_from(alloc, scaled, prices, plan_of(scaled))
 }
 
 /// Looks for a proof as `try_paths` does, beginning at these prices, one for each object. Prices of
@@ -201,7 +189,8 @@ pub fn try_paths_from(
     requires { length prices.now ≡ length scaled.now.problem }
     ensures { IfOk result (λ found. IfSome found (IsProof scaled.now)) }
 {
-    paths_from(alloc, scaled, given_prices(alloc, scaled, prices)?)
+    let prices = given_prices(alloc, scaled, prices)?;
+    paths_from(alloc, scaled, prices, started_plan(scaled))
 }
 
 // What was found, and where nothing was found what rounds come to.

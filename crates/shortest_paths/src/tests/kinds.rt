@@ -13,7 +13,7 @@ fn next_number(seed: &mut u64) -> u64 {
 }
 
 // How many kinds there are.
-const KINDS: u8 = 16;
+const KINDS: u8 = 18;
 
 // What person i pays for object j, numbered from 0 among n, where a number is drawn.
 fn cost(kind: u8, n: u16, i: u16, j: u16, drawn: Cost) -> Option<Cost> {
@@ -45,7 +45,10 @@ fn cost(kind: u8, n: u16, i: u16, j: u16, drawn: Cost) -> Option<Cost> {
         13 => Some(if i % 10 == 0 { drawn % 1000 } else { 0 }),
         14 => (drawn % 4 == 0).then_some(drawn % 100),
         // One person more than objects that they list.
-        _ => (i > half || j < half).then_some(drawn % 100),
+        15 => (i > half || j < half).then_some(drawn % 100),
+        // Few pairs: an assignment and drawn ones, or ten persons for nine objects.
+        16 => (i == j || drawn % 16 == 0).then_some(drawn % 100),
+        _ => (i < 10 && j < 9 || i >= 10 && i == j).then_some(drawn % 100),
     }
 }
 
@@ -135,11 +138,28 @@ fn other_than_rounds(alloc: Global, kind: u8, n: u16) -> Result<Option<Finding>,
     Ok((seen != wanted).then_some(seen))
 }
 
+// What paths find from first prices of 0, from which searches for so many persons of kind 7 are so
+// long that an auction takes over.
+fn found_after_long_searches(alloc: Global) -> Result<Finding, AllocError> {
+    let pairs = pairs_of(alloc, 7, 200, 7)?;
+    found(alloc, 200, pairs.as_slice(), Sense::Min, Some(&[]))
+}
+
+#[test]
+fn searches_that_are_given_up(rt: HostRuntime) -> Result<(), Fail> {
+    // The greatest row number with the least column number: i * (199 - i) in sum.
+    assert_eq!(rt;
+        found_after_long_searches(rt.alloc())?,
+        Finding::Best(1_313_400)
+    );
+    Ok(())
+}
+
 #[test]
 fn kinds_beside_rounds(rt: HostRuntime) -> Result<(), Fail> {
     for kind in 0..KINDS {
-        // Searches for so many persons of kind 7 are so long that an auction goes first.
-        let n = if kind == 7 { 200 } else { 48 };
+        // In these a large part of the work is an auction's, or few are left to search for.
+        let n = if kind == 7 || kind >= 16 { 200 } else { 48 };
         assert_eq!(rt;
             other_than_rounds(rt.alloc(), kind, n)?,
             None,

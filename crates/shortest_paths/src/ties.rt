@@ -1,0 +1,266 @@
+// Ties: near best prices many objects are a person's best. Persons are matched with them from lists
+// that are made by one look at each row, by augmenting paths that look at no row (Kuhn, The Hungarian
+// method for the assignment problem, 1955).
+ghost use Rattle.std.specs.Prelude.{◌≡◌, length};
+
+use super::bids::greatest_value;
+use super::market::Market;
+use super::rows::{place_of, row_at};
+use assign_core::{Benefit, Object};
+use scaled_values::{Row, Scaled};
+use std::alloc::{AllocError, Global};
+
+// So many best objects of a person are kept, at most.
+const MOST_KEPT: usize = 16;
+
+// How many objects of a full row are looked at together.
+const BLOCK: usize = 32;
+
+// Best objects of the persons, those of one person after those of another.
+#[derive(Drop)]
+struct Ties {
+    objects: Vec<usize>,
+    // How long the list was before each person, and at the end.
+    bounds: Vec<usize>,
+}
+
+impl Ties {
+    fn bound(&self, person: usize) -> usize {
+        self.bounds.get(person).copied().unwrap_or(0)
+    }
+}
+
+// The objects of a block, which begins at this place, that have this value.
+fn keep_block(
+    benefits: &[Benefit],
+    prices: &[i64],
+    at: usize,
+    best: i64,
+    objects: &mut Vec<usize>,
+) -> Result<(), AllocError> {
+    for (k, (benefit, price)) in benefits.iter().zip(prices).enumerate() {
+        if benefit.wrapping_sub(*price) == best {
+            objects.push(at.wrapping_add(k))?;
+        }
+    }
+    Ok(())
+}
+
+// The best objects of a person, whose list begins here, where the best value so far is this one.
+#[derive(Clone, Copy)]
+struct Best {
+    start: usize,
+    value: i64,
+}
+
+impl Best {
+    // With a part of a full row, which begins at this place.
+    fn with_full(
+        self,
+        benefits: &[Benefit],
+        prices: &[i64],
+        from: usize,
+        objects: &mut Vec<usize>,
+    ) -> Result<Best, AllocError> {
+        let mut best = self;
+        let mut at = from;
+        for (benefits, prices) in benefits.chunks(BLOCK).zip(prices.chunks(BLOCK)) {
+            let value = greatest_value(benefits, prices);
+            if value > best.value {
+                objects.truncate(best.start);
+                best.value = value;
+            }
+            if value == best.value && objects.len() < best.start.saturating_add(MOST_KEPT) {
+                keep_block(benefits, prices, at, value, objects)?;
+            }
+            at = at.wrapping_add(BLOCK);
+        }
+        Ok(best)
+    }
+
+    // With one object of a row of pairs.
+    fn with_pair(
+        self,
+        place: usize,
+        value: i64,
+        objects: &mut Vec<usize>,
+    ) -> Result<Best, AllocError> {
+        if value > self.value {
+            objects.truncate(self.start);
+        }
+        if value >= self.value {
+            objects.push(place)?;
+        }
+        Ok(Best {
+            value: value.max(self.value),
+            ..self
+        })
+    }
+
+    fn with_pairs(
+        self,
+        pairs: &[(Object, Benefit)],
+        prices: &[i64],
+        objects: &mut Vec<usize>,
+    ) -> Result<Best, AllocError> {
+        let mut best = self;
+        for (object, benefit) in pairs {
+            let place = place_of(*object);
+            if let Some(price) = prices.get(place) {
+                best = best.with_pair(place, benefit.wrapping_sub(*price), objects)?;
+            }
+        }
+        Ok(best)
+    }
+}
+
+// Keeps best objects of the person at this place. A full row is looked at from this place on, so that
+// of persons to whom many objects are alike not all keep the same.
+fn keep(
+    scaled: &Scaled,
+    prices: &[i64],
+    person: usize,
+    objects: &mut Vec<usize>,
+) -> Result<(), AllocError> {
+    let start = objects.len();
+    let none = Best {
+        start,
+        value: i64::MIN,
+    };
+    match row_at(scaled, person) {
+        Some(Row::Full(benefits)) => {
+            let at = person.min(benefits.len()).min(prices.len());
+            let (benefits, benefits_on) = benefits.split_at(at);
+            let (prices, prices_on) = prices.split_at(at);
+            let best = none.with_full(benefits_on, prices_on, at, objects)?;
+            best.with_full(benefits, prices, 0, objects)?;
+        }
+        Some(Row::Pairs(pairs)) => {
+            none.with_pairs(pairs, prices, objects)?;
+        }
+        None => {}
+    }
+    objects.truncate(start.saturating_add(MOST_KEPT));
+    Ok(())
+}
+
+fn ties_of(alloc: Global, scaled: &Scaled, prices: &[i64]) -> Result<Ties, AllocError> {
+    let mut objects = Vec::new(alloc);
+    let mut bounds = Vec::new(alloc);
+    bounds.push(0usize)?;
+    for person in 0..scaled.n() as usize {
+        keep(scaled, prices, person, &mut objects)?;
+        bounds.push(objects.len())?;
+    }
+    Ok(Ties { objects, bounds })
+}
+
+// A search along ties: the person from whom each object was reached, and the objects that were reached
+// in their order. What a search reached in vain stays reached, since no later one comes on from there.
+#[derive(Drop)]
+struct Reach {
+    from: Vec<Option<usize>>,
+    objects: Vec<usize>,
+}
+
+impl Reach {
+    fn reached_from(&self, object: usize) -> Option<usize> {
+        self.from.get(object).copied().flatten()
+    }
+
+    fn mark(&mut self, object: usize, from: Option<usize>) {
+        if object < self.from.len() {
+            self.from[object] = from;
+        }
+    }
+
+    // Reaches the best objects of a person, up to one that nobody owns.
+    fn reach(
+        &mut self,
+        ties: &Ties,
+        market: &Market,
+        person: usize,
+    ) -> Result<Option<usize>, AllocError> {
+        for k in ties.bound(person)..ties.bound(person.wrapping_add(1)) {
+            let object = ties.objects.get(k).copied().unwrap_or(0);
+            if self.reached_from(object).is_none() {
+                self.mark(object, Some(person));
+                self.objects.push(object)?;
+                if market.owner(object).is_none() {
+                    return Ok(Some(object));
+                }
+            }
+        }
+        Ok(None)
+    }
+
+    // The search from a person who owns nothing: an object that nobody owns, if one is reached.
+    fn run(
+        &mut self,
+        ties: &Ties,
+        market: &Market,
+        first: usize,
+    ) -> Result<Option<usize>, AllocError> {
+        self.objects.clear();
+        let mut person = first;
+        for turn in 0..market.owners.len() {
+            if let Some(object) = self.reach(ties, market, person)? {
+                return Ok(Some(object));
+            }
+            let next = self.objects.get(turn).copied();
+            match next.and_then(|object| market.owner(object)) {
+                None => return Ok(None),
+                Some(owner) => person = owner,
+            }
+        }
+        Ok(None)
+    }
+
+    // Gives each person on the way back from an object the one that was reached from it.
+    fn walk_back(&self, scaled: &Scaled, market: &mut Market, end: usize)
+        requires { length market.old.prices.items ≡ length scaled.now.problem }
+        ensures { length market.new.prices.items ≡ length scaled.now.problem }
+    {
+        let mut object = end;
+        for _step in 0..scaled.n() {
+            let Some(person) = self.reached_from(object) else {
+                return;
+            };
+            let left = market.object(person);
+            market.give(object, person);
+            match left {
+                None => return,
+                Some(left) => object = left,
+            }
+        }
+    }
+
+    // Nothing of the last search is reached any more.
+    fn forget(&mut self) {
+        for object in &self.objects {
+            if *object < self.from.len() {
+                self.from[*object] = None;
+            }
+        }
+    }
+}
+
+// Matches persons with best objects, where nobody owns anything yet.
+pub fn match_ties(alloc: Global, scaled: &Scaled, market: &mut Market) -> Result<(), AllocError>
+    requires { length market.old.prices.items ≡ length scaled.now.problem }
+    ensures { length market.new.prices.items ≡ length scaled.now.problem }
+{
+    let n = scaled.n() as usize;
+    let ties = ties_of(alloc, scaled, market.prices.as_slice())?;
+    let mut reach = Reach {
+        from: vec![in alloc; None; n]?,
+        objects: Vec::new(alloc),
+    };
+    for person in 0..n {
+        if let Some(object) = reach.run(&ties, market, person)? {
+            reach.walk_back(scaled, market, object);
+            reach.forget();
+        }
+    }
+    Ok(())
+}
