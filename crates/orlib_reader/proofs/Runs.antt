@@ -1,5 +1,5 @@
 -- Tokens taken by the run of their digits.
-use Rattle.std.proofs.Common.{◌≡◌, ℕ, ◌<◌, ◌≤◌, ◌+◌, ℤ, List, [], ◌∷◌, ◌++◌, Some, None, Ok, Err, true, false, refl, arith, length, drop, get_or, sym, ap, ◌∙◌, nat_le, nat_eq, ◌&&◌, add-one}
+use Rattle.std.proofs.Common.{◌≡◌, ℕ, ◌<◌, ◌≤◌, ◌+◌, ℤ, List, [], ◌∷◌, ◌++◌, Some, None, Ok, Err, true, refl, arith, length, drop, get_or, sym, ap, ◌∙◌, add-one}
 use Rattle.std.proofs.lemmas.Bool.{lt-leb}
 use Rattle.std.proofs.lemmas.List.{drop_more, length_push}
 use Rattle.orlib_reader.specs.declared.fault.InputFault.{InputFault}

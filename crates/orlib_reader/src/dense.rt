@@ -45,6 +45,7 @@ fn take_room(alloc: Global, n: u16, row: &mut Row) -> Result<(), AllocError>
 }
 
 // Adds a cost to the row, and the row to the others where it was the last one.
+#[inline(always)]
 fn add_cost(
     alloc: Global,
     n: u16,
@@ -93,6 +94,7 @@ impl DenseRows {
     }
 
     // Takes a cost.
+    #[inline(always)]
     fn take_cost(&mut self, cost: Cost) -> Result<(), AllocError>
         requires wanted { wanted_in Dense self.old ≡ Wanted.Cost }
         requires cost { IsCost cost }
@@ -103,6 +105,7 @@ impl DenseRows {
     }
 
     // Takes the token that ends.
+    #[inline(always)]
     pub fn take(&mut self, token: OpenToken) -> Result<(), InputFault>
         requires { token.value ≤ VALUE_LIMIT }
         ensures found { Gives (λ _. self.new) result (with_token Dense (Some token) self.old) }

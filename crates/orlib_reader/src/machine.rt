@@ -1,12 +1,14 @@
-// Takes a text: a token with its digits at once where it begins within a block, else byte by byte.
-ghost use Rattle.std.specs.Prelude.{◌≡◌, ◌<◌, ◌≤◌, ◌+◌, [], Ok, IfErr, IfOk, IsTrue, OnOk, length};
+// Takes a text: white space by its runs, a token with its digits at once where it begins within a
+// block, else byte by byte.
+ghost use Rattle.std.specs.Prelude.{◌≡◌, ◌<◌, ◌≤◌, ◌+◌, [], Ok, true, get_or, IfErr, IfOk, IsTrue, OnOk, length};
+ghost use Rattle.orlib_reader.specs.Tokens.{is_space};
 ghost use Rattle.orlib_reader.specs.Texts.{Fails, Gives, Meets};
-ghost use Rattle.orlib_reader.specs.inside.Steps.{State, Begins, HasTaken, step, after, start, finished};
+ghost use Rattle.orlib_reader.specs.inside.Steps.{State, Begins, HasTaken, IsBetween, step, after, start, finished};
 ghost use Rattle.orlib_reader.specs.inside.Held.{layout_in, found_in};
 
 use super::fault::InputFault;
 use super::pairs::Pairs;
-use super::token::{OpenToken, is_white};
+use super::token::{OpenToken, is_white, white_run};
 use assign_core::Problem;
 use std::marker::Model;
 
@@ -50,6 +52,7 @@ impl Machine {
     }
 
     // Takes one byte more.
+    #[cold]
     pub fn feed(&mut self, b: u8) -> Result<(), InputFault>
         ensures step { Gives (λ _. self.new) result (step self.old b) }
         ensures layout { OnOk result (self.new.layout ≡ self.old.layout) }
@@ -76,19 +79,30 @@ impl Machine {
         Ok(())
     }
 
-    // Whether a token begins with the first of these bytes, and the limit is behind the last of them.
-    fn begins_token(&self, bytes: &[u8]) -> bool
-        requires { 0 < length bytes.now }
-        ensures { IsTrue result → Begins self.now bytes.now }
+    // Whether no token is open, and the limit is behind the last of these bytes.
+    fn is_between(&self, bytes: &[u8]) -> bool
+        ensures { IsTrue result → IsBetween self.now bytes.now }
     {
-        self.token.is_none()
-            && !is_white(bytes[0])
-            && bytes.len() as u64 <= TEXT_LIMIT - self.at
-            && !self.pairs.are_complete()
+        self.token.is_none() && bytes.len() as u64 <= TEXT_LIMIT - self.at
+    }
+
+    // Takes the white space that comes first. How many bytes that are.
+    #[inline(always)]
+    fn feed_blanks(&mut self, bytes: &[u8]) -> usize
+        requires between { IsBetween self.old bytes.now }
+        requires some { 0 < length bytes.now }
+        requires white { is_space (get_or bytes.now 0 0) ≡ true }
+        ensures taken { HasTaken self.old self.new bytes.now result }
+        ensures bound { self.new.at ≤ TEXT_LIMIT }
+    {
+        let blanks = white_run(bytes);
+        self.at += blanks as u64;
+        blanks
     }
 
     // Takes the token that begins with these bytes, with its digits, and the white byte behind
     // these, if it comes. How many bytes that are.
+    #[inline(always)]
     fn feed_token(&mut self, bytes: &[u8]) -> Result<usize, InputFault>
         requires { Begins self.old bytes.now }
         ensures taken { IfOk result (HasTaken self.old self.new bytes.now) }
@@ -109,22 +123,29 @@ impl Machine {
         Ok(count)
     }
 
-    // Takes the token that begins with these bytes, or else the first of them. How many bytes that
-    // are.
+    // Takes the white space or the token that these bytes begin with, or else the first of them. How
+    // many bytes that are.
+    #[inline(always)]
     fn feed_some(&mut self, bytes: &[u8]) -> Result<usize, InputFault>
         requires { 0 < length bytes.now }
         ensures taken { IfOk result (HasTaken self.old self.new bytes.now) }
         ensures fault { IfErr result (λ e. Fails e (after (Ok self.old) bytes.now)) }
         ensures bound { self.new.at ≤ TEXT_LIMIT }
     {
-        if self.begins_token(bytes) {
-            return self.feed_token(bytes);
+        if self.is_between(bytes) {
+            if is_white(bytes[0]) {
+                return Ok(self.feed_blanks(bytes));
+            }
+            if self.pairs.are_open() {
+                return self.feed_token(bytes);
+            }
         }
         self.feed(bytes[0])?;
         Ok(1)
     }
 
-    // Takes these bytes.
+    // Takes these bytes. One copy serves all readers, so that the steps of a token stay in its loop.
+    #[inline(never)]
     pub fn feed_all(&mut self, bytes: &[u8]) -> Result<(), InputFault>
         ensures after { Gives (λ _. self.new) result (after (Ok self.old) bytes.now) }
         ensures layout { OnOk result (self.new.layout ≡ self.old.layout) }

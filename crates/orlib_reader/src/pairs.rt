@@ -1,5 +1,5 @@
 // The numbers of a text, in either layout.
-ghost use Rattle.std.specs.Prelude.{◌≡◌, ◌≤◌, ◌↔◌, pos, Some, [], ◌∷◌, IfOk, IsTrue, OnOk, OnErr, length};
+ghost use Rattle.std.specs.Prelude.{◌≡◌, ◌≢◌, ◌≤◌, ◌↔◌, pos, Some, [], ◌∷◌, IfOk, IsTrue, OnOk, OnErr, length};
 ghost use Rattle.assign_core.specs.Rows.{IsSize};
 ghost use Rattle.orlib_reader.specs.Texts.{wanted_in, ended, Gives, Meets};
 ghost use Rattle.orlib_reader.specs.inside.Steps.{with_token};
@@ -47,7 +47,20 @@ impl Pairs {
         }
     }
 
+    // Whether the size has come, and another token may stand.
+    pub fn are_open(&self) -> bool
+        ensures { IsTrue result
+            → wanted_in (layout_in self.now) (found_in self.now) ≢ Wanted.Nothing }
+    {
+        match self {
+            Pairs::Nothing(_, _) => false,
+            Pairs::Dense(rows) => !rows.are_full(),
+            Pairs::Sparse(_) => true,
+        }
+    }
+
     // Takes the token that ends.
+    #[inline(always)]
     pub fn take(&mut self, token: OpenToken) -> Result<(), InputFault>
         requires { token.value ≤ VALUE_LIMIT }
         ensures layout { layout_in self.new ≡ layout_in self.old }

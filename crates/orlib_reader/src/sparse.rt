@@ -51,6 +51,7 @@ impl Model for Triples {
 }
 
 // Begins a new piece.
+#[cold]
 fn move_piece(
     alloc: Global,
     pieces: &mut VecDeque<Vec<Triple>>,
@@ -73,6 +74,7 @@ fn move_piece(
 }
 
 // Adds a triple behind the others.
+#[inline(always)]
 fn add_triple(
     alloc: Global,
     pieces: &mut VecDeque<Vec<Triple>>,
@@ -153,6 +155,7 @@ impl Triples {
     }
 
     // Takes the token that ends.
+    #[inline(always)]
     pub fn take(&mut self, token: OpenToken) -> Result<(), InputFault>
         requires { token.value ≤ VALUE_LIMIT }
         ensures found { Gives (λ _. self.new) result (with_token Sparse (Some token) self.old) }

@@ -1,12 +1,13 @@
-// A token, taken byte by byte, and the number that it is.
-ghost use Rattle.std.specs.Prelude.{◌≡◌, ◌≤◌, ◌+◌, ℕ, ℤ, List, Ok, drop, length, pos, true, false, IfOk, IsTrue, MatchOption, MatchResult};
+// White space, and a token, taken byte by byte or by the run of its digits, and the number that it
+// is.
+ghost use Rattle.std.specs.Prelude.{◌≡◌, ◌<◌, ◌≤◌, ◌+◌, ◌-◌, ◌*◌, ℕ, ℤ, List, Ok, drop, get_or, length, pos, true, false, IfOk, IsTrue, MatchOption, MatchResult};
 ghost use Rattle.assign_core.specs.Numbered.{IsNumber};
 ghost use Rattle.assign_core.specs.Rows.{IsCost, IsSize};
 ghost use Rattle.orlib_reader.specs.Tokens.{is_space};
 ghost use Rattle.orlib_reader.specs.Numbers.{Tells, is_among, judged_number};
 ghost use Rattle.orlib_reader.specs.Numbers;
 ghost use Rattle.orlib_reader.specs.Wanted;
-ghost use Rattle.orlib_reader.specs.inside.Steps.{after, begun, continued, token_number, within_token};
+ghost use Rattle.orlib_reader.specs.inside.Steps.{after, begun, between_tokens, continued, saturated, token_number, within_token};
 ghost use Rattle.orlib_reader.specs.declared.layout.Layout.{Layout};
 ghost use Rattle.orlib_reader.specs.declared.machine.TheConstants.{TEXT_LIMIT};
 
@@ -15,6 +16,9 @@ use assign_core::{Cost, GREATEST_COST, MOST_PERSONS};
 
 // Greater values are kept as this one, which is out of each range.
 pub const VALUE_LIMIT: u64 = 1_000_000_000_000_000_000;
+
+// A lesser value stays within the limit with any digit more.
+const SHORT_VALUE_LIMIT: u64 = VALUE_LIMIT / 10;
 
 // What has been read of a token.
 #[derive(Clone, Copy)]
@@ -32,8 +36,37 @@ pub fn is_white(b: u8) -> bool
     b == b' ' || (b >= 9 && b <= 13)
 }
 
+// How many bytes of white space come first.
+#[inline(always)]
+pub fn white_run(bytes: &[u8]) -> usize
+    ensures count { result ≤ length bytes.now }
+    ensures dark { result < length bytes.now → is_space (get_or bytes.now result 0) ≡ false }
+    ensures after { (layout : Layout) (at : ℕ) (found : List ℤ)
+        → at + length bytes.now ≤ TEXT_LIMIT
+        → after (Ok (between_tokens layout (at + result) found)) (drop result bytes.now)
+        ≡ after (Ok (between_tokens layout at found)) bytes.now }
+{
+    let mut count = 0;
+    while count < bytes.len() && is_white(bytes[count]) {
+        count += 1;
+    }
+    count
+}
+
+// The value with one digit more.
+#[inline(always)]
+fn with_digit(value: u64, b: u8) -> u64
+    requires short { value < SHORT_VALUE_LIMIT }
+    requires digit { (48 ≤ b) × (b ≤ 57) }
+    ensures value { result ≡ saturated (value * 10 + (b - 48)) }
+    ensures bound { result ≤ VALUE_LIMIT }
+{
+    value * 10 + u64::from(b - b'0')
+}
+
 impl OpenToken {
     // A token that begins with this byte.
+    #[inline(always)]
     pub fn begin(place: u64, b: u8) -> OpenToken
         ensures token { result ≡ begun place b }
         ensures bound { result.value ≤ VALUE_LIMIT }
@@ -74,7 +107,9 @@ impl OpenToken {
         }
     }
 
-    // The token with the digits that come next, and how many of them there are.
+    // The token with digits that come next, all of them where the value stays short, and how many
+    // they are.
+    #[inline(always)]
     pub fn go_on_by_digits(self, bytes: &[u8]) -> (OpenToken, usize)
         requires { self.value ≤ VALUE_LIMIT }
         ensures count { result.1 ≤ length bytes.now }
@@ -85,18 +120,26 @@ impl OpenToken {
             ≡ after (Ok (within_token layout at self found)) bytes.now }
         ensures bound { result.0.value ≤ VALUE_LIMIT }
     {
-        let mut token = self;
-        for i in 0..bytes.len() {
-            let b = bytes[i];
-            if !b.is_ascii_digit() {
-                return (token, i);
-            }
-            token = token.go_on(b);
+        let mut value = self.value;
+        let mut has_digits = self.has_digits;
+        let mut count = 0;
+        while count < bytes.len() && value < SHORT_VALUE_LIMIT && bytes[count].is_ascii_digit() {
+            value = with_digit(value, bytes[count]);
+            has_digits = true;
+            count += 1;
         }
-        (token, bytes.len())
+        let token = OpenToken {
+            place: self.place,
+            is_negative: self.is_negative,
+            has_digits,
+            is_bad: self.is_bad,
+            value,
+        };
+        (token, count)
     }
 
     // The number that the token is, or that it is none.
+    #[inline(always)]
     fn number(self) -> Result<i64, InputFault>
         requires { self.value ≤ VALUE_LIMIT }
         ensures { MatchResult result (λ v. token_number self ≡ Some v)
@@ -123,6 +166,7 @@ impl OpenToken {
     }
 
     // The token as the number of a person or an object, from 1 to n.
+    #[inline(always)]
     pub fn index(self, n: u16) -> Result<u16, InputFault>
         requires { self.value ≤ VALUE_LIMIT }
         ensures gives { Tells (λ k. pos k) result
@@ -134,6 +178,7 @@ impl OpenToken {
     }
 
     // The token as a cost.
+    #[inline(always)]
     pub fn cost(self) -> Result<Cost, InputFault>
         requires { self.value ≤ VALUE_LIMIT }
         ensures gives { Tells (λ c. c) result

@@ -89,6 +89,15 @@ pub record IsUnderway (at : ℕ) (token : Option OpenToken) (found : List ℤ) :
 abbrev pub within_token : Layout → ℕ → OpenToken → List ℤ → State
 within_token layout at token found = record { layout = layout; at = at; token = Some token; found = found }
 
+-- where the reader is between tokens
+abbrev pub between_tokens : Layout → ℕ → List ℤ → State
+between_tokens layout at found = record { layout = layout; at = at; token = None; found = found }
+
+-- no token is open, and the limit is behind the last of these bytes
+pub record IsBetween (s : State) (bytes : List ℕ) : Type 0 where
+  pub near : s.at + length bytes ≤ TEXT_LIMIT
+  pub none_open : s.token ≡ None
+
 -- a token begins with the first of these bytes, and the limit is behind the last of them
 pub record Begins (s : State) (bytes : List ℕ) : Type 0 where
   pub some : 0 < length bytes
