@@ -17,6 +17,20 @@ pub enum Turn {
     Stopped,
 }
 
+/// How far a run is, by the book as a worker left it. The fields are the book's own answers; no
+/// contract speaks of what a gate is told.
+#[derive(Clone, Copy, Debug, PartialEq, Eq)]
+pub struct Standing {
+    /// The phase, from 1.
+    pub phase: u16,
+    /// The slackness of the phase, at least 1, in the unit of benefits.
+    pub eps: i64,
+    /// How many persons own an object.
+    pub assigned: u16,
+    /// How many bids of all workers were accepted since the opening.
+    pub accepted: u128,
+}
+
 /// Who is told of the steps of a worker's turn, all of them while the worker is without the book.
 pub trait Gate {
     /// Before the offer of a person that the worker claimed is computed.
@@ -27,6 +41,11 @@ pub trait Gate {
 
     /// After the worker has put the book back.
     fn after_session(&self, worker: u16, note: Note);
+
+    /// After `after_session`: how far the run was as the worker put the book back, and how many
+    /// sessions of this worker are over. Other workers may have gone on since. A gate that leaves
+    /// this out isn't told.
+    fn after_standing(&self, _worker: u16, _sessions: u64, _standing: Standing) {}
 }
 
 /// A gate that does nothing.

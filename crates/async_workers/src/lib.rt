@@ -14,6 +14,6 @@ mod tests;
 mod working;
 
 pub use auction_book::Note;
-pub use gate::{Gate, OpenGate, Turn, TurnFault};
+pub use gate::{Gate, OpenGate, Standing, Turn, TurnFault};
 pub use place::{BookPlace, Claimed, Desk, Held, ask_stop, close_place, leave, open_place, turn};
 pub use solving::{Tally, solve_workers, solve_workers_from};

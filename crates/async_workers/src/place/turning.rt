@@ -64,8 +64,8 @@ fn prepare_offer<G: Gate>(desk: &mut Desk, claim: Claim, gate: &G) -> Turn
 /// place it prepares that person's offer from its own table, however old (Bertsekas and Castanon,
 /// Parallel synchronous and asynchronous implementations of the auction algorithm, 1991).
 ///
-/// The gate is told, while the book isn't in hand, before an offer goes in, after the session, and
-/// before an offer is computed. It may wait for other workers.
+/// The gate is told, while the book isn't in hand, before an offer goes in, after the session, how
+/// far the run was at its end, and before an offer is computed. It may wait for other workers.
 ///
 /// # Errors
 /// `Memory`, where a growth was refused. The book is back in its place all the same: with the
@@ -90,8 +90,13 @@ pub fn turn<G: Gate, R: Wait>(
     if desk.offer.is_some() {
         gate.before_submit(number, desk.sessions);
     }
-    let Ended { note, outcome } = one_session(rt, alloc, place, desk, refresh);
+    let Ended {
+        note,
+        outcome,
+        standing,
+    } = one_session(rt, alloc, place, desk, refresh);
     gate.after_session(number, note);
+    gate.after_standing(number, desk.sessions, standing);
     match outcome {
         Ok(claim) => Ok(prepare_offer(desk, claim, gate)),
         Err(AllocError) => Err(TurnFault::Memory),

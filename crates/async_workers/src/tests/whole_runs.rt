@@ -203,6 +203,58 @@ impl Gate for Telling {
     }
 }
 
+// Follows a run of one worker: what it was told last, the bids that it heard were accepted, and whether it was told
+// something that can't come after what it was told before.
+#[derive(Drop)]
+struct Following {
+    sessions: AtomicU64,
+    phase: AtomicU64,
+    eps: AtomicU64,
+    assigned: AtomicU64,
+    accepted: AtomicU64,
+    heard: AtomicU64,
+    wrong: AtomicU64,
+}
+
+fn new_following() -> Following {
+    Following {
+        sessions: AtomicU64::new(0),
+        phase: AtomicU64::new(1),
+        eps: AtomicU64::new(u64::MAX),
+        assigned: AtomicU64::new(0),
+        accepted: AtomicU64::new(0),
+        heard: AtomicU64::new(0),
+        wrong: AtomicU64::new(0),
+    }
+}
+
+impl Gate for Following {
+    fn before_offer(&self, _worker: u16) {}
+
+    fn before_submit(&self, _worker: u16, _turns: u64) {}
+
+    fn after_session(&self, _worker: u16, note: Note) {
+        if note == Note::Accepted {
+            self.heard.fetch_add(1, Ordering::SeqCst);
+        }
+    }
+
+    fn after_standing(&self, worker: u16, sessions: u64, standing: Standing) {
+        let phase = u64::from(standing.phase);
+        let eps = u64::try_from(standing.eps).unwrap_or(0);
+        let accepted = u64::try_from(standing.accepted).unwrap_or(0);
+        self.assigned
+            .store(u64::from(standing.assigned), Ordering::SeqCst);
+        let rises = self.phase.swap(phase, Ordering::SeqCst) <= phase
+            && self.eps.swap(eps, Ordering::SeqCst) >= eps
+            && self.accepted.swap(accepted, Ordering::SeqCst) <= accepted
+            && self.sessions.fetch_add(1, Ordering::SeqCst).wrapping_add(1) == sessions;
+        if worker != 1 || standing.assigned > 8 || !rises {
+            self.wrong.store(1, Ordering::SeqCst);
+        }
+    }
+}
+
 // ---- worked problems
 // Costs with one least assignment: person i pays u_i + v_j, and more where it isn't given j.
 const EIGHT: [Cost; 64] = [
@@ -233,6 +285,24 @@ fn eight_persons(rt: HostRuntime) -> Result<(), Fail> {
         };
         assert_eq!(rt; objects.as_slice(), [3, 1, 4, 8, 2, 7, 5, 6].as_slice());
     }
+    Ok(())
+}
+
+// The spread is 378, nine times that of the costs, so the phases have slackness 75, 15, 3 and 1.
+#[test]
+fn one_worker_is_followed(rt: HostRuntime) -> Result<(), Fail> {
+    let gate = new_following();
+    let seen = dense_solved(&rt, rt.alloc(), 8, &EIGHT, 1, 1, &gate)?;
+    let Seen::Best(_, _, accepted) = seen else {
+        panic!(rt; "no assignment");
+    };
+    assert_eq!(rt; gate.wrong.load(Ordering::SeqCst), 0);
+    assert_eq!(rt; gate.phase.load(Ordering::SeqCst), 4);
+    assert_eq!(rt; gate.eps.load(Ordering::SeqCst), 1);
+    assert_eq!(rt; gate.assigned.load(Ordering::SeqCst), 8);
+    let told = gate.accepted.load(Ordering::SeqCst);
+    assert_eq!(rt; gate.heard.load(Ordering::SeqCst), told);
+    assert_eq!(rt; accepted.as_slice(), [u128::from(told)].as_slice());
     Ok(())
 }
 
