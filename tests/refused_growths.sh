@@ -81,6 +81,7 @@ try_all_but 2 "$top/examples/roster.txt" solve --sparse --max --method paths
 "$program" solve --prices < "$top/examples/two_persons.txt" > "$work/report"
 try_all_but 2 "$top/examples/two_persons.txt" solve --method paths --start "$work/report"
 try_all "$top/examples/two_persons.txt" verify "$work/report"
+try_all /dev/null verify --input "$top/examples/two_persons.txt" "$work/report"
 "$program" solve --sparse < "$top/examples/short_roster.txt" > "$work/refusal" || true
 try_all "$top/examples/short_roster.txt" verify --sparse "$work/refusal"
 [ "$failed" = 0 ]

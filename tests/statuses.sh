@@ -92,6 +92,37 @@ expect '2 1 2 3 5' 3 '' 'report: bad line 2' solve --start "$work/bad"
 expect '2 1 2 3 5' 4 '' 'device: read failed' solve --start "$work"
 expect 'x' 3 '' 'input: bad number at byte 0' solve --start "$work"
 expect 'x' 4 '' 'device: cannot open the report' solve --start "$work/none"
+
+# named STATUS OUT ERR WORD..: the same of words that name the problem's file, and that all of another problem on standard
+# input is left.
+printf '2 1 2 3 5' > "$work/problem"
+printf '1 7' > "$work/other"
+named() {
+    local wanted=$1 out=$2 err=$3 left
+    shift 3
+    left=$({ "$program" "$@" > "$work/out" 2> "$work/err"; echo "$?" > "$work/status"; cat; } < "$work/other")
+    compare "$*" "$wanted|$(printf "$out")|$err|1 7" "$(cat "$work/status")|$(cat "$work/out")|$(cat "$work/err")|$left"
+}
+
+named 0 'sense min\ncost 5\nassign 1 2 2\nassign 2 1 3\n' '' solve --input "$work/problem"
+named 0 'sense max\ncost 6\nassign 1 1 1\nassign 2 2 5\n' '' solve --max --method paths --input="$work/problem"
+named 0 'sense min\ncost 5\nassign 1 2 2\nassign 2 1 3\nprice 1 26\nprice 2 24\n' '' solve --prices --start "$work/report" --input "$work/problem"
+named 0 'verified cost 5\n' '' verify --input "$work/problem" "$work/report"
+named 5 'not verified: sense\n' '' verify "$work/report" --sense max --input "$work/problem"
+named 3 '' 'input: bad number at byte 0' solve --input "$work/report"
+named 4 '' 'device: read failed' solve --input "$work"
+named 4 '' 'device: read failed' verify --input "$work" "$work/bad"
+for name in "$work/none" ''; do
+    named 4 '' 'device: cannot open the input' solve --input "$name"
+    named 4 '' 'device: cannot open the input' solve --start "$work/report" --input "$name"
+    named 4 '' 'device: cannot open the input' verify --input "$name" "$work/report"
+    named 4 '' 'device: cannot open the report' solve --input "$name" --start "$work/none"
+    named 4 '' 'device: cannot open the report' verify --input "$name" "$work/none"
+    named 2 '' 'usage: mode is rounds or workers' solve --mode round --input "$name"
+    named 2 '' 'usage: sense is min or max' verify --sense most --input "$name" "$work/none"
+done
+named 4 '' 'device: cannot open the report' verify --input "$work/problem" "$work/none"
+
 for method in auction paths; do
     expect '2 1 2 3 5' 0 'sense min\ncost 5\nassign 1 2 2\nassign 2 1 3\n' '' solve --method $method --start "$work/report"
     expect '1 7' 3 '' 'start: 2 prices' solve --method $method --start "$work/report"
@@ -123,6 +154,9 @@ for method in path Paths rounds; do
 done
 compare 'the methods that there are' '  [possible values: auction, paths]' "$(sed -n 2p "$work/err")"
 firsts 2 '' "error: the argument '--method <METHOD>' cannot be used multiple times" solve --method paths --method auction
+firsts 2 '' "error: the argument '--input <FILE>' cannot be used multiple times" solve --input "$work/problem" --input "$work/problem"
+firsts 2 '' "error: the argument '--input <FILE>' cannot be used multiple times" verify --input "$work/problem" "$work/report" --input "$work/problem"
+firsts 2 '' "error: a value is required for '--input <FILE>' but none was supplied" solve --input
 firsts 2 '' 'error: the following required arguments were not provided:' verify
 firsts 2 '' "error: 'auction_cli' requires a subcommand but one was not provided"
 firsts 2 '' 'error: the words are no text' solve $'\xff'
@@ -131,16 +165,16 @@ firsts 2 '' 'error: the words are no text' solve $'\xff'
 for word in solve verify; do
     "$program" --help | grep -q "^  $word  *[A-Z]" || { echo "help is silent on $word"; failed=$((failed + 1)); }
 done
-for option in sparse max prices 'start <REPORT>' 'method <METHOD>' 'mode <MODE>' 'workers <K>' 'refresh <R>'; do
+for option in sparse 'input <FILE>' max prices 'start <REPORT>' 'method <METHOD>' 'mode <MODE>' 'workers <K>' 'refresh <R>'; do
     "$program" solve --help | grep -q -- "--$option  *[A-Z]" || { echo "help of solve is silent on --$option"; failed=$((failed + 1)); }
 done
-for option in --sparse '--sense <SENSE>' '<REPORT>'; do
+for option in --sparse '--input <FILE>' '--sense <SENSE>' '<REPORT>'; do
     "$program" verify --help | grep -q -- "$option  *[A-Z]" || { echo "help of verify is silent on $option"; failed=$((failed + 1)); }
 done
 
 # Help says what is read and from where, in both layouts, each status and an example.
 for word in solve verify; do
-    for line in 'Reads the problem from standard input' 'dense:  *n, then' '--sparse:  *n, then PERSON OBJECT COST' 'Exit status:' 'Example:' "auction_cli $word .*< "; do
+    for line in 'Reads the problem from standard input, with --input FILE from that file' 'dense:  *n, then' '--sparse:  *n, then PERSON OBJECT COST' 'Exit status:' 'Example:' "auction_cli $word .*< " "auction_cli $word .*--input "; do
         "$program" $word --help | grep -q -- "^ *$line" || { echo "help of $word is silent on '$line'"; failed=$((failed + 1)); }
     done
 done
@@ -164,13 +198,17 @@ closed() {
 }
 
 # The report is a problem too, so that one that is read in place of standard input is told otherwise.
-printf '2 1 2 3 5' > "$work/problem"
 for words in 'solve' "verify $work/report" "solve --start $work/report" "verify $work/problem" "solve --start $work/problem"; do
     closed 0 4 '' 'device: read failed' $words
 done
 closed 0 4 '' 'device: cannot open the report' verify "$work/none"
 closed 0 4 '' 'device: cannot open the report' solve --start "$work/none"
 closed 0 2 '' 'usage: mode is rounds or workers' solve --mode none --start "$work/report"
+closed 0 0 'sense min\ncost 5\nassign 1 2 2\nassign 2 1 3\n' '' solve --input "$work/problem"
+closed 0 0 'sense min\ncost 5\nassign 1 2 2\nassign 2 1 3\nprice 1 26\nprice 2 24\n' '' solve --prices --start "$work/report" --input "$work/problem"
+closed 0 0 'verified cost 5\n' '' verify --input "$work/problem" "$work/report"
+closed 0 4 '' 'device: cannot open the input' verify --input "$work/none" "$work/report"
+closed 0 4 '' 'device: cannot open the report' verify --input "$work/problem" "$work/none"
 closed 1 4 '' 'device: write failed' solve
 closed 1 4 '' 'device: write failed' solve --start "$work/report"
 closed 1 4 '' 'device: write failed' verify "$work/report"

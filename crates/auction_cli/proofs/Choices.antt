@@ -5,7 +5,7 @@ use Rattle.std.specs.Option.{ok_or}
 use Rattle.std.specs.Str.Parse.{ParsesUnsigned, digits_value, without_leading_plus}
 use Rattle.clap.specs.Words.{IsUnsignedIn, ReadsOne, Row, Text, fault_of, first_of, subcommand_of}
 use Rattle.assign_core.specs.declared.sense.Sense.{Sense}
-use Rattle.auction_cli.specs.Words.{Chooses, IsTaken, NamesMethod, NamesMode, NamesNoMode, NamesNoSense, NamesSense, Places, SolvesBy, Verifies, WordsOutcome, mode_name, program, sense_name}
+use Rattle.auction_cli.specs.Words.{Chooses, IsTaken, NamesMethod, NamesMode, NamesNoMode, NamesNoSense, NamesSense, Places, SolvesFrom, VerifiesFrom, WordsOutcome, mode_name, program, sense_name}
 use Rattle.auction_cli.specs.inside.Words.{IsChoiceFault}
 use Rattle.auction_cli.specs.declared.words.Method.{Method}
 use Rattle.auction_cli.specs.declared.words.Method.TheVariants.{Auction, Paths}
@@ -63,20 +63,20 @@ chosen_outcome at words found (Err Memory) none is ok err = tt
 chosen_outcome at words found (Err (Clap error)) none is ok err = absurd err
 
 -- a line of `solve`, by what its options are told by
-pub solve_taken : (found : Option (Text × List Row)) (r : Result Words WordsFault) (method : Method) (wanted : SolveOpts) (workers refresh : Text) (start : Option Text) → flags_of found ≡ Some (solve_flags method wanted workers refresh start) →
+pub solve_taken : (found : Option (Text × List Row)) (r : Result Words WordsFault) (method : Method) (wanted : SolveOpts) (workers refresh : Text) (start input : Option Text) → flags_of found ≡ Some (solve_flags method wanted workers refresh start input) →
     wanted.workers ≡ digits_value 10 (without_leading_plus workers) → wanted.refresh ≡ digits_value 10 (without_leading_plus refresh) →
-    IfOk r (Chooses found) → IfErr r (IsChoiceFault found) → IsTaken (SolvesBy method wanted start) r
-solve_taken found (Ok asked) method wanted workers refresh start e w h ok err = solves found asked method wanted workers refresh start e w h ok
-solve_taken found (Err wrong.Mode) method wanted workers refresh start e w h ok err = absurd (mode_is_named found method wanted workers refresh start e err)
-solve_taken found (Err wrong.Sense) method wanted workers refresh start e w h ok err = absurd (no_solve_sense found method wanted workers refresh start e err)
-solve_taken found (Err Memory) method wanted workers refresh start e w h ok err = refl
-solve_taken found (Err (Clap error)) method wanted workers refresh start e w h ok err = absurd err
+    IfOk r (Chooses found) → IfErr r (IsChoiceFault found) → IsTaken (SolvesFrom input method wanted start) r
+solve_taken found (Ok asked) method wanted workers refresh start input e w h ok err = solves found asked method wanted workers refresh start input e w h ok
+solve_taken found (Err wrong.Mode) method wanted workers refresh start input e w h ok err = absurd (mode_is_named found method wanted workers refresh start input e err)
+solve_taken found (Err wrong.Sense) method wanted workers refresh start input e w h ok err = absurd (no_solve_sense found method wanted workers refresh start input e err)
+solve_taken found (Err Memory) method wanted workers refresh start input e w h ok err = refl
+solve_taken found (Err (Clap error)) method wanted workers refresh start input e w h ok err = absurd err
 
 -- and one of `verify`
-pub verify_taken : (found : Option (Text × List Row)) (r : Result Words WordsFault) (s : Bool) (wanted : Option Sense) (name : Text) → file_of found ≡ Some (verify_file s wanted name) → IfOk r (Chooses found) →
-    IfErr r (IsChoiceFault found) → IsTaken (Verifies s wanted name) r
-verify_taken found (Ok asked) s wanted name e ok err = verifies found asked s wanted name e ok
-verify_taken found (Err wrong.Mode) s wanted name e ok err = absurd (no_file_mode found s wanted name e err)
-verify_taken found (Err wrong.Sense) s wanted name e ok err = absurd (sense_is_named found s wanted name e err)
-verify_taken found (Err Memory) s wanted name e ok err = refl
-verify_taken found (Err (Clap error)) s wanted name e ok err = absurd err
+pub verify_taken : (found : Option (Text × List Row)) (r : Result Words WordsFault) (s : Bool) (wanted : Option Sense) (name : Text) (problem : Option Text) → file_of found ≡ Some (verify_file s wanted name problem) → IfOk r (Chooses found) →
+    IfErr r (IsChoiceFault found) → IsTaken (VerifiesFrom problem s wanted name) r
+verify_taken found (Ok asked) s wanted name problem e ok err = verifies found asked s wanted name problem e ok
+verify_taken found (Err wrong.Mode) s wanted name problem e ok err = absurd (no_file_mode found s wanted name problem e err)
+verify_taken found (Err wrong.Sense) s wanted name problem e ok err = absurd (sense_is_named found s wanted name problem e err)
+verify_taken found (Err Memory) s wanted name problem e ok err = refl
+verify_taken found (Err (Clap error)) s wanted name problem e ok err = absurd err

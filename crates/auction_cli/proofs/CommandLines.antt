@@ -11,7 +11,7 @@ use Rattle.clap.proofs.OnLiterals.{clap_on_literals}
 use Rattle.std.specs.Str.Parse.{digits_value, without_leading_plus}
 use Rattle.assign_core.specs.declared.sense.Sense.{Sense}
 use Rattle.assign_core.specs.declared.sense.Sense.TheVariants.{Min, Max}
-use Rattle.auction_cli.specs.Words.{AskForNoModeAt, AskForNoSenseAt, AsksForVersion, Chooses, ChoosesSolving, IsFlag, IsInRanges, IsNumberFor, NamesMethod, NamesNoMode, NamesNoSense, Places, SolvesBy, Verifies, WordsOutcome, full_line, full_options, full_verify_line, is_max, lying, method_names, mode_name, program, sense_name, usual_options}
+use Rattle.auction_cli.specs.Words.{AskForNoModeAt, AskForNoSenseAt, AsksForVersion, Chooses, ChoosesSolving, IsFlag, IsInRanges, IsNumberFor, NamesMethod, NamesNoMode, NamesNoSense, Places, SolvesFrom, VerifiesFrom, WordsOutcome, full_line, full_options, full_verify_line, input_line, input_verify_line, is_max, lying, method_names, mode_name, program, sense_name, usual_options}
 use Rattle.auction_cli.specs.inside.Words.{IsFaultOf}
 use Rattle.auction_cli.specs.declared.words.Method.{Method}
 use Rattle.auction_cli.specs.declared.words.Method.TheVariants.{Auction, Paths}
@@ -50,6 +50,14 @@ pub file_is_taken : (at : Places) (name : Text) → takes (program at) (name ∷
 unfolding clap_on_literals
 file_is_taken at name = refl
 
+pub input_is_taken : (at : Places) (name : Text) → takes (program at) (name ∷ input_line) ≡ true
+unfolding clap_on_literals
+input_is_taken at name = refl
+
+pub input_file_is_taken : (at : Places) (name : Text) → takes (program at) (name ∷ input_verify_line) ≡ true
+unfolding clap_on_literals
+input_file_is_taken at name = refl
+
 pub full_file_is_taken : (at : Places) (name : Text) → takes (program at) (name ∷ full_verify_line) ≡ true
 unfolding clap_on_literals
 full_file_is_taken at name = refl
@@ -66,7 +74,7 @@ free_program : (at : Places) → is_simple_and_free (program at) ≡ true
 unfolding clap_on_literals
 free_program at = refl
 
--- what the options of `solve` are told by, and its file
+-- what the options of `solve` are told by, and its files
 pub record Flags : Type 0 where
   pub name : Text
   pub sparse : Option Text
@@ -77,6 +85,7 @@ pub record Flags : Type 0 where
   pub mode : Option Text
   pub workers : Option Text
   pub refresh : Option Text
+  pub input : Option Text
 
 -- a subcommand, and what its options of `solve` are told by
 abbrev pub flags_of : Option (Text × List Row) → Option Flags
@@ -90,14 +99,16 @@ flags_of = option_map (λ f. record {
   mode = first_of (codes "mode") f.1;
   workers = one_of (codes "workers") f.1;
   refresh = one_of (codes "refresh") f.1;
+  input = first_of (codes "input") f.1;
 })
 
--- what the options and the file of `verify` are told by
+-- what the options and the files of `verify` are told by
 pub record File : Type 0 where
   pub name : Text
   pub sparse : Option Text
   pub sense : Option Text
   pub report : Option Text
+  pub input : Option Text
 
 -- a subcommand, and what they are told by
 abbrev pub file_of : Option (Text × List Row) → Option File
@@ -106,6 +117,7 @@ file_of = option_map (λ f. record {
   sparse = one_of (codes "sparse") f.1;
   sense = first_of (codes "sense") f.1;
   report = first_of (codes "REPORT") f.1;
+  input = first_of (codes "input") f.1;
 })
 
 abbrev pub flag_word : Bool → Text
@@ -117,8 +129,8 @@ method_word Auction = codes "auction"
 method_word Paths = codes "paths"
 
 -- what the options are told by, with the digits of both numbers
-abbrev pub solve_flags : Method → SolveOpts → Text → Text → Option Text → Flags
-solve_flags method o workers refresh start = record {
+abbrev pub solve_flags : Method → SolveOpts → Text → Text → Option Text → Option Text → Flags
+solve_flags method o workers refresh start input = record {
   name = codes "solve";
   sparse = Some (flag_word o.sparse);
   max = Some (flag_word (is_max o.sense));
@@ -128,35 +140,45 @@ solve_flags method o workers refresh start = record {
   mode = Some (mode_name o.mode);
   workers = Some workers;
   refresh = Some refresh;
+  input = input;
 }
 
-pub plain_flags : (at : Places) (name : Text) → flags_of (subcommand_of (program at) (name ∷ plain_line)) ≡ Some (solve_flags Auction usual_options (codes "4") (codes "1") None)
+pub plain_flags : (at : Places) (name : Text) → flags_of (subcommand_of (program at) (name ∷ plain_line)) ≡ Some (solve_flags Auction usual_options (codes "4") (codes "1") None None)
 unfolding clap_on_literals
 plain_flags at name = refl
 
-pub paths_flags : (at : Places) (name : Text) → flags_of (subcommand_of (program at) (name ∷ paths_line)) ≡ Some (solve_flags Paths usual_options (codes "4") (codes "1") None)
+pub paths_flags : (at : Places) (name : Text) → flags_of (subcommand_of (program at) (name ∷ paths_line)) ≡ Some (solve_flags Paths usual_options (codes "4") (codes "1") None None)
 unfolding clap_on_literals
 paths_flags at name = refl
 
-pub full_flags : (at : Places) (name : Text) → flags_of (subcommand_of (program at) (name ∷ full_line)) ≡ Some (solve_flags Auction full_options (codes "64") (codes "0") (Some (codes "report")))
+pub full_flags : (at : Places) (name : Text) → flags_of (subcommand_of (program at) (name ∷ full_line)) ≡ Some (solve_flags Auction full_options (codes "64") (codes "0") (Some (codes "report")) None)
 unfolding clap_on_literals
 full_flags at name = refl
 
-abbrev pub verify_file : Bool → Option Sense → Text → File
-verify_file sparse wanted report = record {
+pub input_flags : (at : Places) (name : Text) → flags_of (subcommand_of (program at) (name ∷ input_line)) ≡ Some (solve_flags Auction usual_options (codes "4") (codes "1") None (Some (codes "problem")))
+unfolding clap_on_literals
+input_flags at name = refl
+
+abbrev pub verify_file : Bool → Option Sense → Text → Option Text → File
+verify_file sparse wanted report input = record {
   name = codes "verify";
   sparse = Some (flag_word sparse);
   sense = option_map sense_name wanted;
   report = Some report;
+  input = input;
 }
 
-pub file_words : (at : Places) (name : Text) → file_of (subcommand_of (program at) (name ∷ file_line)) ≡ Some (verify_file true None (codes "report"))
+pub file_words : (at : Places) (name : Text) → file_of (subcommand_of (program at) (name ∷ file_line)) ≡ Some (verify_file true None (codes "report") None)
 unfolding clap_on_literals
 file_words at name = refl
 
-pub full_file_words : (at : Places) (name : Text) → file_of (subcommand_of (program at) (name ∷ full_verify_line)) ≡ Some (verify_file true (Some Max) (codes "report"))
+pub full_file_words : (at : Places) (name : Text) → file_of (subcommand_of (program at) (name ∷ full_verify_line)) ≡ Some (verify_file true (Some Max) (codes "report") None)
 unfolding clap_on_literals
 full_file_words at name = refl
+
+pub input_file_words : (at : Places) (name : Text) → file_of (subcommand_of (program at) (name ∷ input_verify_line)) ≡ Some (verify_file false None (codes "report") (Some (codes "problem")))
+unfolding clap_on_literals
+input_file_words at name = refl
 
 flag_is : (text : Option Text) (flag b : Bool) → IsFlag text flag → text ≡ Some (flag_word b) → flag ≡ b
 flag_is text flag true f e = f.set e
@@ -217,12 +239,12 @@ in_ranges found (Ok (Solve options start asked)) h = record {
   few_workers = at_most _ _ _ _ h.2.workers;
   few_turns = at_most _ _ _ _ h.2.refresh;
 }
-in_ranges found (Ok (Verify sparse sense report)) h = tt
+in_ranges found (Ok (Verify sparse sense report input)) h = tt
 in_ranges found (Err fault) h = tt
 
 -- the options that a line is told by
-pub options_are : (rows : List Row) (method : Method) (o wanted : SolveOpts) (workers refresh : Text) (start : Option Text) → flags_of (Some (codes "solve", rows)) ≡ Some (solve_flags method wanted workers refresh start) → ChoosesSolving rows o → wanted.workers ≡ digits_value 10 (without_leading_plus workers) → wanted.refresh ≡ digits_value 10 (without_leading_plus refresh) → o ≡ wanted
-options_are rows method o wanted workers refresh start e h w r =
+pub options_are : (rows : List Row) (method : Method) (o wanted : SolveOpts) (workers refresh : Text) (start input : Option Text) → flags_of (Some (codes "solve", rows)) ≡ Some (solve_flags method wanted workers refresh start input) → ChoosesSolving rows o → wanted.workers ≡ digits_value 10 (without_leading_plus workers) → wanted.refresh ≡ digits_value 10 (without_leading_plus refresh) → o ≡ wanted
+options_are rows method o wanted workers refresh start input e h w r =
     let all = some_is _ _ e in
     let sparse : o.sparse ≡ wanted.sparse = flag_is _ _ wanted.sparse h.sparse (ap (λ (q : Flags). q.sparse) all) in
     let mode : o.mode ≡ wanted.mode = same_mode _ _ (some_is _ _ (sym h.mode ∙ ap (λ (q : Flags). q.mode) all)) in
@@ -239,45 +261,47 @@ same_method rows Paths Auction h e =
     let other : codes "auction" ≡ codes "paths" = some_is _ _ (sym e ∙ h.0 refl) in
     cc
 
-pub solves : (found : Option (Text × List Row)) (asked : Words) (method : Method) (wanted : SolveOpts) (workers refresh : Text) (start : Option Text) → flags_of found ≡ Some (solve_flags method wanted workers refresh start) →
+pub solves : (found : Option (Text × List Row)) (asked : Words) (method : Method) (wanted : SolveOpts) (workers refresh : Text) (start input : Option Text) → flags_of found ≡ Some (solve_flags method wanted workers refresh start input) →
     wanted.workers ≡ digits_value 10 (without_leading_plus workers) → wanted.refresh ≡ digits_value 10 (without_leading_plus refresh) →
-    Chooses found asked → SolvesBy method wanted start asked
-solves found (Solve options file asked) method wanted workers refresh start e w r h =
-    let told : flags_of (Some (codes "solve", h.0)) ≡ Some (solve_flags method wanted workers refresh start) = ap flags_of (sym h.1) ∙ e in (
-      options_are h.0 method options wanted workers refresh start told h.2 w r,
+    Chooses found asked → SolvesFrom input method wanted start asked
+solves found (Solve options file asked) method wanted workers refresh start input e w r h =
+    let told : flags_of (Some (codes "solve", h.0)) ≡ Some (solve_flags method wanted workers refresh start input) = ap flags_of (sym h.1) ∙ e in (
+      options_are h.0 method options wanted workers refresh start input told h.2 w r,
       h.3 ∙ ap (λ (q : Flags). q.start) (some_is _ _ told),
       same_method h.0 asked.method method h.4 (ap (λ (q : Flags). q.method) (some_is _ _ told)),
+      h.5 ∙ ap (λ (q : Flags). q.input) (some_is _ _ told),
     )
-solves found (Verify sparse sense report) method wanted workers refresh start e w r h =
+solves found (Verify sparse sense report file) method wanted workers refresh start input e w r h =
     absurd (other_command (ap (λ (q : Flags). q.name) (some_is _ _ (ap flags_of (sym h.1) ∙ e))))
 
 -- a line that names its mode is refused for no mode
-pub mode_is_named : (found : Option (Text × List Row)) (method : Method) (wanted : SolveOpts) (workers refresh : Text) (start : Option Text) → flags_of found ≡ Some (solve_flags method wanted workers refresh start) → NamesNoMode found → ⊥
-mode_is_named found method wanted workers refresh start e h =
-    let told : flags_of (Some (codes "solve", h.0)) ≡ Some (solve_flags method wanted workers refresh start) = ap flags_of (sym h.1) ∙ e in
+pub mode_is_named : (found : Option (Text × List Row)) (method : Method) (wanted : SolveOpts) (workers refresh : Text) (start input : Option Text) → flags_of found ≡ Some (solve_flags method wanted workers refresh start input) → NamesNoMode found → ⊥
+mode_is_named found method wanted workers refresh start input e h =
+    let told : flags_of (Some (codes "solve", h.0)) ≡ Some (solve_flags method wanted workers refresh start input) = ap flags_of (sym h.1) ∙ e in
     h.2 wanted.mode (ap (λ (q : Flags). q.mode) (some_is _ _ told))
 
 -- a line of `solve` is refused for no sense
-pub no_solve_sense : (found : Option (Text × List Row)) (method : Method) (wanted : SolveOpts) (workers refresh : Text) (start : Option Text) → flags_of found ≡ Some (solve_flags method wanted workers refresh start) → NamesNoSense found → ⊥
-no_solve_sense found method wanted workers refresh start e h = other_command (ap (λ (q : Flags). q.name) (some_is _ _ (ap flags_of (sym h.1) ∙ e)))
+pub no_solve_sense : (found : Option (Text × List Row)) (method : Method) (wanted : SolveOpts) (workers refresh : Text) (start input : Option Text) → flags_of found ≡ Some (solve_flags method wanted workers refresh start input) → NamesNoSense found → ⊥
+no_solve_sense found method wanted workers refresh start input e h = other_command (ap (λ (q : Flags). q.name) (some_is _ _ (ap flags_of (sym h.1) ∙ e)))
 
-pub verifies : (found : Option (Text × List Row)) (asked : Words) (s : Bool) (wanted : Option Sense) (name : Text) → file_of found ≡ Some (verify_file s wanted name) →
-    Chooses found asked → Verifies s wanted name asked
-verifies found (Solve options start asked) s wanted name e h = absurd (other_command (sym (ap (λ (q : File). q.name) (some_is _ _ (ap file_of (sym h.1) ∙ e)))))
-verifies found (Verify sparse sense report) s wanted name e h =
+pub verifies : (found : Option (Text × List Row)) (asked : Words) (s : Bool) (wanted : Option Sense) (name : Text) (problem : Option Text) → file_of found ≡ Some (verify_file s wanted name problem) →
+    Chooses found asked → VerifiesFrom problem s wanted name asked
+verifies found (Solve options start asked) s wanted name problem e h = absurd (other_command (sym (ap (λ (q : File). q.name) (some_is _ _ (ap file_of (sym h.1) ∙ e)))))
+verifies found (Verify sparse sense report input) s wanted name problem e h =
     let all = some_is _ _ (ap file_of (sym h.1) ∙ e) in (
       flag_is _ _ s h.2.sparse (ap (λ (q : File). q.sparse) all),
       same_wanted _ _ (sym h.2.sense ∙ ap (λ (q : File). q.sense) all),
       h.2.report ∙ ap (λ (q : File). unwrap_or q.report []) all,
+      h.2.input ∙ ap (λ (q : File). q.input) all,
     )
 
 -- a line of `verify` is refused for no mode
-pub no_file_mode : (found : Option (Text × List Row)) (s : Bool) (wanted : Option Sense) (name : Text) → file_of found ≡ Some (verify_file s wanted name) → NamesNoMode found → ⊥
-no_file_mode found s wanted name e h = other_command (sym (ap (λ (q : File). q.name) (some_is _ _ (ap file_of (sym h.1) ∙ e))))
+pub no_file_mode : (found : Option (Text × List Row)) (s : Bool) (wanted : Option Sense) (name : Text) (problem : Option Text) → file_of found ≡ Some (verify_file s wanted name problem) → NamesNoMode found → ⊥
+no_file_mode found s wanted name problem e h = other_command (sym (ap (λ (q : File). q.name) (some_is _ _ (ap file_of (sym h.1) ∙ e))))
 
 -- one that names its sense, or none, is refused for no sense
-pub sense_is_named : (found : Option (Text × List Row)) (s : Bool) (wanted : Option Sense) (name : Text) → file_of found ≡ Some (verify_file s wanted name) → NamesNoSense found → ⊥
-sense_is_named found s wanted name e h = h.2 wanted (ap (λ (q : File). q.sense) (some_is _ _ (ap file_of (sym h.1) ∙ e)))
+pub sense_is_named : (found : Option (Text × List Row)) (s : Bool) (wanted : Option Sense) (name : Text) (problem : Option Text) → file_of found ≡ Some (verify_file s wanted name problem) → NamesNoSense found → ⊥
+sense_is_named found s wanted name problem e h = h.2 wanted (ap (λ (q : File). q.sense) (some_is _ _ (ap file_of (sym h.1) ∙ e)))
 
 -- words that name no mode are others than those that name no sense
 pub no_mode_or_sense : (at : Places) (words : List Text) → AskForNoModeAt at words → AskForNoSenseAt at words → ⊥

@@ -23,10 +23,10 @@ never : {A : Type 0} → false ≡ true → A
 never e = absurd (true≢false (sym e))
 
 knows_workers : (at : Places) → AllKnown (codes "workers") (codes "4") 1 MOST_WORKERS (solve_shape at).rules
-knows_workers at = (never, (never, (never, (never, (never, (never, ((λ e. refl), (never, (never, tt)))))))))
+knows_workers at = (never, (never, (never, (never, (never, (never, (never, ((λ e. refl), (never, (never, (never, tt)))))))))))
 
 knows_refresh : (at : Places) → AllKnown (codes "refresh") (codes "1") 0 MOST_REFRESH (solve_shape at).rules
-knows_refresh at = (never, (never, (never, (never, (never, (never, (never, ((λ e. refl), (never, tt)))))))))
+knows_refresh at = (never, (never, (never, (never, (never, (never, (never, (never, ((λ e. refl), (never, (never, tt)))))))))))
 
 help_is_other : codes "help" ≡ codes "solve" → ⊥
 help_is_other e = cc

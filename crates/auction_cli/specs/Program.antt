@@ -15,15 +15,15 @@ use Rattle.auction_cli.specs.declared.words.Method.{Method}
 use Rattle.auction_cli.specs.declared.words.SolveOpts.{SolveOpts}
 use Rattle.auction_cli.specs.declared.words.Words.{Words}
 use Rattle.auction_cli.specs.declared.words.Words.TheVariants.{Solve, Verify}
-use Rattle.auction_cli.specs.declared.verify.Verified.{Verified}
 use Rattle.auction_cli.specs.declared.verify.Verified.TheVariants.{Yes, No}
-use Rattle.auction_cli.specs.declared.run.Ended.{Ended}
 use Rattle.auction_cli.specs.declared.run.CliFault.{CliFault}
 use Rattle.auction_cli.specs.declared.run.CliFault.TheVariants.{Write, Memory}
 use Rattle.auction_cli.specs.declared.program.NoWords.{NoWords}
 use Rattle.auction_cli.specs.declared.program.NoWords.TheVariants as no_words
-use Rattle.auction_cli.specs.declared.program.NoReport.{NoReport}
-use Rattle.auction_cli.specs.declared.program.NoReport.TheVariants as no_report
+use Rattle.auction_cli.specs.declared.program.NoFile.{NoFile}
+use Rattle.auction_cli.specs.declared.program.NoFile.TheVariants as no_file
+use Rattle.auction_cli.specs.declared.program.Named.{Named}
+use Rattle.auction_cli.specs.declared.program.Named.TheVariants.{Report, Input}
 use Rattle.auction_cli.specs.declared.program.Told.{Told}
 use Rattle.auction_cli.specs.declared.program.Told.TheVariants.{Whole, Part}
 use Rattle.auction_cli.specs.declared.program.ProgramEnd.{ProgramEnd}
@@ -62,32 +62,42 @@ abbrev pub AreRefused : Given → Type 0
 AreRefused (Ok words) = AreMistaken words ⊎ AskForNoMode words ⊎ AskForNoSense words
 AreRefused (Err none) = none ≡ no_words.NoText
 
--- what opening a report comes to: the bytes that are then left to be read, where the reader tells them, or why it can't be read
+-- what opening a file comes to: the bytes that are then left to be read, where the reader tells them, or why it can't be read
 abbrev pub Opening : Type 0
-Opening = Result (Option (List ℕ)) NoReport
+Opening = Result (Option (List ℕ)) NoFile
 
-abbrev pub opening_of : {R : Type 0} → (R → Option (List ℕ)) → Result R NoReport → Opening
-opening_of remaining (Ok report) = Ok (remaining report)
+abbrev pub opening_of : {R : Type 0} → (R → Option (List ℕ)) → Result R NoFile → Opening
+opening_of remaining (Ok file) = Ok (remaining file)
 opening_of remaining (Err absent) = Err absent
 
--- what opening may come to, by the report's name
+-- what opening may come to, by the file's name
 abbrev pub Openings : Type 1
 Openings = Text → Opening → Type 0
 
 -- the report that is to be checked, or to be begun at
 abbrev pub report_name : Words → Option Text
 report_name (Solve options start asked) = option_map string_bytes start
-report_name (Verify sparse sense name) = Some (string_bytes name)
+report_name (Verify sparse sense name input) = Some (string_bytes name)
 
--- opening came to these bytes, where a report is named, and none was opened where none is
+-- the file with the problem, which else is on standard input
+abbrev pub input_name : Words → Option Text
+input_name (Solve options start asked) = option_map string_bytes asked.input
+input_name (Verify sparse sense name input) = option_map string_bytes input
+
+-- opening came to these bytes, where a file is named, and none was opened where none is
 abbrev pub Opens : Openings → Option Text → Option (Option (List ℕ)) → Type 0
-Opens reports (Some name) (Some text) = reports name (Ok text)
-Opens reports None None = ⊤
-Opens reports name text = ⊥
+Opens files (Some name) (Some text) = files name (Ok text)
+Opens files None None = ⊤
+Opens files name text = ⊥
 
--- a report is named, and opening it came to this
-abbrev pub FailsToOpen : Openings → Option Text → NoReport → Type 0
-FailsToOpen reports name absent = IsSomeAnd name (λ n. reports n (Err absent))
+-- a file is named, and opening it came to this
+abbrev pub FailsToOpen : Openings → Option Text → NoFile → Type 0
+FailsToOpen files name absent = IsSomeAnd name (λ n. files n (Err absent))
+
+-- the bytes that the problem is read from: those that opening the input came to, where one is named, and else those of standard input
+abbrev pub IsProblemText : Openings → Option Text → Option (List ℕ) → Option (List ℕ) → Type 0
+IsProblemText files (Some name) standard text = files name (Ok text)
+IsProblemText files None standard text = text ≡ standard
 
 -- how a run of `solve` ends the program
 abbrev pub SolveEnd : Method → SolveOpts → Option (List ℕ) → Option (Option (List ℕ)) → Option (List ℕ) →
@@ -103,17 +113,23 @@ VerifyEnd sparse wanted input text old new (Checked verified) = VerifyOutcome sp
 VerifyEnd sparse wanted input text old new (Failed fault told) = VerifyOutcome sparse wanted input text old new (Err fault)
 VerifyEnd sparse wanted input text old new end = ⊥
 
--- what is asked for was done, with the report opened that it names, and the program ended so: nothing went out where the
--- report can't be opened or memory is refused
+-- what is asked for was done, with the files opened that it names, the report first, and the program ended so: nothing went
+-- out where one of them can't be opened or memory is refused
 abbrev pub Does : Words → Option (List ℕ) → Openings → Option (List ℕ) → Option (List ℕ) → ProgramEnd → Type 0
-Does asked input reports old new (Unopened told) =
-    FailsToOpen reports (report_name asked) no_report.Unopened × Keeps old new
-Does asked input reports old new (Failed Memory told) = Keeps old new
-Does (Solve options start asked) input reports old new end =
-    (text : Option (Option (List ℕ))) × Opens reports (option_map string_bytes start) text
-    × SolveEnd asked.method options input text old new end
-Does (Verify sparse sense name) input reports old new end =
-    (text : Option (List ℕ)) × reports (string_bytes name) (Ok text) × VerifyEnd sparse sense input text old new end
+Does asked standard files old new (Unopened Report told) =
+    FailsToOpen files (report_name asked) no_file.Unopened × Keeps old new
+Does asked standard files old new (Unopened Input told) =
+    ((text : Option (Option (List ℕ))) × Opens files (report_name asked) text)
+    × FailsToOpen files (input_name asked) no_file.Unopened × Keeps old new
+Does asked standard files old new (Failed Memory told) = Keeps old new
+Does (Solve options start asked) standard files old new end =
+    (text : Option (Option (List ℕ))) × Opens files (option_map string_bytes start) text
+    × (problem : Option (List ℕ)) × IsProblemText files (option_map string_bytes asked.input) standard problem
+    × SolveEnd asked.method options problem text old new end
+Does (Verify sparse sense name input) standard files old new end =
+    (text : Option (List ℕ)) × files (string_bytes name) (Ok text)
+    × (problem : Option (List ℕ)) × IsProblemText files (option_map string_bytes input) standard problem
+    × VerifyEnd sparse sense problem text old new end
 
 -- the words are refused or ask for help, of which a beginning went out where writing fails, or memory is refused
 abbrev pub EndsAtWords : Given → Option (List ℕ) → Option (List ℕ) → ProgramEnd → Type 0
@@ -123,19 +139,25 @@ EndsAtWords given old new (Failed Write told) = AsksForHelp given × (text : Lis
 EndsAtWords given old new (Failed Memory told) = Keeps old new
 EndsAtWords given old new end = ⊥
 
--- what standard input and the report held, and what went to standard output
+-- what standard input and the files held, and what went to standard output
 abbrev pub ProgramOutcome : Given → Option (List ℕ) → Openings → Option (List ℕ) → Option (List ℕ) →
     ProgramEnd → Type 0
-ProgramOutcome given input reports old new end =
+ProgramOutcome given standard files old new end =
     EndsAtWords given old new end
-    ⊎ ((asked : Words) × Asks given asked × Does asked input reports old new end)
+    ⊎ ((asked : Words) × Asks given asked × Does asked standard files old new end)
 
--- nothing of the problem is read where the words are refused, ask for help or name a report that can't be opened
-abbrev pub InputOutcome : Option (List ℕ) → Option (List ℕ) → ProgramEnd → Type 0
-InputOutcome old new Helped = new ≡ old
-InputOutcome old new (Refused told) = new ≡ old
-InputOutcome old new (Unopened told) = new ≡ old
-InputOutcome old new end = ⊤
+-- nothing is read where the words are refused, ask for help or name a file that can't be opened, and nothing else but where
+-- it may be
+abbrev pub IsReadWhere : Type 0 → Option (List ℕ) → Option (List ℕ) → ProgramEnd → Type 0
+IsReadWhere may old new Helped = new ≡ old
+IsReadWhere may old new (Refused told) = new ≡ old
+IsReadWhere may old new (Unopened named told) = new ≡ old
+IsReadWhere may old new end = (new ≡ old) ⊎ may
+
+-- so with standard input, which may be read where the words ask for something that names no input
+abbrev pub InputOutcome : Given → Option (List ℕ) → Option (List ℕ) → ProgramEnd → Type 0
+InputOutcome given old new end =
+    IsReadWhere ((asked : Words) × Asks given asked × (input_name asked ≡ None)) old new end
 
 -- a text went to a stream, or a beginning of it
 abbrev pub Tells : Option (List ℕ) → Option (List ℕ) → List ℕ → Told → Type 0
@@ -149,6 +171,11 @@ IsRefusal (Ok words) text =
     × (((at : Places) → AskForNoSenseAt at words) → text ≡ codes "usage: sense is min or max\n")
 IsRefusal (Err none) text = text ≡ codes "error: the words are no text\n"
 
+-- the line on a file that can't be opened, with its line feed
+abbrev pub unopened_line : Named → List ℕ
+unopened_line Report = codes "device: cannot open the report\n"
+unopened_line Input = codes "device: cannot open the input\n"
+
 -- a fault's line, with its line feed
 abbrev pub line_of : CliFault → List ℕ
 line_of fault = fault_line fault ++ codes "\n"
@@ -160,18 +187,17 @@ ErrorOutcome given old new (Checked verified) = Keeps old new
 ErrorOutcome given old new Helped = Keeps old new
 ErrorOutcome given old new (Refused told) =
     (text : List ℕ) × IsRefusal given text × Tells old new text told
-ErrorOutcome given old new (Unopened told) =
-    Tells old new (codes "device: cannot open the report\n") told
+ErrorOutcome given old new (Unopened named told) = Tells old new (unopened_line named) told
 ErrorOutcome given old new (Failed fault told) = Tells old new (line_of fault) told
 
 -- 0 for an assignment, for a report that is right and for help, 1 where there is no assignment, 2 for
--- words that are refused, 4 for a report that can't be opened, 5 for one that is wrong, and else a
--- fault's own
+-- words that are refused, 4 for a file that can't be opened, 5 for a report that is wrong, and else
+-- a fault's own
 abbrev pub exit_status : ProgramEnd → ℕ
 exit_status (Reported ended) = end_status ended
 exit_status (Checked Yes) = 0
 exit_status (Checked No) = 5
 exit_status Helped = 0
 exit_status (Refused told) = 2
-exit_status (Unopened told) = 4
+exit_status (Unopened named told) = 4
 exit_status (Failed fault told) = status fault

@@ -14,7 +14,6 @@ use Rattle.auction_cli.specs.declared.words.TheConstants.{MOST_WORKERS, MOST_REF
 use Rattle.auction_cli.specs.declared.words.SolveOpts.{SolveOpts}
 use Rattle.auction_cli.specs.declared.words.Words.{Words}
 use Rattle.auction_cli.specs.declared.words.Words.TheVariants.{Solve, Verify}
-use Rattle.auction_cli.specs.declared.words.Asked.{Asked}
 use Rattle.auction_cli.specs.declared.words.Method.{Method}
 use Rattle.auction_cli.specs.declared.words.Method.TheVariants.{Auction, Paths}
 use Rattle.auction_cli.specs.declared.words.Mode.{Mode}
@@ -34,6 +33,10 @@ optional_rule name = record (new_rule name) { long = Some name; value_names = 1 
 -- the name of a file, which may be given behind `--start`
 abbrev pub start_rule : Rule
 start_rule = optional_rule (codes "start")
+
+-- and one behind `--input`
+abbrev pub input_rule : Rule
+input_rule = optional_rule (codes "input")
 
 -- an option with a value, and the value that it has where it isn't given
 abbrev pub valued_rule : Text → Text → Rule
@@ -65,17 +68,17 @@ method_rule at = named_rule (codes "method") (codes "auction") (method_names at)
 
 -- `solve`, but for the options on its method and mode
 abbrev pub plain_solve_app : App
-plain_solve_app = with_rule (with_rule (with_rule (with_rule (new_app (codes "solve")) (flag_rule (codes "sparse"))) (flag_rule (codes "max"))) (flag_rule (codes "prices"))) start_rule
+plain_solve_app = with_rule (with_rule (with_rule (with_rule (with_rule (new_app (codes "solve")) (flag_rule (codes "sparse"))) input_rule) (flag_rule (codes "max"))) (flag_rule (codes "prices"))) start_rule
 
 abbrev pub solve_app : Places → App
-solve_app at = with_rule (with_rule (with_rule (with_rule plain_solve_app (method_rule at)) (valued_rule (codes "mode") (codes "rounds"))) (numbered_rule (codes "workers") (codes "4") 1 MOST_WORKERS)) (numbered_rule (codes "refresh") (codes "1") 0 MOST_REFRESH)
+solve_app at = with_rule (with_rule (with_rule (with_rule (with_rule plain_solve_app (method_rule at)) (valued_rule (codes "mode") (codes "rounds"))) (numbered_rule (codes "workers") (codes "4") 1 MOST_WORKERS)) (numbered_rule (codes "refresh") (codes "1") 0 MOST_REFRESH)) (flag_rule (codes "progress"))
 
 -- the name of a file, which must be given
 abbrev pub report_rule : Rule
 report_rule = record (new_rule (codes "REPORT")) { required = true }
 
 abbrev pub verify_app : App
-verify_app = with_rule (with_rule (with_rule (new_app (codes "verify")) (flag_rule (codes "sparse"))) (optional_rule (codes "sense"))) report_rule
+verify_app = with_rule (with_rule (with_rule (with_rule (new_app (codes "verify")) (flag_rule (codes "sparse"))) input_rule) (optional_rule (codes "sense"))) report_rule
 
 -- the option that asks for the version, without a short name
 abbrev pub version_rule : Rule
@@ -122,6 +125,10 @@ NamesSense rows sense = first_of (codes "sense") rows ≡ option_map sense_name 
 abbrev pub NamesMethod : List Row → Method → Type 0
 NamesMethod rows method = (method ≡ Paths) ↔ (first_of (codes "method") rows ≡ Some (codes "paths"))
 
+-- the name of a file is the value of this option, where it has one
+abbrev pub NamesFile : Text → List Row → Option Text → Type 0
+NamesFile option rows name = name ≡ first_of option rows
+
 -- the text that clap has for an option is a number in range, and this is the number
 pub record IsNumberFor (text : Option Text) (least most number : ℕ) : Type 0 where
   pub digits : Text
@@ -138,18 +145,22 @@ pub record ChoosesSolving (rows : List Row) (options : SolveOpts) : Type 0 where
   pub prices : IsFlag (one_of (codes "prices") rows) options.prices
   pub sense : IsFlag (one_of (codes "max") rows) (is_max options.sense)
 
--- the options and the file of `verify`, by what clap finds behind it
-pub record ChoosesFile (rows : List Row) (lists_pairs : Bool) (wanted : Option Sense) (name : Text) : Type 0 where
+-- the options and the files of `verify`, by what clap finds behind it
+pub record ChoosesFile (rows : List Row) (lists_pairs : Bool) (wanted : Option Sense) (name : Text) (problem : Option Text) : Type 0 where
   pub sparse : IsFlag (one_of (codes "sparse") rows) lists_pairs
   pub sense : NamesSense rows wanted
   pub report : name ≡ unwrap_or (first_of (codes "REPORT") rows) []
+  pub input : NamesFile (codes "input") rows problem
 
 -- what is to be done, by a subcommand and what clap finds behind it
 abbrev pub Chooses : Option (Text × List Row) → Words → Type 0
 Chooses found (Solve options start asked) =
     (rows : List Row) × (found ≡ Some (codes "solve", rows)) × ChoosesSolving rows options
-    × (option_map string_bytes start ≡ first_of (codes "start") rows) × NamesMethod rows asked.method
-Chooses found (Verify sparse sense report) = (rows : List Row) × (found ≡ Some (codes "verify", rows)) × ChoosesFile rows sparse sense (string_bytes report)
+    × NamesFile (codes "start") rows (option_map string_bytes start) × NamesMethod rows asked.method
+    × NamesFile (codes "input") rows (option_map string_bytes asked.input) × IsFlag (one_of (codes "progress") rows) asked.progress
+Chooses found (Verify sparse sense report input) =
+    (rows : List Row) × (found ≡ Some (codes "verify", rows))
+    × ChoosesFile rows sparse sense (string_bytes report) (option_map string_bytes input)
 
 -- `solve` is to be done, in a mode that has no such name
 abbrev pub NamesNoMode : Option (Text × List Row) → Type 0
@@ -193,13 +204,18 @@ pub record HasRanges (options : SolveOpts) : Type 0 where
 
 abbrev pub IsInRanges : Words → Type 0
 IsInRanges (Solve options start asked) = HasRanges options
-IsInRanges (Verify sparse sense report) = ⊤
+IsInRanges (Verify sparse sense report input) = ⊤
 
--- a problem is to be solved by this method with these options, and with the first prices of the report in the file of this name, if there is one
-abbrev pub SolvesBy : Method → SolveOpts → Option Text → Words → Type 0
-SolvesBy method wanted name (Solve options start asked) =
+-- the problem in the file of the first name, or else on standard input, is to be solved by this method with these options, and with the first prices of the report in the file of the other name, if there is one
+abbrev pub SolvesFrom : Option Text → Method → SolveOpts → Option Text → Words → Type 0
+SolvesFrom problem method wanted name (Solve options start asked) =
     (options ≡ wanted) × (option_map string_bytes start ≡ name) × (asked.method ≡ method)
-SolvesBy method wanted name (Verify lists_pairs sense report) = ⊥
+    × (option_map string_bytes asked.input ≡ problem)
+SolvesFrom problem method wanted name (Verify lists_pairs sense report input) = ⊥
+
+-- the same on standard input
+abbrev pub SolvesBy : Method → SolveOpts → Option Text → Words → Type 0
+SolvesBy method wanted name asked = SolvesFrom None method wanted name asked
 
 -- the same by auction
 abbrev pub Solves : SolveOpts → Option Text → Words → Type 0
@@ -216,14 +232,26 @@ full_line = codes "solve" ∷ codes "--sparse" ∷ codes "--max" ∷ codes "--pr
 abbrev pub full_options : SolveOpts
 full_options = record { sparse = true; mode = Workers; workers = 64; refresh = 0; prices = true; sense = Max }
 
--- a report is to be checked: whether the problem's text lists pairs, the sense that is asked for, if any, and the name of the report's file
-abbrev pub Verifies : Bool → Option Sense → Text → Words → Type 0
-Verifies sparse wanted name (Solve options start asked) = ⊥
-Verifies sparse wanted name (Verify lists_pairs sense report) = (lists_pairs ≡ sparse) × (sense ≡ wanted) × (string_bytes report ≡ name)
+-- a report is to be checked: the name of the problem's file, which else is on standard input, whether its text lists pairs, the sense that is asked for, if any, and the name of the report's file
+abbrev pub VerifiesFrom : Option Text → Bool → Option Sense → Text → Words → Type 0
+VerifiesFrom problem sparse wanted name (Solve options start asked) = ⊥
+VerifiesFrom problem sparse wanted name (Verify lists_pairs sense report input) =
+    (lists_pairs ≡ sparse) × (sense ≡ wanted) × (string_bytes report ≡ name) × (option_map string_bytes input ≡ problem)
 
--- a line of `verify` with every option, behind the program's name
+-- the same on standard input
+abbrev pub Verifies : Bool → Option Sense → Text → Words → Type 0
+Verifies sparse wanted name asked = VerifiesFrom None sparse wanted name asked
+
+-- a line of `verify` that asks for a sense, behind the program's name
 abbrev pub full_verify_line : List Text
 full_verify_line = codes "verify" ∷ codes "--sparse" ∷ codes "--sense" ∷ codes "max" ∷ codes "report" ∷ []
+
+-- lines that name the problem's file
+abbrev pub input_line : List Text
+input_line = codes "solve" ∷ codes "--input" ∷ codes "problem" ∷ []
+
+abbrev pub input_verify_line : List Text
+input_verify_line = codes "verify" ∷ codes "--input" ∷ codes "problem" ∷ codes "report" ∷ []
 
 -- want of memory apart, the words are taken so
 abbrev pub IsTaken : (Words → Type 0) → Result Words WordsFault → Type 0

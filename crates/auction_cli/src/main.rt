@@ -3,20 +3,25 @@
 
 mod finding;
 mod program;
+mod progress;
 mod run;
+mod teller;
 #[cfg(test)]
 mod tests;
 mod verify;
 mod words;
 
-use program::{NoReport, NoWords, Reports, run_program};
+use program::{Files, NoFile, NoWords, run_program};
 use std::fs::File;
+use std::io::{IsTerminal, Write};
 use std::os::fd::AsRawFd;
 use std::process::ExitCode;
+use std::time::Clock;
 use std::{env, fs, io};
+use teller::{Console, Teller};
 
 // Opens a file, and leaves standard input's number free. Where standard input is closed the file would get that
-// number, and be read as the problem; so it is moved, and reading the problem fails.
+// number, and a report be read as the problem; so it is moved, and reading the problem from standard input fails.
 fn opened_beside_input(rt: &HostRuntime, name: &str) -> io::Result<File> {
     let file = fs::open(rt, name)?;
     if file.as_raw_fd() == rt.stdin().as_raw_fd() {
@@ -32,19 +37,36 @@ struct Disk<'a> {
     rt: &'a HostRuntime,
 }
 
-impl Reports for Disk<'_> {
-    type Report = File;
+impl Files for Disk<'_> {
+    type File = File;
 
     ghost use Rattle.std.specs.Prelude.{⊤};
 
     ghost may_open = { λ _ _ _. ⊤ };
 
-    fn open(&self, name: &str) -> Result<File, NoReport> {
+    fn open(&self, name: &str) -> Result<File, NoFile> {
         match opened_beside_input(self.rt, name) {
             Ok(file) => Ok(file),
-            Err(error) if error.kind() == io::ErrorKind::OutOfMemory => Err(NoReport::Memory),
-            Err(_) => Err(NoReport::Unopened),
+            Err(error) if error.kind() == io::ErrorKind::OutOfMemory => Err(NoFile::Memory),
+            Err(_) => Err(NoFile::Unopened),
         }
+    }
+}
+
+// The clock and the standard error of the machine.
+#[derive(Drop)]
+struct Machine<'a> {
+    rt: &'a HostRuntime,
+}
+
+impl Console for Machine<'_> {
+    fn now(&self) -> Option<u64> {
+        let since = self.rt.monotonic().ok()?;
+        u64::try_from(since.as_millis()).ok()
+    }
+
+    fn write(&self, text: &[u8]) -> bool {
+        self.rt.stderr().write_all(text).is_ok()
     }
 }
 
@@ -62,6 +84,8 @@ fn main(rt: HostRuntime) -> ExitCode {
     let mut reader = rt.reader();
     let mut writer = io::writer(&rt);
     let mut errors = rt.stderr();
+    let typed = rt.stdin().is_terminal();
+    let teller = Teller::new(Machine { rt: &rt }, errors.is_terminal(), typed);
     let end = run_program(
         &rt,
         rt.alloc(),
@@ -70,6 +94,7 @@ fn main(rt: HostRuntime) -> ExitCode {
         &mut reader,
         &mut writer,
         &mut errors,
+        &teller,
     );
     ExitCode::from(end.status())
 }

@@ -11,6 +11,7 @@ ghost use Rattle.auction_cli.specs.Solve.{BeginsAt, IsOutcomeBy, IsOutcomeIn, Is
 ghost use Rattle.auction_cli.specs.Solve.{Reads, SolveOutcome, SolveOutcomeBy, end_of, end_status, status};
 ghost use Rattle.auction_cli.specs.inside.Solve.{FailsToBegin, HasNoStart, Reports};
 
+use crate::progress::{CountedReader, Unwatched, Watch, WatchedGate, WatchedOffers};
 use crate::words::{Method, Mode, SolveOpts};
 use assign_core::{MOST_PERSONS, Outcome, Person, Prices, Problem, Sense, SolveFault};
 use async_workers::{Gate, solve_workers_from};
@@ -19,7 +20,7 @@ use orlib_reader::{InputFault, read_dense, read_sparse};
 use report::{
     Report, ReportFault, StartFault, WriteFault, read_report, start_prices, write_report,
 };
-use rounds::solve_rounds_from;
+use rounds::solve_rounds_by;
 use scaled_values::{Scaled, scale};
 use shortest_paths::{solve_paths, solve_paths_from};
 use std::alloc::{AllocError, Global};
@@ -165,6 +166,19 @@ pub fn read_problem<R: Read>(alloc: Global, r: &mut R, sparse: bool) -> Result<P
     }
 }
 
+// The problem of a text, while a watch is told how much of it is read.
+fn read_watched<R: Read, V: Watch>(
+    alloc: Global,
+    r: &mut R,
+    sparse: bool,
+    watch: &V,
+) -> Result<Problem, InputFault>
+    ensures { IfSome (R.remaining r.old) (λ bytes. Reads sparse bytes result) }
+{
+    let mut counted = CountedReader::new(r, watch);
+    read_problem(alloc, &mut counted, sparse)
+}
+
 // The problem with its benefits under a sense.
 fn shared(alloc: Global, problem: Problem, sense: Sense) -> Result<Arc<Scaled>, AllocError>
     ensures { IfOk result (λ scaled. arc_value scaled ≡ problem_under sense problem) }
@@ -174,13 +188,14 @@ fn shared(alloc: Global, problem: Problem, sense: Sense) -> Result<Arc<Scaled>, 
 }
 
 // What the mode comes to from these first prices.
-fn solve_in_mode<G: Gate + Sync, T: Threads + Wait + Sync>(
+fn solve_in_mode<G: Gate + Sync, T: Threads + Wait + Sync, V: Watch + Sync>(
     rt: &T,
     alloc: Global,
     scaled: Arc<Scaled>,
     prices: Prices,
     options: SolveOpts,
     gate: &G,
+    watch: &V,
 ) -> Result<Outcome, SolveFault>
     requires workers { 0 < options.workers }
     requires long { length prices ≡ length (arc_value scaled).problem }
@@ -189,11 +204,15 @@ fn solve_in_mode<G: Gate + Sync, T: Threads + Wait + Sync>(
     ensures proof { IfOk result (IsProof (arc_value scaled)) }
 {
     match options.mode {
-        Mode::Rounds => solve_rounds_from(rt, alloc, scaled, prices),
+        Mode::Rounds => {
+            let mut offering = WatchedOffers::new(rt, &scaled, watch);
+            solve_rounds_by(&mut offering, alloc, scaled, prices)
+        }
         Mode::Workers => {
             let (workers, refresh) = (options.workers, options.refresh);
+            let gate = WatchedGate::new(gate, &scaled, watch);
             let (outcome, _) = solve_workers_from(
-                rt, alloc, scaled, prices, workers, refresh, gate,
+                rt, alloc, scaled, prices, workers, refresh, &gate,
             )?;
             Ok(outcome)
         }
@@ -219,7 +238,7 @@ fn solve_by_paths(alloc: Global, scaled: Arc<Scaled>, prices: Prices) -> Result<
 }
 
 // What the method comes to from these first prices.
-fn solve_by<G: Gate + Sync, T: Threads + Wait + Sync>(
+fn solve_by<G: Gate + Sync, T: Threads + Wait + Sync, V: Watch + Sync>(
     rt: &T,
     alloc: Global,
     scaled: Arc<Scaled>,
@@ -227,6 +246,7 @@ fn solve_by<G: Gate + Sync, T: Threads + Wait + Sync>(
     options: SolveOpts,
     method: Method,
     gate: &G,
+    watch: &V,
 ) -> Result<Outcome, SolveFault>
     requires workers { 0 < options.workers }
     requires long { length prices ≡ length (arc_value scaled).problem }
@@ -235,8 +255,11 @@ fn solve_by<G: Gate + Sync, T: Threads + Wait + Sync>(
     ensures proof { IfOk result (IsProof (arc_value scaled)) }
 {
     match method {
-        Method::Auction => solve_in_mode(rt, alloc, scaled, prices, options, gate),
-        Method::Paths => solve_by_paths(alloc, scaled, prices),
+        Method::Auction => solve_in_mode(rt, alloc, scaled, prices, options, gate, watch),
+        Method::Paths => {
+            watch.paths();
+            solve_by_paths(alloc, scaled, prices)
+        }
     }
 }
 
@@ -248,7 +271,7 @@ struct Solved {
 }
 
 // Solves a problem by a run that begins at these prices, and checks the outcome.
-fn solve_checked<G: Gate + Sync, T: Threads + Wait + Sync>(
+fn solve_checked<G: Gate + Sync, T: Threads + Wait + Sync, V: Watch + Sync>(
     rt: &T,
     alloc: Global,
     problem: Problem,
@@ -256,6 +279,7 @@ fn solve_checked<G: Gate + Sync, T: Threads + Wait + Sync>(
     options: SolveOpts,
     method: Method,
     gate: &G,
+    watch: &V,
 ) -> Result<Solved, CliFault>
     requires workers { 0 < options.workers }
     requires long { length prices ≡ length problem }
@@ -268,7 +292,7 @@ fn solve_checked<G: Gate + Sync, T: Threads + Wait + Sync>(
 {
     let scaled = shared(alloc, problem, options.sense)?;
     let kept = scaled.clone()?;
-    let outcome = match solve_by(rt, alloc, scaled, prices, options, method, gate) {
+    let outcome = match solve_by(rt, alloc, scaled, prices, options, method, gate, watch) {
         Ok(outcome) => outcome,
         Err(_) => return Err(CliFault::Memory),
     };
@@ -292,7 +316,7 @@ fn ended_by(outcome: &Outcome) -> Ended
 }
 
 // Solves a problem by a run that begins at these prices, and writes the report.
-fn report_from<G: Gate + Sync, T: Threads + Wait + Sync, W: Write>(
+fn report_from<G: Gate + Sync, T: Threads + Wait + Sync, W: Write, V: Watch + Sync>(
     rt: &T,
     alloc: Global,
     problem: Problem,
@@ -301,13 +325,15 @@ fn report_from<G: Gate + Sync, T: Threads + Wait + Sync, W: Write>(
     options: SolveOpts,
     method: Method,
     gate: &G,
+    watch: &V,
 ) -> Result<Ended, CliFault>
     requires workers { 0 < options.workers }
     requires long { length prices ≡ length problem }
     requires low { All IsFirstPrice prices }
     ensures { Reports method options problem prices (W.contents w.old) (W.contents w.new) result }
 {
-    let solved = solve_checked(rt, alloc, problem, prices, options, method, gate)?;
+    let solved = solve_checked(rt, alloc, problem, prices, options, method, gate, watch)?;
+    watch.over();
     let problem = solved.scaled.problem();
     write_report(w, problem, options.sense, &solved.outcome, options.prices)?;
     Ok(ended_by(&solved.outcome))
@@ -368,9 +394,41 @@ pub fn run_solve_by<G: Gate + Sync, T: Threads + Wait + Sync, R: Read, Q: Read +
     ensures { SolveOutcomeBy method options (R.remaining r.old) (option_map Q.remaining start)
         (W.contents w.old) (W.contents w.new) result }
 {
-    let problem = read_problem(alloc, r, options.sparse)?;
+    run_solve_watched(rt, alloc, r, start, w, options, method, gate, &Unwatched)
+}
+
+/// Does what `run_solve_by` does, and tells a watch how far the run is: while it reads, in rounds
+/// and while workers take turns, and that shortest paths begin. No clause speaks of what the watch
+/// is told. It is told that the run is over before the report goes out; where the run fails, or
+/// nothing is written, it is for the caller to say so.
+///
+/// # Errors
+/// As `run_solve_by`.
+pub fn run_solve_watched<
+    G: Gate + Sync,
+    T: Threads + Wait + Sync,
+    R: Read,
+    Q: Read + Drop,
+    W: Write,
+    V: Watch + Sync,
+>(
+    rt: &T,
+    alloc: Global,
+    r: &mut R,
+    start: Option<Q>,
+    w: &mut W,
+    options: SolveOpts,
+    method: Method,
+    gate: &G,
+    watch: &V,
+) -> Result<Ended, CliFault>
+    requires { 0 < options.workers }
+    ensures { SolveOutcomeBy method options (R.remaining r.old) (option_map Q.remaining start)
+        (W.contents w.old) (W.contents w.new) result }
+{
+    let problem = read_watched(alloc, r, options.sparse, watch)?;
     let prices = first_prices(alloc, start, problem.n())?;
-    report_from(rt, alloc, problem, prices, w, options, method, gate)
+    report_from(rt, alloc, problem, prices, w, options, method, gate, watch)
 }
 
 /// Reads a problem, and writes the report on a best assignment, or on persons who list fewer

@@ -1,8 +1,10 @@
 // Runs of the program and of its parts, over streams that are watched.
 mod command;
 mod faults;
+mod inputs;
 mod methods;
 mod modes;
+mod progress;
 mod reports;
 mod schedules;
 mod starts;

@@ -4,15 +4,15 @@ ghost use Rattle.std.specs.Option.{option_map};
 ghost use Rattle.std.specs.String.{string_bytes};
 ghost use Rattle.assign_core.specs.declared.sense.Sense.{Sense};
 ghost use Rattle.assign_core.specs.declared.sense.Sense.TheVariants.{Max, Min};
-ghost use Rattle.clap.specs.Words.{app_of, first_of, found_of, one_of, rows_of, rule_of, subcommand_rows_of, Text};
-ghost use Rattle.auction_cli.specs.Words.{Chooses, ChoosesSolving, NamesMethod, NamesMode, NamesSense, Places};
+ghost use Rattle.clap.specs.Words.{app_of, found_of, one_of, rows_of, rule_of, subcommand_rows_of, Text};
+ghost use Rattle.auction_cli.specs.Words.{Chooses, ChoosesSolving, NamesFile, NamesMethod, NamesMode, NamesSense, Places};
 ghost use Rattle.auction_cli.specs.inside.Words.{ChoosesVerifying, IsChoiceFault, NamesCommand};
-ghost use Rattle.auction_cli.specs.Words.{IsNumberFor};
+ghost use Rattle.auction_cli.specs.Words.{IsFlag, IsNumberFor};
 ghost use Rattle.auction_cli.specs.inside.Words.{HasNumbers, HasNumbersIfSolving, IsNumberIn};
-ghost use Rattle.auction_cli.specs.Words.{AsksForVersion, IsInRanges, IsTaken, Solves, SolvesBy, Verifies, WordsOutcome};
+ghost use Rattle.auction_cli.specs.Words.{AsksForVersion, IsInRanges, IsTaken, Solves, SolvesBy, SolvesFrom, Verifies, VerifiesFrom, WordsOutcome};
 ghost use Rattle.auction_cli.specs.inside.Words.{IsFaultOf};
-ghost use Rattle.auction_cli.specs.Words.{flag_rule, method_rule, named_rule, numbered_rule, plain_solve_app, program, solve_app, valued_rule, verify_app, version_rule};
-ghost use Rattle.auction_cli.specs.Words.{full_line, full_options, full_verify_line, is_max, mode_name, sense_name, usual_options};
+ghost use Rattle.auction_cli.specs.Words.{flag_rule, input_rule, method_rule, named_rule, numbered_rule, plain_solve_app, program, solve_app, valued_rule, verify_app, version_rule};
+ghost use Rattle.auction_cli.specs.Words.{full_line, full_options, full_verify_line, input_line, input_verify_line, is_max, mode_name, sense_name, usual_options};
 
 use assign_core::{Sense, VERSION};
 use clap::builder::ValueParser;
@@ -35,7 +35,9 @@ const PROGRAM_NOTES: &str = "Example:
 'auction_cli solve --help' has the layouts of a problem, and the exit statuses.";
 
 // What help says behind the options of `solve`.
-const SOLVE_NOTES: &str = "Reads the problem from standard input: numbers between white space
+const SOLVE_NOTES: &str =
+    "Reads the problem from standard input, with --input FILE from that file: numbers
+between white space
   dense:     n, then the n costs of person 1 to objects 1 to n, those of person 2, ..
   --sparse:  n, then PERSON OBJECT COST for each pair that is allowed
 Writes the report to standard output.
@@ -54,14 +56,17 @@ Exit status:
   1  there is no assignment
   2  the words of the command line are refused
   3  the problem is refused, or the report of --start
-  4  a read or a write failed, the report of --start can't be opened, or memory
-     was refused
+  4  a read or a write failed, the problem or the report of --start can't be
+     opened, or memory was refused
 
 Example:
-  auction_cli solve --max --prices < sales.txt > report.txt";
+  auction_cli solve --max --prices < sales.txt > report.txt
+  auction_cli solve --max --prices --input sales.txt > report.txt";
 
 // What help says behind the options of `verify`.
-const VERIFY_NOTES: &str = "Reads the problem from standard input: numbers between white space
+const VERIFY_NOTES: &str =
+    "Reads the problem from standard input, with --input FILE from that file: numbers
+between white space
   dense:     n, then the n costs of person 1 to objects 1 to n, those of person 2, ..
   --sparse:  n, then PERSON OBJECT COST for each pair that is allowed
 Writes one line to standard output: 'verified ..' or 'not verified: ..'.
@@ -70,11 +75,13 @@ Exit status:
   0  verified
   2  the words of the command line are refused
   3  the problem or the report is refused
-  4  a read or a write failed, the report can't be opened, or memory was refused
+  4  a read or a write failed, the problem or the report can't be opened, or
+     memory was refused
   5  not verified
 
 Example:
-  auction_cli verify --sense max report.txt < sales.txt";
+  auction_cli verify --sense max report.txt < sales.txt
+  auction_cli verify --sense max --input sales.txt report.txt";
 
 /// Which number each limit is.
 pub fn word_limits()
@@ -119,10 +126,14 @@ pub enum Method {
 }
 
 /// What is asked for beside `SolveOpts`.
-#[derive(Clone, Copy, Debug, PartialEq, Eq)]
+#[derive(Debug, Drop)]
 pub struct Asked {
     /// The auction or shortest paths; mode, workers and refresh are the auction's.
     pub method: Method,
+    /// The file with the problem; without one it is on standard input.
+    pub input: Option<String>,
+    /// How far the run is shall be told while it runs.
+    pub progress: bool,
 }
 
 /// What the words ask for.
@@ -136,11 +147,13 @@ pub enum Words {
         asked: Asked,
     },
     /// Check the report in the file of this name, which is to be of the sense that is asked for, if
-    /// any; the problem's text lists pairs where `sparse`.
+    /// any; the problem's text lists pairs where `sparse`, and is in the file `input` or, without
+    /// one, on standard input.
     Verify {
         sparse: bool,
         sense: Option<Sense>,
         report: String,
+        input: Option<String>,
     },
 }
 
@@ -187,6 +200,17 @@ fn sparse_flag<'a>(alloc: Global) -> Arg<'a>
         "sparse",
         "The problem names the pairs that are allowed: a person, an object and a cost each",
     )
+}
+
+// The option on the file with the problem.
+fn input_option<'a>(alloc: Global) -> Arg<'a>
+    ensures rule { rule_of result ≡ input_rule }
+    ensures local { result.global ≡ false }
+{
+    Arg::new(alloc, "input")
+        .long("input")
+        .value_name("FILE")
+        .help("The file with the problem, which is read in place of standard input")
 }
 
 // An option with a value, and the value that it has where it isn't given.
@@ -279,6 +303,7 @@ fn plain_solve_command<'a>(alloc: Global) -> Result<Command<'a>, AllocError>
         )
         .after_help(SOLVE_NOTES)
         .arg(sparse_flag(alloc))?
+        .arg(input_option(alloc))?
         .arg(max)?
         .arg(prices)?
         .arg(start)
@@ -311,11 +336,17 @@ fn solve_command<'a>(alloc: Global) -> Result<Command<'a>, AllocError>
         (0, MOST_REFRESH),
         "After how many turns a worker takes the newest prices, 0 to 1000000; 0: only after a bid that was too low",
     );
+    let progress = flag(
+        alloc,
+        "progress",
+        "Tell on standard error how far the run is, at most twice a second",
+    );
     plain_solve_command(alloc)?
         .arg(method_option(alloc))?
         .arg(mode)?
         .arg(workers)?
-        .arg(refresh)
+        .arg(refresh)?
+        .arg(progress)
 }
 
 // The subcommand `verify`.
@@ -333,6 +364,7 @@ fn verify_command<'a>(alloc: Global) -> Result<Command<'a>, AllocError>
         .about("Read a problem from standard input, and check a report on it")
         .after_help(VERIFY_NOTES)
         .arg(sparse_flag(alloc))?
+        .arg(input_option(alloc))?
         .arg(sense)?
         .arg(report)
 }
@@ -449,18 +481,29 @@ fn chosen_method(solve: &ArgMatches<'_>) -> Method
     }
 }
 
-// The file whose prices are to be the first.
-fn start_name(alloc: Global, solve: &ArgMatches<'_>) -> Result<Option<String>, AllocError>
-    ensures { IfOk result (λ name. option_map string_bytes name
-        ≡ first_of (codes "start") (rows_of (found_of solve.now))) }
+// Whether the run's progress is asked for.
+fn progress_flag(solve: &ArgMatches<'_>) -> bool
+    ensures { IsFlag (one_of (codes "progress") (rows_of (found_of solve.now))) result }
 {
-    match solve.get_str("start") {
+    solve.get_flag("progress")
+}
+
+// The name of the file that is given for an option.
+fn file_name(
+    alloc: Global,
+    matches: &ArgMatches<'_>,
+    option: &str,
+) -> Result<Option<String>, AllocError>
+    ensures { IfOk result (λ name. NamesFile option.now (rows_of (found_of matches.now))
+        (option_map string_bytes name)) }
+{
+    match matches.get_str(option) {
         Some(name) => Ok(Some(String::from_str(alloc, name)?)),
         None => Ok(None),
     }
 }
 
-// What the words behind `solve` choose, with the file.
+// What the words behind `solve` choose, with the files.
 fn solve_words(alloc: Global, solve: &ArgMatches<'_>) -> Result<Words, WordsFault>
     requires { HasNumbers (rows_of (found_of solve.now)) }
     ensures ok { IfOk result (Chooses (Some (codes "solve", rows_of (found_of solve.now)))) }
@@ -469,9 +512,11 @@ fn solve_words(alloc: Global, solve: &ArgMatches<'_>) -> Result<Words, WordsFaul
     let mode = chosen_mode(solve)?;
     Ok(Words::Solve {
         options: solve_options(solve, mode),
-        start: start_name(alloc, solve)?,
+        start: file_name(alloc, solve, "start")?,
         asked: Asked {
             method: chosen_method(solve),
+            input: file_name(alloc, solve, "input")?,
+            progress: progress_flag(solve),
         },
     })
 }
@@ -520,6 +565,7 @@ fn verify_options(
         sparse: verify.get_flag("sparse"),
         sense,
         report: String::from_str(alloc, name)?,
+        input: file_name(alloc, verify, "input")?,
     })
 }
 
@@ -575,11 +621,15 @@ pub fn read_words<'a, S: AsStr>(alloc: Global, words: &'a [S]) -> Result<Words, 
     ensures method { (name : Text) → map S.text words.entry.now
         ≡ name ∷ codes "solve" ∷ codes "--method" ∷ codes "paths" ∷ []
         → IsTaken (SolvesBy Method.Paths usual_options None) result }
+    ensures input { (name : Text) → map S.text words.entry.now ≡ name ∷ input_line
+        → IsTaken (SolvesFrom (Some (codes "problem")) Method.Auction usual_options None) result }
     ensures verify { (name : Text) → map S.text words.entry.now
         ≡ name ∷ codes "verify" ∷ codes "--sparse" ∷ codes "report" ∷ []
         → IsTaken (Verifies true None (codes "report")) result }
     ensures sense { (name : Text) → map S.text words.entry.now ≡ name ∷ full_verify_line
         → IsTaken (Verifies true (Some Max) (codes "report")) result }
+    ensures input_verify { (name : Text) → map S.text words.entry.now ≡ name ∷ input_verify_line
+        → IsTaken (VerifiesFrom (Some (codes "problem")) false None (codes "report")) result }
     ensures alone { (name : Text) → map S.text words.entry.now ≡ name ∷ [] → IsErr result }
     ensures version { (name : Text) → map S.text words.entry.now ≡ name ∷ codes "--version" ∷ []
         → AsksForVersion result }

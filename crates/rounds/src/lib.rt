@@ -8,7 +8,7 @@ mod rounds;
 mod tests;
 
 pub use law::{rounds_end_once, rounds_have_one_outcome};
-pub use offers::{Alone, InPieces, Offering, make_offers};
+pub use offers::{Alone, InPieces, LEAST_PAIRS, Offering, make_offers};
 pub use rounds::{
     solve_rounds, solve_rounds_alone, solve_rounds_alone_from, solve_rounds_by, solve_rounds_from,
 };

@@ -1,8 +1,8 @@
 // What a book holds.
-ghost use Rattle.std.specs.Prelude.{◌≡◌, None, Some, MatchOption, length};
+ghost use Rattle.std.specs.Prelude.{◌≡◌, None, Some, MatchOption, count_by, length};
 ghost use Rattle.std.specs.Arc.{arc_value};
 ghost use Rattle.assign_core.specs.Numbered.{IsNumber, numbered};
-ghost use Rattle.auction_book.specs.Book.{ask_of, prices_of, version_of};
+ghost use Rattle.auction_book.specs.Book.{ask_of, is_some, prices_of, version_of};
 ghost use Rattle.auction_book.specs.Free.{IsFree};
 
 use super::Book;
@@ -61,6 +61,13 @@ impl Book {
         ensures owners { result.now ≡ self.now.owners }
     {
         self.owners.as_slice()
+    }
+
+    /// How many persons own an object.
+    pub fn assigned(&self) -> u16
+        ensures { result ≡ count_by is_some self.now.owners }
+    {
+        self.owned
     }
 
     /// What the phase asks of a bid.

@@ -33,6 +33,7 @@ fn lines_that_are_taken(rt: HostRuntime) -> Result<(), Fail> {
         ("solve", 0, "sense min"),
         ("solve --sparse", 0, "sense min"),
         ("solve --prices --max", 0, "sense max"),
+        ("solve --progress", 0, "sense min"),
         ("solve --start report", 0, "sense min"),
         ("solve --start=report --max", 0, "sense max"),
         ("verify report", 5, slack),
@@ -71,6 +72,14 @@ fn lines_that_are_refused(rt: HostRuntime) -> Result<(), Fail> {
             "error: the argument '--start <REPORT>' cannot be used multiple times",
         ),
         (
+            "solve --input",
+            "error: a value is required for '--input <FILE>' but none was supplied",
+        ),
+        (
+            "verify --input a report --input b",
+            "error: the argument '--input <FILE>' cannot be used multiple times",
+        ),
+        (
             "solve --sparse=yes",
             "error: unexpected value 'yes' for '--sparse' found; no more were expected",
         ),
@@ -94,6 +103,14 @@ fn lines_that_are_refused(rt: HostRuntime) -> Result<(), Fail> {
         (
             "verify report --sense",
             "error: a value is required for '--sense <SENSE>' but none was supplied",
+        ),
+        (
+            "solve --progress=no",
+            "error: unexpected value 'no' for '--progress' found; no more were expected",
+        ),
+        (
+            "verify --progress report",
+            "error: unexpected argument '--progress' found",
         ),
         (
             "solve --sense min",

@@ -1,59 +1,66 @@
 // Runs of the whole program whose streams are watched, for tests.
-use crate::program::{NoReport, NoWords, ProgramEnd, Reports, Told, run_program};
+use crate::program::{Files, NoFile, NoWords, ProgramEnd, Told, run_program};
+use crate::progress::Unwatched;
 use crate::tests::streams::{Pieces, Sheet, blank_sheet, whole_text};
 use std::alloc::{AllocError, Global};
 use std::process::Abort;
 use std::sync::Wait;
 use std::thread::Threads;
 
-// One report under the name `report`, and one that memory is refused for under `refused`.
+// A report and a problem under these names, and a file that memory is refused for under `refused`.
 #[derive(Drop)]
 struct Shelf<'a> {
     report: Pieces<'a>,
+    problem: Pieces<'a>,
 }
 
-impl<'a> Reports for Shelf<'a> {
-    type Report = Pieces<'a>;
+impl<'a> Files for Shelf<'a> {
+    type File = Pieces<'a>;
 
     ghost use Rattle.std.specs.Prelude.{⊤};
 
     ghost may_open = { λ _ _ _. ⊤ };
 
-    fn open(&self, name: &str) -> Result<Pieces<'a>, NoReport> {
+    fn open(&self, name: &str) -> Result<Pieces<'a>, NoFile> {
         match name {
             "report" => Ok(self.report),
-            "refused" => Err(NoReport::Memory),
-            _ => Err(NoReport::Unopened),
+            "problem" => Ok(self.problem),
+            "refused" => Err(NoFile::Memory),
+            _ => Err(NoFile::Unopened),
         }
     }
 }
 
-/// What a run reads, and what it may write on.
+/// What a run reads, from standard input and from files, and what it may write on.
 #[derive(Drop)]
 pub struct Scene<'a> {
     pub text: Pieces<'a>,
     pub report: Pieces<'a>,
+    pub problem: Pieces<'a>,
     pub out: Sheet,
     pub errors: Sheet,
 }
 
-/// A text, a report and ample room, all in pieces of at most so many bytes.
+/// A text, a report, an empty problem and ample room, all in pieces of at most so many bytes.
 pub fn whole_scene<'a>(alloc: Global, text: &'a [u8], report: &'a [u8], most: usize) -> Scene<'a> {
     Scene {
         text: whole_text(text, most),
         report: whole_text(report, most),
+        problem: whole_text(b"", most),
         out: blank_sheet(alloc, 1 << 20, most, true),
         errors: blank_sheet(alloc, 1 << 20, most, true),
     }
 }
 
-/// The status of a run, what it wrote on each stream, and whether that was all it had to say.
+/// The status of a run, what it wrote on each stream, whether that was all it had to say, and how
+/// many bytes it left on standard input.
 #[derive(Drop)]
 pub struct Seen {
     pub status: u8,
     pub out: Vec<u8>,
     pub errors: Vec<u8>,
     pub whole: bool,
+    pub left: usize,
 }
 
 // Whether standard error took all that it was told.
@@ -61,7 +68,7 @@ fn is_whole(end: &ProgramEnd) -> bool {
     !matches!(
         end,
         ProgramEnd::Refused(Told::Part)
-            | ProgramEnd::Unopened(Told::Part)
+            | ProgramEnd::Unopened(_, Told::Part)
             | ProgramEnd::Failed(_, Told::Part)
     )
 }
@@ -75,14 +82,25 @@ pub fn watched_run(
 ) -> Seen {
     let shelf = Shelf {
         report: scene.report,
+        problem: scene.problem,
     };
     let (mut text, mut out, mut errors) = (scene.text, scene.out, scene.errors);
-    let end = run_program(rt, alloc, words, &shelf, &mut text, &mut out, &mut errors);
+    let end = run_program(
+        rt,
+        alloc,
+        words,
+        &shelf,
+        &mut text,
+        &mut out,
+        &mut errors,
+        &Unwatched,
+    );
     Seen {
         status: end.status(),
         out: out.taken,
         errors: errors.taken,
         whole: is_whole(&end),
+        left: text.text.len(),
     }
 }
 

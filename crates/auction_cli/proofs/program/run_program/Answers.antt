@@ -9,3 +9,6 @@ returns-in-Ok-clause-output g c = rw (c.in-Ok.is, ← c.as_slice.ensures.value) 
 
 pub returns-in-Ok-clause-errors : goal.returns-in-Ok-clause-errors
 returns-in-Ok-clause-errors g c = rw (c.in-Ok.is, ← c.as_slice.ensures.value) c.run_words.ensures.errors
+
+pub returns-in-Ok-clause-unread : goal.returns-in-Ok-clause-unread
+returns-in-Ok-clause-unread g c = rw (c.in-Ok.is, ← c.as_slice.ensures.value) c.run_words.ensures.unread

@@ -1,11 +1,11 @@
-use Rattle.std.proofs.Common.{◌∙◌, List, None, Some, true, ap, ap₂, codes, map, refl, subst, sym}
+use Rattle.std.proofs.Common.{◌∙◌, List, None, Some, false, true, ap, ap₂, codes, map, refl, subst, sym}
 use Rattle.assign_core.specs.declared.sense.Sense.TheVariants.{Max}
 use Rattle.clap.specs.Words.{Text, subcommand_of, takes}
 use Rattle.auction_cli.specs.Words.{full_options, program, usual_options}
 use Rattle.auction_cli.specs.declared.words.Method.TheVariants.{Auction, Paths}
 use Rattle.auction_cli.specs.inside.Words.{HasNumbersIfSolving, NamesCommand}
 use Rattle.auction_cli.proofs.Choices.{chosen_outcome, solve_taken, verify_taken}
-use Rattle.auction_cli.proofs.CommandLines.{file_is_taken, file_of, file_words, flags_of, full_file_is_taken, full_file_words, full_flags, full_is_taken, in_ranges, is_memory, paths_flags, paths_is_taken, plain_flags, plain_is_taken, taken_words, told_outcome, version_is_fault, version_told}
+use Rattle.auction_cli.proofs.CommandLines.{file_is_taken, file_of, file_words, flags_of, full_file_is_taken, full_file_words, full_flags, full_is_taken, in_ranges, input_file_is_taken, input_file_words, input_flags, input_is_taken, is_memory, paths_flags, paths_is_taken, plain_flags, plain_is_taken, taken_words, told_outcome, version_is_fault, version_told}
 use Rattle.auction_cli.proofs.Numbers.{has_numbers}
 use Rattle.auction_cli.proofs.Subcommands.{names_command}
 use Rattle.auction_cli.proofs.words.read_words.Goals as goal
@@ -30,31 +30,49 @@ pub returns-in-Ok-clause-solve : goal.returns-in-Ok-clause-solve
 returns-in-Ok-clause-solve g c = λ name e.
     let at = c.in_ok-command.ensures.0 in
     let t = taken_words at _ (map g.S.AsStr.text c.args.words.now) _ c.in_ok-command.ensures.1 c.in-Ok.ensures.kinds c.in-Ok.ensures.matches in
-    solve_taken _ c.chosen.result Auction usual_options (codes "4") (codes "1") _ (ap flags_of t.1 ∙ ap (λ (words : List Text). flags_of (subcommand_of (program at) words)) e ∙ plain_flags at name) refl refl c.chosen.ensures.ok c.chosen.ensures.err
+    solve_taken _ c.chosen.result Auction usual_options (codes "4") (codes "1") _ _ (ap flags_of t.1 ∙ ap (λ (words : List Text). flags_of (subcommand_of (program at) words)) e ∙ plain_flags at name) refl refl c.chosen.ensures.ok c.chosen.ensures.err
 
 pub returns-in-Ok-clause-options : goal.returns-in-Ok-clause-options
 returns-in-Ok-clause-options g c = λ name e.
     let at = c.in_ok-command.ensures.0 in
     let t = taken_words at _ (map g.S.AsStr.text c.args.words.now) _ c.in_ok-command.ensures.1 c.in-Ok.ensures.kinds c.in-Ok.ensures.matches in
-    solve_taken _ c.chosen.result Auction full_options (codes "64") (codes "0") _ (ap flags_of t.1 ∙ ap (λ (words : List Text). flags_of (subcommand_of (program at) words)) e ∙ full_flags at name) refl refl c.chosen.ensures.ok c.chosen.ensures.err
+    solve_taken _ c.chosen.result Auction full_options (codes "64") (codes "0") _ _ (ap flags_of t.1 ∙ ap (λ (words : List Text). flags_of (subcommand_of (program at) words)) e ∙ full_flags at name) refl refl c.chosen.ensures.ok c.chosen.ensures.err
 
 pub returns-in-Ok-clause-method : goal.returns-in-Ok-clause-method
 returns-in-Ok-clause-method g c = λ name e.
     let at = c.in_ok-command.ensures.0 in
     let t = taken_words at _ (map g.S.AsStr.text c.args.words.now) _ c.in_ok-command.ensures.1 c.in-Ok.ensures.kinds c.in-Ok.ensures.matches in
-    solve_taken _ c.chosen.result Paths usual_options (codes "4") (codes "1") _ (ap flags_of t.1 ∙ ap (λ (words : List Text). flags_of (subcommand_of (program at) words)) e ∙ paths_flags at name) refl refl c.chosen.ensures.ok c.chosen.ensures.err
+    solve_taken _ c.chosen.result Paths usual_options (codes "4") (codes "1") _ _ (ap flags_of t.1 ∙ ap (λ (words : List Text). flags_of (subcommand_of (program at) words)) e ∙ paths_flags at name) refl refl c.chosen.ensures.ok c.chosen.ensures.err
+
+pub returns-in-Ok-clause-input : goal.returns-in-Ok-clause-input
+returns-in-Ok-clause-input g c = λ name e.
+    let at = c.in_ok-command.ensures.0 in
+    let t = taken_words at _ (map g.S.AsStr.text c.args.words.now) _ c.in_ok-command.ensures.1 c.in-Ok.ensures.kinds c.in-Ok.ensures.matches in
+    solve_taken _ c.chosen.result Auction usual_options (codes "4") (codes "1") _ _ (ap flags_of t.1 ∙ ap (λ (words : List Text). flags_of (subcommand_of (program at) words)) e ∙ input_flags at name) refl refl c.chosen.ensures.ok c.chosen.ensures.err
 
 pub returns-in-Ok-clause-verify : goal.returns-in-Ok-clause-verify
 returns-in-Ok-clause-verify g c = λ name e.
     let at = c.in_ok-command.ensures.0 in
     let t = taken_words at _ (map g.S.AsStr.text c.args.words.now) _ c.in_ok-command.ensures.1 c.in-Ok.ensures.kinds c.in-Ok.ensures.matches in
-    verify_taken _ c.chosen.result true None _ (ap file_of t.1 ∙ ap (λ (words : List Text). file_of (subcommand_of (program at) words)) e ∙ file_words at name) c.chosen.ensures.ok c.chosen.ensures.err
+    verify_taken _ c.chosen.result true None _ _ (ap file_of t.1 ∙ ap (λ (words : List Text). file_of (subcommand_of (program at) words)) e ∙ file_words at name) c.chosen.ensures.ok c.chosen.ensures.err
 
 pub returns-in-Ok-clause-sense : goal.returns-in-Ok-clause-sense
 returns-in-Ok-clause-sense g c = λ name e.
     let at = c.in_ok-command.ensures.0 in
     let t = taken_words at _ (map g.S.AsStr.text c.args.words.now) _ c.in_ok-command.ensures.1 c.in-Ok.ensures.kinds c.in-Ok.ensures.matches in
-    verify_taken _ c.chosen.result true (Some Max) _ (ap file_of t.1 ∙ ap (λ (words : List Text). file_of (subcommand_of (program at) words)) e ∙ full_file_words at name) c.chosen.ensures.ok c.chosen.ensures.err
+    verify_taken _ c.chosen.result true (Some Max) _ _ (ap file_of t.1 ∙ ap (λ (words : List Text). file_of (subcommand_of (program at) words)) e ∙ full_file_words at name) c.chosen.ensures.ok c.chosen.ensures.err
+
+pub returns-in-Ok-clause-input_verify : goal.returns-in-Ok-clause-input_verify
+returns-in-Ok-clause-input_verify g c = λ name e.
+    let at = c.in_ok-command.ensures.0 in
+    let t = taken_words at _ (map g.S.AsStr.text c.args.words.now) _ c.in_ok-command.ensures.1 c.in-Ok.ensures.kinds c.in-Ok.ensures.matches in
+    verify_taken _ c.chosen.result false None _ _ (ap file_of t.1 ∙ ap (λ (words : List Text). file_of (subcommand_of (program at) words)) e ∙ input_file_words at name) c.chosen.ensures.ok c.chosen.ensures.err
+
+pub returns-in-Err-clause-input : goal.returns-in-Err-clause-input
+returns-in-Err-clause-input g c = λ name e. is_memory _ _ c.words_fault.ensures (c.in-Err.ensures.passes (ap₂ takes c.in_ok-command.ensures.1 e ∙ input_is_taken c.in_ok-command.ensures.0 name))
+
+pub returns-in-Err-clause-input_verify : goal.returns-in-Err-clause-input_verify
+returns-in-Err-clause-input_verify g c = λ name e. is_memory _ _ c.words_fault.ensures (c.in-Err.ensures.passes (ap₂ takes c.in_ok-command.ensures.1 e ∙ input_file_is_taken c.in_ok-command.ensures.0 name))
 
 pub returns-in-Err-clause-solve : goal.returns-in-Err-clause-solve
 returns-in-Err-clause-solve g c = λ name e. is_memory _ _ c.words_fault.ensures (c.in-Err.ensures.passes (ap₂ takes c.in_ok-command.ensures.1 e ∙ plain_is_taken c.in_ok-command.ensures.0 name))

@@ -15,5 +15,6 @@ returns c =
         sense = c.requires;
         report = c.in_ok-from_str.ensures.ok ∙ ap (λ (s : Bor Text). s.now) c.unwrap_or-name.ensures
             ∙ text_or_none c.get_str.result _ _ (c.get_str.ensures ∙ first_value-rows found (codes "REPORT")) refl;
+        input = c.in_ok-file_name.ensures;
       },
     )

@@ -1,6 +1,6 @@
 use Rattle.std.proofs.Common.{option_map, sym}
 use Rattle.auction_cli.proofs.Starts.{reports_outcome}
-use Rattle.auction_cli.proofs.run.run_solve_by.Goals as goal
+use Rattle.auction_cli.proofs.run.run_solve_watched.Goals as goal
 
 pub returns : goal.returns
 returns g c =

@@ -1,0 +1,217 @@
+// Lines on how far a run is, for standard error: now and then, or where it is a terminal one line that is written over.
+use crate::progress::{Progress, Watch};
+use arrayvec::ArrayString;
+use std::fmt;
+use std::fmt::Write;
+use std::sync::atomic::{AtomicBool, AtomicU64, AtomicUsize, Ordering};
+
+/// The clock and standard error.
+pub trait Console {
+    /// Milliseconds since some time that stays the same; `None` where no clock answers.
+    fn now(&self) -> Option<u64>;
+
+    /// Writes to standard error. Whether it took all.
+    fn write(&self, text: &[u8]) -> bool;
+}
+
+// At least so many milliseconds lie between two lines, and so many before the first one on a terminal, unasked.
+const BETWEEN: u64 = 500;
+
+const UNASKED: u64 = 2000;
+
+// No time: nothing is told any more, or not yet.
+const NEVER: u64 = u64::MAX;
+
+// The most columns that a line takes on a terminal.
+const MOST_COLUMNS: usize = 79;
+
+// What a line says.
+#[derive(Drop)]
+enum News {
+    Bytes(u64),
+    Round(Progress),
+    Sessions(u64, u128, Progress),
+    Paths,
+}
+
+impl fmt::Display for News {
+    fn fmt<W: fmt::Write>(&self, f: &mut fmt::Formatter<W>) -> fmt::Result {
+        match self {
+            News::Bytes(bytes) => {
+                let tenths = bytes / 100_000;
+                write!(f, "{}.{} MB read", tenths / 10, tenths % 10)
+            }
+            News::Round(it) => write!(
+                f,
+                "phase {} of {}, slackness {}, {} of {} persons",
+                it.phase, it.phases, it.slackness, it.assigned, it.persons
+            ),
+            News::Sessions(sessions, accepted, it) => write!(
+                f,
+                "phase {} of {}, {} of {} persons, {sessions} sessions, {accepted} bids",
+                it.phase, it.phases, it.assigned, it.persons
+            ),
+            News::Paths => write!(f, "shortest paths"),
+        }
+    }
+}
+
+// Room for a line and what is put around it.
+type Line = ArrayString<256>;
+
+// The line of some news after so many milliseconds, behind this word. It takes no memory, and is cut where it is too long.
+fn line_of(word: &str, news: &News, passed: u64) -> Line {
+    let mut line = Line::new();
+    let tenths = passed / 100;
+    let _ = write!(line, "{word}{news}, {}.{} s", tenths / 10, tenths % 10);
+    line
+}
+
+// Puts so many blanks behind a text.
+fn pad(text: &mut Line, blanks: usize) {
+    for _ in 0..blanks {
+        let _ = text.try_push(' ');
+    }
+}
+
+/// Tells a console how far a run is. It takes no memory, and ends silently where the clock or
+/// standard error fails.
+#[derive(Drop)]
+pub struct Teller<C> {
+    console: C,
+    // Standard error is a terminal.
+    in_place: bool,
+    // Standard input is a terminal.
+    typed: bool,
+    // The problem is in a file.
+    named: AtomicBool,
+    began: Option<u64>,
+    // No line comes before this time.
+    next: AtomicU64,
+    busy: AtomicBool,
+    // How many columns stand on the terminal.
+    columns: AtomicUsize,
+    sessions: AtomicU64,
+}
+
+impl<C: Console> Teller<C> {
+    /// Begins to count the time. On a terminal one line is written over, and typing isn't disturbed.
+    pub fn new(console: C, in_place: bool, typed: bool) -> Teller<C> {
+        let began = console.now();
+        Teller {
+            console,
+            in_place,
+            typed,
+            named: AtomicBool::new(false),
+            began,
+            next: AtomicU64::new(NEVER),
+            busy: AtomicBool::new(false),
+            columns: AtomicUsize::new(0),
+            sessions: AtomicU64::new(0),
+        }
+    }
+
+    // How many milliseconds have passed, where it is time for a line. Of several threads one is told so.
+    fn due(&self) -> Option<u64> {
+        let next = self.next.load(Ordering::SeqCst);
+        if next == NEVER {
+            return None;
+        }
+        let now = self.console.now()?;
+        if now < next {
+            return None;
+        }
+        let later = now.saturating_add(BETWEEN);
+        let first = self
+            .next
+            .compare_exchange(next, later, Ordering::SeqCst, Ordering::SeqCst);
+        match first {
+            Ok(_) => Some(now.saturating_sub(self.began?)),
+            Err(_) => None,
+        }
+    }
+
+    // Writes a text, and nothing more from then on where that fails.
+    fn put(&self, text: &str) {
+        if !self.console.write(text.as_bytes()) {
+            self.next.store(NEVER, Ordering::SeqCst);
+        }
+    }
+
+    // Writes a line over what stands on the terminal.
+    fn put_in_place(&self, line: &str) {
+        let line = line.get(..MOST_COLUMNS).unwrap_or(line);
+        let before = self.columns.swap(line.len(), Ordering::SeqCst);
+        let mut text = Line::new();
+        let _ = write!(text, "\r{line}");
+        pad(&mut text, before.saturating_sub(line.len()));
+        self.put(text.as_str());
+    }
+
+    // Writes the line of some news, unless another thread is at it.
+    fn tell(&self, news: &News, passed: u64) {
+        if self.busy.swap(true, Ordering::SeqCst) {
+            return;
+        }
+        if self.in_place {
+            self.put_in_place(line_of("", news, passed).as_str());
+        } else {
+            let mut line = line_of("progress: ", news, passed);
+            let _ = line.try_push('\n');
+            self.put(line.as_str());
+        }
+        self.busy.store(false, Ordering::SeqCst);
+    }
+
+    // Writes the line of some news, where it is time.
+    fn tell_if_due(&self, news: &News) {
+        if let Some(passed) = self.due() {
+            self.tell(news, passed);
+        }
+    }
+}
+
+impl<C: Console> Watch for Teller<C> {
+    fn begin(&self, asked: bool, named: bool) {
+        self.named.store(named, Ordering::SeqCst);
+        if let Some(began) = self.began
+            && (asked || self.in_place)
+        {
+            let wait = if asked { BETWEEN } else { UNASKED };
+            self.next
+                .store(began.saturating_add(wait), Ordering::SeqCst);
+        }
+    }
+
+    fn bytes(&self, bytes: u64) {
+        if !self.typed || self.named.load(Ordering::SeqCst) {
+            self.tell_if_due(&News::Bytes(bytes));
+        }
+    }
+
+    fn round(&self, progress: Progress) {
+        self.tell_if_due(&News::Round(progress));
+    }
+
+    fn sessions(&self, more: u64, accepted: u128, progress: Progress) {
+        let before = self.sessions.fetch_add(more, Ordering::SeqCst);
+        let sessions = before.wrapping_add(more);
+        self.tell_if_due(&News::Sessions(sessions, accepted, progress));
+    }
+
+    fn paths(&self) {
+        self.tell_if_due(&News::Paths);
+    }
+
+    fn over(&self) {
+        self.next.store(NEVER, Ordering::SeqCst);
+        let columns = self.columns.swap(0, Ordering::SeqCst);
+        if columns > 0 {
+            let mut text = Line::new();
+            let _ = text.try_push('\r');
+            pad(&mut text, columns);
+            let _ = text.try_push('\r');
+            self.put(text.as_str());
+        }
+    }
+}

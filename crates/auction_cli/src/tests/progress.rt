@@ -1,0 +1,315 @@
+// What a watch is told of a run, and the lines that a teller makes of it.
+use crate::progress::{Progress, Watch};
+use crate::run::{Ended, run_solve_watched};
+use crate::teller::{Console, Teller};
+use crate::tests::streams::{ample_sheet, whole_text};
+use crate::words::{Method, Mode, SolveOpts};
+use assign_core::Sense;
+use async_workers::OpenGate;
+use std::alloc::Global;
+use std::cell::RefCell;
+use std::sync::Wait;
+use std::sync::atomic::{AtomicBool, AtomicU64, Ordering};
+use std::test::Fail;
+use std::thread::Threads;
+
+// Follows a run: what it was told last and how often, and whether it was told something that can't be.
+#[derive(Drop)]
+struct Follower {
+    bytes: AtomicU64,
+    rounds: AtomicU64,
+    sessions: AtomicU64,
+    phase: AtomicU64,
+    phases: AtomicU64,
+    slackness: AtomicU64,
+    paths: AtomicU64,
+    overs: AtomicU64,
+    wrong: AtomicBool,
+}
+
+fn new_follower() -> Follower {
+    Follower {
+        bytes: AtomicU64::new(0),
+        rounds: AtomicU64::new(0),
+        sessions: AtomicU64::new(0),
+        phase: AtomicU64::new(0),
+        phases: AtomicU64::new(0),
+        slackness: AtomicU64::new(0),
+        paths: AtomicU64::new(0),
+        overs: AtomicU64::new(0),
+        wrong: AtomicBool::new(false),
+    }
+}
+
+// The number there.
+fn seen(number: &AtomicU64) -> u64 {
+    number.load(Ordering::SeqCst)
+}
+
+impl Follower {
+    fn follow(&self, progress: Progress) {
+        let slackness = u64::try_from(progress.slackness).unwrap_or(0);
+        self.phase
+            .store(u64::from(progress.phase), Ordering::SeqCst);
+        self.phases
+            .store(u64::from(progress.phases), Ordering::SeqCst);
+        self.slackness.store(slackness, Ordering::SeqCst);
+        if progress.phase > progress.phases
+            || progress.assigned > progress.persons
+            || slackness == 0
+            || seen(&self.overs) > 0
+        {
+            self.wrong.store(true, Ordering::SeqCst);
+        }
+    }
+}
+
+impl Watch for Follower {
+    fn begin(&self, _asked: bool, _named: bool) {}
+
+    fn bytes(&self, bytes: u64) {
+        if self.bytes.swap(bytes, Ordering::SeqCst) > bytes {
+            self.wrong.store(true, Ordering::SeqCst);
+        }
+    }
+
+    fn round(&self, progress: Progress) {
+        if seen(&self.phase) > u64::from(progress.phase) {
+            self.wrong.store(true, Ordering::SeqCst);
+        }
+        self.rounds.fetch_add(1, Ordering::SeqCst);
+        self.follow(progress);
+    }
+
+    fn sessions(&self, more: u64, _accepted: u128, progress: Progress) {
+        self.sessions.fetch_add(more, Ordering::SeqCst);
+        self.follow(progress);
+    }
+
+    fn paths(&self) {
+        self.paths.fetch_add(1, Ordering::SeqCst);
+    }
+
+    fn over(&self) {
+        self.overs.fetch_add(1, Ordering::SeqCst);
+    }
+}
+
+// Two free objects are bid up to the third one's price, by 1 or 2 a bid.
+const WAR: &[u8] = b"3 1 1 1 1 1 1 1 1 1";
+
+const FAR: &[u8] =
+    b"sense min\ncost 3\nassign 1 1 1\nassign 2 2 1\nassign 3 3 1\nprice 1 0\nprice 2 0\nprice 3 5000\n";
+
+// Whether a run that is followed writes such a report and ends well, and was told nothing that can't be.
+fn follows(
+    rt: &(impl Threads + Wait + Sync),
+    alloc: Global,
+    text: &[u8],
+    start: Option<&[u8]>,
+    mode: Mode,
+    method: Method,
+    follower: &Follower,
+) -> bool {
+    let options = SolveOpts {
+        sparse: false,
+        mode,
+        workers: 2,
+        refresh: 1,
+        prices: false,
+        sense: Sense::Min,
+    };
+    let mut sheet = ample_sheet(alloc);
+    let mut text_left = whole_text(text, 7);
+    let end = run_solve_watched(
+        rt,
+        alloc,
+        &mut text_left,
+        start,
+        &mut sheet,
+        options,
+        method,
+        &OpenGate,
+        follower,
+    );
+    matches!(end, Ok(Ended::Optimal))
+        && sheet.taken.as_slice().starts_with(b"sense min\ncost ")
+        && seen(&follower.bytes) == text.len() as u64
+        && seen(&follower.overs) == 1
+        && !follower.wrong.load(Ordering::SeqCst)
+}
+
+// The spread is 12, three times that of the costs, so the phases have slackness 2 and 1; each is told once.
+#[test]
+fn each_phase_is_told(rt: HostRuntime) -> Result<(), Fail> {
+    let told = new_follower();
+    let text = b"2 1 2 3 5";
+    assert!(rt;
+        follows(
+            &rt,
+            rt.alloc(),
+            text,
+            None,
+            Mode::Rounds,
+            Method::Auction,
+            &told
+        )
+    );
+    assert_eq!(rt; seen(&told.rounds), 2);
+    assert_eq!(rt; seen(&told.phase), 2);
+    assert_eq!(rt; seen(&told.phases), 2);
+    assert_eq!(rt; seen(&told.slackness), 1);
+    assert_eq!(rt; seen(&told.sessions), 0);
+    Ok(())
+}
+
+#[test]
+fn long_runs_are_told(rt: HostRuntime) -> Result<(), Fail> {
+    let rounds = new_follower();
+    assert!(rt;
+        follows(
+            &rt,
+            rt.alloc(),
+            WAR,
+            Some(FAR),
+            Mode::Rounds,
+            Method::Auction,
+            &rounds
+        )
+    );
+    assert!(rt; seen(&rounds.rounds) > 10);
+    let workers = new_follower();
+    assert!(rt;
+        follows(
+            &rt,
+            rt.alloc(),
+            WAR,
+            Some(FAR),
+            Mode::Workers,
+            Method::Auction,
+            &workers
+        )
+    );
+    assert!(rt; seen(&workers.sessions) > 1000);
+    assert_eq!(rt; seen(&workers.rounds), 0);
+    let paths = new_follower();
+    assert!(rt;
+        follows(
+            &rt,
+            rt.alloc(),
+            WAR,
+            None,
+            Mode::Rounds,
+            Method::Paths,
+            &paths
+        )
+    );
+    assert_eq!(rt; seen(&paths.paths), 1);
+    Ok(())
+}
+
+// A clock that goes on by a step each time it is asked, and a sheet that takes so many texts and then fails.
+#[derive(Drop)]
+struct Screen<'a> {
+    time: AtomicU64,
+    step: u64,
+    writes: AtomicU64,
+    most: u64,
+    sheet: &'a RefCell<Vec<u8>>,
+}
+
+impl Console for Screen<'_> {
+    fn now(&self) -> Option<u64> {
+        Some(self.time.fetch_add(self.step, Ordering::SeqCst))
+    }
+
+    fn write(&self, text: &[u8]) -> bool {
+        if self.writes.fetch_add(1, Ordering::SeqCst) >= self.most {
+            return false;
+        }
+        match self.sheet.try_borrow_mut() {
+            Ok(mut sheet) => sheet.extend_from_slice(text).is_ok(),
+            Err(_) => false,
+        }
+    }
+}
+
+// A screen whose clock goes on by so many milliseconds a look, and which takes so many texts.
+fn new_screen(sheet: &RefCell<Vec<u8>>, step: u64, most: u64) -> Screen<'_> {
+    Screen {
+        time: AtomicU64::new(7),
+        step,
+        writes: AtomicU64::new(0),
+        most,
+        sheet,
+    }
+}
+
+// What some news of each kind leave on the sheet.
+fn told(alloc: Global, step: u64, most: u64, in_place: bool, asked: bool, ends: bool) -> Vec<u8> {
+    let sheet = RefCell::new(Vec::new(alloc));
+    let teller = Teller::new(new_screen(&sheet, step, most), in_place, false);
+    let progress = Progress {
+        phase: 3,
+        phases: 8,
+        slackness: 125,
+        assigned: 812,
+        persons: 1000,
+    };
+    teller.begin(asked, false);
+    teller.bytes(12_345_678);
+    teller.round(progress);
+    teller.sessions(64, 50, progress);
+    teller.sessions(64, 99, progress);
+    teller.paths();
+    if ends {
+        teller.over();
+        teller.round(progress);
+    }
+    drop(teller);
+    sheet.into_inner()
+}
+
+const ALL: &str = "progress: 12.3 MB read, 0.6 s
+progress: phase 3 of 8, slackness 125, 812 of 1000 persons, 1.2 s
+progress: phase 3 of 8, 812 of 1000 persons, 64 sessions, 50 bids, 1.8 s
+progress: phase 3 of 8, 812 of 1000 persons, 128 sessions, 99 bids, 2.4 s
+progress: shortest paths, 3.0 s
+";
+
+// The third and the fifth: no two lines come within half a second.
+const SOME: &str = "progress: phase 3 of 8, slackness 125, 812 of 1000 persons, 0.6 s
+progress: phase 3 of 8, 812 of 1000 persons, 128 sessions, 99 bids, 1.2 s
+";
+
+#[test]
+fn lines_on_a_file(rt: HostRuntime) -> Result<(), Fail> {
+    let all = told(rt.alloc(), 600, 9, false, true, true);
+    assert_eq!(rt; all.as_slice(), ALL.as_bytes());
+    let some = told(rt.alloc(), 300, 9, false, true, true);
+    assert_eq!(rt; some.as_slice(), SOME.as_bytes());
+    assert_eq!(rt; told(rt.alloc(), 600, 9, false, false, true).len(), 0);
+    assert_eq!(rt; told(rt.alloc(), 600, 0, false, true, true).len(), 0);
+    Ok(())
+}
+
+// Unasked, the first line comes after two seconds; the shorter one behind it covers it, and the end erases that.
+#[test]
+fn lines_on_a_terminal(rt: HostRuntime) -> Result<(), Fail> {
+    let mut wanted = String::new(rt.alloc());
+    wanted.push_str("\rphase 3 of 8, 812 of 1000 persons, 128 sessions, 99 bids, 2.4 s")?;
+    wanted.push_str("\rshortest paths, 3.0 s")?;
+    for _ in 21..63 {
+        wanted.push(' ')?;
+    }
+    let left = told(rt.alloc(), 600, 9, true, false, false);
+    assert_eq!(rt; left.as_slice(), wanted.as_bytes());
+    wanted.push('\r')?;
+    for _ in 0..21 {
+        wanted.push(' ')?;
+    }
+    wanted.push('\r')?;
+    let all = told(rt.alloc(), 600, 9, true, false, true);
+    assert_eq!(rt; all.as_slice(), wanted.as_bytes());
+    Ok(())
+}

@@ -1,0 +1,203 @@
+#!/usr/bin/env bash
+# What is told of a run's progress: on a terminal, which python3's pty stands for, and off it, with --progress and
+# without, in both modes and by shortest paths; and that a report and a status are the same with and without it.
+# Wants the built program (rt run in crates/auction_cli, or rt ci) and python3: tests/progress.sh [PROGRAM]
+set -euo pipefail
+top=$(cd "$(dirname "$0")/.." && pwd)
+exec python3 - "${1:-$top/crates/auction_cli/out/auction_cli}" <<'PYTHON'
+import os
+import pty
+import re
+import select
+import signal
+import subprocess
+import sys
+import tempfile
+import time
+
+PROGRAM = sys.argv[1]
+SECONDS = r"\d+\.\d s\n"
+PHASE = r"phase 1 of 1, "
+LINES = {
+    "rounds": re.compile(rf"(progress: {PHASE}slackness 1, [0-3] of 3 persons, {SECONDS})+"),
+    "workers": re.compile(rf"(progress: {PHASE}[0-3] of 3 persons, \d+ sessions, \d+ bids, {SECONDS})+"),
+}
+failed = 0
+
+
+def expect(name, holds, seen):
+    global failed
+    if not holds:
+        failed += 1
+        print(f"{name}: {seen!r}")
+
+
+# Two free objects are bid up to the third one's price, by 1 or 2 a bid, which takes as long as one wants.
+WAR = b"3 1 1 1 1 1 1 1 1 1"
+folder = tempfile.TemporaryDirectory()
+
+
+def start_from(price):
+    name = os.path.join(folder.name, str(price))
+    with open(name, "w") as report:
+        report.write(f"sense min\ncost 3\nassign 1 1 1\nassign 2 2 1\nassign 3 3 1\nprice 1 0\nprice 2 0\nprice 3 {price}\n")
+    return ["--start", name]
+
+
+ENDLESS = start_from(10**18)
+
+
+def begin(words, err):
+    return subprocess.Popen([PROGRAM, "solve", *words], stdin=subprocess.PIPE, stdout=subprocess.PIPE, stderr=err)
+
+
+def give(run, pieces, wait):
+    """Writes a problem in pieces to a run, which may be over."""
+    for at, piece in enumerate(pieces):
+        time.sleep(wait if at else 0)
+        run.stdin.write(piece)
+        run.stdin.flush()
+    run.stdin.close()
+    run.stdin = None
+
+
+def off(words, pieces=(WAR,), wait=0.0, err=subprocess.PIPE):
+    """Status, standard output and standard error of a run off a terminal, whose input comes in pieces."""
+    run = begin(words, err)
+    give(run, pieces, wait)
+    out, told = run.communicate()
+    return run.returncode, out, (told or b"").decode()
+
+
+def killed(words, enough, most):
+    """What a run that doesn't end told on standard error, and had written, until so many lines or seconds."""
+    run = begin(words, subprocess.PIPE)
+    give(run, (WAR,), 0.0)
+    told, end = b"", time.monotonic() + most
+    while told.count(b"\n") < enough and time.monotonic() < end:
+        if select.select([run.stderr], [], [], 0.1)[0]:
+            told += os.read(run.stderr.fileno(), 4096)
+    run.send_signal(signal.SIGKILL)
+    out, rest = run.communicate()
+    return out, (told + rest).decode()
+
+
+def on(words, pieces=(WAR,), wait=0.0):
+    """Status, standard output, what the terminal was told and the lines that it shows at the end."""
+    ours, theirs = pty.openpty()
+    run = begin(words, theirs)
+    os.close(theirs)
+    give(run, pieces, wait)
+    told = b""
+    while True:
+        try:
+            some = os.read(ours, 4096)
+        except OSError:
+            break
+        if not some:
+            break
+        told += some
+    out = run.stdout.read()
+    return run.wait(), out, told.decode(), shown(told.decode())
+
+
+def shown(told):
+    """The lines of a terminal after these texts, without the blanks at their ends."""
+    lines, row, column = [[]], 0, 0
+    for sign in told:
+        if sign == "\r":
+            column = 0
+        elif sign == "\n":
+            row, column = row + 1, 0
+            lines.append([])
+        else:
+            lines[row][column:column + 1] = [sign]
+            column += 1
+    return ["".join(line).rstrip() for line in lines], column
+
+
+def spaced(told):
+    """Whether half a second lies between any two lines, whose times are cut to tenths."""
+    tenths = [int(whole) * 10 + int(tenth) for whole, tenth in re.findall(r"(\d+)\.(\d) s\n", told)]
+    return len(tenths) > 0 and tenths[0] >= 5 and all(later - earlier >= 4 for earlier, later in zip(tenths, tenths[1:]))
+
+
+def lasting(run, words=()):
+    """The first of runs, each twice as long as the one before, in which something is told, and its start."""
+    price = 1_000_000
+    while True:
+        start, began = start_from(price), time.monotonic()
+        seen = run([*start, *words])
+        if seen[2] or time.monotonic() - began > 10:
+            return start, seen
+        price *= 2
+
+
+def slow(run, words, pieces, wait):
+    """The first of runs, each waiting twice as long for the rest of its problem, in which something is told."""
+    seen = run(words, pieces, wait)
+    while not seen[2] and wait < 10:
+        wait *= 2
+        seen = run(words, pieces, wait)
+    return seen
+
+
+# Off a terminal nothing is told unasked; asked, a line at most twice a second, in each mode.
+for mode, pattern in LINES.items():
+    words = ["--mode", mode, *ENDLESS]
+    out, told = killed(words, 1, 1.3)
+    expect(f"{mode} unasked", out == b"" and told == "", told)
+    out, told = killed([*words, "--progress"], 3, 20)
+    expect(f"{mode} asked", out == b"" and pattern.fullmatch(told) and spaced(told), told)
+
+# A run that ends.
+SHORT, (status, out, told) = lasting(off, ["--progress"])
+expect("a run asked", status == 0 and LINES["rounds"].fullmatch(told), told)
+status, report, told = off(SHORT)
+expect("a run", status == 0 and report == out and report.startswith(b"sense min\ncost 3\n") and told == "", told)
+
+# On a terminal one line is written over, and nothing stays of it.
+_, (status, report_on, told, (lines, column)) = lasting(on)
+expect("terminal", status == 0 and report_on.startswith(b"sense min\ncost 3\n") and "\r" + "phase 1 of 1" in told, told)
+expect("terminal at the end", lines == [""] and column == 0, told)
+first = re.search(r"(\d+\.\d) s", told)
+expect("terminal unasked", first and float(first.group(1)) >= 2.0, told)
+for _ in range(3):
+    SOME, (status, out, told, (lines, column)) = lasting(on, ["--progress"])
+    first = re.search(r"(\d+\.\d) s", told)
+    if first and float(first.group(1)) < 2.0:
+        break
+expect("terminal asked", status == 0 and first and 0.5 <= float(first.group(1)) < 2.0, told)
+expect("terminal asked, at the end", lines == [""] and column == 0, told)
+expect("terminal asked or not", on(SOME)[:2] == (0, out), told)
+status, out, told, _ = on([])
+expect("terminal, a short run", status == 0 and told == "", told)
+
+# Reading, and a fault behind it: the terminal keeps the fault's line alone.
+SLOW = (b"2 1 2", b" 3 5")
+status, out, told = slow(off, ["--progress"], SLOW, 0.8)
+expect("reading", status == 0 and re.match(rf"progress: 0\.0 MB read, {SECONDS}", told), told)
+status, out, told = off([], SLOW, 0.8)
+expect("reading unasked", status == 0 and told == "", told)
+status, out, told, (lines, column) = slow(on, [], (b"2 1 2", b" x"), 2.4)
+expect("a fault", status == 3 and out == b"" and "MB read" in told, told)
+expect("a fault at the end", lines == ["input: bad number at byte 6", ""] and column == 0, told)
+
+# Shortest paths tell that they begin.
+status, out, told = slow(off, ["--progress", "--method", "paths"], SLOW, 0.8)
+expect("paths", status == 0 and told.count("\n") <= 2 and told.startswith("progress: "), told)
+
+# A standard error that fails ends it.
+for name in ("/dev/full", None):
+    if name:
+        with open(name, "wb") as full:
+            status, out, _ = off([*SHORT, "--progress"], err=full)
+    else:
+        ours, theirs = os.pipe()
+        os.close(ours)
+        status, out, _ = off([*SHORT, "--progress"], err=theirs)
+        os.close(theirs)
+    expect(f"standard error {name or 'closed'}", status == 0 and out == report, status)
+
+sys.exit(1 if failed else 0)
+PYTHON
