@@ -6,7 +6,7 @@ use Rattle.std.proofs.lemmas.List.{get_or-map, length-map}
 use Rattle.std.proofs.lemmas.List.Elements.{All-head, All-tail, All-weaker}
 use Rattle.std.proofs.lemmas.Bool.Decides.{eqb_tells}
 use Rattle.assign_core.proofs.Listed.{listed_here, listed_later}
-use Rattle.assign_core.specs.Rows.{Listing, listed_or_zero, row_of, HasCosts, IsCost, IsRow}
+use Rattle.assign_core.specs.Rows.{Listing, listed_or_zero, row_of, HasCosts, IsCost, IsRising, IsRow}
 
 -- a listed cost is in range, and so is 0
 pub IsCost-listed : (row : Listing) (j : ℕ) → HasCosts row → IsCost (listed_or_zero row j)
@@ -43,3 +43,19 @@ length-mapped f vs rows e = let same : length (map f vs) ≡ length vs = simp le
 
 pub HasCosts-rows : (n : ℕ) (rows : List Listing) → All (IsRow n) rows → All HasCosts rows
 HasCosts-rows n rows h = All-weaker (IsRow n) HasCosts (λ r k. k.costs) rows h
+
+pub IsRising-rows : (n : ℕ) (rows : List Listing) → All (IsRow n) rows → All IsRising rows
+IsRising-rows n rows h = All-weaker (IsRow n) IsRising (λ r k. k.rising) rows h
+
+-- a row that is read by number
+pub record IsRead (rows : List Listing) (i : ℕ) (row : Listing) : Type 0 where
+  pub first : 0 < i
+  pub last : i ≤ length rows
+  pub here : row ≡ row_of rows i
+
+-- so is one that is read at its place
+pub read_at : {V : Type 0} (f : V → Listing) (vs : List V) (rows : List Listing) (i k : ℕ) (v : V) (row : Listing) → map f vs ≡ rows → 0 < i → k ≡ i - 1 → k < length vs → v ≡ get_or vs k v → row ≡ f v → IsRead rows i row
+read_at f vs rows i k v row shown some place lt e r =
+    let long = length-mapped f vs rows shown in
+    let last : i ≤ length rows = omega arith in
+    record { first = some; last = last; here = row_of-mapped f vs rows i v row shown some last (e ∙ ap (λ m. get_or vs m v) place) r }

@@ -1,7 +1,7 @@
 // A problem: for each person the listed objects, rising, each with its cost.
-ghost use Rattle.std.specs.Prelude.{◌≡◌, ℕ, ℤ, ◌+◌, ◌-◌, ◌*◌, ◌<◌, ◌≤◌, List, [], ◌++◌, length, map, All, IfOk};
-ghost use Rattle.assign_core.specs.Numbered.{IsNumber};
-ghost use Rattle.assign_core.specs.Rows.{Listing, IsProblem, IsRow, IsCost, IsSize, HasCosts, listed_in, row_of};
+ghost use Rattle.std.specs.Prelude.{◌≡◌, ℕ, ℤ, ◌+◌, ◌-◌, ◌*◌, ◌<◌, ◌≤◌, List, [], ◌++◌, Some, IsSome, length, map, All, IfOk};
+ghost use Rattle.assign_core.specs.Numbered.{IsNumber, numbered};
+ghost use Rattle.assign_core.specs.Rows.{Listing, IsProblem, IsRising, IsRow, IsCost, IsSize, HasCosts, listed_in, row_of};
 ghost use Rattle.assign_core.specs.Dense.{dense_rows, row_from, rows_cut};
 ghost use Rattle.assign_core.specs.Assignment.{IsAssignment, total};
 
@@ -25,8 +25,32 @@ impl Model for Problem {
     ghost invariant = { λ p. IsProblem (map (λ r. r.items) p.rows.items) };
 }
 
-// What a row gives for an object.
+// What a rising row gives for an object: by one look where the pair in the object's place is the
+// object's, as in a row that lists all objects, and else by a search.
 fn find(row: &[(Object, Cost)], object: Object) -> Option<Cost>
+    requires { IsRising row.now }
+    ensures { result ≡ listed_in row.now object }
+{
+    match find_in_place(row, object) {
+        Some(cost) => Some(cost),
+        None => find_anywhere(row, object),
+    }
+}
+
+// The same, if the pair in the object's place is the object's.
+fn find_in_place(row: &[(Object, Cost)], object: Object) -> Option<Cost>
+    requires { IsRising row.now }
+    ensures found { (cost : ℤ) → result ≡ Some cost → listed_in row.now object ≡ Some cost }
+    ensures here { (pair : ℕ × ℤ) → IsNumber (length row.now) object
+        → (numbered row.now object pair).0 ≡ object → IsSome result }
+{
+    let place = object.0.checked_sub(1)?;
+    let (other, cost) = row.get(place as usize)?;
+    if *other == object { Some(*cost) } else { None }
+}
+
+// The same by a search from the beginning.
+fn find_anywhere(row: &[(Object, Cost)], object: Object) -> Option<Cost>
     ensures { result ≡ listed_in row.now object }
 {
     for (other, cost) in row {
@@ -41,6 +65,7 @@ fn find(row: &[(Object, Cost)], object: Object) -> Option<Cost>
 fn sum_of(rows: &[Vec<(Object, Cost)>], objects: &[Object]) -> Cost
     requires few { length rows.now ≤ MOST_PERSONS }
     requires same { length rows.now ≡ length objects.now }
+    requires rising { All IsRising (map (λ r. r.items) rows.now) }
     requires costs { All HasCosts (map (λ r. r.items) rows.now) }
     ensures { result ≡ total (map (λ r. r.items) rows.now) objects.now }
 {
@@ -116,7 +141,8 @@ impl Problem {
 
     /// What a pair costs, if it is listed; `None` too where there is no such person.
     ///
-    /// It reads the person's list from its beginning up to the object.
+    /// Where the person lists all objects it reads one pair, and else at most one and then the list
+    /// from its beginning up to the object.
     pub fn cost_of(&self, person: Person, object: Object) -> Option<Cost>
         ensures { result ≡ listed_in (row_of self.now person) object }
     {
@@ -127,7 +153,8 @@ impl Problem {
 
     /// The sum of the costs of an assignment's pairs.
     ///
-    /// It reads each person's list up to its object, so at most all listed pairs.
+    /// It reads one pair of each person that lists all objects, and of any other at most one and
+    /// then the list up to its object.
     pub fn total(&self, assignment: &Assignment) -> Cost
         requires { IsAssignment self.now assignment.now }
         ensures { result ≡ total self.now assignment.now }

@@ -1,7 +1,7 @@
 use Rattle.std.proofs.Common.{◌≡◌, ◌<◌, pos, length, arith, ap, ◌∙◌, sym, map, get_or, [], subst, unwrap_or}
 use Rattle.std.proofs.lemmas.Int.{ints}
 use Rattle.std.proofs.lemmas.List.{length-map}
-use Rattle.assign_core.specs.Rows.{IsCost, listed_in, listed_or_zero}
+use Rattle.assign_core.specs.Rows.{IsCost, IsRising, listed_in, listed_or_zero}
 use Rattle.assign_core.proofs.RowLemmas.{IsCost-listed, mapped_at}
 use Rattle.assign_core.proofs.Totals.{total-drop}
 use Rattle.assign_core.proofs.problem.sum_of.Goals as goal
@@ -20,6 +20,12 @@ bounds : (c : goal.After-unwrap_or-cost) → IsCost c.unwrap_or-cost.result
 bounds c =
     let at : c.loop-i.i < length (map (λ r. r.items) c.args.rows.now) = simp length-map c.loop-i-test.true in
     subst IsCost (sym (cost_is c)) (IsCost-listed _ _ (c.requires.costs c.loop-i.i [] at))
+
+pub find-requires : goal.find-requires
+find-requires c =
+    let at : c.loop-i.i < length (map (λ r. r.items) c.args.rows.now) = simp length-map c.loop-i-test.true in
+    let row = mapped_at (λ r. r.items) c.args.rows.now c.loop-i.i c.index-rows-i.result c.as_slice.result.now c.loop-i-test.true c.index-rows-i.is c.as_slice.ensures.value in
+    subst IsRising (sym row) (c.requires.rising c.loop-i.i [] at)
 
 pub overflow_add-sum : goal.overflow_add-sum
 overflow_add-sum c =

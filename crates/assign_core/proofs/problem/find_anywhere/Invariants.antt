@@ -1,6 +1,6 @@
 use Rattle.std.proofs.Common.{◌≡◌, drop}
 use Rattle.assign_core.specs.Rows.{listed_in}
-use Rattle.assign_core.proofs.problem.find.Given as goal
+use Rattle.assign_core.proofs.problem.find_anywhere.Given as goal
 
 -- the entries that were passed are of other objects
 abbrev pub invariant-loop-other : goal.invariant-loop-other
