@@ -1,19 +1,20 @@
 -- The range of benefits, a value or a row at a time.
-use Rattle.std.proofs.Common.{◌≡◌, ℕ, ℤ, pos, ◌<◌, ◌+◌, ◌-◌, List, [], ◌∷◌, Option, None, Some, unwrap_or, length, drop, get_or, map, refl, arith, sym, ◌∙◌, ap}
-use Rattle.std.specs.List.{fold}
+use Rattle.std.proofs.Common.{◌≡◌, ℕ, ℤ, pos, neg_ℤ, ◌≤ℤ◌, ◌<ℤ◌, ◌<◌, ◌+◌, ◌-◌, List, [], ◌∷◌, length, drop, get_or, map, refl, arith, sym, ◌∙◌, ap}
+use Rattle.std.specs.List.{All, fold}
 use Rattle.std.specs.Int.{int_min, int_max}
+use Rattle.std.proofs.lemmas.Int.{ints, clamps}
 use Rattle.std.proofs.lemmas.List.{drop_more, get_or-map, length-map}
+use Rattle.std.proofs.lemmas.List.Elements.{All-head}
 use Rattle.std.proofs.lemmas.List.Sums.{fold-append}
 use Rattle.assign_core.specs.declared.sense.Sense.{Sense}
 use Rattle.assign_core.specs.Rows.{Listing, row_of}
-use Rattle.assign_core.specs.Benefits.{benefit_row}
+use Rattle.assign_core.specs.Benefits.{benefit, benefit_row, IsBenefit}
 use Rattle.assign_core.proofs.RowLemmas.{row_of-index}
-use Rattle.assign_core.specs.Dense.{row_from}
 use Rattle.scaled_values.specs.declared.range.Range.{Range}
-use Rattle.scaled_values.specs.declared.row.StoredRow.{StoredRow}
-use Rattle.scaled_values.specs.inside.Stored.{stored_entries}
-use Rattle.scaled_values.specs.inside.Range.{widened, range_with}
+use Rattle.scaled_values.specs.declared.range.TheConstants.{FAR}
+use Rattle.scaled_values.specs.inside.Range.{no_range, widened, range_with}
 use Rattle.scaled_values.specs.Scaled.{values_in, least_of, greatest_of}
+use Rattle.scaled_values.proofs.BenefitRange.{least-le-greatest}
 
 -- what is left of the rows of benefits begins with the benefits of the next row
 pub rows_next : (sense : Sense) (n : ℕ) (rows : List Listing) (i : ℕ) → i < length rows →
@@ -26,32 +27,63 @@ rows_next sense n rows i lt =
     drop_more all i [] (omega arith)
     ∙ ap (λ r. r ∷ drop (i + 1) all) (get_or-map (benefit_row sense n) rows i [] [] lt ∙ ap (benefit_row sense n) (sym at))
 
--- the rows to come begin with the next one
-pub range_row : (range : Option Range) (rows : List StoredRow) (i : ℕ) (row : StoredRow) (r : Option Range) → i < length rows → row ≡ get_or rows i row → r ≡ range_with range (map (λ e. e.1) (stored_entries row)) →
-    range_with r (values_in (map stored_entries (drop (i + 1) rows))) ≡ range_with range (values_in (map stored_entries (drop i rows)))
-range_row range rows i row r lt at h =
-    let rest = values_in (map stored_entries (drop (i + 1) rows)) in
-    let front = map (λ e. e.1) (stored_entries row) in
-    ap (λ q. range_with q rest) h
-    ∙ sym (fold-append (λ q x. Some (widened q x)) range front rest)
-    ∙ ap (λ l. range_with range (values_in (map stored_entries l))) (ap (λ f. f ∷ drop (i + 1) rows) at ∙ sym (drop_more rows i row lt))
+-- what is left of the benefits of a row begins with that of the next pair
+pub values_next : (sense : Sense) (n : ℕ) (row : Listing) (i : ℕ) (e : ℕ × ℤ) → i < length row → e ≡ get_or row i e →
+    map (λ f. f.1) (benefit_row sense n (drop i row)) ≡ benefit sense n e.1 ∷ map (λ f. f.1) (benefit_row sense n (drop (i + 1) row))
+values_next sense n row i e lt at =
+    ap (λ l. map (λ f. f.1) (benefit_row sense n l)) (drop_more row i e lt ∙ ap (λ f. f ∷ drop (i + 1) row) (sym at))
 
--- the values of a full row are its benefits
-pub values-row_from : (j : ℕ) (xs : List ℤ) → map (λ e. e.1) (row_from j xs) ≡ xs
-values-row_from j [] = refl
-values-row_from j (x ∷ xs) = ap (λ l. x ∷ l) (values-row_from (j + 1) xs)
+-- the range of what was passed, a pair further
+pub range_next : (sense : Sense) (n : ℕ) (row : Listing) (i : ℕ) (e : ℕ × ℤ) (range wider : Range) (b : ℤ) → i < length row → e ≡ get_or row i e → b ≡ benefit sense n e.1 → wider ≡ widened range b →
+    range_with wider (map (λ f. f.1) (benefit_row sense n (drop (i + 1) row))) ≡ range_with range (map (λ f. f.1) (benefit_row sense n (drop i row)))
+range_next sense n row i e range wider b lt at value h =
+    let rest : List ℤ = map (λ f. f.1) (benefit_row sense n (drop (i + 1) row)) in
+    ap (λ r. range_with r rest) (h ∙ ap (widened range) value)
+    ∙ sym (ap (range_with range) (values_next sense n row i e lt at))
+
+-- the same, a row further
+pub range_row : (sense : Sense) (n : ℕ) (rows : List Listing) (i : ℕ) (range wider : Range) → i < length rows → wider ≡ range_with range (map (λ e. e.1) (benefit_row sense n (row_of rows (i + 1)))) →
+    range_with wider (values_in (drop (i + 1) (map (benefit_row sense n) rows))) ≡ range_with range (values_in (drop i (map (benefit_row sense n) rows)))
+range_row sense n rows i range wider lt h =
+    let rest : List ℤ = values_in (drop (i + 1) (map (benefit_row sense n) rows)) in
+    let front : List ℤ = map (λ e. e.1) (benefit_row sense n (row_of rows (i + 1))) in
+    ap (λ r. range_with r rest) h
+    ∙ sym (fold-append widened range front rest)
+    ∙ ap (λ l. range_with range (values_in l)) (sym (rows_next sense n rows i lt))
 
 -- a range holds the least and the greatest
-range_from : (a b : ℤ) (xs : List ℤ) → range_with (Some (record { least = a; greatest = b })) xs ≡ Some (record { least = fold int_min a xs; greatest = fold int_max b xs })
+range_from : (a b : ℤ) (xs : List ℤ) → range_with (record { least = a; greatest = b }) xs ≡ record { least = fold int_min a xs; greatest = fold int_max b xs }
 range_from a b [] = refl
 range_from a b (x ∷ xs) = range_from (int_min a x) (int_max b x) xs
+
+min_far : (x : ℤ) → IsBenefit x → int_min FAR x ≡ x
+min_far x h = let g = h.greatest in omega (arith, ints, clamps)
+
+max_far : (x : ℤ) → IsBenefit x → int_max (neg_ℤ FAR) x ≡ x
+max_far x h = let l = h.least in omega (arith, ints, clamps)
+
+first_range : (x : ℤ) → IsBenefit x → widened no_range x ≡ record { least = x; greatest = x }
+first_range x h =
+    let R : ℤ → ℤ → Range = λ a b. record { least = a; greatest = b } in
+    ap (λ a. R a (int_max (neg_ℤ FAR) x)) (min_far x h) ∙ ap (R x) (max_far x h)
 
 pub record IsRangeOf (xs : List ℤ) (r : Range) : Type 0 where
   pub least : r.least ≡ least_of xs
   pub greatest : r.greatest ≡ greatest_of xs
 
-pub range_is : (xs : List ℤ) (r : Range) → r ≡ unwrap_or (range_with None xs) (record { least = pos 0; greatest = pos 0 }) → IsRangeOf xs r
-range_is [] r h = record { least = ap (λ q. q.least) h; greatest = ap (λ q. q.greatest) h }
-range_is (x ∷ xs) r h =
-    let known : r ≡ record { least = fold int_min x xs; greatest = fold int_max x xs } = h ∙ ap (λ q. unwrap_or q (record { least = pos 0; greatest = pos 0 })) (range_from x x xs) in
-    record { least = ap (λ q. q.least) known; greatest = ap (λ q. q.greatest) known }
+-- what a range of benefits gives, or 0 and 0 where there are none
+pub range_is : (xs : List ℤ) (found r : Range) → All IsBenefit xs → found ≡ range_with no_range xs →
+    (found.least ≤ℤ found.greatest → r ≡ found) → (found.greatest <ℤ found.least → r ≡ record { least = pos 0; greatest = pos 0 }) → IsRangeOf xs r
+range_is [] found r h e some none =
+    let low : found.least ≡ FAR = ap (λ q. q.least) e in
+    let high : found.greatest ≡ neg_ℤ FAR = ap (λ q. q.greatest) e in
+    let zeros = none (omega (arith, ints)) in
+    record { least = ap (λ q. q.least) zeros; greatest = ap (λ q. q.greatest) zeros }
+range_is (x ∷ xs) found r h e some none =
+    let known : found ≡ record { least = fold int_min x xs; greatest = fold int_max x xs } =
+    e ∙ ap (λ q. range_with q xs) (first_range x (All-head IsBenefit x xs h)) ∙ range_from x x xs in
+    let low : found.least ≡ fold int_min x xs = ap (λ q. q.least) known in
+    let high : found.greatest ≡ fold int_max x xs = ap (λ q. q.greatest) known in
+    let order : fold int_min x xs ≤ℤ fold int_max x xs = least-le-greatest (x ∷ xs) in
+    let same = some (rw (low, high) order) in
+    record { least = ap (λ q. q.least) same ∙ low; greatest = ap (λ q. q.greatest) same ∙ high }

@@ -4,7 +4,9 @@ ghost use Rattle.assign_core.specs.Rows.{IsSize, IsRow};
 ghost use Rattle.assign_core.specs.Benefits.{benefit, benefit_row};
 ghost use Rattle.scaled_values.specs.Held.{entries_of, HasForm};
 ghost use Rattle.scaled_values.specs.inside.Stored.{stored_entries, HasStoredForm};
+ghost use Rattle.scaled_values.specs.inside.Range.{range_with};
 
+use super::range::Range;
 use assign_core::{Benefit, Cost, Object, Sense};
 use std::alloc::{AllocError, Global};
 
@@ -23,59 +25,78 @@ pub enum StoredRow {
     Pairs(Vec<(Object, Benefit)>),
 }
 
-// The benefits of costs.
+// The benefits of costs, and the range with them.
 fn benefits_of(
     alloc: Global,
     sense: Sense,
     n: u16,
     row: &[(Object, Cost)],
-) -> Result<Vec<Benefit>, AllocError>
+    range: Range,
+) -> Result<(Vec<Benefit>, Range), AllocError>
     requires size { IsSize n }
     requires row { IsRow n row.now }
-    ensures { IfOk result (λ v. v.items ≡ map (λ e. e.1) (benefit_row sense n row.now)) }
+    ensures benefits { IfOk result
+        (λ made. made.0.items ≡ map (λ e. e.1) (benefit_row sense n row.now)) }
+    ensures range { IfOk result
+        (λ made. made.1 ≡ range_with range (map (λ e. e.1) (benefit_row sense n row.now))) }
 {
     let mut benefits = Vec::with_capacity(alloc, row.len())?;
+    let mut range = range;
     for (_, cost) in row {
-        benefits.push(sense.benefit(n, *cost))?;
+        let benefit = sense.benefit(n, *cost);
+        range = range.widened(benefit);
+        benefits.push_reserved(benefit);
     }
-    Ok(benefits)
+    Ok((benefits, range))
 }
 
-// The pairs with their benefits.
+// The pairs with their benefits, and the range with them.
 fn pairs_of(
     alloc: Global,
     sense: Sense,
     n: u16,
     row: &[(Object, Cost)],
-) -> Result<Vec<(Object, Benefit)>, AllocError>
+    range: Range,
+) -> Result<(Vec<(Object, Benefit)>, Range), AllocError>
     requires size { IsSize n }
     requires row { IsRow n row.now }
-    ensures { IfOk result (λ v. v.items ≡ benefit_row sense n row.now) }
+    ensures pairs { IfOk result (λ made. made.0.items ≡ benefit_row sense n row.now) }
+    ensures range { IfOk result
+        (λ made. made.1 ≡ range_with range (map (λ e. e.1) (benefit_row sense n row.now))) }
 {
     let mut pairs = Vec::with_capacity(alloc, row.len())?;
+    let mut range = range;
     for (object, cost) in row {
-        pairs.push((*object, sense.benefit(n, *cost)))?;
+        let benefit = sense.benefit(n, *cost);
+        range = range.widened(benefit);
+        pairs.push_reserved((*object, benefit));
     }
-    Ok(pairs)
+    Ok((pairs, range))
 }
 
 impl StoredRow {
-    // The benefits of a row of costs among n objects.
+    // The benefits of a row of costs among n objects, and the range with them.
     pub fn new(
         alloc: Global,
         sense: Sense,
         n: u16,
         row: &[(Object, Cost)],
-    ) -> Result<StoredRow, AllocError>
+        range: Range,
+    ) -> Result<(StoredRow, Range), AllocError>
         requires size { IsSize n }
         requires row { IsRow n row.now }
-        ensures entries { IfOk result (λ r. stored_entries r ≡ benefit_row sense n row.now) }
-        ensures form { IfOk result (HasStoredForm n) }
+        ensures entries { IfOk result
+            (λ made. stored_entries made.0 ≡ benefit_row sense n row.now) }
+        ensures form { IfOk result (λ made. HasStoredForm n made.0) }
+        ensures range { IfOk result
+            (λ made. made.1 ≡ range_with range (map (λ e. e.1) (benefit_row sense n row.now))) }
     {
         if row.len() == n as usize {
-            Ok(StoredRow::Full(benefits_of(alloc, sense, n, row)?))
+            let (benefits, range) = benefits_of(alloc, sense, n, row, range)?;
+            Ok((StoredRow::Full(benefits), range))
         } else {
-            Ok(StoredRow::Pairs(pairs_of(alloc, sense, n, row)?))
+            let (pairs, range) = pairs_of(alloc, sense, n, row, range)?;
+            Ok((StoredRow::Pairs(pairs), range))
         }
     }
 

@@ -4,15 +4,16 @@ ghost use Rattle.assign_core.specs.Numbered.{IsNumber};
 ghost use Rattle.assign_core.specs.Rows.{IsProblem, row_of};
 ghost use Rattle.assign_core.specs.Benefits.{benefit_rows, IsBenefit};
 ghost use Rattle.assign_core.specs.Prices.{IsPrice};
-ghost use Rattle.scaled_values.specs.Scaled.{ScaledProblem, benefits_of, least_benefit, greatest_benefit, spread};
+ghost use Rattle.scaled_values.specs.Scaled.{ScaledProblem, benefits_of, values_in, least_benefit, greatest_benefit, spread};
 ghost use Rattle.scaled_values.specs.Scaled.{first_eps, IsEps, floor_of, top_of, IsBenefitRow, IsBetween};
 ghost use Rattle.scaled_values.specs.Limits.{most_spread, most_step};
 ghost use Rattle.scaled_values.specs.Held.{entries_of, HasForm};
 ghost use Rattle.scaled_values.specs.inside.Stored.{stored_entries, HasStoredForm};
 ghost use Rattle.scaled_values.specs.inside.Stored.{IsStored};
+ghost use Rattle.scaled_values.specs.inside.Range.{no_range, range_with};
 
 use super::phases::{fifth, steps};
-use super::range::{Range, range_of};
+use super::range::Range;
 use super::row::{Row, StoredRow};
 use assign_core::{Benefit, Person, Price, Problem, Sense};
 use std::alloc::{AllocError, Global};
@@ -36,18 +37,27 @@ impl Model for Scaled {
     ghost invariant = { λ s. IsStored (record { problem = s.problem; sense = s.sense }) s.rows.items s.least s.greatest };
 }
 
-// The benefits of all rows.
-fn stored_rows(alloc: Global, problem: &Problem, sense: Sense) -> Result<Vec<StoredRow>, AllocError>
-    ensures entries { IfOk result (λ v.
-        map stored_entries v.items ≡ benefit_rows sense problem.now) }
-    ensures form { IfOk result (λ v. All (HasStoredForm (length problem.now)) v.items) }
+// The benefits of all rows, and the range of them all.
+fn stored_rows(
+    alloc: Global,
+    problem: &Problem,
+    sense: Sense,
+) -> Result<(Vec<StoredRow>, Range), AllocError>
+    ensures entries { IfOk result (λ made.
+        map stored_entries made.0.items ≡ benefit_rows sense problem.now) }
+    ensures form { IfOk result (λ made. All (HasStoredForm (length problem.now)) made.0.items) }
+    ensures range { IfOk result (λ made.
+        made.1 ≡ range_with no_range (values_in (benefit_rows sense problem.now))) }
 {
     let n = problem.n();
     let mut rows = Vec::with_capacity(alloc, n as usize)?;
+    let mut range = Range::none();
     for i in 0..n {
-        rows.push(StoredRow::new(alloc, sense, n, problem.row(Person(i + 1)))?)?;
+        let (row, wider) = StoredRow::new(alloc, sense, n, problem.row(Person(i + 1)), range)?;
+        range = wider;
+        rows.push_reserved(row);
     }
-    Ok(rows)
+    Ok((rows, range))
 }
 
 /// The problem with its benefits, for the costs that are wanted, in time linear in the listed pairs
@@ -59,11 +69,8 @@ pub fn scale(alloc: Global, problem: Problem, sense: Sense) -> Result<Scaled, Al
     ensures problem { IfOk result (λ s. s.problem ≡ problem) }
     ensures sense { IfOk result (λ s. s.sense ≡ sense) }
 {
-    let rows = stored_rows(alloc, &problem, sense)?;
-    let range = range_of(rows.as_slice()).unwrap_or(Range {
-        least: 0,
-        greatest: 0,
-    });
+    let (rows, found) = stored_rows(alloc, &problem, sense)?;
+    let range = found.or_zeros();
     Ok(Scaled {
         problem,
         sense,
