@@ -22,6 +22,7 @@ LINES = {
     "rounds": re.compile(rf"(progress: {PHASE}slackness 1, [0-3] of 3 persons, {SECONDS})+"),
     "workers": re.compile(rf"(progress: {PHASE}[0-3] of 3 persons, \d+ sessions, \d+ bids, {SECONDS})+"),
 }
+PATHS = re.compile(rf"(progress: \d+\.\d MB read, {SECONDS})*(progress: shortest paths, \d+ of \d+ persons, {SECONDS}){{2,}}")
 failed = 0
 
 
@@ -142,6 +143,46 @@ def slow(run, words, pieces, wait):
     return seen
 
 
+def products(persons):
+    """A problem whose searches are long: person i pays i times j for object j."""
+    rows = (" ".join(str(i * j) for j in range(1, persons + 1)) for i in range(1, persons + 1))
+    return f"{persons}\n".encode() + "\n".join(rows).encode()
+
+
+def in_slices(words, problem, enough):
+    """Status, standard output and standard error of a run that goes on for a hundredth of a second at a time, half a
+    second and more apart, until standard error has what is enough; then to its end."""
+    with tempfile.TemporaryFile() as text, tempfile.TemporaryFile() as out, tempfile.TemporaryFile() as err:
+        text.write(problem)
+        text.seek(0)
+        run = subprocess.Popen([PROGRAM, "solve", *words], stdin=text, stdout=out, stderr=err)
+        while run.poll() is None and not enough(os.pread(err.fileno(), 65536, 0).decode()):
+            run.send_signal(signal.SIGSTOP)
+            time.sleep(0.6)
+            run.send_signal(signal.SIGCONT)
+            time.sleep(0.01)
+        run.wait()
+        out.seek(0)
+        err.seek(0)
+        return run.returncode, out.read(), err.read().decode()
+
+
+def assigned(told):
+    """The numbers of persons that were told by shortest paths: of those with an object, and of all."""
+    return [(int(some), int(every)) for some, every in re.findall(r"paths, (\d+) of (\d+) persons", told)]
+
+
+def lasting_paths():
+    """The first of runs by shortest paths, of larger and larger problems, that tells two numbers; and how many persons
+    it had."""
+    persons, wanted = 300, lambda told: len(assigned(told)) >= 2
+    while True:
+        seen = in_slices(["--progress", "--method", "paths"], products(persons), wanted)
+        if wanted(seen[2]) or persons > 4000:
+            return persons, seen
+        persons = persons * 3 // 2
+
+
 # Off a terminal nothing is told unasked; asked, a line at most twice a second, in each mode.
 for mode, pattern in LINES.items():
     words = ["--mode", mode, *ENDLESS]
@@ -183,9 +224,11 @@ status, out, told, (lines, column) = slow(on, [], (b"2 1 2", b" x"), 2.4)
 expect("a fault", status == 3 and out == b"" and "MB read" in told, told)
 expect("a fault at the end", lines == ["input: bad number at byte 6", ""] and column == 0, told)
 
-# Shortest paths tell that they begin.
-status, out, told = slow(off, ["--progress", "--method", "paths"], SLOW, 0.8)
-expect("paths", status == 0 and told.count("\n") <= 2 and told.startswith("progress: "), told)
+# Shortest paths tell how many persons have an object. A run that is stopped again and again lasts as long as one wants.
+persons, (status, out, told) = lasting_paths()
+expect("paths", status == 0 and PATHS.fullmatch(told) and spaced(told), told)
+expect("paths, their report", out.startswith(b"sense min\ncost ") and out.count(b"\nassign ") == persons, out[:99])
+expect("paths, persons", all(some <= every == persons for some, every in assigned(told)), told)
 
 # A standard error that fails ends it.
 for name in ("/dev/full", None):

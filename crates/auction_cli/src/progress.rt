@@ -7,6 +7,7 @@ use async_workers::{Gate, Note, Standing};
 use bidder::{Ask, Offer};
 use rounds::{LEAST_PAIRS, Offering, make_offers};
 use scaled_values::{Scaled, next_eps};
+use shortest_paths::Observer;
 use std::alloc::AllocError;
 use std::io;
 use std::io::Read;
@@ -44,8 +45,10 @@ pub trait Watch {
     /// by now.
     fn sessions(&self, more: u64, accepted: u128, progress: Progress);
 
-    /// The search for shortest paths begins, of which nothing more is told.
-    fn paths(&self);
+    /// Shortest paths: so many of the persons have an object by now. Told as bids and as searches
+    /// begin, and then after some thousand of their steps. The number falls to 0 alone, where an
+    /// auction before the searches begins a phase or ends.
+    fn paths(&self, assigned: u16, persons: u16);
 
     /// Nothing more is told of the run, which is about to write its report or has failed. May be
     /// told twice.
@@ -64,7 +67,7 @@ impl Watch for Unwatched {
 
     fn sessions(&self, _more: u64, _accepted: u128, _progress: Progress) {}
 
-    fn paths(&self) {}
+    fn paths(&self, _assigned: u16, _persons: u16) {}
 
     fn over(&self) {}
 }
@@ -229,5 +232,27 @@ impl<G: Gate, V: Watch> Gate for WatchedGate<'_, G, V> {
             self.watch
                 .sessions(SESSIONS_A_LOOK, standing.accepted, progress);
         }
+    }
+}
+
+/// Tells a watch how many persons have an object, while shortest paths are looked for.
+#[derive(Drop)]
+pub struct WatchedPaths<'a, V> {
+    watch: &'a V,
+    persons: u16,
+}
+
+impl<'a, V: Watch> WatchedPaths<'a, V> {
+    pub fn new(scaled: &Scaled, watch: &'a V) -> WatchedPaths<'a, V> {
+        WatchedPaths {
+            watch,
+            persons: scaled.n(),
+        }
+    }
+}
+
+impl<V: Watch> Observer for WatchedPaths<'_, V> {
+    fn assigned(&self, persons: u16) {
+        self.watch.paths(persons, self.persons);
     }
 }

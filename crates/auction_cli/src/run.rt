@@ -11,7 +11,7 @@ ghost use Rattle.auction_cli.specs.Solve.{BeginsAt, IsOutcomeBy, IsOutcomeIn, Is
 ghost use Rattle.auction_cli.specs.Solve.{Reads, SolveOutcome, SolveOutcomeBy, end_of, end_status, status};
 ghost use Rattle.auction_cli.specs.inside.Solve.{FailsToBegin, HasNoStart, Reports};
 
-use crate::progress::{CountedReader, Unwatched, Watch, WatchedGate, WatchedOffers};
+use crate::progress::{CountedReader, Unwatched, Watch, WatchedGate, WatchedOffers, WatchedPaths};
 use crate::words::{Method, Mode, SolveOpts};
 use assign_core::{MOST_PERSONS, Outcome, Person, Prices, Problem, Sense, SolveFault};
 use async_workers::{Gate, solve_workers_from};
@@ -22,7 +22,7 @@ use report::{
 };
 use rounds::solve_rounds_by;
 use scaled_values::{Scaled, scale};
-use shortest_paths::{solve_paths, solve_paths_from};
+use shortest_paths::{solve_paths_from_watched, solve_paths_watched};
 use std::alloc::{AllocError, Global};
 use std::fmt;
 use std::io::{Read, Write};
@@ -221,15 +221,21 @@ fn solve_in_mode<G: Gate + Sync, T: Threads + Wait + Sync, V: Watch + Sync>(
 
 // What shortest paths come to from these first prices. Prices that are all 0 tell nothing, so the
 // search then begins at its own.
-fn solve_by_paths(alloc: Global, scaled: Arc<Scaled>, prices: Prices) -> Result<Outcome, SolveFault>
+fn solve_by_paths<V: Watch>(
+    alloc: Global,
+    scaled: Arc<Scaled>,
+    prices: Prices,
+    watch: &V,
+) -> Result<Outcome, SolveFault>
     requires { length prices ≡ length (arc_value scaled).problem }
     ensures proof { IfOk result (IsProof (arc_value scaled)) }
     ensures decided { IfOk result (IsDecided (arc_value scaled)) }
 {
+    let observer = WatchedPaths::new(&scaled, watch);
     let found = if prices.as_slice().iter().all(|price| *price == 0) {
-        solve_paths(alloc, scaled)
+        solve_paths_watched(alloc, scaled, &observer)
     } else {
-        solve_paths_from(alloc, scaled, prices)
+        solve_paths_from_watched(alloc, scaled, prices, &observer)
     };
     match found {
         Ok(outcome) => Ok(outcome),
@@ -256,10 +262,7 @@ fn solve_by<G: Gate + Sync, T: Threads + Wait + Sync, V: Watch + Sync>(
 {
     match method {
         Method::Auction => solve_in_mode(rt, alloc, scaled, prices, options, gate, watch),
-        Method::Paths => {
-            watch.paths();
-            solve_by_paths(alloc, scaled, prices)
-        }
+        Method::Paths => solve_by_paths(alloc, scaled, prices, watch),
     }
 }
 
@@ -397,10 +400,10 @@ pub fn run_solve_by<G: Gate + Sync, T: Threads + Wait + Sync, R: Read, Q: Read +
     run_solve_watched(rt, alloc, r, start, w, options, method, gate, &Unwatched)
 }
 
-/// Does what `run_solve_by` does, and tells a watch how far the run is: while it reads, in rounds
-/// and while workers take turns, and that shortest paths begin. No clause speaks of what the watch
-/// is told. It is told that the run is over before the report goes out; where the run fails, or
-/// nothing is written, it is for the caller to say so.
+/// Does what `run_solve_by` does, and tells a watch how far the run is: while it reads, in rounds,
+/// while workers take turns and while shortest paths are looked for. No clause speaks of what the
+/// watch is told. It is told that the run is over before the report goes out; where the run fails,
+/// or nothing is written, it is for the caller to say so.
 ///
 /// # Errors
 /// As `run_solve_by`.

@@ -31,7 +31,7 @@ enum News {
     Bytes(u64),
     Round(Progress),
     Sessions(u64, u128, Progress),
-    Paths,
+    Paths(u16, u16),
 }
 
 impl fmt::Display for News {
@@ -51,7 +51,9 @@ impl fmt::Display for News {
                 "phase {} of {}, {} of {} persons, {sessions} sessions, {accepted} bids",
                 it.phase, it.phases, it.assigned, it.persons
             ),
-            News::Paths => write!(f, "shortest paths"),
+            News::Paths(assigned, persons) => {
+                write!(f, "shortest paths, {assigned} of {persons} persons")
+            }
         }
     }
 }
@@ -199,8 +201,8 @@ impl<C: Console> Watch for Teller<C> {
         self.tell_if_due(&News::Sessions(sessions, accepted, progress));
     }
 
-    fn paths(&self) {
-        self.tell_if_due(&News::Paths);
+    fn paths(&self, assigned: u16, persons: u16) {
+        self.tell_if_due(&News::Paths(assigned, persons));
     }
 
     fn over(&self) {

@@ -5,6 +5,7 @@
 ghost use Rattle.std.specs.Prelude.{◌≡◌, length, pos, ◌<ℤ◌};
 
 use super::market::Market;
+use super::observer::{Observer, Telling};
 use super::prices::rounded;
 use super::rows::{place_of, row_at};
 use assign_core::{Benefit, Object};
@@ -163,16 +164,24 @@ pub struct Bids {
 }
 
 // Each person bids that owns nothing, and so do those that are evicted.
-pub fn bid_all(scaled: &Scaled, market: &mut Market, eps: i64, most: Bids)
+pub fn bid_all<O: Observer>(
+    scaled: &Scaled,
+    market: &mut Market,
+    eps: i64,
+    most: Bids,
+    telling: &mut Telling<'_, O>,
+)
     requires { length market.old.prices.items ≡ length scaled.now.problem }
     ensures { length market.new.prices.items ≡ length scaled.now.problem }
 {
     let n = scaled.n() as usize;
     let mut left = n.saturating_mul(most.a_person as usize);
+    telling.tell(market);
     for person in 0..n {
         if market.object(person).is_none() {
             let made = bid_on(scaled, market, person, eps, left.min(most.in_a_row));
             left = left.saturating_sub(made);
+            telling.count(made, market);
         }
     }
 }

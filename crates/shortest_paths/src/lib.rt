@@ -5,6 +5,7 @@
 mod answer;
 mod bids;
 mod market;
+mod observer;
 mod path;
 mod plan;
 mod prices;
@@ -16,4 +17,8 @@ mod solve;
 mod tests;
 mod ties;
 
-pub use solve::{solve_paths, solve_paths_from, try_paths, try_paths_from};
+pub use observer::{Observer, Unobserved};
+pub use solve::{
+    solve_paths, solve_paths_from, solve_paths_from_watched, solve_paths_watched, try_paths,
+    try_paths_from,
+};

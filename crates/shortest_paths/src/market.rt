@@ -11,6 +11,8 @@ pub struct Market {
     pub prices: Vec<i64>,
     pub owners: Vec<Option<usize>>,
     pub objects: Vec<Option<usize>>,
+    // How many objects somebody owns.
+    pub owned: u16,
 }
 
 fn clear(places: &mut [Option<usize>]) {
@@ -24,17 +26,6 @@ fn lower(prices: &mut [i64]) {
     for price in prices.iter_mut() {
         *price = price.wrapping_sub(1);
     }
-}
-
-// How many of these are none.
-fn count_none(places: &[Option<usize>]) -> usize {
-    let mut count = 0usize;
-    for place in places {
-        if place.is_none() {
-            count = count.saturating_add(1);
-        }
-    }
-    count
 }
 
 // Nobody owns an object any more.
@@ -61,6 +52,7 @@ impl Market {
             prices,
             owners,
             objects,
+            owned: 0,
         })
     }
 
@@ -90,6 +82,7 @@ impl Market {
     {
         if self.owner(object).is_none() {
             self.set_price(object, self.price(object).wrapping_add(1));
+            self.owned = self.owned.saturating_add(1);
         }
         if object < self.owners.len() {
             self.owners[object] = Some(person);
@@ -101,7 +94,7 @@ impl Market {
 
     // How many persons own nothing.
     pub fn unserved(&self) -> usize {
-        count_none(self.objects.as_slice())
+        self.objects.len().saturating_sub(self.owned as usize)
     }
 
     // Leaves a person without an object.
@@ -119,5 +112,6 @@ impl Market {
     {
         leave(self.owners.as_mut_slice(), self.prices.as_mut_slice());
         clear(self.objects.as_mut_slice());
+        self.owned = 0;
     }
 }

@@ -6,6 +6,7 @@ ghost use Rattle.rounds.specs.Outcomes.{IsDecided, IsProof};
 use super::answer::{best_of, hall_of};
 use super::bids::bid_all;
 use super::market::Market;
+use super::observer::{Observer, Telling, Unobserved};
 use super::path::{raise, walk_back};
 use super::plan::{Plan, plan_of, started_plan};
 use super::prices::{given_prices, rounded, usual_prices};
@@ -49,16 +50,18 @@ fn augment(
 
 // Each person that owns nothing gets an object, up to one that reaches none, or up to so many scanned
 // persons. How the search of that one ended.
-fn augment_all(
+fn augment_all<O: Observer>(
     scaled: &Scaled,
     market: &mut Market,
     search: &mut Search,
     most: usize,
+    telling: &mut Telling<'_, O>,
 ) -> Result<Option<End>, AllocError>
     requires costs { length search.old.costs.items ≡ length scaled.now.problem }
     requires keys { length search.old.keys.items ≡ length scaled.now.problem }
 {
     let mut left = most;
+    telling.tell(market);
     for person in 0..scaled.n() as usize {
         if market.object(person).is_none() {
             match augment(scaled, market, search, person)? {
@@ -68,6 +71,7 @@ fn augment_all(
             if left == 0 {
                 return Ok(Some(End::Long));
             }
+            telling.count(search.scanned.len(), market);
         }
     }
     Ok(None)
@@ -75,7 +79,12 @@ fn augment_all(
 
 // Prices of an auction in phases of falling slackness, all multiples of n + 1. Nobody owns anything
 // afterwards.
-fn auction(scaled: &Scaled, market: &mut Market, plan: Plan)
+fn auction<O: Observer>(
+    scaled: &Scaled,
+    market: &mut Market,
+    plan: Plan,
+    telling: &mut Telling<'_, O>,
+)
     requires { length market.old.prices.items ≡ length scaled.now.problem }
     ensures { length market.new.prices.items ≡ length scaled.now.problem }
 {
@@ -89,6 +98,7 @@ fn auction(scaled: &Scaled, market: &mut Market, plan: Plan)
                 market,
                 rounded(eps, step),
                 plan.bids(plan.bids_a_phase),
+                telling,
             );
             eps = eps / 5;
         }
@@ -114,48 +124,83 @@ fn answer_of(
 }
 
 // Paths from the prices of an auction that begins at these.
-fn paths_after_auction(
+fn paths_after_auction<O: Observer>(
     alloc: Global,
     scaled: &Scaled,
     prices: Vec<i64>,
     plan: Plan,
+    telling: &mut Telling<'_, O>,
 ) -> Result<Option<Outcome>, AllocError>
     requires { length prices.items ≡ length scaled.now.problem }
     ensures { IfOk result (λ found. IfSome found (IsProof scaled.now)) }
 {
     let mut market = Market::new(alloc, prices)?;
-    auction(scaled, &mut market, plan);
-    bid_all(scaled, &mut market, 0, plan.bids(BIDS_BEFORE));
+    auction(scaled, &mut market, plan, telling);
+    bid_all(scaled, &mut market, 0, plan.bids(BIDS_BEFORE), telling);
     let mut search = Search::new(alloc, scaled.n() as usize, plan.by_heap)?;
-    let end = augment_all(scaled, &mut market, &mut search, usize::MAX)?;
+    let end = augment_all(scaled, &mut market, &mut search, usize::MAX, telling)?;
     answer_of(alloc, scaled, &market, &search, end)
 }
 
 // Paths from these prices, and where much is left to search for or the searches turn out long once
 // more after an auction.
-fn paths_from(
+fn paths_from<O: Observer>(
     alloc: Global,
     scaled: &Scaled,
     prices: Vec<i64>,
     plan: Plan,
+    observer: &O,
 ) -> Result<Option<Outcome>, AllocError>
     requires { length prices.items ≡ length scaled.now.problem }
     ensures { IfOk result (λ found. IfSome found (IsProof scaled.now)) }
 {
     let mut market = Market::new(alloc, prices.as_slice().to_vec(alloc)?)?;
+    let mut telling = Telling::new(observer);
     if plan.ties_first {
         match_ties(alloc, scaled, &mut market)?;
     }
-    bid_all(scaled, &mut market, 0, plan.bids(BIDS_BEFORE));
+    bid_all(scaled, &mut market, 0, plan.bids(BIDS_BEFORE), &mut telling);
     if market.unserved() > plan.most_unserved {
-        return paths_after_auction(alloc, scaled, prices, plan);
+        return paths_after_auction(alloc, scaled, prices, plan, &mut telling);
     }
     let mut search = Search::new(alloc, scaled.n() as usize, plan.by_heap)?;
-    let end = augment_all(scaled, &mut market, &mut search, plan.most_scans)?;
+    let end = augment_all(
+        scaled,
+        &mut market,
+        &mut search,
+        plan.most_scans,
+        &mut telling,
+    )?;
     if let Some(End::Long) = end {
-        return paths_after_auction(alloc, scaled, prices, plan);
+        return paths_after_auction(alloc, scaled, prices, plan, &mut telling);
     }
     answer_of(alloc, scaled, &market, &search, end)
+}
+
+// What is found from the usual prices, while an observer is told of it.
+fn find<O: Observer>(
+    alloc: Global,
+    scaled: &Scaled,
+    observer: &O,
+) -> Result<Option<Outcome>, AllocError>
+    ensures { IfOk result (λ found. IfSome found (IsProof scaled.now)) }
+{
+    let prices = usual_prices(alloc, scaled)?;
+    paths_from(alloc, scaled, prices, plan_of(scaled), observer)
+}
+
+// What is found from these prices, while an observer is told of it.
+fn find_from<O: Observer>(
+    alloc: Global,
+    scaled: &Scaled,
+    prices: &Prices,
+    observer: &O,
+) -> Result<Option<Outcome>, AllocError>
+    requires { length prices.now ≡ length scaled.now.problem }
+    ensures { IfOk result (λ found. IfSome found (IsProof scaled.now)) }
+{
+    let prices = given_prices(alloc, scaled, prices)?;
+    paths_from(alloc, scaled, prices, started_plan(scaled), observer)
 }
 
 /// Looks for a proof by shortest augmenting paths: a best assignment with prices that prove it, or a
@@ -171,8 +216,7 @@ fn paths_from(
 pub fn try_paths(alloc: Global, scaled: &Scaled) -> Result<Option<Outcome>, AllocError>
     ensures { IfOk result (λ found. IfSome found (IsProof scaled.now)) }
 {
-    let prices = usual_prices(alloc, scaled)?;
-    paths_from(alloc, scaled, prices, plan_of(scaled))
+    find(alloc, scaled, &Unobserved)
 }
 
 /// Looks for a proof as `try_paths` does, beginning at these prices, one for each object. Prices of
@@ -189,8 +233,7 @@ pub fn try_paths_from(
     requires { length prices.now ≡ length scaled.now.problem }
     ensures { IfOk result (λ found. IfSome found (IsProof scaled.now)) }
 {
-    let prices = given_prices(alloc, scaled, prices)?;
-    paths_from(alloc, scaled, prices, started_plan(scaled))
+    find_from(alloc, scaled, prices, &Unobserved)
 }
 
 // What was found, and where nothing was found what rounds come to.
@@ -223,7 +266,23 @@ pub fn solve_paths(alloc: Global, scaled: Arc<Scaled>) -> Result<Outcome, AllocE
     ensures proof { IfOk result (IsProof (arc_value scaled)) }
     ensures decided { IfOk result (IsDecided (arc_value scaled)) }
 {
-    let found = try_paths(alloc, &scaled)?;
+    solve_paths_watched(alloc, scaled, &Unobserved)
+}
+
+/// Does what `solve_paths` does, and tells an observer how many persons have an object. No clause
+/// speaks of what it is told. Rounds, where they are wanted, tell it nothing.
+///
+/// # Errors
+/// Only where memory is refused.
+pub fn solve_paths_watched<O: Observer>(
+    alloc: Global,
+    scaled: Arc<Scaled>,
+    observer: &O,
+) -> Result<Outcome, AllocError>
+    ensures proof { IfOk result (IsProof (arc_value scaled)) }
+    ensures decided { IfOk result (IsDecided (arc_value scaled)) }
+{
+    let found = find(alloc, &scaled, observer)?;
     settled(alloc, scaled, found)
 }
 
@@ -241,6 +300,24 @@ pub fn solve_paths_from(
     ensures proof { IfOk result (IsProof (arc_value scaled)) }
     ensures decided { IfOk result (IsDecided (arc_value scaled)) }
 {
-    let found = try_paths_from(alloc, &scaled, &prices)?;
+    solve_paths_from_watched(alloc, scaled, prices, &Unobserved)
+}
+
+/// Does what `solve_paths_from` does, and tells an observer how many persons have an object, as
+/// `solve_paths_watched` does.
+///
+/// # Errors
+/// Only where memory is refused.
+pub fn solve_paths_from_watched<O: Observer>(
+    alloc: Global,
+    scaled: Arc<Scaled>,
+    prices: Prices,
+    observer: &O,
+) -> Result<Outcome, AllocError>
+    requires { length prices ≡ length (arc_value scaled).problem }
+    ensures proof { IfOk result (IsProof (arc_value scaled)) }
+    ensures decided { IfOk result (IsDecided (arc_value scaled)) }
+{
+    let found = find_from(alloc, &scaled, &prices, observer)?;
     settled(alloc, scaled, found)
 }

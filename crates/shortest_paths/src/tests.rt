@@ -10,7 +10,10 @@ ghost use Rattle.rounds.specs.Outcomes.{IsProof};
 mod kinds;
 mod worked;
 
-use super::{solve_paths, solve_paths_from, try_paths, try_paths_from};
+use super::{
+    Observer, solve_paths, solve_paths_from, solve_paths_from_watched, solve_paths_watched,
+    try_paths, try_paths_from,
+};
 use assign_core::{
     Cost, GREATEST_COST, GREATEST_FIRST_PRICE, MOST_PERSONS, Object, Outcome, Person, Price,
     Prices, Problem, Sense,

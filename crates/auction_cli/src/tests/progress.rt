@@ -23,6 +23,7 @@ struct Follower {
     phases: AtomicU64,
     slackness: AtomicU64,
     paths: AtomicU64,
+    assigned: AtomicU64,
     overs: AtomicU64,
     wrong: AtomicBool,
 }
@@ -36,6 +37,7 @@ fn new_follower() -> Follower {
         phases: AtomicU64::new(0),
         slackness: AtomicU64::new(0),
         paths: AtomicU64::new(0),
+        assigned: AtomicU64::new(0),
         overs: AtomicU64::new(0),
         wrong: AtomicBool::new(false),
     }
@@ -86,8 +88,13 @@ impl Watch for Follower {
         self.follow(progress);
     }
 
-    fn paths(&self) {
+    fn paths(&self, assigned: u16, persons: u16) {
         self.paths.fetch_add(1, Ordering::SeqCst);
+        let before = self.assigned.swap(u64::from(assigned), Ordering::SeqCst);
+        let fell = assigned > 0 && before > u64::from(assigned);
+        if fell || assigned > persons || seen(&self.overs) > 0 {
+            self.wrong.store(true, Ordering::SeqCst);
+        }
     }
 
     fn over(&self) {
@@ -204,7 +211,8 @@ fn long_runs_are_told(rt: HostRuntime) -> Result<(), Fail> {
             &paths
         )
     );
-    assert_eq!(rt; seen(&paths.paths), 1);
+    assert!(rt; seen(&paths.paths) > 1);
+    assert_eq!(rt; seen(&paths.rounds), 0);
     Ok(())
 }
 
@@ -261,7 +269,7 @@ fn told(alloc: Global, step: u64, most: u64, in_place: bool, asked: bool, ends: 
     teller.round(progress);
     teller.sessions(64, 50, progress);
     teller.sessions(64, 99, progress);
-    teller.paths();
+    teller.paths(731, 1000);
     if ends {
         teller.over();
         teller.round(progress);
@@ -274,7 +282,7 @@ const ALL: &str = "progress: 12.3 MB read, 0.6 s
 progress: phase 3 of 8, slackness 125, 812 of 1000 persons, 1.2 s
 progress: phase 3 of 8, 812 of 1000 persons, 64 sessions, 50 bids, 1.8 s
 progress: phase 3 of 8, 812 of 1000 persons, 128 sessions, 99 bids, 2.4 s
-progress: shortest paths, 3.0 s
+progress: shortest paths, 731 of 1000 persons, 3.0 s
 ";
 
 // The third and the fifth: no two lines come within half a second.
@@ -298,14 +306,14 @@ fn lines_on_a_file(rt: HostRuntime) -> Result<(), Fail> {
 fn lines_on_a_terminal(rt: HostRuntime) -> Result<(), Fail> {
     let mut wanted = String::new(rt.alloc());
     wanted.push_str("\rphase 3 of 8, 812 of 1000 persons, 128 sessions, 99 bids, 2.4 s")?;
-    wanted.push_str("\rshortest paths, 3.0 s")?;
-    for _ in 21..63 {
+    wanted.push_str("\rshortest paths, 731 of 1000 persons, 3.0 s")?;
+    for _ in 42..63 {
         wanted.push(' ')?;
     }
     let left = told(rt.alloc(), 600, 9, true, false, false);
     assert_eq!(rt; left.as_slice(), wanted.as_bytes());
     wanted.push('\r')?;
-    for _ in 0..21 {
+    for _ in 0..42 {
         wanted.push(' ')?;
     }
     wanted.push('\r')?;

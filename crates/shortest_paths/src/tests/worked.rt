@@ -1,5 +1,6 @@
 // Problems whose outcomes are known, and the public calls.
 use super::*;
+use std::sync::atomic::{AtomicBool, AtomicU64, Ordering};
 use std::test::Fail;
 
 #[test]
@@ -124,5 +125,85 @@ fn costs_too_great_for_a_search(rt: HostRuntime) -> Result<(), Fail> {
     assert_eq!(rt; seen, Finding::Nothing);
     let cost = 1500 * GREATEST_COST;
     assert_eq!(rt; solved(rt.alloc(), 1500, pairs, None)?, Some(cost));
+    Ok(())
+}
+
+// Follows a search: how often it told a number, the last one, and whether it told one that can't be.
+#[derive(Drop)]
+struct Follower {
+    persons: u16,
+    told: AtomicU64,
+    last: AtomicU64,
+    wrong: AtomicBool,
+}
+
+impl Observer for Follower {
+    fn assigned(&self, persons: u16) {
+        self.told.fetch_add(1, Ordering::SeqCst);
+        let before = self.last.swap(u64::from(persons), Ordering::SeqCst);
+        let fell = persons > 0 && before > u64::from(persons);
+        if fell || persons > self.persons {
+            self.wrong.store(true, Ordering::SeqCst);
+        }
+    }
+}
+
+// The cost of what is found while this follower is told of it.
+fn followed(
+    alloc: Global,
+    pairs: &[Pair],
+    first: Option<&[Price]>,
+    follower: &Follower,
+) -> Result<Option<Cost>, AllocError> {
+    let n = size(follower.persons);
+    let problem = problem_of(alloc, n, pairs)?;
+    let scaled = Arc::new(alloc, scale(alloc, problem, Sense::Min)?)?;
+    let again = scaled.clone()?;
+    let outcome = match first {
+        Some(first) => {
+            let first = first_prices(alloc, n, first)?;
+            solve_paths_from_watched(alloc, scaled, first, follower)?
+        }
+        None => solve_paths_watched(alloc, scaled, follower)?,
+    };
+    match outcome {
+        Outcome::Best(best) => Ok(Some(cost_by(&again, best.assignment.objects()))),
+        Outcome::Hall(_) => Ok(None),
+    }
+}
+
+// Each person pays the product of the two numbers, which takes long searches.
+fn products(alloc: Global, n: u16) -> Result<Vec<Pair>, AllocError> {
+    let mut pairs = Vec::new(alloc);
+    for place in 0..u32::from(n) * u32::from(n) {
+        let person = (place / u32::from(n) + 1) as u16;
+        let object = (place % u32::from(n) + 1) as u16;
+        pairs.push((person, object, Cost::from(person) * Cost::from(object)))?;
+    }
+    Ok(pairs)
+}
+
+#[test]
+fn numbers_of_assigned_persons(rt: HostRuntime) -> Result<(), Fail> {
+    let n = 120u16;
+    let pairs = products(rt.alloc(), n)?;
+    // The dearest objects go to the first persons.
+    let mut wanted: Cost = 0;
+    for person in 1..n + 1 {
+        wanted += Cost::from(person) * Cost::from(n + 1 - person);
+    }
+    for first in [None, Some([5].as_slice())] {
+        let follower = Follower {
+            persons: n,
+            told: AtomicU64::new(0),
+            last: AtomicU64::new(0),
+            wrong: AtomicBool::new(false),
+        };
+        let seen = followed(rt.alloc(), pairs.as_slice(), first, &follower)?;
+        assert_eq!(rt; seen, Some(wanted));
+        assert!(rt; follower.told.load(Ordering::SeqCst) > 2);
+        assert!(rt; follower.last.load(Ordering::SeqCst) > 0);
+        assert!(rt; !follower.wrong.load(Ordering::SeqCst));
+    }
     Ok(())
 }

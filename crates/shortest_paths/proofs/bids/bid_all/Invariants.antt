@@ -2,4 +2,4 @@ use Rattle.std.proofs.Common.{◌≡◌, length}
 use Rattle.shortest_paths.proofs.bids.bid_all.Given as goal
 
 abbrev pub invariant-loop-person : goal.invariant-loop-person
-invariant-loop-person l = length l.market.prices.items ≡ length l.scaled.problem
+invariant-loop-person g l = length l.market.prices.items ≡ length l.scaled.problem
