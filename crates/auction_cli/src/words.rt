@@ -11,7 +11,7 @@ ghost use Rattle.auction_cli.specs.Words.{IsFlag, IsNumberFor};
 ghost use Rattle.auction_cli.specs.inside.Words.{HasNumbers, HasNumbersIfSolving, IsNumberIn};
 ghost use Rattle.auction_cli.specs.Words.{AsksForVersion, IsInRanges, IsTaken, Solves, SolvesBy, SolvesFrom, Verifies, VerifiesFrom, WordsOutcome};
 ghost use Rattle.auction_cli.specs.inside.Words.{IsFaultOf};
-ghost use Rattle.auction_cli.specs.Words.{flag_rule, input_rule, method_rule, named_rule, numbered_rule, plain_solve_app, program, solve_app, valued_rule, verify_app, version_rule};
+ghost use Rattle.auction_cli.specs.Words.{flag_rule, input_rule, method_rule, named_rule, numbered_rule, optional_rule, plain_solve_app, program, report_rule, solve_app, start_rule, valued_rule, verify_app, version_rule};
 ghost use Rattle.auction_cli.specs.Words.{full_line, full_options, full_verify_line, input_line, input_verify_line, is_max, mode_name, sense_name, usual_options};
 
 use assign_core::{Sense, VERSION};
@@ -279,24 +279,22 @@ fn method_option<'a>(alloc: Global) -> Arg<'a>
     )
 }
 
-// The subcommand `solve`, but for the options on its mode.
+// The option on the file with the first prices.
+fn start_option<'a>(alloc: Global) -> Arg<'a>
+    ensures rule { rule_of result ≡ start_rule }
+    ensures local { result.global ≡ false }
+{
+    Arg::new(alloc, "start")
+        .long("start")
+        .value_name("REPORT")
+        .help("The file with a report whose prices are to be the first prices")
+}
+
+// The subcommand `solve`, but for the options on its mode. Each option is made where it is taken: what is held while
+// another may be refused makes the proof long.
 fn plain_solve_command<'a>(alloc: Global) -> Result<Command<'a>, AllocError>
     ensures { IfOk result (λ c. app_of c ≡ plain_solve_app) }
 {
-    let max = flag(
-        alloc,
-        "max",
-        "Look for the greatest cost in place of the least",
-    );
-    let prices = flag(
-        alloc,
-        "prices",
-        "Write the objects' prices too, by which anybody can check that no assignment is better",
-    );
-    let start = Arg::new(alloc, "start")
-        .long("start")
-        .value_name("REPORT")
-        .help("The file with a report whose prices are to be the first prices");
     Command::new(alloc, "solve")
         .about(
             "Read a problem from standard input, and write a best assignment or why there is none",
@@ -304,69 +302,87 @@ fn plain_solve_command<'a>(alloc: Global) -> Result<Command<'a>, AllocError>
         .after_help(SOLVE_NOTES)
         .arg(sparse_flag(alloc))?
         .arg(input_option(alloc))?
-        .arg(max)?
-        .arg(prices)?
-        .arg(start)
+        .arg(flag(
+            alloc,
+            "max",
+            "Look for the greatest cost in place of the least",
+        ))?
+        .arg(flag(
+            alloc,
+            "prices",
+            "Write the objects' prices too, by which anybody can check that no assignment is better",
+        ))?
+        .arg(start_option(alloc))
 }
 
 // The subcommand `solve`.
 fn solve_command<'a>(alloc: Global) -> Result<Command<'a>, AllocError>
     ensures { IfOk result (λ c. (at : Places) × (app_of c ≡ solve_app at)) }
 {
-    let mode = valued(
-        alloc,
-        "mode",
-        "MODE",
-        "rounds",
-        "Solve in rounds, or by workers that bid at any time: rounds or workers",
-    );
-    let workers = numbered(
-        alloc,
-        "workers",
-        "K",
-        "4",
-        (1, MOST_WORKERS),
-        "How many workers there are, 1 to 64",
-    );
-    let refresh = numbered(
-        alloc,
-        "refresh",
-        "R",
-        "1",
-        (0, MOST_REFRESH),
-        "After how many turns a worker takes the newest prices, 0 to 1000000; 0: only after a bid that was too low",
-    );
-    let progress = flag(
-        alloc,
-        "progress",
-        "Tell on standard error how far the run is, at most twice a second",
-    );
     plain_solve_command(alloc)?
         .arg(method_option(alloc))?
-        .arg(mode)?
-        .arg(workers)?
-        .arg(refresh)?
-        .arg(progress)
+        .arg(valued(
+            alloc,
+            "mode",
+            "MODE",
+            "rounds",
+            "Solve in rounds, or by workers that bid at any time: rounds or workers",
+        ))?
+        .arg(numbered(
+            alloc,
+            "workers",
+            "K",
+            "4",
+            (1, MOST_WORKERS),
+            "How many workers there are, 1 to 64",
+        ))?
+        .arg(numbered(
+            alloc,
+            "refresh",
+            "R",
+            "1",
+            (0, MOST_REFRESH),
+            "After how many turns a worker takes the newest prices, 0 to 1000000; 0: only after a bid that was too low",
+        ))?
+        .arg(flag(
+            alloc,
+            "progress",
+            "Tell on standard error how far the run is, at most twice a second",
+        ))
+}
+
+// The option on the sense that a report must have.
+fn sense_option<'a>(alloc: Global) -> Arg<'a>
+    ensures rule { rule_of result ≡ optional_rule (codes "sense") }
+    ensures local { result.global ≡ false }
+{
+    Arg::new(alloc, "sense")
+        .long("sense")
+        .value_name("SENSE")
+        .help("The sense that the report must have: min or max")
+}
+
+// The name of the report's file.
+fn report_argument<'a>(alloc: Global) -> Arg<'a>
+    ensures rule { rule_of result ≡ report_rule }
+    ensures local { result.global ≡ false }
+{
+    Arg::new(alloc, "REPORT").required(true).help(
+        "The file with the report; one on an assignment must have prices",
+    )
 }
 
 // The subcommand `verify`.
 fn verify_command<'a>(alloc: Global) -> Result<Command<'a>, AllocError>
     ensures { IfOk result (λ c. app_of c ≡ verify_app) }
 {
-    let sense = Arg::new(alloc, "sense")
-        .long("sense")
-        .value_name("SENSE")
-        .help("The sense that the report must have: min or max");
-    let report = Arg::new(alloc, "REPORT").required(true).help(
-        "The file with the report; one on an assignment must have prices",
-    );
     Command::new(alloc, "verify")
         .about("Read a problem from standard input, and check a report on it")
         .after_help(VERIFY_NOTES)
         .arg(sparse_flag(alloc))?
         .arg(input_option(alloc))?
-        .arg(sense)?
-        .arg(report)
+        .arg(sense_option(alloc))?
+        .arg(report_argument(alloc))
 }
 
 // The option that asks for the program's version, by its long name alone.
@@ -384,8 +400,6 @@ fn version_flag<'a>(alloc: Global) -> Arg<'a>
 fn command<'a>(alloc: Global) -> Result<Command<'a>, AllocError>
     ensures { IfOk result (λ c. (at : Places) × (app_of c ≡ program at)) }
 {
-    let solve = solve_command(alloc)?;
-    let verify = verify_command(alloc)?;
     Command::new(alloc, "auction_cli")
         .about("Solve assignment problems and check reports; the problem comes on standard input")
         .after_help(PROGRAM_NOTES)
@@ -393,8 +407,8 @@ fn command<'a>(alloc: Global) -> Result<Command<'a>, AllocError>
         .disable_version_flag(true)
         .subcommand_required(true)
         .arg(version_flag(alloc))?
-        .subcommand(solve)?
-        .subcommand(verify)
+        .subcommand(solve_command(alloc)?)?
+        .subcommand(verify_command(alloc)?)
 }
 
 // The greatest cost or the least.
