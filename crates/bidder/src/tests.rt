@@ -13,6 +13,7 @@ use assign_core::{
 };
 use scaled_values::{Scaled, next_eps, scale};
 use std::alloc::{AllocError, Global};
+use std::process::Abort;
 use std::test::Fail;
 
 // A row of all objects as pairs.
@@ -336,6 +337,34 @@ fn offered_second(
     offered(alloc, scaled, values, ask_of(scaled, 2, p0, eps), person)
 }
 
+// That a person makes this offer in the first phase.
+fn assert_first(
+    rt: &impl Abort,
+    alloc: Global,
+    scaled: &Scaled,
+    values: &[Price],
+    person: u16,
+    offer: Option<Offer>,
+) -> Result<(), AllocError> {
+    let made = offered_first(alloc, scaled, values, 1, 0, person)?;
+    assert_eq!(rt; made, offer);
+    Ok(())
+}
+
+// The same in the second, which starts with the greatest price 8.
+fn assert_second(
+    rt: &impl Abort,
+    alloc: Global,
+    scaled: &Scaled,
+    values: &[Price],
+    person: u16,
+    offer: Option<Offer>,
+) -> Result<(), AllocError> {
+    let made = offered_second(alloc, scaled, values, 8, person)?;
+    assert_eq!(rt; made, offer);
+    Ok(())
+}
+
 // The slackness and the floor of the first phase.
 fn first_ask(scaled: &Scaled) -> (i64, Price) {
     let ask = ask_of(scaled, 1, 0, scaled.first_eps());
@@ -407,11 +436,14 @@ fn offers_of_two_persons(rt: HostRuntime) -> Result<(), Fail> {
         ([26, 24], 1, bid(1, 1, 28, 1)),
         ([27, 24], 1, below(1, 1)),
     ] {
-        assert_eq!(rt;
-            offered_first(rt.alloc(), &scaled, &prices, 1, 0, person)?,
-            offer
-        );
+        assert_first(&rt, rt.alloc(), &scaled, &prices, person, offer)?;
     }
+    Ok(())
+}
+
+#[test]
+fn offers_in_the_second_phase(rt: HostRuntime) -> Result<(), Fail> {
+    let scaled = scale(rt.alloc(), two_persons(rt.alloc())?, Sense::Min)?;
     assert_eq!(rt; second_ask(&scaled, 8), Some((1, -36)));
     for (prices, person, offer) in [
         ([8, 7], 1, bid(1, 1, 11, 2)),
@@ -422,10 +454,7 @@ fn offers_of_two_persons(rt: HostRuntime) -> Result<(), Fail> {
         ([11, 7], 2, bid(2, 1, 14, 2)),
         ([11, 7], 1, bid(1, 2, 9, 2)),
     ] {
-        assert_eq!(rt;
-            offered_second(rt.alloc(), &scaled, &prices, 8, person)?,
-            offer
-        );
+        assert_second(&rt, rt.alloc(), &scaled, &prices, person, offer)?;
     }
     Ok(())
 }
@@ -453,10 +482,7 @@ fn offers_of_three_persons(rt: HostRuntime) -> Result<(), Fail> {
         ([0, 0, 0], 3, bid(3, 2, 8, 1)),
         ([60, 8, 0], 2, below(2, 1)),
     ] {
-        assert_eq!(rt;
-            offered_first(rt.alloc(), &scaled, &prices, 1, 0, person)?,
-            offer
-        );
+        assert_first(&rt, rt.alloc(), &scaled, &prices, person, offer)?;
     }
     Ok(())
 }

@@ -5,9 +5,10 @@ ghost use Rattle.assign_core.specs.Rows.{IsListed};
 ghost use Rattle.assign_core.specs.Matching.{IsMatching, owner_of};
 
 use super::*;
-use assign_core::{MOST_PERSONS, Object, Person, Problem, Sense};
+use assign_core::{HallSet, MOST_PERSONS, Object, Person, Problem, Sense};
 use scaled_values::scale;
 use std::alloc::{AllocError, Global};
+use std::process::Abort;
 use std::test::Fail;
 
 // What a search finds, as a line.
@@ -142,14 +143,19 @@ fn own(alloc: Global, problem: &Problem) -> Result<Vec<Option<Person>>, AllocErr
     Ok(owners)
 }
 
-#[test]
-fn as_many_persons_as_there_may_be(rt: HostRuntime) -> Result<(), Fail> {
-    let problem = star(rt.alloc())?;
-    let owners = own(rt.alloc(), &problem)?;
-    let scaled = scale(rt.alloc(), problem, Sense::Min)?;
-    let Search::Hall(hall) = refute(rt.alloc(), &scaled, owners.as_slice(), Person(1))? else {
-        panic!(rt; "no Hall set");
-    };
+// What stops the first person of the star.
+fn hall_of_star(alloc: Global) -> Result<Option<HallSet>, AllocError> {
+    let problem = star(alloc)?;
+    let owners = own(alloc, &problem)?;
+    let scaled = scale(alloc, problem, Sense::Min)?;
+    match refute(alloc, &scaled, owners.as_slice(), Person(1))? {
+        Search::Hall(hall) => Ok(Some(hall)),
+        Search::Path(_) => Ok(None),
+    }
+}
+
+// That it is all persons, and all objects but the first.
+fn assert_all(rt: &impl Abort, hall: &HallSet) {
     let persons = hall.persons();
     assert_eq!(rt; persons.len(), 8192);
     assert_eq!(rt; persons.first().copied(), Some(Person(1)));
@@ -158,5 +164,13 @@ fn as_many_persons_as_there_may_be(rt: HostRuntime) -> Result<(), Fail> {
     assert_eq!(rt; objects.len(), 8191);
     assert_eq!(rt; objects.first().copied(), Some(Object(2)));
     assert_eq!(rt; objects.last().copied(), Some(Object(8192)));
+}
+
+#[test]
+fn as_many_persons_as_there_may_be(rt: HostRuntime) -> Result<(), Fail> {
+    let Some(hall) = hall_of_star(rt.alloc())? else {
+        panic!(rt; "no Hall set");
+    };
+    assert_all(&rt, &hall);
     Ok(())
 }

@@ -14,7 +14,9 @@ fn one_price(alloc: Global, price: Price) -> Result<Prices, AllocError>
     requires { IsPrice price }
     ensures { IfOk result (λ table. table ≡ price ∷ []) }
 {
-    Prices::new(alloc, vec![in alloc; price]?)
+    let mut table = Prices::zeros(alloc, 1)?;
+    table.set(Object(1), price);
+    Ok(table)
 }
 
 // A price that is 1 above that of object 1, where that stays in range.

@@ -276,6 +276,17 @@ fn the_next_book_has_the_own_raise(rt: HostRuntime) -> Result<(), Fail> {
     Ok(())
 }
 
+// The objects of a best assignment, and none of another outcome.
+fn objects_given(alloc: Global, outcome: &Outcome) -> Result<Vec<u16>, AllocError> {
+    let mut given = Vec::new(alloc);
+    if let Outcome::Best(certificate) = outcome {
+        for object in certificate.assignment.objects() {
+            given.push(object.0)?;
+        }
+    }
+    Ok(given)
+}
+
 // The objects that one thread alone gives to persons 1 and 2, after a claim and a stop.
 fn given_alone<R: Wait>(rt: &R, alloc: Global) -> Result<Vec<u16>, AllocError> {
     let mut book = book_of(alloc, 2)?;
@@ -284,13 +295,8 @@ fn given_alone<R: Wait>(rt: &R, alloc: Global) -> Result<Vec<u16>, AllocError> {
     if book.workers() == 0 {
         return Ok(Vec::new(alloc));
     }
-    let mut given = Vec::new(alloc);
-    if let Outcome::Best(certificate) = go_alone(rt, alloc, &mut book)? {
-        for object in certificate.assignment.objects() {
-            given.push(object.0)?;
-        }
-    }
-    Ok(given)
+    let outcome = go_alone(rt, alloc, &mut book)?;
+    objects_given(alloc, &outcome)
 }
 
 #[test]

@@ -81,6 +81,28 @@ fn same_world(alloc: Global, world: &World, plain: &PlainWorld) -> Result<bool, 
     )
 }
 
+// The book's world and the plain one after these events.
+fn both_runs(
+    alloc: Global,
+    case: &Case,
+    events: &[Event],
+) -> Result<(World, PlainWorld), AllocError> {
+    let world = run(alloc, case, events)?;
+    Ok((world, plain_run(alloc, case, events)?))
+}
+
+// Whether they are the same, and how they ended.
+fn events_agree(
+    alloc: Global,
+    case: &Case,
+    events: &[Event],
+    ends: &mut Ends,
+) -> Result<bool, AllocError> {
+    let (world, plain) = both_runs(alloc, case, events)?;
+    note(alloc, &plain.book, ends)?;
+    same_world(alloc, &world, &plain)
+}
+
 // Whether a drawn run ends in the same world as the plain one.
 fn run_agrees(
     alloc: Global,
@@ -90,10 +112,7 @@ fn run_agrees(
 ) -> Result<bool, AllocError> {
     let case = drawn_case(alloc, seed, 5, 4)?;
     let events = drawn_events(alloc, seed, case.workers, most)?;
-    let world = run(alloc, &case, events.as_slice())?;
-    let plain = plain_run(alloc, &case, events.as_slice())?;
-    note(alloc, &plain.book, ends)?;
-    same_world(alloc, &world, &plain)
+    events_agree(alloc, &case, events.as_slice(), ends)
 }
 
 #[test]

@@ -171,12 +171,20 @@ fn both_alike(first: &[Seat], second: &[Seat]) -> bool {
     }
 }
 
+fn known_world(alloc: Global) -> Result<World, AllocError> {
+    let known = known_events(alloc)?;
+    run_two(alloc, known.as_slice())
+}
+
+fn world_between(alloc: Global) -> Result<World, AllocError> {
+    let events = events_between(alloc)?;
+    run_two(alloc, events.as_slice())
+}
+
 // Whether the book and all seats end as without the events between.
 fn between_end(alloc: Global) -> Result<bool, AllocError> {
-    let known = known_events(alloc)?;
-    let plain = run_two(alloc, known.as_slice())?;
-    let events = events_between(alloc)?;
-    let world = run_two(alloc, events.as_slice())?;
+    let plain = known_world(alloc)?;
+    let world = world_between(alloc)?;
     Ok(ends_between(&world.book) && both_alike(world.seats.as_slice(), plain.seats.as_slice()))
 }
 
