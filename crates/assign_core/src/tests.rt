@@ -15,16 +15,30 @@ fn two_persons(alloc: Global) -> Result<Problem, AllocError>
     Problem::dense(alloc, 2, &[1, 2, 3, 5])
 }
 
+// How many persons it has, and what two pairs cost.
+fn two_told(alloc: Global) -> Result<(u16, [Option<Cost>; 2]), AllocError> {
+    let problem = two_persons(alloc)?;
+    let costs = [
+        problem.cost_of(Person(2), Object(1)),
+        problem.cost_of(Person(2), Object(3)),
+    ];
+    Ok((problem.n(), costs))
+}
+
 #[test]
-fn a_dense_problem(rt: HostRuntime) -> Result<(), Fail> {
+fn costs_of_a_dense_problem(rt: HostRuntime) -> Result<(), Fail> {
+    let told = two_told(rt.alloc())?;
+    assert_eq!(rt; told, (2, [Some(3), None]));
+    Ok(())
+}
+
+#[test]
+fn rows_of_a_dense_problem(rt: HostRuntime) -> Result<(), Fail> {
     let problem = two_persons(rt.alloc())?;
-    assert_eq!(rt; problem.n(), 2);
     let row = problem.row(Person(1));
     assert_eq!(rt; row, [(Object(1), 1), (Object(2), 2)].as_slice());
     let row = problem.row(Person(2));
     assert_eq!(rt; row, [(Object(1), 3), (Object(2), 5)].as_slice());
-    assert_eq!(rt; problem.cost_of(Person(2), Object(1)), Some(3));
-    assert_eq!(rt; problem.cost_of(Person(2), Object(3)), None);
     Ok(())
 }
 
@@ -71,11 +85,15 @@ fn benefits_of_both_senses(rt: HostRuntime) {
     }
 }
 
+// Two persons and one object.
+fn two_for_one(alloc: Global) -> Result<HallSet, AllocError> {
+    let persons = vec![in alloc; Person(1), Person(2)]?;
+    Ok(HallSet::new(persons, vec![in alloc; Object(1)]?))
+}
+
 #[test]
 fn a_hall_set_and_its_copy(rt: HostRuntime) -> Result<(), Fail> {
-    let persons = vec![in rt.alloc(); Person(1), Person(2)]?;
-    let objects = vec![in rt.alloc(); Object(1)]?;
-    let copy = HallSet::new(persons, objects).copy(rt.alloc())?;
+    let copy = two_for_one(rt.alloc())?.copy(rt.alloc())?;
     assert_eq!(rt; copy.persons(), [Person(1), Person(2)].as_slice());
     assert_eq!(rt; copy.objects(), [Object(1)].as_slice());
     Ok(())
@@ -93,14 +111,19 @@ fn first<T: Numbered + Drop>(alloc: Global, count: u16) -> Result<Vec<T>, AllocE
     Ok(numbers)
 }
 
+// All persons, and all objects but the last.
+fn all_for_less(alloc: Global) -> Result<HallSet, AllocError> {
+    let persons: Vec<Person> = first(alloc, 8192)?;
+    let objects: Vec<Object> = first(alloc, 8191)?;
+    Ok(HallSet::new(persons, objects))
+}
+
 #[test]
 fn a_hall_set_of_all_persons(rt: HostRuntime) -> Result<(), Fail> {
-    let persons: Vec<Person> = first(rt.alloc(), 8192)?;
-    let objects: Vec<Object> = first(rt.alloc(), 8191)?;
-    let copy = HallSet::new(persons, objects).copy(rt.alloc())?;
-    assert_eq!(rt; copy.persons().len(), 8192);
+    let copy = all_for_less(rt.alloc())?.copy(rt.alloc())?;
+    let lengths = (copy.persons().len(), copy.objects().len());
+    assert_eq!(rt; lengths, (8192, 8191));
     assert_eq!(rt; copy.persons().last(), Some(&Person(8192)));
-    assert_eq!(rt; copy.objects().len(), 8191);
     Ok(())
 }
 
@@ -116,11 +139,14 @@ fn all_alike(alloc: Global, n: u16) -> Result<Problem, AllocError>
 #[test]
 fn a_dense_problem_of_many_persons(rt: HostRuntime) -> Result<(), Fail> {
     let problem = all_alike(rt.alloc(), 2000)?;
-    assert_eq!(rt; problem.n(), 2000);
-    assert_eq!(rt; problem.row(Person(2000)).len(), 2000);
-    assert_eq!(rt; problem.cost_of(Person(2000), Object(2000)), Some(7));
-    assert_eq!(rt; problem.cost_of(Person(0), Object(1)), None);
-    assert_eq!(rt; problem.cost_of(Person(2001), Object(1)), None);
+    let lengths = (problem.n(), problem.row(Person(2000)).len());
+    assert_eq!(rt; lengths, (2000, 2000));
+    let costs = [
+        problem.cost_of(Person(2000), Object(2000)),
+        problem.cost_of(Person(0), Object(1)),
+        problem.cost_of(Person(2001), Object(1)),
+    ];
+    assert_eq!(rt; costs, [Some(7), None, None]);
     Ok(())
 }
 
@@ -136,7 +162,10 @@ fn one_set(alloc: Global) -> Result<Prices, AllocError>
 #[test]
 fn a_price_is_set(rt: HostRuntime) -> Result<(), Fail> {
     let prices = one_set(rt.alloc())?;
-    assert_eq!(rt; prices.price(Object(2)), 1 << 63);
+    assert_eq!(rt;
+        prices.as_slice(),
+        [0, prices.price(Object(2)), 0].as_slice()
+    );
     assert_eq!(rt; prices.as_slice(), [0, 1 << 63, 0].as_slice());
     assert_eq!(rt; prices.narrow(), [0, NARROW_END, 0].as_slice());
     Ok(())
@@ -233,12 +262,20 @@ fn best_of_one(alloc: Global) -> Result<String, AllocError> {
 
 #[test]
 fn best_assignments(rt: HostRuntime) -> Result<(), Fail> {
-    let least = best_of_two(rt.alloc(), Sense::Min)?;
-    assert_eq!(rt; least.as_str(), "[Object(2), Object(1)] cost 5");
-    let greatest = best_of_two(rt.alloc(), Sense::Max)?;
-    assert_eq!(rt; greatest.as_str(), "[Object(1), Object(2)] cost 6");
-    let alone = best_of_one(rt.alloc())?;
-    assert_eq!(rt; alone.as_str(), "[Object(1)] cost -7");
+    for (sense, line) in [
+        (Sense::Min, "[Object(2), Object(1)] cost 5"),
+        (Sense::Max, "[Object(1), Object(2)] cost 6"),
+    ] {
+        let told = best_of_two(rt.alloc(), sense)?;
+        assert_eq!(rt; told.as_str(), line);
+    }
+    Ok(())
+}
+
+#[test]
+fn a_best_assignment_of_one_person(rt: HostRuntime) -> Result<(), Fail> {
+    let told = best_of_one(rt.alloc())?;
+    assert_eq!(rt; told.as_str(), "[Object(1)] cost -7");
     Ok(())
 }
 

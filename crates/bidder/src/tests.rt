@@ -400,8 +400,9 @@ fn below(person: u16, phase: u16) -> Option<Offer> {
 }
 
 // The problem of two persons.
-fn two_persons(alloc: Global) -> Result<Problem, AllocError> {
-    Problem::dense(alloc, 2, &[1, 2, 3, 5])
+fn two_persons(alloc: Global, sense: Sense) -> Result<Scaled, AllocError> {
+    let problem = Problem::dense(alloc, 2, &[1, 2, 3, 5])?;
+    scale(alloc, problem, sense)
 }
 
 // Persons 1 and 2 list object 1, and person 3 the others.
@@ -424,7 +425,7 @@ fn one_person(alloc: Global, row: Vec<(Object, Cost)>) -> Result<Scaled, AllocEr
 
 #[test]
 fn offers_of_two_persons(rt: HostRuntime) -> Result<(), Fail> {
-    let scaled = scale(rt.alloc(), two_persons(rt.alloc())?, Sense::Min)?;
+    let scaled = two_persons(rt.alloc(), Sense::Min)?;
     assert_eq!(rt; first_ask(&scaled), (2, -29));
     for (prices, person, offer) in [
         ([0, 0], 1, bid(1, 1, 5, 1)),
@@ -443,7 +444,7 @@ fn offers_of_two_persons(rt: HostRuntime) -> Result<(), Fail> {
 
 #[test]
 fn offers_in_the_second_phase(rt: HostRuntime) -> Result<(), Fail> {
-    let scaled = scale(rt.alloc(), two_persons(rt.alloc())?, Sense::Min)?;
+    let scaled = two_persons(rt.alloc(), Sense::Min)?;
     assert_eq!(rt; second_ask(&scaled, 8), Some((1, -36)));
     for (prices, person, offer) in [
         ([8, 7], 1, bid(1, 1, 11, 2)),
@@ -461,7 +462,7 @@ fn offers_in_the_second_phase(rt: HostRuntime) -> Result<(), Fail> {
 
 #[test]
 fn offers_where_much_is_wanted(rt: HostRuntime) -> Result<(), Fail> {
-    let scaled = scale(rt.alloc(), two_persons(rt.alloc())?, Sense::Max)?;
+    let scaled = two_persons(rt.alloc(), Sense::Max)?;
     assert_eq!(rt; first_ask(&scaled), (2, -11));
     for (person, offer) in [(1, bid(1, 2, 5, 1)), (2, bid(2, 2, 8, 1))] {
         assert_eq!(rt;

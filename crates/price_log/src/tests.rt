@@ -62,55 +62,70 @@ fn raise_times(log: &mut PriceLog, times: u32) -> Result<(), AllocError>
     Ok(())
 }
 
+// The version, the first version that is kept, and the first price.
+fn seen(log: &PriceLog) -> (u128, u128, Option<Price>) {
+    let price = log.prices().as_slice().first().copied();
+    (log.version(), log.first_kept(), price)
+}
+
+// A log of one price after so many raises.
+fn raised_log(alloc: Global, price: Price, times: u32) -> Result<PriceLog, AllocError>
+    requires { IsPrice price }
+    ensures { IfOk result IsHistory }
+{
+    let mut log = PriceLog::start(alloc, one_price(alloc, price)?)?;
+    raise_times(&mut log, times)?;
+    Ok(log)
+}
+
+// The version and the price of a table that is made before so many raises and catches up after them.
+fn caught_up(
+    alloc: Global,
+    log: &mut PriceLog,
+    times: u32,
+) -> Result<(u128, Option<Price>), AllocError>
+    ensures { IfOk result (λ _. IsHistory log.new) }
+{
+    let mut table = log.prices().copy(alloc)?;
+    let mut version = log.version();
+    raise_times(log, times)?;
+    log.catch_up(&mut table, &mut version);
+    Ok((version, table.as_slice().first().copied()))
+}
+
 #[test]
 fn a_full_log_forgets_its_raises(rt: HostRuntime) -> Result<(), Fail> {
-    let mut log = PriceLog::start(rt.alloc(), one_price(rt.alloc(), 0)?)?;
-    raise_times(&mut log, 65_536)?;
-    assert_eq!(rt; log.first_kept(), 0);
-    assert_eq!(rt; log.version(), 65_536);
-    let mut near = log.prices().copy(rt.alloc())?;
-    let mut near_version = log.version();
-    raise_times(&mut log, 1)?;
-    assert_eq!(rt; log.first_kept(), 65_536);
-    assert_eq!(rt; log.version(), 65_537);
-    log.catch_up(&mut near, &mut near_version);
-    assert_eq!(rt; near_version, 65_537);
-    assert_eq!(rt; near.as_slice(), [65_537].as_slice());
+    let mut log = raised_log(rt.alloc(), 0, 65_536)?;
+    assert_eq!(rt; seen(&log), (65_536, 0, Some(65_536)));
+    let near = caught_up(rt.alloc(), &mut log, 1)?;
+    assert_eq!(rt; near, (65_537, Some(65_537)));
+    assert_eq!(rt; seen(&log), (65_537, 65_536, Some(65_537)));
     Ok(())
 }
 
 #[test]
 fn an_old_table_is_copied_whole(rt: HostRuntime) -> Result<(), Fail> {
-    let mut log = PriceLog::start(rt.alloc(), one_price(rt.alloc(), 0)?)?;
-    raise_times(&mut log, 3)?;
-    let mut table = log.prices().copy(rt.alloc())?;
-    let mut version = log.version();
-    assert_eq!(rt; table.as_slice(), [3].as_slice());
-    assert_eq!(rt; version, 3);
-    raise_times(&mut log, 65_534)?;
-    assert_eq!(rt; log.first_kept(), 65_536);
-    log.catch_up(&mut table, &mut version);
-    assert_eq!(rt; version, 65_537);
-    assert_eq!(rt; table.as_slice(), [65_537].as_slice());
+    let mut log = raised_log(rt.alloc(), 0, 3)?;
+    assert_eq!(rt; seen(&log), (3, 0, Some(3)));
+    let old = caught_up(rt.alloc(), &mut log, 65_534)?;
+    assert_eq!(rt; old, (65_537, Some(65_537)));
+    assert_eq!(rt; seen(&log), (65_537, 65_536, Some(65_537)));
     Ok(())
+}
+
+// What is seen of a log whose five raises are forgotten.
+fn seen_after_trim(alloc: Global) -> Result<(u128, u128, Option<Price>), AllocError> {
+    let mut log = raised_log(alloc, 7, 5)?;
+    let last = log.version();
+    log.trim(last);
+    Ok(seen(&log))
 }
 
 #[test]
 fn a_trim_keeps_prices_and_version(rt: HostRuntime) -> Result<(), Fail> {
-    let mut log = PriceLog::start(rt.alloc(), one_price(rt.alloc(), 7)?)?;
-    raise_times(&mut log, 5)?;
-    let last = log.version();
-    log.trim(last);
-    assert_eq!(rt; log.first_kept(), 5);
-    assert_eq!(rt; log.version(), 5);
-    assert_eq!(rt; log.prices().as_slice(), [12].as_slice());
+    let seen = seen_after_trim(rt.alloc())?;
+    assert_eq!(rt; seen, (5, 5, Some(12)));
     Ok(())
-}
-
-// The version, the first version that is kept, and the first price.
-fn seen(log: &PriceLog) -> (u128, u128, Option<Price>) {
-    let price = log.prices().as_slice().first().copied();
-    (log.version(), log.first_kept(), price)
 }
 
 // A raise, after which a log is as before where the raise was refused.
@@ -124,7 +139,7 @@ fn raise_or_keep(rt: &impl Abort, log: &mut PriceLog) -> Result<(), AllocError> 
 // The refusals come from runs in which one allocation after the other fails.
 #[test]
 fn a_refused_raise_leaves_the_log(rt: HostRuntime) -> Result<(), Fail> {
-    let mut log = PriceLog::start(rt.alloc(), one_price(rt.alloc(), 0)?)?;
+    let mut log = raised_log(rt.alloc(), 0, 0)?;
     for _ in 0..1000 {
         raise_or_keep(&rt, &mut log)?;
     }

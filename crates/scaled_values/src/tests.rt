@@ -48,11 +48,32 @@ fn next_bounds(scaled: &Scaled, p0: Price, eps: i64) -> Option<(Price, Price)>
     Some(bounds(scaled, p0, next))
 }
 
+// The spread of a wide problem with such costs.
+fn wide_spread(alloc: Global, cost: Cost) -> Result<i64, AllocError>
+    requires least { pos 0 ≤ℤ cost }
+    requires greatest { cost ≤ℤ GREATEST_COST }
+{
+    Ok(two_pairs(alloc, cost)?.spread())
+}
+
+// Its slacknesses.
+fn wide_eps(alloc: Global, cost: Cost) -> Result<Vec<i64>, AllocError>
+    requires least { pos 0 ≤ℤ cost }
+    requires greatest { cost ≤ℤ GREATEST_COST }
+{
+    eps_list(alloc, &two_pairs(alloc, cost)?)
+}
+
 #[test]
-fn slacknesses_of_wide_problems(rt: HostRuntime) -> Result<(), Fail> {
-    let scaled = two_pairs(rt.alloc(), 1_000_000)?;
-    assert_eq!(rt; scaled.spread(), 16_386_000_000);
-    let all = eps_list(rt.alloc(), &scaled)?;
+fn spread_of_a_wide_problem(rt: HostRuntime) -> Result<(), Fail> {
+    let spread = wide_spread(rt.alloc(), 1_000_000)?;
+    assert_eq!(rt; spread, 16_386_000_000);
+    Ok(())
+}
+
+#[test]
+fn slacknesses_of_a_wide_problem(rt: HostRuntime) -> Result<(), Fail> {
+    let all = wide_eps(rt.alloc(), 1_000_000)?;
     let known = [
         3_277_200_000,
         655_440_000,
@@ -71,8 +92,12 @@ fn slacknesses_of_wide_problems(rt: HostRuntime) -> Result<(), Fail> {
         1,
     ];
     assert_eq!(rt; all.as_slice(), known.as_slice());
-    let widest = two_pairs(rt.alloc(), GREATEST_COST)?;
-    let all = eps_list(rt.alloc(), &widest)?;
+    Ok(())
+}
+
+#[test]
+fn slacknesses_of_the_widest_problem(rt: HostRuntime) -> Result<(), Fail> {
+    let all = wide_eps(rt.alloc(), GREATEST_COST)?;
     let known = [
         3_277_200_000_000_000,
         655_440_000_000_000,
@@ -159,15 +184,14 @@ fn rows_of_two_persons(rt: HostRuntime) -> Result<(), Fail> {
 #[test]
 fn two_persons(rt: HostRuntime) -> Result<(), Fail> {
     let scaled = dense_pair(rt.alloc())?;
-    let (n, sense) = (scaled.problem().n(), scaled.sense());
-    assert_eq!(rt; (n, scaled.n()), (2, 2));
-    assert_eq!(rt; sense, Sense::Min);
+    let told = (scaled.problem().n(), scaled.n(), scaled.sense());
+    assert_eq!(rt; told, (2, 2, Sense::Min));
     assert_eq!(rt; range_told(&scaled), ([-15, -3, 12, 2], Some(1)));
-    assert_eq!(rt; first_bounds(&scaled, 0), (-29, 28));
-    assert_eq!(rt; second_bounds(&scaled, 8), Some((-36, 34)));
-    // a run that begins at the prices 14 and 12
-    assert_eq!(rt; first_bounds(&scaled, 14), (-43, 42));
-    assert_eq!(rt; second_bounds(&scaled, 20), Some((-48, 46)));
+    // from prices of 0, and a run that begins at the prices 14 and 12
+    let first = [first_bounds(&scaled, 0), first_bounds(&scaled, 14)];
+    let second = [second_bounds(&scaled, 8), second_bounds(&scaled, 20)];
+    assert_eq!(rt; first, [(-29, 28), (-43, 42)]);
+    assert_eq!(rt; second, [Some((-36, 34)), Some((-48, 46))]);
     Ok(())
 }
 

@@ -3,7 +3,7 @@ use Rattle.std.specs.List.{range_with_len}
 use Rattle.std.specs.List.Sorted.{IsStrictlyIncreasing}
 use Rattle.std.proofs.lemmas.List.{map-id}
 use Rattle.std.proofs.lemmas.List.FromFn.{get_or-range_with_len, length-range_with_len}
-use Rattle.assign_core.proofs.tests.a_hall_set_of_all_persons.Goals as goal
+use Rattle.assign_core.proofs.tests.all_for_less.Goals as goal
 
 range_rises : (n : ℕ) → IsStrictlyIncreasing (range_with_len 1 n)
 range_rises n k lt =
@@ -16,7 +16,7 @@ rises : (numbers : List ℕ) (n : ℕ) → map (λ i. i) numbers ≡ map (λ i. 
 rises numbers n e = subst IsStrictlyIncreasing (sym (sym (map-id numbers) ∙ e ∙ map-id (range_with_len 1 n))) (range_rises n)
 
 pub new-requires-clause-persons : goal.new-requires-clause-persons
-new-requires-clause-persons g c = rises c.in_ok-persons.persons.items 8192 c.in_ok-persons.ensures
+new-requires-clause-persons c = rises c.in_ok-persons.persons.items 8192 c.in_ok-persons.ensures
 
 pub new-requires-clause-objects : goal.new-requires-clause-objects
-new-requires-clause-objects g c = rises c.in_ok-objects.objects.items 8191 c.in_ok-objects.ensures
+new-requires-clause-objects c = rises c.in_ok-objects.objects.items 8191 c.in_ok-objects.ensures

@@ -1,6 +1,0 @@
-use Rattle.std.proofs.Common.{◌∙◌}
-use Rattle.price_log.proofs.Histories.{copy_stays}
-use Rattle.price_log.proofs.tests.an_old_table_is_copied_whole.Goals as goal
-
-pub catch_up-requires : goal.catch_up-requires
-catch_up-requires g c = copy_stays c.raise_times.new.log c.raise_times-2.new.log c.in_ok-table.table _ (c.in_ok-table.ensures ∙ c.prices.ensures.prices) c.version-version.ensures c.in_ok-raise_times.ensures.log c.in_ok-raise_times-2.ensures.continues c.in_ok-raise_times-2.ensures.below
