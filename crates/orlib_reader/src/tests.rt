@@ -265,25 +265,30 @@ fn long_line(
 
 #[test]
 fn long_dense_numbers(rt: HostRuntime) -> Result<(), Fail> {
-    let told = long_line(rt.alloc(), Layout::Dense, b"", b"9", b" 1")?;
-    assert_eq!(rt; told.as_str(), "input: size out of range");
-    let told = long_line(rt.alloc(), Layout::Dense, b"1 -", b"9", b"")?;
-    assert_eq!(rt; told.as_str(), "input: cost out of range at byte 2");
-    let told = long_line(rt.alloc(), Layout::Dense, b"1 ", b"0", b"1")?;
-    assert_eq!(rt; told.as_str(), "Problem { rows: [[(Object(1), 1)]] }");
+    for (front, digit, end, line) in [
+        ("", "9", " 1", "input: size out of range"),
+        ("1 -", "9", "", "input: cost out of range at byte 2"),
+        ("1 ", "0", "1", "Problem { rows: [[(Object(1), 1)]] }"),
+    ] {
+        let (front, digit, end) = (front.as_bytes(), digit.as_bytes(), end.as_bytes());
+        let told = long_line(rt.alloc(), Layout::Dense, front, digit, end)?;
+        assert_eq!(rt; told.as_str(), line);
+    }
     Ok(())
 }
 
 #[test]
 fn long_sparse_numbers(rt: HostRuntime) -> Result<(), Fail> {
-    let told = long_line(rt.alloc(), Layout::Sparse, b"", b"9", b" 1")?;
-    assert_eq!(rt; told.as_str(), "input: size out of range");
-    let told = long_line(rt.alloc(), Layout::Sparse, b"1 1 ", b"9", b" 1")?;
-    assert_eq!(rt; told.as_str(), "input: index out of range at byte 4");
-    let told = long_line(rt.alloc(), Layout::Sparse, b"1 1 1 ", b"9", b"")?;
-    assert_eq!(rt; told.as_str(), "input: cost out of range at byte 6");
-    let told = long_line(rt.alloc(), Layout::Sparse, b"1 1 ", b"0", b"1 1")?;
-    assert_eq!(rt; told.as_str(), "Problem { rows: [[(Object(1), 1)]] }");
+    for (front, digit, end, line) in [
+        ("", "9", " 1", "input: size out of range"),
+        ("1 1 ", "9", " 1", "input: index out of range at byte 4"),
+        ("1 1 1 ", "9", "", "input: cost out of range at byte 6"),
+        ("1 1 ", "0", "1 1", "Problem { rows: [[(Object(1), 1)]] }"),
+    ] {
+        let (front, digit, end) = (front.as_bytes(), digit.as_bytes(), end.as_bytes());
+        let told = long_line(rt.alloc(), Layout::Sparse, front, digit, end)?;
+        assert_eq!(rt; told.as_str(), line);
+    }
     Ok(())
 }
 

@@ -163,6 +163,12 @@ fn worked_sparse_problems(rt: HostRuntime) -> Result<(), Fail> {
             hall(alloc, persons, objects)?
         );
     }
+    Ok(())
+}
+
+#[test]
+fn a_pair_listed_twice(rt: HostRuntime) -> Result<(), Fail> {
+    let alloc = rt.alloc();
     let pairs = [(1, 1, 9), (1, 1, 3), (1, 2, 4), (2, 1, 5), (2, 2, 8)];
     let Seen::Best(objects, _) = solved(&rt, alloc, 1, 2, &pairs, Sense::Min, &[])? else {
         panic!(rt; "no assignment");
