@@ -9,6 +9,7 @@ use dual_checker::{HallVerdict, Verdict, check, check_hall};
 use orlib_reader::{InputFault, read_sparse};
 use scaled_values::scale;
 use std::alloc::{AllocError, Global};
+use std::process::Abort;
 use std::sync::Arc;
 use std::test::Fail;
 
@@ -109,6 +110,35 @@ fn is_taken(
     Ok(verdict == Verdict::Yes)
 }
 
+// Whether the checkers take what a drawn list of events leads to on the problem of a text.
+fn goes_well(
+    alloc: Global,
+    seed: &mut u64,
+    text: &str,
+    sense: Sense,
+    ends: &mut Ends,
+) -> Result<bool, Fail> {
+    let world = drawn_world(alloc, seed, problem_of(alloc, text)?, sense)?;
+    let problem = problem_of(alloc, text)?;
+    Ok(is_taken(alloc, &problem, sense, &world.book, ends)?)
+}
+
+// That they take it on a drawn problem.
+fn assert_drawn(
+    rt: &impl Abort,
+    alloc: Global,
+    seed: &mut u64,
+    sense: Sense,
+    ends: &mut Ends,
+) -> Result<(), Fail> {
+    let text = drawn_text(alloc, seed)?;
+    assert!(rt;
+        goes_well(alloc, seed, text.as_str(), sense, ends)?,
+        "on {text}"
+    );
+    Ok(())
+}
+
 #[test]
 fn drawn_worlds(rt: HostRuntime) -> Result<(), Fail> {
     let alloc = rt.alloc();
@@ -119,13 +149,7 @@ fn drawn_worlds(rt: HostRuntime) -> Result<(), Fail> {
     };
     for _ in 0..400 {
         for sense in [Sense::Min, Sense::Max] {
-            let text = drawn_text(alloc, &mut seed)?;
-            let world = drawn_world(alloc, &mut seed, problem_of(alloc, text.as_str())?, sense)?;
-            let problem = problem_of(alloc, text.as_str())?;
-            assert!(rt;
-                is_taken(alloc, &problem, sense, &world.book, &mut ends)?,
-                "on {text}"
-            );
+            assert_drawn(&rt, alloc, &mut seed, sense, &mut ends)?;
         }
     }
     assert!(rt; ends.done > 300 && ends.refuted > 100);
