@@ -4,6 +4,7 @@ use super::problems::{Pair, drawn_pairs, drawn_sense, next, problem_of, scaled_o
 use super::*;
 use assign_core::{Cost, Numbered, Outcome, plain_best};
 use auction_book::Refused;
+use std::process::Abort;
 use std::sync::atomic::{AtomicU64, Ordering};
 use std::test::Fail;
 use std::thread;
@@ -288,21 +289,48 @@ fn eight_persons(rt: HostRuntime) -> Result<(), Fail> {
     Ok(())
 }
 
+// That the last that was told is the end of the fourth phase, with all persons assigned.
+fn assert_last_told(rt: &impl Abort, gate: &Following) {
+    let phase = gate.phase.load(Ordering::SeqCst);
+    let eps = gate.eps.load(Ordering::SeqCst);
+    assert_eq!(rt; (phase, eps), (4, 1));
+    assert_eq!(rt; gate.assigned.load(Ordering::SeqCst), 8);
+}
+
+// That the workers' acceptances are so many each.
+fn assert_accepted(rt: &impl Abort, seen: &Seen, counts: &[u128]) {
+    let Seen::Best(_, _, accepted) = seen else {
+        panic!(rt; "no assignment");
+    };
+    assert_eq!(rt; accepted.as_slice(), counts);
+}
+
+// That the objects have these prices.
+fn assert_paid(rt: &impl Abort, seen: &Seen, wanted: &[Price]) {
+    let Seen::Best(_, prices, _) = seen else {
+        panic!(rt; "no assignment");
+    };
+    assert_eq!(rt; prices.as_slice(), wanted);
+}
+
+// That persons 1, 2, .. have the objects of one list or of the other.
+fn assert_given(rt: &impl Abort, seen: &Seen, one: &[u16], other: &[u16]) {
+    let Seen::Best(objects, _, _) = seen else {
+        panic!(rt; "no assignment");
+    };
+    assert!(rt; objects.as_slice() == one || objects.as_slice() == other);
+}
+
 // The spread is 378, nine times that of the costs, so the phases have slackness 75, 15, 3 and 1.
 #[test]
 fn one_worker_is_followed(rt: HostRuntime) -> Result<(), Fail> {
     let gate = new_following();
     let seen = dense_solved(&rt, rt.alloc(), 8, &EIGHT, 1, 1, &gate)?;
-    let Seen::Best(_, _, accepted) = seen else {
-        panic!(rt; "no assignment");
-    };
-    assert_eq!(rt; gate.wrong.load(Ordering::SeqCst), 0);
-    assert_eq!(rt; gate.phase.load(Ordering::SeqCst), 4);
-    assert_eq!(rt; gate.eps.load(Ordering::SeqCst), 1);
-    assert_eq!(rt; gate.assigned.load(Ordering::SeqCst), 8);
     let told = gate.accepted.load(Ordering::SeqCst);
+    assert_accepted(&rt, &seen, &[u128::from(told)]);
     assert_eq!(rt; gate.heard.load(Ordering::SeqCst), told);
-    assert_eq!(rt; accepted.as_slice(), [u128::from(told)].as_slice());
+    assert_eq!(rt; gate.wrong.load(Ordering::SeqCst), 0);
+    assert_last_told(&rt, &gate);
     Ok(())
 }
 
@@ -313,8 +341,8 @@ fn all_workers_start(rt: HostRuntime) -> Result<(), Fail> {
         panic!(rt; "no assignment");
     };
     assert_eq!(rt; objects.as_slice(), [3, 1, 4, 8, 2, 7, 5, 6].as_slice());
-    assert_eq!(rt; gate.late.load(Ordering::SeqCst), 0);
-    assert_eq!(rt; gate.offers.load(Ordering::SeqCst).count_ones(), 8);
+    let offers = gate.offers.load(Ordering::SeqCst).count_ones();
+    assert_eq!(rt; (gate.late.load(Ordering::SeqCst), offers), (0, 8));
     Ok(())
 }
 
@@ -348,12 +376,9 @@ fn a_session_is_told_without_the_book(rt: HostRuntime) -> Result<(), Fail> {
 #[test]
 fn stale_bid_refused(rt: HostRuntime) -> Result<(), Fail> {
     let (seen, refused, late) = stale_bid(&rt, rt.alloc(), 1, 2, &[2, 2, 2, 2])?;
-    let Seen::Best(objects, prices, accepted) = seen else {
-        panic!(rt; "no assignment");
-    };
-    assert!(rt; objects.as_slice() == [1, 2].as_slice() || objects.as_slice() == [2, 1].as_slice());
-    assert_eq!(rt; prices.as_slice(), [1, 2].as_slice());
-    assert_eq!(rt; accepted.as_slice(), [1, 1].as_slice());
+    assert_given(&rt, &seen, &[1, 2], &[2, 1]);
+    assert_paid(&rt, &seen, &[1, 2]);
+    assert_accepted(&rt, &seen, &[1, 1]);
     assert_eq!(rt; (refused, late), (1, 0));
     Ok(())
 }
@@ -362,12 +387,9 @@ fn stale_bid_refused(rt: HostRuntime) -> Result<(), Fail> {
 fn stale_bid_accepted(rt: HostRuntime) -> Result<(), Fail> {
     let costs = [0, 1, 1, 1, 0, 1, 1, 1, 0];
     let (seen, refused, late) = stale_bid(&rt, rt.alloc(), 2, 3, &costs)?;
-    let Seen::Best(objects, prices, accepted) = seen else {
-        panic!(rt; "no assignment");
-    };
-    assert_eq!(rt; objects.as_slice(), [1, 2, 3].as_slice());
-    assert_eq!(rt; prices.as_slice(), [5, 5, 5].as_slice());
-    assert_eq!(rt; accepted.as_slice(), [1, 2].as_slice());
+    assert_given(&rt, &seen, &[1, 2, 3], &[1, 2, 3]);
+    assert_paid(&rt, &seen, &[5, 5, 5]);
+    assert_accepted(&rt, &seen, &[1, 2]);
     assert_eq!(rt; (refused, late), (0, 0));
     Ok(())
 }
