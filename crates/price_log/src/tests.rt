@@ -62,10 +62,17 @@ fn raise_times(log: &mut PriceLog, times: u32) -> Result<(), AllocError>
     Ok(())
 }
 
-// The version, the first version that is kept, and the first price.
+// The price of a table of one.
+fn only_price(table: &Prices) -> Option<Price> {
+    if table.as_slice().len() != 1 {
+        return None;
+    }
+    table.as_slice().first().copied()
+}
+
+// The version, the first version that is kept, and the only price.
 fn seen(log: &PriceLog) -> (u128, u128, Option<Price>) {
-    let price = log.prices().as_slice().first().copied();
-    (log.version(), log.first_kept(), price)
+    (log.version(), log.first_kept(), only_price(log.prices()))
 }
 
 // A log of one price after so many raises.
@@ -78,19 +85,21 @@ fn raised_log(alloc: Global, price: Price, times: u32) -> Result<PriceLog, Alloc
     Ok(log)
 }
 
-// The version and the price of a table that is made before so many raises and catches up after them.
+// The version and the price of a table that is made before so many raises, and those that it has
+// once it caught up after them.
 fn caught_up(
     alloc: Global,
     log: &mut PriceLog,
     times: u32,
-) -> Result<(u128, Option<Price>), AllocError>
+) -> Result<[(u128, Option<Price>); 2], AllocError>
     ensures { IfOk result (λ _. IsHistory log.new) }
 {
     let mut table = log.prices().copy(alloc)?;
     let mut version = log.version();
+    let before = (version, only_price(&table));
     raise_times(log, times)?;
     log.catch_up(&mut table, &mut version);
-    Ok((version, table.as_slice().first().copied()))
+    Ok([before, (version, only_price(&table))])
 }
 
 #[test]
@@ -98,7 +107,7 @@ fn a_full_log_forgets_its_raises(rt: HostRuntime) -> Result<(), Fail> {
     let mut log = raised_log(rt.alloc(), 0, 65_536)?;
     assert_eq!(rt; seen(&log), (65_536, 0, Some(65_536)));
     let near = caught_up(rt.alloc(), &mut log, 1)?;
-    assert_eq!(rt; near, (65_537, Some(65_537)));
+    assert_eq!(rt; near, [(65_536, Some(65_536)), (65_537, Some(65_537))]);
     assert_eq!(rt; seen(&log), (65_537, 65_536, Some(65_537)));
     Ok(())
 }
@@ -108,7 +117,7 @@ fn an_old_table_is_copied_whole(rt: HostRuntime) -> Result<(), Fail> {
     let mut log = raised_log(rt.alloc(), 0, 3)?;
     assert_eq!(rt; seen(&log), (3, 0, Some(3)));
     let old = caught_up(rt.alloc(), &mut log, 65_534)?;
-    assert_eq!(rt; old, (65_537, Some(65_537)));
+    assert_eq!(rt; old, [(3, Some(3)), (65_537, Some(65_537))]);
     assert_eq!(rt; seen(&log), (65_537, 65_536, Some(65_537)));
     Ok(())
 }
