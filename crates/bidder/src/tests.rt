@@ -337,65 +337,63 @@ fn offered_second(
     offered(alloc, scaled, values, ask_of(scaled, 2, p0, eps), person)
 }
 
-// That a person makes this offer in the first phase.
-fn assert_first(
+// A person's offer in the first phase, or in the second, which starts with the greatest price 8.
+fn offered_in(
+    alloc: Global,
+    scaled: &Scaled,
+    phase: u16,
+    values: &[Price],
+    person: u16,
+) -> Result<Option<Offer>, AllocError> {
+    if phase == 1 {
+        offered_first(alloc, scaled, values, 1, 0, person)
+    } else {
+        offered_second(alloc, scaled, values, 8, person)
+    }
+}
+
+// Some prices, a person, and the object and the level of the bid that it makes under them: object 0 where it makes none.
+type Offered = (&'static [Price], u16, u16, Price);
+
+// That each of these offers is made.
+fn assert_offers(
     rt: &impl Abort,
     alloc: Global,
     scaled: &Scaled,
-    values: &[Price],
-    person: u16,
-    offer: Option<Offer>,
+    phase: u16,
+    table: &[Offered],
 ) -> Result<(), AllocError> {
-    let made = offered_first(alloc, scaled, values, 1, 0, person)?;
-    assert_eq!(rt; made, offer);
+    for (values, person, object, level) in table {
+        let made = offered_in(alloc, scaled, phase, values, *person)?;
+        assert_eq!(rt; made, offer(*person, *object, *level, phase));
+    }
     Ok(())
 }
 
-// The same in the second, which starts with the greatest price 8.
-fn assert_second(
-    rt: &impl Abort,
-    alloc: Global,
-    scaled: &Scaled,
-    values: &[Price],
-    person: u16,
-    offer: Option<Offer>,
-) -> Result<(), AllocError> {
-    let made = offered_second(alloc, scaled, values, 8, person)?;
-    assert_eq!(rt; made, offer);
-    Ok(())
-}
-
-// The slackness and the floor of the first phase.
-fn first_ask(scaled: &Scaled) -> (i64, Price) {
-    let ask = ask_of(scaled, 1, 0, scaled.first_eps());
-    (ask.eps, ask.floor)
-}
-
-// Those of the second, which starts with this greatest price.
-fn second_ask(scaled: &Scaled, p0: Price) -> Option<(i64, Price)>
-    requires { IsPrice p0 }
-{
-    let eps = next_eps(scaled.first_eps())?;
-    let ask = ask_of(scaled, 2, p0, eps);
+// The slackness and the floor of the first phase, or of the second.
+fn ask_in(scaled: &Scaled, phase: u16) -> Option<(i64, Price)> {
+    let first = scaled.first_eps();
+    let (p0, eps) = if phase == 1 {
+        (0, first)
+    } else {
+        (8, next_eps(first)?)
+    };
+    let ask = ask_of(scaled, phase, p0, eps);
     Some((ask.eps, ask.floor))
 }
 
-// A bid of version 7.
-fn bid(person: u16, object: u16, level: Price, phase: u16) -> Option<Offer> {
+// A bid of version 7, or none, for object 0.
+fn offer(person: u16, object: u16, level: Price, phase: u16) -> Option<Offer> {
+    let person = Person(person);
+    if object == 0 {
+        return Some(Offer::Below(BelowFloor { person, phase }));
+    }
     Some(Offer::Bid(Bid {
-        person: Person(person),
+        person,
         object: Object(object),
         level,
         phase,
         version: 7,
-    }))
-}
-
-// No bid.
-fn below(person: u16, phase: u16) -> Option<Offer> {
-    Some(Offer::Below(BelowFloor {
-        person: Person(person),
-        phase,
     }))
 }
 
@@ -415,6 +413,34 @@ fn three_persons(alloc: Global) -> Result<Scaled, AllocError> {
     scale(alloc, problem, Sense::Min)
 }
 
+// Two persons under a sense, or three.
+#[derive(Clone, Copy)]
+enum Persons {
+    Two(Sense),
+    Three,
+}
+
+fn scaled_of(alloc: Global, persons: Persons) -> Result<Scaled, AllocError> {
+    match persons {
+        Persons::Two(sense) => two_persons(alloc, sense),
+        Persons::Three => three_persons(alloc),
+    }
+}
+
+// That a phase has this slackness and this floor, and that each of these offers is made in it.
+fn assert_phase(
+    rt: &impl Abort,
+    alloc: Global,
+    persons: Persons,
+    phase: u16,
+    ask: (i64, Price),
+    table: &[Offered],
+) -> Result<(), AllocError> {
+    let scaled = scaled_of(alloc, persons)?;
+    assert_eq!(rt; ask_in(&scaled, phase), Some(ask));
+    assert_offers(rt, alloc, &scaled, phase, table)
+}
+
 // A problem of one person and what it lists.
 fn one_person(alloc: Global, row: Vec<(Object, Cost)>) -> Result<Scaled, AllocError>
     requires { IsRow 1 row.items }
@@ -425,91 +451,82 @@ fn one_person(alloc: Global, row: Vec<(Object, Cost)>) -> Result<Scaled, AllocEr
 
 #[test]
 fn offers_of_two_persons(rt: HostRuntime) -> Result<(), Fail> {
-    let scaled = two_persons(rt.alloc(), Sense::Min)?;
-    assert_eq!(rt; first_ask(&scaled), (2, -29));
-    for (prices, person, offer) in [
-        ([0, 0], 1, bid(1, 1, 5, 1)),
-        ([0, 0], 2, bid(2, 1, 8, 1)),
-        ([8, 0], 1, bid(1, 2, 7, 1)),
+    let table: [Offered; 6] = [
+        (&[0, 0], 1, 1, 5),
+        (&[0, 0], 2, 1, 8),
+        (&[8, 0], 1, 2, 7),
         // the second value is under the floor
-        ([0, 100], 1, bid(1, 1, 28, 1)),
+        (&[0, 100], 1, 1, 28),
         // the best value is the floor, and one less
-        ([26, 24], 1, bid(1, 1, 28, 1)),
-        ([27, 24], 1, below(1, 1)),
-    ] {
-        assert_first(&rt, rt.alloc(), &scaled, &prices, person, offer)?;
-    }
+        (&[26, 24], 1, 1, 28),
+        (&[27, 24], 1, 0, 0),
+    ];
+    let persons = Persons::Two(Sense::Min);
+    assert_phase(&rt, rt.alloc(), persons, 1, (2, -29), &table)?;
     Ok(())
 }
 
 #[test]
 fn offers_in_the_second_phase(rt: HostRuntime) -> Result<(), Fail> {
-    let scaled = two_persons(rt.alloc(), Sense::Min)?;
-    assert_eq!(rt; second_ask(&scaled, 8), Some((1, -36)));
-    for (prices, person, offer) in [
-        ([8, 7], 1, bid(1, 1, 11, 2)),
-        ([8, 7], 2, bid(2, 1, 14, 2)),
-        ([14, 7], 1, bid(1, 2, 12, 2)),
-        ([8, 0], 1, bid(1, 2, 6, 2)),
-        ([0, 0], 2, bid(2, 1, 7, 2)),
-        ([11, 7], 2, bid(2, 1, 14, 2)),
-        ([11, 7], 1, bid(1, 2, 9, 2)),
-    ] {
-        assert_second(&rt, rt.alloc(), &scaled, &prices, person, offer)?;
-    }
+    let table: [Offered; 7] = [
+        (&[8, 7], 1, 1, 11),
+        (&[8, 7], 2, 1, 14),
+        (&[14, 7], 1, 2, 12),
+        (&[8, 0], 1, 2, 6),
+        (&[0, 0], 2, 1, 7),
+        (&[11, 7], 2, 1, 14),
+        (&[11, 7], 1, 2, 9),
+    ];
+    let persons = Persons::Two(Sense::Min);
+    assert_phase(&rt, rt.alloc(), persons, 2, (1, -36), &table)?;
     Ok(())
 }
 
 #[test]
 fn offers_where_much_is_wanted(rt: HostRuntime) -> Result<(), Fail> {
-    let scaled = two_persons(rt.alloc(), Sense::Max)?;
-    assert_eq!(rt; first_ask(&scaled), (2, -11));
-    for (person, offer) in [(1, bid(1, 2, 5, 1)), (2, bid(2, 2, 8, 1))] {
-        assert_eq!(rt;
-            offered_first(rt.alloc(), &scaled, &[0, 0], 1, 0, person)?,
-            offer
-        );
-    }
+    let table: [Offered; 2] = [(&[0, 0], 1, 2, 5), (&[0, 0], 2, 2, 8)];
+    let persons = Persons::Two(Sense::Max);
+    assert_phase(&rt, rt.alloc(), persons, 1, (2, -11), &table)?;
     Ok(())
 }
 
 #[test]
 fn offers_of_three_persons(rt: HostRuntime) -> Result<(), Fail> {
-    let scaled = three_persons(rt.alloc())?;
-    assert_eq!(rt; first_ask(&scaled), (4, -72));
-    for (prices, person, offer) in [
-        ([0, 0, 0], 1, bid(1, 1, 60, 1)),
-        ([0, 0, 0], 2, bid(2, 1, 52, 1)),
-        ([0, 0, 0], 3, bid(3, 2, 8, 1)),
-        ([60, 8, 0], 2, below(2, 1)),
-    ] {
-        assert_first(&rt, rt.alloc(), &scaled, &prices, person, offer)?;
-    }
+    let table: [Offered; 4] = [
+        (&[0, 0, 0], 1, 1, 60),
+        (&[0, 0, 0], 2, 1, 52),
+        (&[0, 0, 0], 3, 2, 8),
+        (&[60, 8, 0], 2, 0, 0),
+    ];
+    assert_phase(&rt, rt.alloc(), Persons::Three, 1, (4, -72), &table)?;
     Ok(())
+}
+
+// The offer of one person for one object at the greatest price, in a third phase that starts with this one.
+fn greatest_offer(alloc: Global, p0: Price) -> Result<Option<Offer>, AllocError>
+    requires { IsPrice p0 }
+{
+    let scaled = one_person(alloc, vec![in alloc; (Object(1), 7)]?)?;
+    offered_first(alloc, &scaled, &[PRICE_END - 1], 3, p0, 1)
 }
 
 #[test]
 fn the_greatest_level(rt: HostRuntime) -> Result<(), Fail> {
-    let scaled = one_person(rt.alloc(), vec![in rt.alloc(); (Object(1), 7)]?)?;
-    let prices = [PRICE_END - 1];
-    for (p0, offer) in [
-        (PRICE_END - 1, bid(1, 1, PRICE_END, 3)),
-        (PRICE_END - 2, below(1, 3)),
-    ] {
-        assert_eq!(rt;
-            offered_first(rt.alloc(), &scaled, &prices, 3, p0, 1)?,
-            offer
-        );
-    }
+    let made = greatest_offer(rt.alloc(), PRICE_END - 1)?;
+    assert_eq!(rt; made, offer(1, 1, PRICE_END, 3));
+    let made = greatest_offer(rt.alloc(), PRICE_END - 2)?;
+    assert_eq!(rt; made, offer(1, 0, 0, 3));
     Ok(())
+}
+
+// The offer of one person that lists nothing.
+fn offer_of_nothing(alloc: Global) -> Result<Option<Offer>, AllocError> {
+    let scaled = one_person(alloc, Vec::new(alloc))?;
+    offered_first(alloc, &scaled, &[0], 1, 0, 1)
 }
 
 #[test]
 fn a_person_that_lists_nothing(rt: HostRuntime) -> Result<(), Fail> {
-    let scaled = one_person(rt.alloc(), Vec::new(rt.alloc()))?;
-    assert_eq!(rt;
-        offered_first(rt.alloc(), &scaled, &[0], 1, 0, 1)?,
-        below(1, 1)
-    );
+    assert_eq!(rt; offer_of_nothing(rt.alloc())?, offer(1, 0, 0, 1));
     Ok(())
 }

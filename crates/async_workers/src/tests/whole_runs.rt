@@ -297,28 +297,12 @@ fn assert_last_told(rt: &impl Abort, gate: &Following) {
     assert_eq!(rt; gate.assigned.load(Ordering::SeqCst), 8);
 }
 
-// That the workers' acceptances are so many each.
-fn assert_accepted(rt: &impl Abort, seen: &Seen, counts: &[u128]) {
-    let Seen::Best(_, _, accepted) = seen else {
+// The objects, the prices and the workers' acceptances of an assignment.
+fn best_of<'a>(rt: &impl Abort, seen: &'a Seen) -> (&'a [u16], &'a [Price], &'a [u128]) {
+    let Seen::Best(objects, prices, accepted) = seen else {
         panic!(rt; "no assignment");
     };
-    assert_eq!(rt; accepted.as_slice(), counts);
-}
-
-// That the objects have these prices.
-fn assert_paid(rt: &impl Abort, seen: &Seen, wanted: &[Price]) {
-    let Seen::Best(_, prices, _) = seen else {
-        panic!(rt; "no assignment");
-    };
-    assert_eq!(rt; prices.as_slice(), wanted);
-}
-
-// That persons 1, 2, .. have the objects of one list or of the other.
-fn assert_given(rt: &impl Abort, seen: &Seen, one: &[u16], other: &[u16]) {
-    let Seen::Best(objects, _, _) = seen else {
-        panic!(rt; "no assignment");
-    };
-    assert!(rt; objects.as_slice() == one || objects.as_slice() == other);
+    (objects.as_slice(), prices.as_slice(), accepted.as_slice())
 }
 
 // The spread is 378, nine times that of the costs, so the phases have slackness 75, 15, 3 and 1.
@@ -327,7 +311,8 @@ fn one_worker_is_followed(rt: HostRuntime) -> Result<(), Fail> {
     let gate = new_following();
     let seen = dense_solved(&rt, rt.alloc(), 8, &EIGHT, 1, 1, &gate)?;
     let told = gate.accepted.load(Ordering::SeqCst);
-    assert_accepted(&rt, &seen, &[u128::from(told)]);
+    let (_, _, accepted) = best_of(&rt, &seen);
+    assert_eq!(rt; accepted, [u128::from(told)].as_slice());
     assert_eq!(rt; gate.heard.load(Ordering::SeqCst), told);
     assert_eq!(rt; gate.wrong.load(Ordering::SeqCst), 0);
     assert_last_told(&rt, &gate);
@@ -376,9 +361,10 @@ fn a_session_is_told_without_the_book(rt: HostRuntime) -> Result<(), Fail> {
 #[test]
 fn stale_bid_refused(rt: HostRuntime) -> Result<(), Fail> {
     let (seen, refused, late) = stale_bid(&rt, rt.alloc(), 1, 2, &[2, 2, 2, 2])?;
-    assert_given(&rt, &seen, &[1, 2], &[2, 1]);
-    assert_paid(&rt, &seen, &[1, 2]);
-    assert_accepted(&rt, &seen, &[1, 1]);
+    let (objects, prices, accepted) = best_of(&rt, &seen);
+    assert!(rt; objects == [1, 2].as_slice() || objects == [2, 1].as_slice());
+    assert_eq!(rt; prices, [1, 2].as_slice());
+    assert_eq!(rt; accepted, [1, 1].as_slice());
     assert_eq!(rt; (refused, late), (1, 0));
     Ok(())
 }
@@ -387,9 +373,10 @@ fn stale_bid_refused(rt: HostRuntime) -> Result<(), Fail> {
 fn stale_bid_accepted(rt: HostRuntime) -> Result<(), Fail> {
     let costs = [0, 1, 1, 1, 0, 1, 1, 1, 0];
     let (seen, refused, late) = stale_bid(&rt, rt.alloc(), 2, 3, &costs)?;
-    assert_given(&rt, &seen, &[1, 2, 3], &[1, 2, 3]);
-    assert_paid(&rt, &seen, &[5, 5, 5]);
-    assert_accepted(&rt, &seen, &[1, 2]);
+    let (objects, prices, accepted) = best_of(&rt, &seen);
+    assert_eq!(rt; objects, [1, 2, 3].as_slice());
+    assert_eq!(rt; prices, [5, 5, 5].as_slice());
+    assert_eq!(rt; accepted, [1, 2].as_slice());
     assert_eq!(rt; (refused, late), (0, 0));
     Ok(())
 }

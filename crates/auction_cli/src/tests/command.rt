@@ -1,6 +1,5 @@
 // Command lines, with the statuses and the first lines that they give.
-use crate::tests::watched::{Seen, first_line, run_with, watched_run, whole_scene};
-use std::process::Abort;
+use crate::tests::watched::{assert_begins, run_with, watched_run, whole_scene};
 use std::test::Fail;
 
 // Valid in both layouts.
@@ -16,14 +15,6 @@ const SOLVE_HELP: &str =
     "Read a problem from standard input, and write a best assignment or why there is none";
 
 const VERIFY_HELP: &str = "Read a problem from standard input, and check a report on it";
-
-// The first lines of a run on each stream, and its status.
-fn assert_begins(rt: &impl Abort, seen: &Seen, status: u8, out: &str, errors: &str) {
-    assert_eq!(rt; first_line(seen.out.as_slice()), out.as_bytes());
-    assert_eq!(rt; first_line(seen.errors.as_slice()), errors.as_bytes());
-    assert_eq!(rt; seen.status, status);
-    assert!(rt; seen.whole);
-}
 
 // None of these are answered as refused memory, which no clause rules out.
 #[test]

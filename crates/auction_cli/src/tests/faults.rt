@@ -2,7 +2,7 @@
 use crate::program::NoWords;
 use crate::run::{CliFault, status_of};
 use crate::tests::streams::blank_sheet;
-use crate::tests::watched::{assert_told, run_with, watched_run, whole_scene, words_of};
+use crate::tests::watched::{Seen, assert_told, run_with, watched_run, whole_scene, words_of};
 use assign_core::{Object, Person};
 use orlib_reader::InputFault;
 use report::{ReportFault, StartFault};
@@ -96,6 +96,15 @@ fn reports_that_cannot_be_read(rt: HostRuntime) -> Result<(), Fail> {
     Ok(())
 }
 
+// What a run left on each stream, and its status.
+fn assert_left(rt: &impl Abort, seen: &Seen, status: u8, out: &[u8], errors: &[u8]) {
+    assert_eq!(rt;
+        (seen.out.as_slice(), seen.errors.as_slice()),
+        (out, errors)
+    );
+    assert_eq!(rt; seen.status, status);
+}
+
 // With room for each count of bytes that is less than the text has, just its beginning goes out.
 fn assert_cut_off(
     rt: &(impl Threads + Wait + Sync + Abort + AllocGlobal),
@@ -110,12 +119,7 @@ fn assert_cut_off(
             let mut scene = whole_scene(alloc, b"2 1 2 3 5", report, 100);
             scene.out = blank_sheet(alloc, room, most, fails);
             let seen = watched_run(rt, alloc, Ok(words_of(alloc, line)?), scene);
-            assert_eq!(rt;
-                seen.errors.as_slice(),
-                b"device: write failed\n".as_slice()
-            );
-            assert_eq!(rt; seen.status, 4);
-            assert_eq!(rt; seen.out.as_slice(), front);
+            assert_left(rt, &seen, 4, front, b"device: write failed\n");
         }
     }
     Ok(())
@@ -152,10 +156,8 @@ fn errors_that_fail(rt: HostRuntime) -> Result<(), Fail> {
             scene.errors = blank_sheet(alloc, room, 3, false);
             let seen = watched_run(&rt, alloc, Ok(words_of(alloc, line)?), scene);
             let (wanted, _) = start.split_at(room);
-            assert_eq!(rt; seen.errors.as_slice(), wanted);
-            assert_eq!(rt; seen.status, status);
+            assert_left(&rt, &seen, status, b"", wanted);
             assert!(rt; !seen.whole);
-            assert_eq!(rt; seen.out.len(), 0);
         }
     }
     Ok(())

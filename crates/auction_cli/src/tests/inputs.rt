@@ -30,6 +30,11 @@ fn run_on_file(
     Ok(watched_run(rt, alloc, Ok(words_of(alloc, line)?), scene))
 }
 
+// The run read nothing from standard input.
+fn assert_left_alone(rt: &impl Abort, seen: &Seen) {
+    assert_eq!(rt; seen.left, STANDARD.len());
+}
+
 #[test]
 fn problems_in_files(rt: HostRuntime) -> Result<(), Fail> {
     let least = "sense min\ncost 5\nassign 1 2 2\nassign 2 1 3\n";
@@ -48,7 +53,7 @@ fn problems_in_files(rt: HostRuntime) -> Result<(), Fail> {
         for most in [1, 65536] {
             let seen = run_on_file(&rt, rt.alloc(), line, false, most)?;
             assert_reported(&rt, &seen, 0, out);
-            assert_eq!(rt; seen.left, STANDARD.len());
+            assert_left_alone(&rt, &seen);
         }
     }
     Ok(())
@@ -84,7 +89,7 @@ fn files_that_cannot_be_read(rt: HostRuntime) -> Result<(), Fail> {
     for (line, status, told) in table {
         let seen = run_on_file(&rt, rt.alloc(), line, true, 2)?;
         assert_told(&rt, &seen, status, told);
-        assert_eq!(rt; seen.left, STANDARD.len());
+        assert_left_alone(&rt, &seen);
     }
     Ok(())
 }
@@ -104,7 +109,7 @@ fn words_come_first(rt: HostRuntime) -> Result<(), Fail> {
     for (line, told) in table {
         let seen = run_on_file(&rt, rt.alloc(), line, false, 100)?;
         assert_told(&rt, &seen, 2, told);
-        assert_eq!(rt; seen.left, STANDARD.len());
+        assert_left_alone(&rt, &seen);
     }
     Ok(())
 }

@@ -1,6 +1,6 @@
 // Runs by shortest paths.
 use crate::tests::starts::{neighbours_of, report_of};
-use crate::tests::watched::{assert_reported, assert_told, first_line, run_with};
+use crate::tests::watched::{assert_begins, assert_reported, assert_told, run_with};
 use std::alloc::{AllocError, Global};
 use std::sync::Wait;
 use std::test::Fail;
@@ -131,9 +131,7 @@ fn refused_methods(rt: HostRuntime) -> Result<(), Fail> {
     ];
     for (line, errors) in table {
         let seen = run_with(&rt, rt.alloc(), line, b"1 7", b"", 100)?;
-        assert_eq!(rt; first_line(seen.errors.as_slice()), errors.as_bytes());
-        assert_eq!(rt; seen.out.len(), 0);
-        assert_eq!(rt; seen.status, 2);
+        assert_begins(&rt, &seen, 2, "", errors);
     }
     Ok(())
 }

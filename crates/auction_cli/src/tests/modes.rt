@@ -1,13 +1,17 @@
 // Both modes, on problems whose reports, or what is compared of them, are the same for any threads.
 use crate::run::{Ended, run_solve};
 use crate::tests::streams::{ample_sheet, whole_text};
-use crate::tests::watched::{first_line, run_with};
+use crate::tests::watched::{Seen, assert_begins, run_with};
 use crate::words::{Mode, SolveOpts};
 use assign_core::Sense;
 use async_workers::{Gate, Note};
+use std::alloc::Global;
+use std::process::Abort;
+use std::sync::Wait;
 use std::sync::atomic::{AtomicU64, Ordering};
 use std::test::Fail;
 use std::thread;
+use std::thread::Threads;
 
 const EIGHT: &[u8] = b"8
 14 20 22 28 34 40 46 48
@@ -33,6 +37,12 @@ const MODES: [&str; 6] = [
 // A problem under some options, a report for `--start`, and the status and the beginning of the
 // report that is written.
 type Worked = (&'static str, &'static [u8], &'static [u8], u8, &'static str);
+
+// The run wrote a report that starts so, told nothing, and ended with this status.
+fn assert_starts(rt: &impl Abort, seen: &Seen, status: u8, start: &str) {
+    assert!(rt; seen.out.as_slice().starts_with(start.as_bytes()));
+    assert_eq!(rt; (seen.errors.len(), seen.status), (0, status));
+}
 
 #[test]
 fn reports_in_both_modes(rt: HostRuntime) -> Result<(), Fail> {
@@ -101,9 +111,7 @@ fn reports_in_both_modes(rt: HostRuntime) -> Result<(), Fail> {
         for mode in MODES {
             let line = format!(in rt.alloc(); "{options} {mode}")?;
             let seen = run_with(&rt, rt.alloc(), line.as_str(), text, report, 4096)?;
-            assert_eq!(rt; seen.errors.len(), 0);
-            assert!(rt; seen.out.as_slice().starts_with(start.as_bytes()));
-            assert_eq!(rt; seen.status, status);
+            assert_starts(&rt, &seen, status, start);
         }
     }
     Ok(())
@@ -139,9 +147,7 @@ fn refused_modes(rt: HostRuntime) -> Result<(), Fail> {
     ];
     for (line, errors) in table {
         let seen = run_with(&rt, rt.alloc(), line, b"1 7", b"", 4096)?;
-        assert_eq!(rt; first_line(seen.errors.as_slice()), errors.as_bytes());
-        assert_eq!(rt; seen.out.len(), 0);
-        assert_eq!(rt; seen.status, 2);
+        assert_begins(&rt, &seen, 2, "", errors);
     }
     Ok(())
 }
@@ -202,6 +208,33 @@ impl Gate for Holding {
     }
 }
 
+// The report of two workers on four equal costs, who are held so, if it is on a best assignment.
+fn report_of_two(
+    rt: &(impl Threads + Wait + Sync),
+    alloc: Global,
+    gate: &Holding,
+) -> Option<Vec<u8>> {
+    let options = SolveOpts {
+        sparse: false,
+        mode: Mode::Workers,
+        workers: 2,
+        refresh: 0,
+        prices: true,
+        sense: Sense::Min,
+    };
+    let mut sheet = ample_sheet(alloc);
+    let mut text = whole_text(b"2 2 2 2 2", 64);
+    match run_solve(rt, alloc, &mut text, &mut sheet, options, gate) {
+        Ok(Ended::Optimal) => Some(sheet.taken),
+        _ => None,
+    }
+}
+
+// The workers whose bids were accepted, those whose bids were refused, and whether one was held in vain.
+fn told_workers(gate: &Holding) -> [u64; 3] {
+    [&gate.accepted, &gate.refused, &gate.late].map(|bits| bits.load(Ordering::SeqCst))
+}
+
 // Both bid for the first object at 1; worker 2 gets it, and worker 1 bids for the other one at 2.
 #[test]
 fn stale_bid_refused(rt: HostRuntime) -> Result<(), Fail> {
@@ -212,23 +245,12 @@ fn stale_bid_refused(rt: HostRuntime) -> Result<(), Fail> {
         refused: AtomicU64::new(0),
         late: AtomicU64::new(0),
     };
-    let options = SolveOpts {
-        sparse: false,
-        mode: Mode::Workers,
-        workers: 2,
-        refresh: 0,
-        prices: true,
-        sense: Sense::Min,
-    };
-    let mut sheet = ample_sheet(rt.alloc());
-    let mut text = whole_text(b"2 2 2 2 2", 64);
-    let end = run_solve(&rt, rt.alloc(), &mut text, &mut sheet, options, &gate);
-    assert!(rt; matches!(end, Ok(Ended::Optimal)));
-    let out = sheet.taken.as_slice();
-    assert!(rt; out.starts_with(b"sense min\ncost 4\n"));
-    assert!(rt; out.ends_with(b"price 1 1\nprice 2 2\n"));
-    assert_eq!(rt; gate.accepted.load(Ordering::SeqCst), 6);
-    assert_eq!(rt; gate.refused.load(Ordering::SeqCst), 2);
-    assert_eq!(rt; gate.late.load(Ordering::SeqCst), 0);
+    let report = report_of_two(&rt, rt.alloc(), &gate);
+    assert!(rt;
+        report.is_some_and(|out| {
+            out.starts_with(b"sense min\ncost 4\n") && out.ends_with(b"price 1 1\nprice 2 2\n")
+        })
+    );
+    assert_eq!(rt; told_workers(&gate), [6, 2, 0]);
     Ok(())
 }

@@ -146,73 +146,56 @@ fn follows(
         && !follower.wrong.load(Ordering::SeqCst)
 }
 
+// How often such a run told of rounds, of sessions and of paths, and the last phase, how many phases there are and the
+// last slackness, if it is followed as it should be.
+fn told_of(
+    rt: &(impl Threads + Wait + Sync),
+    alloc: Global,
+    text: &[u8],
+    start: Option<&[u8]>,
+    mode: Mode,
+    method: Method,
+) -> Option<([u64; 3], [u64; 3])> {
+    let told = new_follower();
+    if !follows(rt, alloc, text, start, mode, method, &told) {
+        return None;
+    }
+    let counts = [&told.rounds, &told.sessions, &told.paths].map(seen);
+    Some((
+        counts,
+        [&told.phase, &told.phases, &told.slackness].map(seen),
+    ))
+}
+
 // The spread is 12, three times that of the costs, so the phases have slackness 2 and 1; each is told once.
 #[test]
 fn each_phase_is_told(rt: HostRuntime) -> Result<(), Fail> {
-    let told = new_follower();
-    let text = b"2 1 2 3 5";
-    assert!(rt;
-        follows(
-            &rt,
-            rt.alloc(),
-            text,
-            None,
-            Mode::Rounds,
-            Method::Auction,
-            &told
-        )
-    );
-    assert_eq!(rt; seen(&told.rounds), 2);
-    assert_eq!(rt; seen(&told.phase), 2);
-    assert_eq!(rt; seen(&told.phases), 2);
-    assert_eq!(rt; seen(&told.slackness), 1);
-    assert_eq!(rt; seen(&told.sessions), 0);
+    let (mode, method) = (Mode::Rounds, Method::Auction);
+    let told = told_of(&rt, rt.alloc(), b"2 1 2 3 5", None, mode, method);
+    assert_eq!(rt; told, Some(([2, 0, 0], [2, 2, 1])));
     Ok(())
 }
 
+// Whether each count is 0 where the least is, and at least that elsewhere.
+fn is_told(counts: [u64; 3], least: [u64; 3]) -> bool {
+    counts.iter().zip(&least).all(|(count, least)| (*count == 0) == (*least == 0) && count >= least)
+}
+
+// Rounds are told now and then, each session of the workers counts, and paths are told in place of both.
 #[test]
 fn long_runs_are_told(rt: HostRuntime) -> Result<(), Fail> {
-    let rounds = new_follower();
-    assert!(rt;
-        follows(
-            &rt,
-            rt.alloc(),
-            WAR,
-            Some(FAR),
-            Mode::Rounds,
-            Method::Auction,
-            &rounds
-        )
-    );
-    assert!(rt; seen(&rounds.rounds) > 10);
-    let workers = new_follower();
-    assert!(rt;
-        follows(
-            &rt,
-            rt.alloc(),
-            WAR,
-            Some(FAR),
-            Mode::Workers,
-            Method::Auction,
-            &workers
-        )
-    );
-    assert!(rt; seen(&workers.sessions) > 1000);
-    assert_eq!(rt; seen(&workers.rounds), 0);
-    let paths = new_follower();
-    assert!(rt;
-        follows(
-            &rt,
-            rt.alloc(),
-            WAR,
-            None,
-            Mode::Rounds,
-            Method::Paths,
-            &paths
-        )
-    );
-    assert!(rt; seen(&paths.paths) > 1);
-    assert_eq!(rt; seen(&paths.rounds), 0);
+    let table: [(Option<&[u8]>, Mode, Method, [u64; 3]); 3] = [
+        (Some(FAR), Mode::Rounds, Method::Auction, [11, 0, 0]),
+        (Some(FAR), Mode::Workers, Method::Auction, [0, 1001, 0]),
+        (None, Mode::Rounds, Method::Paths, [0, 0, 2]),
+    ];
+    for (start, mode, method, least) in table {
+        let told = told_of(&rt, rt.alloc(), WAR, start, mode, method);
+        assert!(rt;
+            told.is_some_and(|(counts, _)| is_told(counts, least)),
+            "{least:?}"
+        );
+    }
     Ok(())
 }
 
@@ -292,32 +275,33 @@ progress: phase 3 of 8, 812 of 1000 persons, 128 sessions, 99 bids, 1.2 s
 
 #[test]
 fn lines_on_a_file(rt: HostRuntime) -> Result<(), Fail> {
-    let all = told(rt.alloc(), 600, 9, false, true, true);
-    assert_eq!(rt; all.as_slice(), ALL.as_bytes());
-    let some = told(rt.alloc(), 300, 9, false, true, true);
-    assert_eq!(rt; some.as_slice(), SOME.as_bytes());
-    assert_eq!(rt; told(rt.alloc(), 600, 9, false, false, true).len(), 0);
-    assert_eq!(rt; told(rt.alloc(), 600, 0, false, true, true).len(), 0);
+    for (step, most, asked, wanted) in [
+        (600, 9, true, ALL),
+        (300, 9, true, SOME),
+        (600, 9, false, ""),
+        (600, 0, true, ""),
+    ] {
+        let lines = told(rt.alloc(), step, most, false, asked, true);
+        assert_eq!(rt; lines.as_slice(), wanted.as_bytes());
+    }
     Ok(())
 }
 
-// Unasked, the first line comes after two seconds; the shorter one behind it covers it, and the end erases that.
+// The shorter line covers what stands behind it of the longer one.
+const LEFT: &str = "\rphase 3 of 8, 812 of 1000 persons, 128 sessions, 99 bids, 2.4 s\
+    \rshortest paths, 731 of 1000 persons, 3.0 s                     ";
+
+// The end erases the last line.
+const ERASED: &str = "\rphase 3 of 8, 812 of 1000 persons, 128 sessions, 99 bids, 2.4 s\
+    \rshortest paths, 731 of 1000 persons, 3.0 s                     \
+    \r                                          \r";
+
+// Unasked, the first line comes after two seconds.
 #[test]
 fn lines_on_a_terminal(rt: HostRuntime) -> Result<(), Fail> {
-    let mut wanted = String::new(rt.alloc());
-    wanted.push_str("\rphase 3 of 8, 812 of 1000 persons, 128 sessions, 99 bids, 2.4 s")?;
-    wanted.push_str("\rshortest paths, 731 of 1000 persons, 3.0 s")?;
-    for _ in 42..63 {
-        wanted.push(' ')?;
+    for (ends, wanted) in [(false, LEFT), (true, ERASED)] {
+        let lines = told(rt.alloc(), 600, 9, true, false, ends);
+        assert_eq!(rt; lines.as_slice(), wanted.as_bytes());
     }
-    let left = told(rt.alloc(), 600, 9, true, false, false);
-    assert_eq!(rt; left.as_slice(), wanted.as_bytes());
-    wanted.push('\r')?;
-    for _ in 0..42 {
-        wanted.push(' ')?;
-    }
-    wanted.push('\r')?;
-    let all = told(rt.alloc(), 600, 9, true, false, true);
-    assert_eq!(rt; all.as_slice(), wanted.as_bytes());
     Ok(())
 }

@@ -73,15 +73,19 @@ fn reports_with_prices(rt: HostRuntime) -> Result<(), Fail> {
 
 #[test]
 fn reports_on_the_greatest_cost(rt: HostRuntime) -> Result<(), Fail> {
-    let two = "sense max\ncost 6\nassign 1 1 1\nassign 2 2 5\n";
     let plain: [(&[u8], &str); 2] = [
         (b"1 7", "sense max\ncost 7\nassign 1 1 7\n"),
-        (b"2 1 2 3 5", two),
+        (
+            b"2 1 2 3 5",
+            "sense max\ncost 6\nassign 1 1 1\nassign 2 2 5\n",
+        ),
     ];
     assert_reports(&rt, "solve --max", 0, &plain)?;
-    let priced = format!(in rt.alloc(); "{two}price 1 12\nprice 2 14\n")?;
-    let table: [(&[u8], &str); 1] = [(b"2 1 2 3 5", priced.as_str())];
-    assert_reports(&rt, "solve --max --prices", 0, &table)
+    let priced: [(&[u8], &str); 1] = [(
+        b"2 1 2 3 5",
+        "sense max\ncost 6\nassign 1 1 1\nassign 2 2 5\nprice 1 12\nprice 2 14\n",
+    )];
+    assert_reports(&rt, "solve --max --prices", 0, &priced)
 }
 
 #[test]

@@ -129,8 +129,9 @@ fn least_cost(rt: HostRuntime) -> Result<(), Fail> {
             "not verified: total",
         ),
     ];
-    assert_eq!(rt; told(alloc, TWO, false, "", &table)?, 12);
-    assert_eq!(rt; told(alloc, TWO, false, "sense min\n", &table)?, 12);
+    for front in ["", "sense min\n"] {
+        assert_eq!(rt; told(alloc, TWO, false, front, &table)?, 12);
+    }
     Ok(())
 }
 
@@ -267,16 +268,20 @@ fn hall_sets(rt: HostRuntime) -> Result<(), Fail> {
     for front in ["", "sense min\n", "sense max\n"] {
         assert_eq!(rt; told(alloc, roster, true, front, &table)?, 7);
     }
-    let idle = [(
-        "infeasible\npersons 1 2\nobjects 0\n",
-        "verified infeasible",
-    )];
-    assert_eq!(rt; told(alloc, b"2 1 1 5 1 2 6", true, "", &idle)?, 1);
-    let nothing = [(
-        "infeasible\npersons 1 1\nobjects 0\n",
-        "verified infeasible",
-    )];
-    assert_eq!(rt; told(alloc, b"3", true, "", &nothing)?, 1);
+    Ok(())
+}
+
+// Persons who list nothing are one more than their objects.
+#[test]
+fn persons_that_list_nothing(rt: HostRuntime) -> Result<(), Fail> {
+    let runs: [(&[u8], &str); 2] = [
+        (b"2 1 1 5 1 2 6", "infeasible\npersons 1 2\nobjects 0\n"),
+        (b"3", "infeasible\npersons 1 1\nobjects 0\n"),
+    ];
+    for (problem, report) in runs {
+        let table = [(report, "verified infeasible")];
+        assert_eq!(rt; told(rt.alloc(), problem, true, "", &table)?, 1);
+    }
     Ok(())
 }
 
@@ -291,6 +296,12 @@ fn asked(alloc: Global, problem: &[u8], report: &[u8], wanted: Sense) -> Seen {
         answer,
         out: sheet.taken,
     }
+}
+
+// Whether a run tells this line where the least cost is asked for, and this where the greatest is.
+fn tell(alloc: Global, problem: &[u8], report: &[u8], min: &str, max: &str) -> bool {
+    tells(&asked(alloc, problem, report, Sense::Min), min)
+        && tells(&asked(alloc, problem, report, Sense::Max), max)
 }
 
 // Each report with its line where the least cost is asked for, and where the greatest is.
@@ -336,12 +347,19 @@ fn senses_that_are_asked_for(rt: HostRuntime) -> Result<(), Fail> {
     ];
     for (problem, front, body, min, max) in table {
         let report = format!(in rt.alloc(); "{front}{body}")?;
-        let run = asked(rt.alloc(), problem, report.as_bytes(), Sense::Min);
-        assert!(rt; tells(&run, min), "{front}{body}");
-        let run = asked(rt.alloc(), problem, report.as_bytes(), Sense::Max);
-        assert!(rt; tells(&run, max), "{front}{body}");
+        assert!(rt;
+            tell(rt.alloc(), problem, report.as_bytes(), min, max),
+            "{front}{body}"
+        );
     }
-    let run = asked(rt.alloc(), roster, b"sense max\ncost 6", Sense::Min);
+    Ok(())
+}
+
+// The report is read whole before its sense is looked at.
+#[test]
+fn a_sense_before_a_bad_line(rt: HostRuntime) -> Result<(), Fail> {
+    let problem = b"2 1 1 1 1 2 2 2 1 3 2 2 5";
+    let run = asked(rt.alloc(), problem, b"sense max\ncost 6", Sense::Min);
     assert!(rt; matches!(run.answer, Err(CliFault::Report(_))));
     Ok(())
 }
@@ -349,15 +367,15 @@ fn senses_that_are_asked_for(rt: HostRuntime) -> Result<(), Fail> {
 // Lines of findings that no report that was read gives.
 #[test]
 fn lines_of_lists(rt: HostRuntime) -> Result<(), Fail> {
-    let range = Finding::Unproved(Verdict::PriceRange(Object(7)));
-    let text = format!(in rt.alloc(); "{range}")?;
-    assert_eq!(rt;
-        text.as_str(),
-        "not verified: price of object 7 out of range"
-    );
-    let order = Finding::Hall(HallVerdict::Order);
-    let text = format!(in rt.alloc(); "{order}")?;
-    assert_eq!(rt; text.as_str(), "not verified: order");
+    for (finding, line) in [
+        (
+            Finding::Unproved(Verdict::PriceRange(Object(7))),
+            "not verified: price of object 7 out of range",
+        ),
+        (Finding::Hall(HallVerdict::Order), "not verified: order"),
+    ] {
+        assert_eq!(rt; format!(in rt.alloc(); "{finding}")?.as_str(), line);
+    }
     Ok(())
 }
 
@@ -367,6 +385,11 @@ fn fault_line(alloc: Global, run: &Seen) -> Result<Option<String>, AllocError> {
         Err(fault) if run.out.is_empty() => Ok(Some(format!(in alloc; "{fault}")?)),
         _ => Ok(None),
     }
+}
+
+// That line, or nothing where the run failed otherwise, of a run on whole texts.
+fn refused(alloc: Global, problem: &[u8], report: &[u8]) -> Result<Option<String>, AllocError> {
+    fault_line(alloc, &held(alloc, problem, report, false, 65536)?)
 }
 
 #[test]
@@ -386,8 +409,7 @@ fn refused_texts(rt: HostRuntime) -> Result<(), Fail> {
         (TWO, b"sense min\n", "report: ends before line 2"),
     ];
     for (problem, report, line) in table {
-        let run = held(alloc, problem, report, false, 65536)?;
-        let fault = fault_line(alloc, &run)?;
+        let fault = refused(alloc, problem, report)?;
         assert_eq!(rt; fault.as_ref().map(|text| text.as_str()), Some(line));
     }
     Ok(())
@@ -395,64 +417,65 @@ fn refused_texts(rt: HostRuntime) -> Result<(), Fail> {
 
 const PROVED: &[u8] = b"cost 5\nassign 1 2 2\nassign 2 1 3\nprice 1 14\nprice 2 12\n";
 
-// Each reader may fail behind a whole text or in the middle of one; the problem's comes first.
+// The line of the fault of a run whose report's reader fails behind this text, if that is the fault.
+fn broken_report(alloc: Global, text: &[u8]) -> Result<Option<String>, AllocError> {
+    let failing = Pieces {
+        text,
+        most: 16,
+        fails: true,
+    };
+    let run = watched_run(alloc, whole_text(TWO, 3), failing, false, 100, true);
+    match run.answer {
+        Err(CliFault::Report(_)) => fault_line(alloc, &run),
+        _ => Ok(None),
+    }
+}
+
+// The reader may fail behind a whole text or in the middle of one.
 #[test]
-fn readers_that_fail(rt: HostRuntime) -> Result<(), Fail> {
-    let alloc = rt.alloc();
+fn reports_whose_readers_fail(rt: HostRuntime) -> Result<(), Fail> {
     for at in 0..PROVED.len() + 1 {
         let (front, _) = PROVED.split_at(at);
-        let failing = Pieces {
-            text: front,
-            most: 16,
-            fails: true,
-        };
-        let run = watched_run(alloc, whole_text(TWO, 3), failing, false, 100, true);
-        let line = fault_line(alloc, &run)?;
+        let line = broken_report(rt.alloc(), front)?;
         assert_eq!(rt;
             line.as_ref().map(|text| text.as_str()),
             Some("device: read failed")
         );
-        assert!(rt; matches!(run.answer, Err(CliFault::Report(_))));
     }
+    Ok(())
+}
+
+// A fault of the problem comes before those of the report.
+#[test]
+fn problems_whose_readers_fail(rt: HostRuntime) -> Result<(), Fail> {
     let failing = Pieces {
         text: TWO,
         most: 3,
         fails: true,
     };
-    let run = watched_run(alloc, failing, whole_text(b"", 16), false, 100, true);
-    assert!(rt; matches!(run.answer, Err(CliFault::Input(_))));
-    assert_eq!(rt; run.out.len(), 0);
+    let run = watched_run(rt.alloc(), failing, whole_text(b"", 16), false, 100, true);
+    assert!(rt; matches!(run.answer, Err(CliFault::Input(_))) && run.out.is_empty());
     Ok(())
+}
+
+// A run on a report that is right, with room for so many bytes.
+fn written(alloc: Global, room: usize, fails: bool) -> Seen {
+    let (problem, report) = (whole_text(TWO, 16), whole_text(PROVED, 16));
+    watched_run(alloc, problem, report, false, room, fails)
 }
 
 // A writer with room for some bytes takes just these.
 #[test]
 fn writers_that_fail(rt: HostRuntime) -> Result<(), Fail> {
-    let alloc = rt.alloc();
     let line = b"verified cost 5\n";
     for fails in [true, false] {
         for room in 0..line.len() {
-            let run = watched_run(
-                alloc,
-                whole_text(TWO, 16),
-                whole_text(PROVED, 16),
-                false,
-                room,
-                fails,
-            );
+            let run = written(rt.alloc(), room, fails);
             let (front, _) = line.split_at(room);
-            assert!(rt; matches!(run.answer, Err(CliFault::Write)));
-            assert_eq!(rt; run.out.as_slice(), front);
+            assert!(rt; matches!(run.answer, Err(CliFault::Write)) && run.out.as_slice() == front);
         }
     }
-    let run = watched_run(
-        alloc,
-        whole_text(TWO, 16),
-        whole_text(PROVED, 16),
-        false,
-        line.len(),
-        true,
-    );
+    let run = written(rt.alloc(), line.len(), true);
     assert!(rt; tells(&run, "verified cost 5"));
     Ok(())
 }

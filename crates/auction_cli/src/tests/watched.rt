@@ -157,3 +157,11 @@ pub fn assert_told(rt: &impl Abort, seen: &Seen, status: u8, line: &str) {
     assert_eq!(rt; seen.status, status);
     assert_eq!(rt; seen.out.len(), 0);
 }
+
+/// The first lines of a run on each stream, all of which it could tell, and its status.
+pub fn assert_begins(rt: &impl Abort, seen: &Seen, status: u8, out: &str, errors: &str) {
+    assert_eq!(rt; first_line(seen.out.as_slice()), out.as_bytes());
+    assert_eq!(rt; first_line(seen.errors.as_slice()), errors.as_bytes());
+    assert_eq!(rt; seen.status, status);
+    assert!(rt; seen.whole);
+}
