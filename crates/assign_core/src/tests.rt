@@ -6,6 +6,7 @@ ghost use Rattle.assign_core.specs.Sparse.{IsTriple};
 
 use super::*;
 use std::alloc::{AllocError, Global};
+use std::process::Abort;
 use std::test::Fail;
 
 // The dense problem of two persons.
@@ -32,13 +33,19 @@ fn costs_of_a_dense_problem(rt: HostRuntime) -> Result<(), Fail> {
     Ok(())
 }
 
-#[test]
-fn rows_of_a_dense_problem(rt: HostRuntime) -> Result<(), Fail> {
-    let problem = two_persons(rt.alloc())?;
+fn assert_rows_of_two(rt: &impl Abort, problem: &Problem)
+    requires { length problem.now ≡ 2 }
+{
     let row = problem.row(Person(1));
     assert_eq!(rt; row, [(Object(1), 1), (Object(2), 2)].as_slice());
     let row = problem.row(Person(2));
     assert_eq!(rt; row, [(Object(1), 3), (Object(2), 5)].as_slice());
+}
+
+#[test]
+fn rows_of_a_dense_problem(rt: HostRuntime) -> Result<(), Fail> {
+    let problem = two_persons(rt.alloc())?;
+    assert_rows_of_two(&rt, &problem);
     Ok(())
 }
 
@@ -62,14 +69,22 @@ fn certificate(alloc: Global) -> Result<Certificate, AllocError> {
     Ok(Certificate { assignment, prices })
 }
 
+fn certificate_copied(alloc: Global) -> Result<Certificate, AllocError> {
+    certificate(alloc)?.copy(alloc)
+}
+
+fn assert_certificate(rt: &impl Abort, certificate: &Certificate) {
+    let objects = certificate.assignment.objects();
+    assert_eq!(rt; objects, [Object(2), Object(1)].as_slice());
+    let prices = certificate.prices.as_slice();
+    assert_eq!(rt; prices, [14, 12].as_slice());
+}
+
 #[test]
 fn an_assignment_and_a_copy_with_prices(rt: HostRuntime) -> Result<(), Fail> {
     assert_eq!(rt; cost_crossed(rt.alloc())?, 5);
-    let copy = certificate(rt.alloc())?.copy(rt.alloc())?;
-    let objects = copy.assignment.objects();
-    assert_eq!(rt; objects, [Object(2), Object(1)].as_slice());
-    let prices = copy.prices.as_slice();
-    assert_eq!(rt; prices, [14, 12].as_slice());
+    let copy = certificate_copied(rt.alloc())?;
+    assert_certificate(&rt, &copy);
     Ok(())
 }
 
@@ -91,11 +106,19 @@ fn two_for_one(alloc: Global) -> Result<HallSet, AllocError> {
     Ok(HallSet::new(persons, vec![in alloc; Object(1)]?))
 }
 
+fn two_for_one_copied(alloc: Global) -> Result<HallSet, AllocError> {
+    two_for_one(alloc)?.copy(alloc)
+}
+
+fn assert_two_for_one(rt: &impl Abort, hall: &HallSet) {
+    assert_eq!(rt; hall.persons(), [Person(1), Person(2)].as_slice());
+    assert_eq!(rt; hall.objects(), [Object(1)].as_slice());
+}
+
 #[test]
 fn a_hall_set_and_its_copy(rt: HostRuntime) -> Result<(), Fail> {
-    let copy = two_for_one(rt.alloc())?.copy(rt.alloc())?;
-    assert_eq!(rt; copy.persons(), [Person(1), Person(2)].as_slice());
-    assert_eq!(rt; copy.objects(), [Object(1)].as_slice());
+    let copy = two_for_one_copied(rt.alloc())?;
+    assert_two_for_one(&rt, &copy);
     Ok(())
 }
 
@@ -118,12 +141,17 @@ fn all_for_less(alloc: Global) -> Result<HallSet, AllocError> {
     Ok(HallSet::new(persons, objects))
 }
 
+// How many persons and objects a copy of it has, and its last person.
+fn all_told(alloc: Global) -> Result<(usize, usize, Option<Person>), AllocError> {
+    let copy = all_for_less(alloc)?.copy(alloc)?;
+    let last = copy.persons().last().copied();
+    Ok((copy.persons().len(), copy.objects().len(), last))
+}
+
 #[test]
 fn a_hall_set_of_all_persons(rt: HostRuntime) -> Result<(), Fail> {
-    let copy = all_for_less(rt.alloc())?.copy(rt.alloc())?;
-    let lengths = (copy.persons().len(), copy.objects().len());
-    assert_eq!(rt; lengths, (8192, 8191));
-    assert_eq!(rt; copy.persons().last(), Some(&Person(8192)));
+    let told = all_told(rt.alloc())?;
+    assert_eq!(rt; told, (8192, 8191, Some(Person(8192))));
     Ok(())
 }
 
@@ -136,17 +164,21 @@ fn all_alike(alloc: Global, n: u16) -> Result<Problem, AllocError>
     Problem::dense(alloc, n, costs.as_slice())
 }
 
-#[test]
-fn a_dense_problem_of_many_persons(rt: HostRuntime) -> Result<(), Fail> {
-    let problem = all_alike(rt.alloc(), 2000)?;
-    let lengths = (problem.n(), problem.row(Person(2000)).len());
-    assert_eq!(rt; lengths, (2000, 2000));
+// How many persons such a problem of 2000 has, how long the last row is, and what three pairs cost.
+fn many_told(alloc: Global) -> Result<(u16, usize, [Option<Cost>; 3]), AllocError> {
+    let problem = all_alike(alloc, 2000)?;
     let costs = [
         problem.cost_of(Person(2000), Object(2000)),
         problem.cost_of(Person(0), Object(1)),
         problem.cost_of(Person(2001), Object(1)),
     ];
-    assert_eq!(rt; costs, [Some(7), None, None]);
+    Ok((problem.n(), problem.row(Person(2000)).len(), costs))
+}
+
+#[test]
+fn a_dense_problem_of_many_persons(rt: HostRuntime) -> Result<(), Fail> {
+    let told = many_told(rt.alloc())?;
+    assert_eq!(rt; told, (2000, 2000, [Some(7), None, None]));
     Ok(())
 }
 
@@ -159,12 +191,23 @@ fn one_set(alloc: Global) -> Result<Prices, AllocError>
     Ok(prices)
 }
 
+// What such prices are, in either form.
+fn assert_prices(rt: &impl Abort, prices: &Prices, wide: &[Price; 3], narrow: &[i64; 3]) {
+    assert_eq!(rt; prices.as_slice(), wide.as_slice());
+    assert_eq!(rt; prices.narrow(), narrow.as_slice());
+}
+
+fn assert_second_price(rt: &impl Abort, prices: &Prices)
+    requires { length prices.now ≡ 3 }
+{
+    assert_eq!(rt; prices.price(Object(2)), 1 << 63);
+}
+
 #[test]
 fn a_price_is_set(rt: HostRuntime) -> Result<(), Fail> {
     let prices = one_set(rt.alloc())?;
-    assert_eq!(rt; prices.price(Object(2)), 1 << 63);
-    assert_eq!(rt; prices.as_slice(), [0, 1 << 63, 0].as_slice());
-    assert_eq!(rt; prices.narrow(), [0, NARROW_END, 0].as_slice());
+    assert_second_price(&rt, &prices);
+    assert_prices(&rt, &prices, &[0, 1 << 63, 0], &[0, NARROW_END, 0]);
     Ok(())
 }
 
@@ -180,8 +223,7 @@ fn copied(alloc: Global) -> Result<Prices, AllocError> {
 #[test]
 fn prices_are_copied(rt: HostRuntime) -> Result<(), Fail> {
     let prices = copied(rt.alloc())?;
-    assert_eq!(rt; prices.as_slice(), [0, 0, 5].as_slice());
-    assert_eq!(rt; prices.narrow(), [0, 0, 5].as_slice());
+    assert_prices(&rt, &prices, &[0, 0, 5], &[0, 0, 5]);
     Ok(())
 }
 
@@ -191,12 +233,14 @@ fn first_number<T: Numbered>(numbers: &[T]) -> u16 {
 
 #[test]
 fn numbers_of_persons_and_objects(rt: HostRuntime) {
-    assert_eq!(rt; first_number(&[Person(3), Person(1)]), 3);
-    assert_eq!(rt; first_number(&[Object(2)]), 2);
-    assert_eq!(rt; Person::with_number(3), Person(3));
-    assert_eq!(rt; Object::with_number(8192), Object(8192));
-    assert_eq!(rt; Person(3).place(), 2);
-    assert_eq!(rt; Object(1).place(), 0);
+    let firsts = [
+        first_number(&[Person(3), Person(1)]),
+        first_number(&[Object(2)]),
+    ];
+    assert_eq!(rt; firsts, [3, 2]);
+    let numbered = (Person::with_number(3), Object::with_number(8192));
+    assert_eq!(rt; numbered, (Person(3), Object(8192)));
+    assert_eq!(rt; [Person(3).place(), Object(1).place()], [2, 0]);
 }
 
 // A sparse problem of two persons, as a line.

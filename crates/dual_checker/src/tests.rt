@@ -92,13 +92,18 @@ fn two_persons(rt: HostRuntime) -> Result<(), Fail> {
     Ok(())
 }
 
+// The verdict on objects by their digits and some prices, where two are due.
+fn verdict_of_lists(alloc: Global, objects: &str, prices: &[Price]) -> Result<Verdict, AllocError> {
+    verdict_of(alloc, &two_by_two(alloc)?, Sense::Min, objects, prices)
+}
+
 #[test]
 fn lists_of_another_length(rt: HostRuntime) -> Result<(), Fail> {
-    let problem = two_by_two(rt.alloc())?;
-    let short = verdict_of(rt.alloc(), &problem, Sense::Min, "0", &[14, 12])?;
-    assert_eq!(rt; short, Verdict::Length);
-    let long = verdict_of(rt.alloc(), &problem, Sense::Min, "21", &[14, 12, -1])?;
-    assert_eq!(rt; long, Verdict::Length);
+    let lists: [(&str, &[Price]); 2] = [("0", &[14, 12]), ("21", &[14, 12, -1])];
+    for (objects, prices) in lists {
+        let said = verdict_of_lists(rt.alloc(), objects, prices)?;
+        assert_eq!(rt; said, Verdict::Length);
+    }
     Ok(())
 }
 
@@ -113,27 +118,34 @@ fn falling(alloc: Global) -> Result<Problem, AllocError> {
     Problem::dense(alloc, 3, &[5, 1, 0, 5, 1, 0, 5, 1, 0])
 }
 
+// The verdict on two objects that two persons have each.
+fn verdict_of_even(alloc: Global) -> Result<Verdict, AllocError> {
+    verdict_of(alloc, &even(alloc)?, Sense::Min, "2211", &[0, 0, 0, 0])
+}
+
+// The verdict on each person's own object, at no prices.
+fn verdict_of_falling(alloc: Global) -> Result<Verdict, AllocError> {
+    verdict_of(alloc, &falling(alloc)?, Sense::Min, "123", &[0, 0, 0])
+}
+
 #[test]
 fn the_lowest_of_several(rt: HostRuntime) -> Result<(), Fail> {
-    let problem = even(rt.alloc())?;
-    let twice = verdict_of(rt.alloc(), &problem, Sense::Min, "2211", &[0, 0, 0, 0])?;
+    let twice = verdict_of_even(rt.alloc())?;
     assert_eq!(rt; twice, Verdict::Twice(Object(1)));
-    let problem = falling(rt.alloc())?;
-    let slack = verdict_of(rt.alloc(), &problem, Sense::Min, "123", &[0, 0, 0])?;
+    let slack = verdict_of_falling(rt.alloc())?;
     assert_eq!(rt; slack, Verdict::Slack(Person(1), Object(2)));
     Ok(())
 }
 
+// The verdict on one person's object at the greatest price.
+fn verdict_of_one(alloc: Global) -> Result<Verdict, AllocError> {
+    let problem = Problem::dense(alloc, 1, &[7])?;
+    check(alloc, &problem, Sense::Max, &[Object(1)], &[PRICE_END - 1])
+}
+
 #[test]
 fn one_person_at_the_greatest_price(rt: HostRuntime) -> Result<(), Fail> {
-    let problem = Problem::dense(rt.alloc(), 1, &[7])?;
-    let verdict = check(
-        rt.alloc(),
-        &problem,
-        Sense::Max,
-        &[Object(1)],
-        &[PRICE_END - 1],
-    )?;
+    let verdict = verdict_of_one(rt.alloc())?;
     assert_eq!(rt; verdict, Verdict::Yes);
     Ok(())
 }

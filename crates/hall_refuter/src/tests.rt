@@ -28,34 +28,44 @@ fn told(
     format!(in alloc; "{search:?}")
 }
 
+// Person 1 lists one object, which is free.
+fn one_object(alloc: Global) -> Result<String, AllocError> {
+    let row = vec![in alloc; (Object(1), 4)]?;
+    let problem = Problem::from_rows(vec![in alloc; row]?);
+    told(alloc, problem, Sense::Min, &[None], Person(1))
+}
+
 #[test]
 fn a_path_of_one_object(rt: HostRuntime) -> Result<(), Fail> {
-    let row = vec![in rt.alloc(); (Object(1), 4)]?;
-    let problem = Problem::from_rows(vec![in rt.alloc(); row]?);
-    let line = told(rt.alloc(), problem, Sense::Min, &[None], Person(1))?;
+    let line = one_object(rt.alloc())?;
     assert_eq!(rt; line.as_str(), "Path([Object(1)])");
     Ok(())
 }
 
+// Person 1 lists an object whose owner lists a free one.
+fn two_objects(alloc: Global) -> Result<String, AllocError> {
+    let first = vec![in alloc; (Object(1), 4)]?;
+    let second = vec![in alloc; (Object(1), 6), (Object(2), 1)]?;
+    let problem = Problem::from_rows(vec![in alloc; first, second]?);
+    let owners = [Some(Person(2)), None];
+    told(alloc, problem, Sense::Max, &owners, Person(1))
+}
+
 #[test]
 fn a_path_of_two_objects(rt: HostRuntime) -> Result<(), Fail> {
-    let first = vec![in rt.alloc(); (Object(1), 4)]?;
-    let second = vec![in rt.alloc(); (Object(1), 6), (Object(2), 1)]?;
-    let problem = Problem::from_rows(vec![in rt.alloc(); first, second]?);
-    let owners = [Some(Person(2)), None];
-    let line = told(rt.alloc(), problem, Sense::Max, &owners, Person(1))?;
+    let line = two_objects(rt.alloc())?;
     assert_eq!(rt; line.as_str(), "Path([Object(1), Object(2)])");
     Ok(())
 }
 
-#[test]
-fn a_path_of_five_objects(rt: HostRuntime) -> Result<(), Fail> {
-    let a = vec![in rt.alloc(); (Object(1), 0)]?;
-    let b = vec![in rt.alloc(); (Object(1), 0), (Object(2), 0)]?;
-    let c = vec![in rt.alloc(); (Object(2), 0), (Object(3), 0)]?;
-    let d = vec![in rt.alloc(); (Object(3), 0), (Object(4), 0)]?;
-    let e = vec![in rt.alloc(); (Object(4), 0), (Object(5), 0)]?;
-    let problem = Problem::from_rows(vec![in rt.alloc(); a, b, c, d, e]?);
+// Each person lists the object of the one before and its own, and the last is free.
+fn five_objects(alloc: Global) -> Result<String, AllocError> {
+    let a = vec![in alloc; (Object(1), 0)]?;
+    let b = vec![in alloc; (Object(1), 0), (Object(2), 0)]?;
+    let c = vec![in alloc; (Object(2), 0), (Object(3), 0)]?;
+    let d = vec![in alloc; (Object(3), 0), (Object(4), 0)]?;
+    let e = vec![in alloc; (Object(4), 0), (Object(5), 0)]?;
+    let problem = Problem::from_rows(vec![in alloc; a, b, c, d, e]?);
     let owners = [
         Some(Person(2)),
         Some(Person(3)),
@@ -63,7 +73,12 @@ fn a_path_of_five_objects(rt: HostRuntime) -> Result<(), Fail> {
         Some(Person(5)),
         None,
     ];
-    let line = told(rt.alloc(), problem, Sense::Min, &owners, Person(1))?;
+    told(alloc, problem, Sense::Min, &owners, Person(1))
+}
+
+#[test]
+fn a_path_of_five_objects(rt: HostRuntime) -> Result<(), Fail> {
+    let line = five_objects(rt.alloc())?;
     assert_eq!(rt;
         line.as_str(),
         "Path([Object(1), Object(2), Object(3), Object(4), Object(5)])"
@@ -71,13 +86,18 @@ fn a_path_of_five_objects(rt: HostRuntime) -> Result<(), Fail> {
     Ok(())
 }
 
+// Person 1 lists nothing.
+fn one_person(alloc: Global) -> Result<String, AllocError> {
+    let first = Vec::new(alloc);
+    let second = vec![in alloc; (Object(1), 6), (Object(2), 1)]?;
+    let problem = Problem::from_rows(vec![in alloc; first, second]?);
+    let owners = [Some(Person(2)), None];
+    told(alloc, problem, Sense::Min, &owners, Person(1))
+}
+
 #[test]
 fn one_person_is_reached(rt: HostRuntime) -> Result<(), Fail> {
-    let first = Vec::new(rt.alloc());
-    let second = vec![in rt.alloc(); (Object(1), 6), (Object(2), 1)]?;
-    let problem = Problem::from_rows(vec![in rt.alloc(); first, second]?);
-    let owners = [Some(Person(2)), None];
-    let line = told(rt.alloc(), problem, Sense::Min, &owners, Person(1))?;
+    let line = one_person(rt.alloc())?;
     assert_eq!(rt;
         line.as_str(),
         "Hall(HallSet { persons: [Person(1)], objects: [] })"
@@ -85,14 +105,19 @@ fn one_person_is_reached(rt: HostRuntime) -> Result<(), Fail> {
     Ok(())
 }
 
+// Persons 1 and 3 list one object alone.
+fn two_persons(alloc: Global) -> Result<String, AllocError> {
+    let first = vec![in alloc; (Object(2), 4)]?;
+    let second = vec![in alloc; (Object(1), 6), (Object(3), 1)]?;
+    let third = vec![in alloc; (Object(2), 5)]?;
+    let problem = Problem::from_rows(vec![in alloc; first, second, third]?);
+    let owners = [None, Some(Person(1)), Some(Person(2))];
+    told(alloc, problem, Sense::Min, &owners, Person(3))
+}
+
 #[test]
 fn two_persons_are_reached(rt: HostRuntime) -> Result<(), Fail> {
-    let first = vec![in rt.alloc(); (Object(2), 4)]?;
-    let second = vec![in rt.alloc(); (Object(1), 6), (Object(3), 1)]?;
-    let third = vec![in rt.alloc(); (Object(2), 5)]?;
-    let problem = Problem::from_rows(vec![in rt.alloc(); first, second, third]?);
-    let owners = [None, Some(Person(1)), Some(Person(2))];
-    let line = told(rt.alloc(), problem, Sense::Min, &owners, Person(3))?;
+    let line = two_persons(rt.alloc())?;
     assert_eq!(rt;
         line.as_str(),
         "Hall(HallSet { persons: [Person(1), Person(3)], objects: [Object(2)] })"
@@ -100,14 +125,19 @@ fn two_persons_are_reached(rt: HostRuntime) -> Result<(), Fail> {
     Ok(())
 }
 
+// Nobody lists object 2.
+fn all_persons(alloc: Global) -> Result<String, AllocError> {
+    let first = vec![in alloc; (Object(1), 4), (Object(3), 4)]?;
+    let second = vec![in alloc; (Object(1), 6)]?;
+    let third = vec![in alloc; (Object(1), 5), (Object(3), 5)]?;
+    let problem = Problem::from_rows(vec![in alloc; first, second, third]?);
+    let owners = [Some(Person(2)), None, Some(Person(1))];
+    told(alloc, problem, Sense::Max, &owners, Person(3))
+}
+
 #[test]
 fn all_persons_are_reached(rt: HostRuntime) -> Result<(), Fail> {
-    let first = vec![in rt.alloc(); (Object(1), 4), (Object(3), 4)]?;
-    let second = vec![in rt.alloc(); (Object(1), 6)]?;
-    let third = vec![in rt.alloc(); (Object(1), 5), (Object(3), 5)]?;
-    let problem = Problem::from_rows(vec![in rt.alloc(); first, second, third]?);
-    let owners = [Some(Person(2)), None, Some(Person(1))];
-    let line = told(rt.alloc(), problem, Sense::Max, &owners, Person(3))?;
+    let line = all_persons(rt.alloc())?;
     assert_eq!(rt;
         line.as_str(),
         "Hall(HallSet { persons: [Person(1), Person(2), Person(3)], objects: [Object(1), Object(3)] })"

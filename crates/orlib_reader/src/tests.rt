@@ -217,18 +217,25 @@ fn with_byte<const N: usize>(text: &[u8; N], place: usize, byte: u8) -> [u8; N]
     changed
 }
 
+// Whether texts of both layouts with this byte at a place are refused for the number there.
+fn is_bad_number(alloc: Global, byte: u8, place: usize) -> Result<bool, AllocError> {
+    let wanted = format!(in alloc; "input: bad number at byte {}", place - place % 2)?;
+    let dense = with_byte(b"2 1 2 3 5", place, byte);
+    let sparse = with_byte(b"2 1 2 3 2 1 4", place, byte);
+    Ok(
+        line(alloc, Layout::Dense, &dense, 1)? == wanted
+            && line(alloc, Layout::Sparse, &sparse, 1)? == wanted,
+    )
+}
+
 #[test]
 fn strange_bytes_at_each_place(rt: HostRuntime) -> Result<(), Fail> {
-    let alloc = rt.alloc();
     for byte in [0x00, 0x1a, 0xff] {
         for place in 0..9usize {
-            let wanted = format!(in alloc; "input: bad number at byte {}", place - place % 2)?;
-            let dense = with_byte(b"2 1 2 3 5", place, byte);
-            let told = line(alloc, Layout::Dense, &dense, 1)?;
-            assert_eq!(rt; told.as_str(), wanted.as_str());
-            let sparse = with_byte(b"2 1 2 3 2 1 4", place, byte);
-            let told = line(alloc, Layout::Sparse, &sparse, 1)?;
-            assert_eq!(rt; told.as_str(), wanted.as_str());
+            assert!(rt;
+                is_bad_number(rt.alloc(), byte, place)?,
+                "{byte} at {place}"
+            );
         }
     }
     Ok(())

@@ -381,17 +381,21 @@ fn stale_bid_accepted(rt: HostRuntime) -> Result<(), Fail> {
     Ok(())
 }
 
+// The workers found these persons, who list these objects alone.
+fn assert_hall(rt: &impl Abort, seen: &Seen, persons: &[u16], objects: &[u16]) {
+    let Seen::Hall(found, listed) = seen else {
+        panic!(rt; "no Hall set");
+    };
+    assert_eq!(rt; (found.as_slice(), listed.as_slice()), (persons, objects));
+}
+
 #[test]
 fn three_persons_and_no_assignment(rt: HostRuntime) -> Result<(), Fail> {
     let alloc = rt.alloc();
     let pairs = [(1, 1, 4), (2, 1, 6), (3, 2, 1), (3, 3, 2)];
     for workers in [1, 2, 3] {
         let seen = solved(&rt, alloc, 3, &pairs, Sense::Min, workers, 1, &OpenGate)?;
-        let Seen::Hall(persons, objects) = seen else {
-            panic!(rt; "no Hall set");
-        };
-        assert_eq!(rt; persons.as_slice(), [1, 2].as_slice());
-        assert_eq!(rt; objects.as_slice(), [1].as_slice());
+        assert_hall(&rt, &seen, &[1, 2], &[1]);
     }
     Ok(())
 }

@@ -179,25 +179,32 @@ fn greatest_cost(rt: HostRuntime) -> Result<(), Fail> {
 
 #[test]
 fn widest_costs(rt: HostRuntime) -> Result<(), Fail> {
-    let alloc = rt.alloc();
-    let wide = b"2 1000000000000 -1000000000000 -1000000000000 1000000000000";
-    let table = [(
-        "cost -2000000000000\nassign 1 2 -1000000000000\nassign 2 1 -1000000000000\nprice 1 109499999999997\nprice 2 109499999999997\n",
-        "verified cost -2000000000000",
-    )];
-    assert_eq!(rt; told(alloc, wide, false, "sense min\n", &table)?, 1);
-    let narrow = b"2 1000000 -1000000 -1000000 1000000";
-    let table = [(
-        "cost -2000000\nassign 1 2 -1000000\nassign 2 1 -1000000\nprice 1 61499999\nprice 2 61499999\n",
-        "verified cost -2000000",
-    )];
-    assert_eq!(rt; told(alloc, narrow, false, "", &table)?, 1);
-    let one = b"1 1000000000000";
-    let table = [(
-        "cost 1000000000000\nassign 1 1 1000000000000\nprice 1 9999999999999999999999\n",
-        "verified cost 1000000000000",
-    )];
-    assert_eq!(rt; told(alloc, one, false, "sense min\n", &table)?, 1);
+    let table: [(&[u8], &str, &str, &str); 3] = [
+        (
+            b"2 1000000000000 -1000000000000 -1000000000000 1000000000000",
+            "sense min\n",
+            "cost -2000000000000\nassign 1 2 -1000000000000\nassign 2 1 -1000000000000\nprice 1 109499999999997\nprice 2 109499999999997\n",
+            "verified cost -2000000000000",
+        ),
+        (
+            b"2 1000000 -1000000 -1000000 1000000",
+            "",
+            "cost -2000000\nassign 1 2 -1000000\nassign 2 1 -1000000\nprice 1 61499999\nprice 2 61499999\n",
+            "verified cost -2000000",
+        ),
+        (
+            b"1 1000000000000",
+            "sense min\n",
+            "cost 1000000000000\nassign 1 1 1000000000000\nprice 1 9999999999999999999999\n",
+            "verified cost 1000000000000",
+        ),
+    ];
+    for (problem, front, report, line) in table {
+        assert_eq!(rt;
+            told(rt.alloc(), problem, false, front, &[(report, line)])?,
+            1
+        );
+    }
     Ok(())
 }
 

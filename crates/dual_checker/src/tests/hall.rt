@@ -44,20 +44,27 @@ fn lists_for_three_persons(rt: HostRuntime) -> Result<(), Fail> {
     Ok(())
 }
 
+// The verdict on one person that lists nothing.
+fn verdict_of_nothing(alloc: Global) -> Result<HallVerdict, AllocError> {
+    let problem = Problem::from_rows(vec![in alloc; Vec::new(alloc)]?);
+    check_hall(alloc, &problem, &[Person(1)], &[])
+}
+
 #[test]
 fn a_person_that_lists_nothing(rt: HostRuntime) -> Result<(), Fail> {
-    let problem = Problem::from_rows(vec![in rt.alloc(); Vec::new(rt.alloc())]?);
-    let verdict = check_hall(rt.alloc(), &problem, &[Person(1)], &[])?;
-    assert_eq!(rt; verdict, HallVerdict::Yes);
+    assert_eq!(rt; verdict_of_nothing(rt.alloc())?, HallVerdict::Yes);
     Ok(())
+}
+
+// The verdict on all persons and the one object that they list.
+fn verdict_of_all(alloc: Global) -> Result<HallVerdict, AllocError> {
+    let problem = of_one_object(alloc, false)?;
+    let persons: Vec<Person> = all(alloc)?;
+    check_hall(alloc, &problem, persons.as_slice(), &[Object(1)])
 }
 
 #[test]
 fn as_many_persons_as_there_may_be(rt: HostRuntime) -> Result<(), Fail> {
-    let alloc = rt.alloc();
-    let problem = of_one_object(alloc, false)?;
-    let persons: Vec<Person> = all(alloc)?;
-    let verdict = check_hall(alloc, &problem, persons.as_slice(), &[Object(1)])?;
-    assert_eq!(rt; verdict, HallVerdict::Yes);
+    assert_eq!(rt; verdict_of_all(rt.alloc())?, HallVerdict::Yes);
     Ok(())
 }

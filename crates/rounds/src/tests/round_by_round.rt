@@ -225,9 +225,7 @@ fn tell_phase(
 
 // Two persons who want different objects: in each phase one round, in which both prices rise by the
 // spread and eps.
-#[test]
-fn ten_phases_round_by_round(rt: HostRuntime) -> Result<(), Fail> {
-    let alloc = rt.alloc();
+fn ten_phases(alloc: Global) -> Result<Vec<String>, AllocError> {
     let mut lines = Vec::new(alloc);
     for (phase, eps, floor, price, level) in [
         (1, 1200000, -10200000, 0, 7200000),
@@ -246,7 +244,18 @@ fn ten_phases_round_by_round(rt: HostRuntime) -> Result<(), Fail> {
     }
     let end = format!(in alloc; "phase 10, eps 1, floor -64499999, prices 61499999 61499999")?;
     lines.push(end)?;
+    Ok(lines)
+}
+
+// The rounds on two such persons.
+fn rounds_of_two(alloc: Global) -> Result<Vec<String>, AllocError> {
     let pairs = dense(alloc, 2, &[1_000_000, -1_000_000, -1_000_000, 1_000_000])?;
-    assert_eq!(rt; rounds_told(alloc, 2, pairs.as_slice(), &[])?, lines);
+    rounds_told(alloc, 2, pairs.as_slice(), &[])
+}
+
+#[test]
+fn ten_phases_round_by_round(rt: HostRuntime) -> Result<(), Fail> {
+    let told = rounds_of_two(rt.alloc())?;
+    assert_eq!(rt; told, ten_phases(rt.alloc())?);
     Ok(())
 }

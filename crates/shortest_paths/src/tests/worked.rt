@@ -183,24 +183,31 @@ fn products(alloc: Global, n: u16) -> Result<Vec<Pair>, AllocError> {
     Ok(pairs)
 }
 
+// The cost of the products of 120 persons from such first prices, and what an observer was told: how often, how many
+// persons have an object in the end, and whether it was something that can't be.
+fn products_followed(
+    alloc: Global,
+    first: Option<&[Price]>,
+) -> Result<(Option<Cost>, [u64; 2], bool), AllocError> {
+    let pairs = products(alloc, 120)?;
+    let follower = Follower {
+        persons: 120,
+        told: AtomicU64::new(0),
+        last: AtomicU64::new(0),
+        wrong: AtomicBool::new(false),
+    };
+    let seen = followed(alloc, pairs.as_slice(), first, &follower)?;
+    let told = [&follower.told, &follower.last].map(|count| count.load(Ordering::SeqCst));
+    Ok((seen, told, follower.wrong.load(Ordering::SeqCst)))
+}
+
+// The dearest objects go to the first persons: the sum of i * (n + 1 - i) is n (n + 1) (n + 2) / 6.
 #[test]
 fn numbers_of_assigned_persons(rt: HostRuntime) -> Result<(), Fail> {
-    let n = 120u16;
-    let pairs = products(rt.alloc(), n)?;
-    // The dearest objects go to the first persons: the sum of i * (n + 1 - i) is n (n + 1) (n + 2) / 6.
-    let wanted: Cost = 295_240;
     for first in [None, Some([5].as_slice())] {
-        let follower = Follower {
-            persons: n,
-            told: AtomicU64::new(0),
-            last: AtomicU64::new(0),
-            wrong: AtomicBool::new(false),
-        };
-        let seen = followed(rt.alloc(), pairs.as_slice(), first, &follower)?;
-        assert_eq!(rt; seen, Some(wanted));
-        assert!(rt; follower.told.load(Ordering::SeqCst) > 2);
-        assert!(rt; follower.last.load(Ordering::SeqCst) > 0);
-        assert!(rt; !follower.wrong.load(Ordering::SeqCst));
+        let (cost, [told, last], wrong) = products_followed(rt.alloc(), first)?;
+        assert_eq!(rt; cost, Some(295_240));
+        assert!(rt; told > 2 && last > 0 && !wrong);
     }
     Ok(())
 }
