@@ -163,12 +163,14 @@ fn halt(alloc: Global, book: &Book, person: Person) -> Result<Outcome, AllocErro
     }
 }
 
-// Rounds from these prices up to their end.
-pub(super) fn run_rounds<O: Offering>(
+// Rounds from these prices up to their end. Both lists are for its use: they hold who bids in a round, and what.
+fn run_rounds<O: Offering>(
     offering: &mut O,
     alloc: Global,
     scaled: Arc<Scaled>,
     prices: Prices,
+    persons: &mut Vec<Person>,
+    offers: &mut Vec<Offer>,
 ) -> Result<Outcome, AllocError>
     requires ready { O.ready }
     requires long { length prices ≡ length (arc_value scaled).problem }
@@ -178,11 +180,9 @@ pub(super) fn run_rounds<O: Offering>(
 {
     let n = scaled.n();
     let mut book = Book::open_from(alloc, scaled, prices, n)?;
-    let mut persons = Vec::new(alloc);
-    let mut offers = Vec::new(alloc);
     'rounds: loop {
         begin_next_if_over(alloc, &mut book)?;
-        match run_round(offering, &mut book, &mut persons, &mut offers)? {
+        match run_round(offering, &mut book, persons, offers)? {
             Round::Over => return finish(alloc, &book),
             Round::Halted(person) => return halt(alloc, &book, person),
             Round::More => {}
@@ -209,7 +209,8 @@ pub fn solve_rounds_by<O: Offering>(
     ensures decided { IfOk result (IsDecided (arc_value scaled)) }
     ensures memory { IfErr result (λ fault. fault ≡ SolveFault.Memory) }
 {
-    match run_rounds(offering, alloc, scaled, prices) {
+    let (mut persons, mut offers) = (Vec::new(alloc), Vec::new(alloc));
+    match run_rounds(offering, alloc, scaled, prices, &mut persons, &mut offers) {
         Ok(outcome) => Ok(outcome),
         Err(_) => Err(SolveFault::Memory),
     }

@@ -13,10 +13,10 @@ mod transcription;
 mod worked;
 
 use super::offers::{Alone, InPieces, LEAST_PAIRS};
-use super::rounds::run_rounds;
+use super::solve_rounds_by;
 use assign_core::{
     Cost, GREATEST_COST, GREATEST_FIRST_PRICE, MOST_PERSONS, Object, Outcome, Person, Price,
-    Prices, Problem, Sense,
+    Prices, Problem, Sense, SolveFault,
 };
 use scaled_values::{Scaled, scale};
 use std::alloc::{AllocError, Global};
@@ -139,6 +139,14 @@ fn scaled_of(alloc: Global, n: u16, pairs: &[Pair], sense: Sense) -> Result<Arc<
     Ok(Arc::new(alloc, scale(alloc, problem, sense)?)?)
 }
 
+// What came of a call.
+fn settled(alloc: Global, came: Result<Outcome, SolveFault>) -> Result<Seen, AllocError> {
+    match came {
+        Ok(outcome) => told(alloc, &outcome),
+        Err(_) => Err(AllocError),
+    }
+}
+
 // What rounds in pieces of at least so many pairs come to.
 fn solved(
     rt: &(impl Threads + Sync),
@@ -152,8 +160,8 @@ fn solved(
     let n = size(n);
     let scaled = scaled_of(alloc, n, pairs, sense)?;
     let prices = first_prices(alloc, n, first)?;
-    let outcome = run_rounds(&mut InPieces { rt, least }, alloc, scaled, prices)?;
-    told(alloc, &outcome)
+    let came = solve_rounds_by(&mut InPieces { rt, least }, alloc, scaled, prices);
+    settled(alloc, came)
 }
 
 // The pairs of a dense problem, from its costs row by row.

@@ -1,16 +1,7 @@
 // Problems whose outcomes are known, solved in pieces of several lengths, and the public calls.
 use super::*;
 use crate::{solve_rounds, solve_rounds_alone, solve_rounds_alone_from, solve_rounds_from};
-use assign_core::SolveFault;
 use std::test::Fail;
-
-// What came of a public call.
-fn settled(alloc: Global, came: Result<Outcome, SolveFault>) -> Result<Seen, AllocError> {
-    match came {
-        Ok(outcome) => told(alloc, &outcome),
-        Err(_) => Err(AllocError),
-    }
-}
 
 // What the public calls come to: from zeros, or from these first prices.
 fn publicly_solved(
@@ -87,18 +78,14 @@ fn other_dense(
     other_outcome(rt, alloc, n, pairs.as_slice(), sense, first, &wanted)
 }
 
+// How many persons there are, all costs, the first prices where they aren't 0, and the objects and prices in the end.
+type Dense<'a> = (u16, &'a [Cost], Sense, &'a [Price], &'a [u16], &'a [Price]);
+
 #[test]
 fn worked_dense_problems(rt: HostRuntime) -> Result<(), Fail> {
     let wide = GREATEST_COST / 1_000_000;
-    for (n, costs, sense, first, objects, prices) in [
-        (
-            1,
-            [7].as_slice(),
-            Sense::Min,
-            [].as_slice(),
-            [1].as_slice(),
-            [1].as_slice(),
-        ),
+    let table: [Dense; 8] = [
+        (1, &[7], Sense::Min, &[], &[1], &[1]),
         (2, &[1, 2, 3, 5], Sense::Min, &[], &[2, 1], &[14, 12]),
         (2, &[1, 2, 3, 5], Sense::Max, &[], &[1, 2], &[12, 14]),
         (2, &[1, 2, 3, 5], Sense::Min, &[14, 12], &[2, 1], &[26, 24]),
@@ -134,7 +121,8 @@ fn worked_dense_problems(rt: HostRuntime) -> Result<(), Fail> {
             &[1],
             &[GREATEST_FIRST_PRICE + 1],
         ),
-    ] {
+    ];
+    for (n, costs, sense, first, objects, prices) in table {
         let wanted = (objects, prices);
         let other = other_dense(&rt, rt.alloc(), n, costs, sense, first, wanted)?;
         assert_eq!(rt; other, None);
@@ -158,29 +146,40 @@ fn publicly_agreed(
 
 #[test]
 fn public_calls(rt: HostRuntime) -> Result<(), Fail> {
-    for (first, prices) in [
+    let table: [(Option<&[Price]>, [Price; 2]); 3] = [
         (None, [14, 12]),
-        (Some([].as_slice()), [14, 12]),
+        (Some(&[]), [14, 12]),
         (Some(&[14, 12]), [26, 24]),
-    ] {
+    ];
+    for (first, prices) in table {
         assert!(rt; publicly_agreed(&rt, rt.alloc(), first, &prices)?);
     }
     Ok(())
 }
 
+// Whether rounds find these persons, who list these objects alone.
+fn is_hall(
+    rt: &(impl Threads + Sync),
+    alloc: Global,
+    n: u16,
+    pairs: &[Pair],
+    persons: &[u16],
+    objects: &[u16],
+) -> Result<bool, AllocError> {
+    let wanted = hall(alloc, persons, objects)?;
+    Ok(solved(rt, alloc, 1, n, pairs, Sense::Min, &[])? == wanted)
+}
+
 #[test]
 fn worked_sparse_problems(rt: HostRuntime) -> Result<(), Fail> {
-    let alloc = rt.alloc();
-    for (n, pairs, persons, objects) in [
-        (3, CONTESTED.as_slice(), [1, 2].as_slice(), [1].as_slice()),
+    let table: [(u16, &[Pair], &[u16], &[u16]); 4] = [
+        (3, &CONTESTED, &[1, 2], &[1]),
         (2, &[(1, 1, 5), (1, 2, 6)], &[2], &[]),
         (3, &[], &[1], &[]),
         (1, &[], &[1], &[]),
-    ] {
-        assert_eq!(rt;
-            solved(&rt, alloc, 1, n, pairs, Sense::Min, &[])?,
-            hall(alloc, persons, objects)?
-        );
+    ];
+    for (n, pairs, persons, objects) in table {
+        assert!(rt; is_hall(&rt, rt.alloc(), n, pairs, persons, objects)?);
     }
     Ok(())
 }
