@@ -218,7 +218,9 @@ fn with_byte<const N: usize>(text: &[u8; N], place: usize, byte: u8) -> [u8; N]
 }
 
 // Whether texts of both layouts with this byte at a place are refused for the number there.
-fn is_bad_number(alloc: Global, byte: u8, place: usize) -> Result<bool, AllocError> {
+fn is_bad_number(alloc: Global, byte: u8, place: usize) -> Result<bool, AllocError>
+    requires { place < 9 }
+{
     let wanted = format!(in alloc; "input: bad number at byte {}", place - place % 2)?;
     let dense = with_byte(b"2 1 2 3 5", place, byte);
     let sparse = with_byte(b"2 1 2 3 2 1 4", place, byte);
