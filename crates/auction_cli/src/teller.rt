@@ -34,26 +34,58 @@ enum News {
     Paths(u16, u16),
 }
 
+// The phase, as `phase 3 of 8`.
+fn write_phase<W: fmt::Write>(f: &mut fmt::Formatter<W>, it: &Progress) -> fmt::Result {
+    write!(f, "phase {} of {}, ", it.phase, it.phases)
+}
+
+// How many persons have an object.
+fn write_persons<W: fmt::Write>(
+    f: &mut fmt::Formatter<W>,
+    assigned: u16,
+    persons: u16,
+) -> fmt::Result {
+    write!(f, "{assigned} of {persons} persons")
+}
+
+fn write_bytes<W: fmt::Write>(f: &mut fmt::Formatter<W>, bytes: u64) -> fmt::Result {
+    let tenths = bytes / 100_000;
+    write!(f, "{}.{} MB read", tenths / 10, tenths % 10)
+}
+
+fn write_round<W: fmt::Write>(f: &mut fmt::Formatter<W>, it: &Progress) -> fmt::Result {
+    write_phase(f, it)?;
+    write!(f, "slackness {}, ", it.slackness)?;
+    write_persons(f, it.assigned, it.persons)
+}
+
+fn write_sessions<W: fmt::Write>(
+    f: &mut fmt::Formatter<W>,
+    sessions: u64,
+    accepted: u128,
+    it: &Progress,
+) -> fmt::Result {
+    write_phase(f, it)?;
+    write_persons(f, it.assigned, it.persons)?;
+    write!(f, ", {sessions} sessions, {accepted} bids")
+}
+
+fn write_paths<W: fmt::Write>(
+    f: &mut fmt::Formatter<W>,
+    assigned: u16,
+    persons: u16,
+) -> fmt::Result {
+    f.write_str("shortest paths, ")?;
+    write_persons(f, assigned, persons)
+}
+
 impl fmt::Display for News {
     fn fmt<W: fmt::Write>(&self, f: &mut fmt::Formatter<W>) -> fmt::Result {
         match self {
-            News::Bytes(bytes) => {
-                let tenths = bytes / 100_000;
-                write!(f, "{}.{} MB read", tenths / 10, tenths % 10)
-            }
-            News::Round(it) => write!(
-                f,
-                "phase {} of {}, slackness {}, {} of {} persons",
-                it.phase, it.phases, it.slackness, it.assigned, it.persons
-            ),
-            News::Sessions(sessions, accepted, it) => write!(
-                f,
-                "phase {} of {}, {} of {} persons, {sessions} sessions, {accepted} bids",
-                it.phase, it.phases, it.assigned, it.persons
-            ),
-            News::Paths(assigned, persons) => {
-                write!(f, "shortest paths, {assigned} of {persons} persons")
-            }
+            News::Bytes(bytes) => write_bytes(f, *bytes),
+            News::Round(it) => write_round(f, it),
+            News::Sessions(sessions, accepted, it) => write_sessions(f, *sessions, *accepted, it),
+            News::Paths(assigned, persons) => write_paths(f, *assigned, *persons),
         }
     }
 }

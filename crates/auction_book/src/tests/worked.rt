@@ -20,56 +20,42 @@ fn three_persons(alloc: Global) -> Result<Office, AllocError> {
 // A call by a worker, what it answers, and then the first two who wait and the first two prices.
 type Step = (u16, Call, Told, [u16; 2], [Price; 2]);
 
-fn bid(object: u16, level: Price, evicted: u16) -> Told {
-    Told::Accepted(object, level, evicted)
-}
+// What a worker is told that gets person 1, or 2: with slackness 2 and floor -29 in the first phase, and with 1 and -36
+// in the second.
+const FIRST_OF_1: Told = Told::Person(1, 1, 2, -29);
 
-fn person(number: u16, ask: Ask) -> Told {
-    Told::Person(number, ask.phase, ask.eps, ask.floor)
-}
+const FIRST_OF_2: Told = Told::Person(2, 1, 2, -29);
 
-const FIRST: Ask = Ask {
-    phase: 1,
-    eps: 2,
-    floor: -29,
-};
+const SECOND_OF_1: Told = Told::Person(1, 2, 1, -36);
 
-const SECOND: Ask = Ask {
-    phase: 2,
-    eps: 1,
-    floor: -36,
-};
+const SECOND_OF_2: Told = Told::Person(2, 2, 1, -36);
 
 const HONEST: Call = Call::Submit(Slip::Nothing);
 
-fn first_phase() -> [Step; 8] {
-    [
-        (1, Call::Claim, person(1, FIRST), [2, 0], [0, 0]),
-        (2, Call::Claim, person(2, FIRST), [0, 0], [0, 0]),
-        (1, HONEST, bid(1, 5, 0), [0, 0], [5, 0]),
-        (2, HONEST, bid(1, 8, 1), [1, 0], [8, 0]),
-        (1, Call::Claim, person(1, FIRST), [0, 0], [8, 0]),
-        (1, Call::CatchUp, Told::Nothing, [0, 0], [8, 0]),
-        (1, HONEST, bid(2, 7, 0), [0, 0], [8, 7]),
-        (2, Call::Claim, Told::Wait, [0, 0], [8, 7]),
-    ]
-}
+const FIRST_PHASE: [Step; 8] = [
+    (1, Call::Claim, FIRST_OF_1, [2, 0], [0, 0]),
+    (2, Call::Claim, FIRST_OF_2, [0, 0], [0, 0]),
+    (1, HONEST, Told::Accepted(1, 5, 0), [0, 0], [5, 0]),
+    (2, HONEST, Told::Accepted(1, 8, 1), [1, 0], [8, 0]),
+    (1, Call::Claim, FIRST_OF_1, [0, 0], [8, 0]),
+    (1, Call::CatchUp, Told::Nothing, [0, 0], [8, 0]),
+    (1, HONEST, Told::Accepted(2, 7, 0), [0, 0], [8, 7]),
+    (2, Call::Claim, Told::Wait, [0, 0], [8, 7]),
+];
 
-fn second_phase() -> [Step; 11] {
-    [
-        (1, Call::NextPhase, Told::Nothing, [1, 2], [8, 7]),
-        (1, Call::CatchUp, Told::Nothing, [1, 2], [8, 7]),
-        (2, Call::CatchUp, Told::Nothing, [1, 2], [8, 7]),
-        (1, Call::Claim, person(1, SECOND), [2, 0], [8, 7]),
-        (2, Call::Claim, person(2, SECOND), [0, 0], [8, 7]),
-        (1, HONEST, bid(1, 11, 0), [0, 0], [11, 7]),
-        (2, HONEST, bid(1, 14, 1), [1, 0], [14, 7]),
-        (1, Call::CatchUp, Told::Nothing, [1, 0], [14, 7]),
-        (1, Call::Claim, person(1, SECOND), [0, 0], [14, 7]),
-        (1, HONEST, bid(2, 12, 0), [0, 0], [14, 12]),
-        (1, Call::Claim, Told::Done, [0, 0], [14, 12]),
-    ]
-}
+const SECOND_PHASE: [Step; 11] = [
+    (1, Call::NextPhase, Told::Nothing, [1, 2], [8, 7]),
+    (1, Call::CatchUp, Told::Nothing, [1, 2], [8, 7]),
+    (2, Call::CatchUp, Told::Nothing, [1, 2], [8, 7]),
+    (1, Call::Claim, SECOND_OF_1, [2, 0], [8, 7]),
+    (2, Call::Claim, SECOND_OF_2, [0, 0], [8, 7]),
+    (1, HONEST, Told::Accepted(1, 11, 0), [0, 0], [11, 7]),
+    (2, HONEST, Told::Accepted(1, 14, 1), [1, 0], [14, 7]),
+    (1, Call::CatchUp, Told::Nothing, [1, 0], [14, 7]),
+    (1, Call::Claim, SECOND_OF_1, [0, 0], [14, 7]),
+    (1, HONEST, Told::Accepted(2, 12, 0), [0, 0], [14, 12]),
+    (1, Call::Claim, Told::Done, [0, 0], [14, 12]),
+];
 
 // The first two who wait, 0 for nobody.
 fn first_two(waiting: &[Person]) -> [u16; 2] {
@@ -119,8 +105,8 @@ fn after_steps(
 
 // Whether both phases go as they were worked out.
 fn both_phases_go(alloc: Global, office: &mut Office) -> Result<bool, AllocError> {
-    let first = after_steps(alloc, office, first_phase().as_slice())?;
-    let second = after_steps(alloc, office, second_phase().as_slice())?;
+    let first = after_steps(alloc, office, &FIRST_PHASE)?;
+    let second = after_steps(alloc, office, &SECOND_PHASE)?;
     Ok(first == (8, 3, 28) && second == (11, 3, 53))
 }
 
@@ -164,15 +150,18 @@ fn six_bids_of_two_persons(rt: HostRuntime) -> Result<(), Fail> {
 }
 
 // The second phase begins, and worker 1 brings a bid of a person that it doesn't hold.
-fn unheld() -> [Step; 4] {
-    let other = Call::Submit(Slip::Person);
-    [
-        (1, Call::NextPhase, Told::Nothing, [1, 2], [8, 7]),
-        (1, Call::CatchUp, Told::Nothing, [1, 2], [8, 7]),
-        (1, Call::Claim, person(1, SECOND), [2, 0], [8, 7]),
-        (1, other, Told::NotClaimed(1, 14), [2, 0], [8, 7]),
-    ]
-}
+const UNHELD: [Step; 4] = [
+    (1, Call::NextPhase, Told::Nothing, [1, 2], [8, 7]),
+    (1, Call::CatchUp, Told::Nothing, [1, 2], [8, 7]),
+    (1, Call::Claim, SECOND_OF_1, [2, 0], [8, 7]),
+    (
+        1,
+        Call::Submit(Slip::Person),
+        Told::NotClaimed(1, 14),
+        [2, 0],
+        [8, 7],
+    ),
+];
 
 // The bid that person 1 made in the first phase.
 const LATE: Bid = Bid {
@@ -201,8 +190,8 @@ fn stands_after_late(alloc: Global, book: &Book) -> Result<bool, AllocError> {
 
 // Whether the steps before go as they were worked out.
 fn late_steps_go(alloc: Global, office: &mut Office) -> Result<bool, AllocError> {
-    let first = steps_that_go(alloc, office, first_phase().as_slice())?;
-    let second = steps_that_go(alloc, office, unheld().as_slice())?;
+    let first = steps_that_go(alloc, office, &FIRST_PHASE)?;
+    let second = steps_that_go(alloc, office, &UNHELD)?;
     Ok(first == 8 && second == 4)
 }
 
@@ -220,30 +209,25 @@ fn a_late_bid_and_one_of_another_person(rt: HostRuntime) -> Result<(), Fail> {
     Ok(())
 }
 
-const THREE: Ask = Ask {
-    phase: 1,
-    eps: 4,
-    floor: -72,
-};
-
 // Person 1 gets object 1, and worker 2 has claimed person 2.
-fn contested() -> [Step; 3] {
-    [
-        (1, Call::Claim, person(1, THREE), [2, 3], [0, 0]),
-        (2, Call::Claim, person(2, THREE), [3, 0], [0, 0]),
-        (1, HONEST, bid(1, 60, 0), [3, 0], [60, 0]),
-    ]
-}
+const CONTESTED: [Step; 3] = [
+    (1, Call::Claim, Told::Person(1, 1, 4, -72), [2, 3], [0, 0]),
+    (2, Call::Claim, Told::Person(2, 1, 4, -72), [3, 0], [0, 0]),
+    (1, HONEST, Told::Accepted(1, 60, 0), [3, 0], [60, 0]),
+];
 
 // Worker 2 catches up, and records what stops person 2.
-fn recorded() -> [Step; 3] {
-    let search = Call::Below(Slip::Nothing);
-    [
-        (2, HONEST, Told::Unasked, [3, 0], [60, 0]),
-        (2, search, Told::Recorded, [3, 2], [60, 0]),
-        (2, Call::Claim, Told::Refuted, [3, 2], [60, 0]),
-    ]
-}
+const RECORDED: [Step; 3] = [
+    (2, HONEST, Told::Unasked, [3, 0], [60, 0]),
+    (
+        2,
+        Call::Below(Slip::Nothing),
+        Told::Recorded,
+        [3, 2],
+        [60, 0],
+    ),
+    (2, Call::Claim, Told::Refuted, [3, 2], [60, 0]),
+];
 
 // The level of what person 2 offers worker 2, if it's a bid.
 fn level_of_second(office: &Office) -> Option<Price> {
@@ -258,11 +242,11 @@ fn old_and_new_offer(
     alloc: Global,
     office: &mut Office,
 ) -> Result<(usize, Option<Price>, Option<Price>), AllocError> {
-    let first = steps_that_go(alloc, office, contested().as_slice())?;
+    let first = steps_that_go(alloc, office, &CONTESTED)?;
     let old = level_of_second(office);
     let _told = call_of(alloc, office, 2, Call::CatchUp)?;
     let new = level_of_second(office);
-    let second = steps_that_go(alloc, office, recorded().as_slice())?;
+    let second = steps_that_go(alloc, office, &RECORDED)?;
     Ok((first.wrapping_add(second), old, new))
 }
 
@@ -282,7 +266,7 @@ fn an_old_table_hides_the_floor(rt: HostRuntime) -> Result<(), Fail> {
 // Whether worker 2, which hasn't caught up, is told today's price of object 1.
 fn low_bid_goes(alloc: Global) -> Result<bool, AllocError> {
     let mut office = three_persons(alloc)?;
-    let first = steps_that_go(alloc, &mut office, contested().as_slice())?;
+    let first = steps_that_go(alloc, &mut office, &CONTESTED)?;
     let low = (2, HONEST, Told::TooLow(1, 52, 60), [3, 2], [60, 0]);
     Ok(first == 3 && goes(alloc, &mut office, low)?)
 }
@@ -293,50 +277,42 @@ fn a_low_bid_is_told_the_price(rt: HostRuntime) -> Result<(), Fail> {
     Ok(())
 }
 
-fn low(object: u16, level: Price, price: Price) -> Told {
-    Told::TooLow(object, level, price)
-}
-
 // Two workers in turn, the second with an old table, up to the second phase's first claims.
-fn old_tables() -> [Step; 11] {
-    [
-        (1, Call::Claim, person(1, FIRST), [2, 0], [0, 0]),
-        (2, Call::Claim, person(2, FIRST), [0, 0], [0, 0]),
-        (2, HONEST, bid(1, 8, 0), [0, 0], [8, 0]),
-        (2, Call::Claim, Told::Wait, [0, 0], [8, 0]),
-        (1, HONEST, low(1, 5, 8), [1, 0], [8, 0]),
-        (1, Call::CatchUp, Told::Nothing, [1, 0], [8, 0]),
-        (1, Call::Claim, person(1, FIRST), [0, 0], [8, 0]),
-        (1, HONEST, bid(2, 7, 0), [0, 0], [8, 7]),
-        (1, Call::NextPhase, Told::Nothing, [1, 2], [8, 7]),
-        (1, Call::Claim, person(1, SECOND), [2, 0], [8, 7]),
-        (2, Call::Claim, person(2, SECOND), [0, 0], [8, 7]),
-    ]
-}
+const OLD_TABLES: [Step; 11] = [
+    (1, Call::Claim, FIRST_OF_1, [2, 0], [0, 0]),
+    (2, Call::Claim, FIRST_OF_2, [0, 0], [0, 0]),
+    (2, HONEST, Told::Accepted(1, 8, 0), [0, 0], [8, 0]),
+    (2, Call::Claim, Told::Wait, [0, 0], [8, 0]),
+    (1, HONEST, Told::TooLow(1, 5, 8), [1, 0], [8, 0]),
+    (1, Call::CatchUp, Told::Nothing, [1, 0], [8, 0]),
+    (1, Call::Claim, FIRST_OF_1, [0, 0], [8, 0]),
+    (1, HONEST, Told::Accepted(2, 7, 0), [0, 0], [8, 7]),
+    (1, Call::NextPhase, Told::Nothing, [1, 2], [8, 7]),
+    (1, Call::Claim, SECOND_OF_1, [2, 0], [8, 7]),
+    (2, Call::Claim, SECOND_OF_2, [0, 0], [8, 7]),
+];
 
-fn old_tables_to_the_end() -> [Step; 14] {
-    [
-        (1, HONEST, low(2, 6, 7), [1, 0], [8, 7]),
-        (1, Call::CatchUp, Told::Nothing, [1, 0], [8, 7]),
-        (1, Call::Claim, person(1, SECOND), [0, 0], [8, 7]),
-        (2, HONEST, low(1, 7, 8), [2, 0], [8, 7]),
-        (2, Call::Claim, person(2, SECOND), [0, 0], [8, 7]),
-        (1, HONEST, bid(1, 11, 0), [0, 0], [11, 7]),
-        (1, Call::Claim, Told::Wait, [0, 0], [11, 7]),
-        (2, HONEST, low(1, 7, 11), [2, 0], [11, 7]),
-        (2, Call::CatchUp, Told::Nothing, [2, 0], [11, 7]),
-        (2, Call::Claim, person(2, SECOND), [0, 0], [11, 7]),
-        (2, HONEST, bid(1, 14, 1), [1, 0], [14, 7]),
-        (2, Call::Claim, person(1, SECOND), [0, 0], [14, 7]),
-        (2, HONEST, bid(2, 9, 0), [0, 0], [14, 9]),
-        (2, Call::Claim, Told::Done, [0, 0], [14, 9]),
-    ]
-}
+const OLD_TABLES_TO_THE_END: [Step; 14] = [
+    (1, HONEST, Told::TooLow(2, 6, 7), [1, 0], [8, 7]),
+    (1, Call::CatchUp, Told::Nothing, [1, 0], [8, 7]),
+    (1, Call::Claim, SECOND_OF_1, [0, 0], [8, 7]),
+    (2, HONEST, Told::TooLow(1, 7, 8), [2, 0], [8, 7]),
+    (2, Call::Claim, SECOND_OF_2, [0, 0], [8, 7]),
+    (1, HONEST, Told::Accepted(1, 11, 0), [0, 0], [11, 7]),
+    (1, Call::Claim, Told::Wait, [0, 0], [11, 7]),
+    (2, HONEST, Told::TooLow(1, 7, 11), [2, 0], [11, 7]),
+    (2, Call::CatchUp, Told::Nothing, [2, 0], [11, 7]),
+    (2, Call::Claim, SECOND_OF_2, [0, 0], [11, 7]),
+    (2, HONEST, Told::Accepted(1, 14, 1), [1, 0], [14, 7]),
+    (2, Call::Claim, SECOND_OF_1, [0, 0], [14, 7]),
+    (2, HONEST, Told::Accepted(2, 9, 0), [0, 0], [14, 9]),
+    (2, Call::Claim, Told::Done, [0, 0], [14, 9]),
+];
 
 fn old_tables_go(alloc: Global) -> Result<bool, AllocError> {
     let mut office = two_office(alloc, &[])?;
-    let first = steps_that_go(alloc, &mut office, old_tables().as_slice())?;
-    let second = steps_that_go(alloc, &mut office, old_tables_to_the_end().as_slice())?;
+    let first = steps_that_go(alloc, &mut office, &OLD_TABLES)?;
+    let second = steps_that_go(alloc, &mut office, &OLD_TABLES_TO_THE_END)?;
     Ok(first == 11 && second == 14)
 }
 
@@ -452,20 +428,18 @@ fn as_many_persons_as_there_may_be(rt: HostRuntime) -> Result<(), Fail> {
 }
 
 // Worker 1 finds a free object from person 3, and worker 2 none from person 2.
-fn two_searches() -> [(u16, Call); 10] {
-    [
-        (1, Call::Claim),
-        (1, HONEST),
-        (2, Call::Claim),
-        (1, Call::Claim),
-        (1, Call::Below(Slip::Nothing)),
-        (1, Call::GiveUp),
-        (1, Call::Stop),
-        (1, Call::Resume),
-        (2, Call::CatchUp),
-        (2, Call::Below(Slip::Nothing)),
-    ]
-}
+const TWO_SEARCHES: [(u16, Call); 10] = [
+    (1, Call::Claim),
+    (1, HONEST),
+    (2, Call::Claim),
+    (1, Call::Claim),
+    (1, Call::Below(Slip::Nothing)),
+    (1, Call::GiveUp),
+    (1, Call::Stop),
+    (1, Call::Resume),
+    (2, Call::CatchUp),
+    (2, Call::Below(Slip::Nothing)),
+];
 
 // What the last of these calls answers.
 fn last_told(
@@ -482,7 +456,7 @@ fn last_told(
 
 // Whether the last search is told as recorded.
 fn is_recorded(alloc: Global, office: &mut Office) -> Result<bool, AllocError> {
-    Ok(last_told(alloc, office, two_searches().as_slice())? == Told::Recorded)
+    Ok(last_told(alloc, office, &TWO_SEARCHES)? == Told::Recorded)
 }
 
 // Whether person 2 waits at the back of the queue, and is in the recorded Hall set with person 1.

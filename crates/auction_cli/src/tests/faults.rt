@@ -2,7 +2,7 @@
 use crate::program::NoWords;
 use crate::run::{CliFault, status_of};
 use crate::tests::streams::blank_sheet;
-use crate::tests::watched::{Seen, assert_told, run_with, watched_run, whole_scene, words_of};
+use crate::tests::watched::{Seen, assert_told, run_scene, run_with, watched_run, whole_scene};
 use assign_core::{Object, Person};
 use orlib_reader::InputFault;
 use report::{ReportFault, StartFault};
@@ -56,7 +56,7 @@ fn input_that_fails(rt: HostRuntime) -> Result<(), Fail> {
     for text in texts {
         let mut scene = whole_scene(alloc, text, b"", 2);
         scene.text.fails = true;
-        let seen = watched_run(&rt, alloc, Ok(words_of(alloc, "solve")?), scene);
+        let seen = run_scene(&rt, alloc, "solve", scene)?;
         assert_told(&rt, &seen, 4, "device: read failed\n");
     }
     Ok(())
@@ -90,7 +90,7 @@ fn reports_that_cannot_be_read(rt: HostRuntime) -> Result<(), Fail> {
     for (line, text, status, told) in table {
         let mut scene = whole_scene(alloc, text, b"cost 5\nass", 2);
         scene.report.fails = true;
-        let seen = watched_run(&rt, alloc, Ok(words_of(alloc, line)?), scene);
+        let seen = run_scene(&rt, alloc, line, scene)?;
         assert_told(&rt, &seen, status, told);
     }
     Ok(())
@@ -118,7 +118,7 @@ fn assert_cut_off(
         for (most, fails) in [(1, true), (1, false), (100, true), (100, false)] {
             let mut scene = whole_scene(alloc, b"2 1 2 3 5", report, 100);
             scene.out = blank_sheet(alloc, room, most, fails);
-            let seen = watched_run(rt, alloc, Ok(words_of(alloc, line)?), scene);
+            let seen = run_scene(rt, alloc, line, scene)?;
             assert_left(rt, &seen, 4, front, b"device: write failed\n");
         }
     }
@@ -154,7 +154,7 @@ fn errors_that_fail(rt: HostRuntime) -> Result<(), Fail> {
         for room in [0, 10] {
             let mut scene = whole_scene(alloc, b"x", b"", 100);
             scene.errors = blank_sheet(alloc, room, 3, false);
-            let seen = watched_run(&rt, alloc, Ok(words_of(alloc, line)?), scene);
+            let seen = run_scene(&rt, alloc, line, scene)?;
             let (wanted, _) = start.split_at(room);
             assert_left(&rt, &seen, status, b"", wanted);
             assert!(rt; !seen.whole);

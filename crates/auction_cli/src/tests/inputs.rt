@@ -1,8 +1,6 @@
 // Runs whose problem lies in a file that the words name.
 use crate::tests::streams::whole_text;
-use crate::tests::watched::{
-    Seen, assert_reported, assert_told, watched_run, whole_scene, words_of,
-};
+use crate::tests::watched::{Seen, assert_reported, assert_told, run_scene, whole_scene};
 use std::alloc::{AllocError, Global};
 use std::process::Abort;
 use std::sync::Wait;
@@ -27,7 +25,7 @@ fn run_on_file(
     let mut scene = whole_scene(alloc, STANDARD, REPORT, most);
     scene.problem = whole_text(PROBLEM, most);
     scene.problem.fails = fails;
-    Ok(watched_run(rt, alloc, Ok(words_of(alloc, line)?), scene))
+    run_scene(rt, alloc, line, scene)
 }
 
 // The run read nothing from standard input.

@@ -381,9 +381,28 @@ fn told_wrongly(alloc: Global, drawn: &Drawn, text: &[u8]) -> Result<usize, Allo
     Ok(count)
 }
 
+// How many texts are told wrongly of those that differ by one byte from a report on this problem, if that is verified.
+fn told_wrongly_of(
+    alloc: Global,
+    problem: &str,
+    sparse: bool,
+    report: &[u8],
+) -> Result<Option<usize>, AllocError> {
+    let drawn = Drawn {
+        text: String::from_str(alloc, problem)?,
+        sparse,
+        sense: Sense::Min,
+        mode: Mode::Rounds,
+        workers: 1,
+    };
+    if !is_verified(alloc, &drawn, report) {
+        return Ok(None);
+    }
+    Ok(Some(told_wrongly(alloc, &drawn, report)?))
+}
+
 #[test]
 fn reports_with_a_byte_changed(rt: HostRuntime) -> Result<(), Fail> {
-    let alloc = rt.alloc();
     let two = "2 1 2 3 5";
     let roster = "3 1 1 4 2 1 6 3 2 1 3 3 2";
     let table: [(&str, bool, &[u8]); 4] = [
@@ -409,15 +428,8 @@ fn reports_with_a_byte_changed(rt: HostRuntime) -> Result<(), Fail> {
         ),
     ];
     for (problem, sparse, report) in table {
-        let drawn = Drawn {
-            text: format!(in alloc; "{problem}")?,
-            sparse,
-            sense: Sense::Min,
-            mode: Mode::Rounds,
-            workers: 1,
-        };
-        assert!(rt; is_verified(alloc, &drawn, report));
-        assert_eq!(rt; told_wrongly(alloc, &drawn, report)?, 0);
+        let wrong = told_wrongly_of(rt.alloc(), problem, sparse, report)?;
+        assert_eq!(rt; wrong, Some(0));
     }
     Ok(())
 }

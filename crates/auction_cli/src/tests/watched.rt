@@ -104,9 +104,9 @@ pub fn watched_run(
     }
 }
 
-/// The words of a line, parted by single blanks, behind the program's own name; an empty line has
-/// none.
-pub fn words_of(alloc: Global, line: &str) -> Result<Vec<&str>, AllocError> {
+// The words of a line, parted by single blanks, behind the program's own name; an empty line has
+// none.
+fn words_of(alloc: Global, line: &str) -> Result<Vec<&str>, AllocError> {
     let mut words: Vec<&str> = Vec::new(alloc);
     words.push("auction_cli")?;
     if line.is_empty() {
@@ -116,6 +116,16 @@ pub fn words_of(alloc: Global, line: &str) -> Result<Vec<&str>, AllocError> {
         words.push(word)?;
     }
     Ok(words)
+}
+
+/// A run with the words of a line.
+pub fn run_scene(
+    rt: &(impl Threads + Wait + Sync),
+    alloc: Global,
+    line: &str,
+    scene: Scene<'_>,
+) -> Result<Seen, AllocError> {
+    Ok(watched_run(rt, alloc, Ok(words_of(alloc, line)?), scene))
 }
 
 /// A run with the words of a line on a text and a report in pieces of at most so many bytes, written
@@ -128,9 +138,7 @@ pub fn run_with(
     report: &[u8],
     most: usize,
 ) -> Result<Seen, AllocError> {
-    let words = words_of(alloc, line)?;
-    let scene = whole_scene(alloc, text, report, most);
-    Ok(watched_run(rt, alloc, Ok(words), scene))
+    run_scene(rt, alloc, line, whole_scene(alloc, text, report, most))
 }
 
 /// The bytes up to the first line feed.
