@@ -28,6 +28,7 @@ fn take_turns<G: Gate, R: Wait>(
     desk: &mut Desk,
     refresh: u64,
     gate: &G,
+    parker: &Parker,
 ) -> Option<TurnFault>
     requires { CanTurn place.now desk.old }
     ensures can_turn { CanTurn place.now desk.new }
@@ -35,13 +36,12 @@ fn take_turns<G: Gate, R: Wait>(
     ensures fault { IsMemory result }
     ensures last { (before : DeskData) × IsLastTurn refresh before desk.new result }
 {
-    let parker = Parker::new();
     let mut pause = FIRST_PAUSE;
     for _ in rt.forever() {
         match turn(rt, alloc, place, desk, refresh, gate) {
             Ok(Turn::Claimed) => pause = FIRST_PAUSE,
             Ok(Turn::Idle) => {
-                pause.wait(rt, &parker);
+                pause.wait(rt, parker);
                 pause = pause.longer();
             }
             Ok(Turn::Done) => return None,
@@ -67,7 +67,8 @@ fn work<G: Gate, R: Wait>(
     ensures fault { IsMemory worker.new.fault }
     ensures stops { OnSome worker.new.fault (worker.new.desk.known.stop ≡ true) }
 {
-    let fault = take_turns(rt, alloc, place, &mut worker.desk, refresh, gate);
+    let parker = Parker::new();
+    let fault = take_turns(rt, alloc, place, &mut worker.desk, refresh, gate, &parker);
     if fault.is_some() {
         ask_stop(rt, place, &mut worker.desk);
     }

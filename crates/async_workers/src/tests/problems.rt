@@ -7,8 +7,8 @@ ghost use Rattle.assign_core.specs.Sparse.{IsTriple};
 ghost use Rattle.scaled_values.specs.Scaled.{greatest_of};
 
 use assign_core::{
-    Cost, GREATEST_COST, GREATEST_FIRST_PRICE, MOST_PERSONS, Object, Person, Price, Prices,
-    Problem, Sense,
+    Cost, GREATEST_COST, GREATEST_FIRST_PRICE, MOST_PERSONS, Numbered, Object, Person, Price,
+    Prices, Problem, Sense,
 };
 use scaled_values::{Scaled, scale};
 use std::alloc::{AllocError, Global};
@@ -151,4 +151,13 @@ pub(super) fn drawn_prices(alloc: Global, seed: &mut u64, n: u16) -> Result<Pric
         given.push(Price::from(next(seed, range)))?;
     }
     first_prices(alloc, n, given.as_slice())
+}
+
+// The numbers of persons or of objects.
+pub(super) fn numbers_of<T: Numbered>(alloc: Global, those: &[T]) -> Result<Vec<u16>, AllocError> {
+    let mut numbers = Vec::new(alloc);
+    for it in those {
+        numbers.push((*it).number())?;
+    }
+    Ok(numbers)
 }

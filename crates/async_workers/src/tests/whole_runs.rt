@@ -1,8 +1,10 @@
 // Worked problems under gates that hold workers back, and drawn ones beside a search of all
 // assignments.
-use super::problems::{Pair, drawn_pairs, drawn_sense, next, problem_of, scaled_of, size};
+use super::problems::{
+    Pair, drawn_pairs, drawn_sense, next, numbers_of, problem_of, scaled_of, size,
+};
 use super::*;
-use assign_core::{Cost, Numbered, Outcome, plain_best};
+use assign_core::{Cost, Outcome, plain_best};
 use auction_book::Refused;
 use std::process::Abort;
 use std::sync::atomic::{AtomicU64, Ordering};
@@ -29,14 +31,6 @@ enum Seen {
     Best(Vec<u16>, Vec<Price>, Vec<u128>),
     Hall(Vec<u16>, Vec<u16>),
     Refused,
-}
-
-fn numbers_of<T: Numbered>(alloc: Global, those: &[T]) -> Result<Vec<u16>, AllocError> {
-    let mut numbers = Vec::new(alloc);
-    for it in those {
-        numbers.push((*it).number())?;
-    }
-    Ok(numbers)
 }
 
 fn counts_of(alloc: Global, tallies: &[Tally]) -> Result<Vec<u128>, AllocError> {
@@ -278,23 +272,28 @@ fn eight<G: Gate + Sync, R: Threads + Wait + Sync>(
     }
 }
 
+// The objects of their one least assignment.
+const LEAST_OF_EIGHT: [u16; 8] = [3, 1, 4, 8, 2, 7, 5, 6];
+
+// Whether they are these.
+fn is_least(objects: &Option<Vec<u16>>) -> bool {
+    match objects {
+        Some(objects) => objects.as_slice() == LEAST_OF_EIGHT.as_slice(),
+        None => false,
+    }
+}
+
 #[test]
 fn eight_persons(rt: HostRuntime) -> Result<(), Fail> {
     for (workers, refresh) in [(1, 1), (4, 1), (64, 1), (4, 0), (4, 1000), (64, 1000)] {
-        let Some(objects) = eight(&rt, rt.alloc(), workers, refresh, &OpenGate)? else {
-            panic!(rt; "no assignment");
-        };
-        assert_eq!(rt; objects.as_slice(), [3, 1, 4, 8, 2, 7, 5, 6].as_slice());
+        let objects = eight(&rt, rt.alloc(), workers, refresh, &OpenGate)?;
+        assert!(rt; is_least(&objects));
     }
     Ok(())
 }
 
-// That the last that was told is the end of the fourth phase, with all persons assigned.
-fn assert_last_told(rt: &impl Abort, gate: &Following) {
-    let phase = gate.phase.load(Ordering::SeqCst);
-    let eps = gate.eps.load(Ordering::SeqCst);
-    assert_eq!(rt; (phase, eps), (4, 1));
-    assert_eq!(rt; gate.assigned.load(Ordering::SeqCst), 8);
+fn number_at(place: &AtomicU64) -> u64 {
+    place.load(Ordering::SeqCst)
 }
 
 // The objects, the prices and the workers' acceptances of an assignment.
@@ -305,29 +304,67 @@ fn best_of<'a>(rt: &impl Abort, seen: &'a Seen) -> (&'a [u16], &'a [Price], &'a 
     (objects.as_slice(), prices.as_slice(), accepted.as_slice())
 }
 
+// That an assignment has one of these lists of objects, these prices and these acceptances.
+fn assert_best(
+    rt: &impl Abort,
+    seen: &Seen,
+    lists: &[&[u16]],
+    prices: &[Price],
+    accepted: &[u128],
+) {
+    let (objects, found, told) = best_of(rt, seen);
+    assert!(rt; lists.iter().any(|list| *list == objects));
+    assert_eq!(rt; (found, told), (prices, accepted));
+}
+
+// What one worker comes to on the eight persons; the acceptances that were told last, and those that it heard; the
+// last phase, slackness and number of assigned persons; and 1 where something was told that can't be.
+fn followed<R: Threads + Wait + Sync>(
+    rt: &R,
+    alloc: Global,
+) -> Result<(Seen, [u64; 2], [u64; 4]), AllocError> {
+    let gate = new_following();
+    let seen = dense_solved(rt, alloc, 8, &EIGHT, 1, 1, &gate)?;
+    let accepted = [number_at(&gate.accepted), number_at(&gate.heard)];
+    let last = [
+        number_at(&gate.phase),
+        number_at(&gate.eps),
+        number_at(&gate.assigned),
+        number_at(&gate.wrong),
+    ];
+    Ok((seen, accepted, last))
+}
+
+fn assert_accepted(rt: &impl Abort, seen: &Seen, accepted: u64) {
+    let (_, _, found) = best_of(rt, seen);
+    assert_eq!(rt; found, [u128::from(accepted)].as_slice());
+}
+
 // The spread is 378, nine times that of the costs, so the phases have slackness 75, 15, 3 and 1.
 #[test]
 fn one_worker_is_followed(rt: HostRuntime) -> Result<(), Fail> {
-    let gate = new_following();
-    let seen = dense_solved(&rt, rt.alloc(), 8, &EIGHT, 1, 1, &gate)?;
-    let told = gate.accepted.load(Ordering::SeqCst);
-    let (_, _, accepted) = best_of(&rt, &seen);
-    assert_eq!(rt; accepted, [u128::from(told)].as_slice());
-    assert_eq!(rt; gate.heard.load(Ordering::SeqCst), told);
-    assert_eq!(rt; gate.wrong.load(Ordering::SeqCst), 0);
-    assert_last_told(&rt, &gate);
+    let (seen, [told, heard], last) = followed(&rt, rt.alloc())?;
+    assert_accepted(&rt, &seen, told);
+    assert_eq!(rt; (heard, last), (told, [4, 1, 8, 0]));
     Ok(())
+}
+
+// What eight workers come to whose first offers are held, whether one was held too long, and how many there were.
+fn eight_at_once<R: Threads + Wait + Sync>(
+    rt: &R,
+    alloc: Global,
+) -> Result<(Option<Vec<u16>>, u64, u32), AllocError> {
+    let gate = new_gate(8, 0);
+    let objects = eight(rt, alloc, 8, 1, &gate)?;
+    let (late, offers) = (number_at(&gate.late), number_at(&gate.offers));
+    Ok((objects, late, offers.count_ones()))
 }
 
 #[test]
 fn all_workers_start(rt: HostRuntime) -> Result<(), Fail> {
-    let gate = new_gate(8, 0);
-    let Some(objects) = eight(&rt, rt.alloc(), 8, 1, &gate)? else {
-        panic!(rt; "no assignment");
-    };
-    assert_eq!(rt; objects.as_slice(), [3, 1, 4, 8, 2, 7, 5, 6].as_slice());
-    let offers = gate.offers.load(Ordering::SeqCst).count_ones();
-    assert_eq!(rt; (gate.late.load(Ordering::SeqCst), offers), (0, 8));
+    let (objects, late, offers) = eight_at_once(&rt, rt.alloc())?;
+    assert!(rt; is_least(&objects));
+    assert_eq!(rt; (late, offers), (0, 8));
     Ok(())
 }
 
@@ -342,29 +379,35 @@ fn stale_bid<R: Threads + Wait + Sync>(
 ) -> Result<(Seen, u64, u64), AllocError> {
     let gate = new_gate(2, waiting);
     let seen = dense_solved(rt, alloc, n, costs, 2, 0, &gate)?;
-    let refused = gate.refused.load(Ordering::SeqCst);
-    Ok((seen, refused, gate.late.load(Ordering::SeqCst)))
+    let (refused, late) = (number_at(&gate.refused), number_at(&gate.late));
+    Ok((seen, refused, late))
 }
 
-#[test]
-fn a_session_is_told_without_the_book(rt: HostRuntime) -> Result<(), Fail> {
+// Whether two workers of whom one is held find an assignment, how many were told of a session, and whether one was held
+// too long.
+fn eight_told<R: Threads + Wait + Sync>(
+    rt: &R,
+    alloc: Global,
+) -> Result<(bool, u32, u64), AllocError> {
     let gate = Telling {
         told: AtomicU64::new(0),
         late: AtomicU64::new(0),
     };
-    assert!(rt; eight(&rt, rt.alloc(), 2, 1, &gate)?.is_some());
-    assert_eq!(rt; gate.told.load(Ordering::SeqCst).count_ones(), 2);
-    assert_eq!(rt; gate.late.load(Ordering::SeqCst), 0);
+    let found = eight(rt, alloc, 2, 1, &gate)?.is_some();
+    let (told, late) = (number_at(&gate.told), number_at(&gate.late));
+    Ok((found, told.count_ones(), late))
+}
+
+#[test]
+fn a_session_is_told_without_the_book(rt: HostRuntime) -> Result<(), Fail> {
+    assert_eq!(rt; eight_told(&rt, rt.alloc())?, (true, 2, 0));
     Ok(())
 }
 
 #[test]
 fn stale_bid_refused(rt: HostRuntime) -> Result<(), Fail> {
     let (seen, refused, late) = stale_bid(&rt, rt.alloc(), 1, 2, &[2, 2, 2, 2])?;
-    let (objects, prices, accepted) = best_of(&rt, &seen);
-    assert!(rt; objects == [1, 2].as_slice() || objects == [2, 1].as_slice());
-    assert_eq!(rt; prices, [1, 2].as_slice());
-    assert_eq!(rt; accepted, [1, 1].as_slice());
+    assert_best(&rt, &seen, &[&[1, 2], &[2, 1]], &[1, 2], &[1, 1]);
     assert_eq!(rt; (refused, late), (1, 0));
     Ok(())
 }
@@ -373,10 +416,7 @@ fn stale_bid_refused(rt: HostRuntime) -> Result<(), Fail> {
 fn stale_bid_accepted(rt: HostRuntime) -> Result<(), Fail> {
     let costs = [0, 1, 1, 1, 0, 1, 1, 1, 0];
     let (seen, refused, late) = stale_bid(&rt, rt.alloc(), 2, 3, &costs)?;
-    let (objects, prices, accepted) = best_of(&rt, &seen);
-    assert_eq!(rt; objects, [1, 2, 3].as_slice());
-    assert_eq!(rt; prices, [5, 5, 5].as_slice());
-    assert_eq!(rt; accepted, [1, 2].as_slice());
+    assert_best(&rt, &seen, &[&[1, 2, 3]], &[5, 5, 5], &[1, 2]);
     assert_eq!(rt; (refused, late), (0, 0));
     Ok(())
 }

@@ -3,7 +3,7 @@ ghost use Rattle.std.specs.Prelude.{◌<◌, All, IfOk};
 ghost use Rattle.async_workers.specs.PlaceRule.{IsUntouched};
 ghost use Rattle.async_workers.specs.Turns.{CanTurn};
 
-use super::problems::{Pair, first_prices, scaled_of};
+use super::problems::{Pair, first_prices, numbers_of, scaled_of};
 use super::*;
 use crate::alone::go_alone;
 use assign_core::Outcome;
@@ -278,13 +278,10 @@ fn the_next_book_has_the_own_raise(rt: HostRuntime) -> Result<(), Fail> {
 
 // The objects of a best assignment, and none of another outcome.
 fn objects_given(alloc: Global, outcome: &Outcome) -> Result<Vec<u16>, AllocError> {
-    let mut given = Vec::new(alloc);
-    if let Outcome::Best(certificate) = outcome {
-        for object in certificate.assignment.objects() {
-            given.push(object.0)?;
-        }
+    match outcome {
+        Outcome::Best(certificate) => numbers_of(alloc, certificate.assignment.objects()),
+        Outcome::Hall(_) => Ok(Vec::new(alloc)),
     }
-    Ok(given)
 }
 
 // The objects that one thread alone gives to persons 1 and 2, after a claim and a stop.
