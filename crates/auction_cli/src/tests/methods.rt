@@ -1,6 +1,6 @@
 // Runs by shortest paths.
 use crate::tests::starts::{neighbours_of, report_of};
-use crate::tests::watched::{assert_begins, assert_reported, assert_told, run_with};
+use crate::tests::watched::{assert_reported, assert_told, assert_words_refused, run_with};
 use std::alloc::{AllocError, Global};
 use std::sync::Wait;
 use std::test::Fail;
@@ -131,7 +131,7 @@ fn refused_methods(rt: HostRuntime) -> Result<(), Fail> {
     ];
     for (line, errors) in table {
         let seen = run_with(&rt, rt.alloc(), line, b"1 7", b"", 100)?;
-        assert_begins(&rt, &seen, 2, "", errors);
+        assert_words_refused(&rt, &seen, errors);
     }
     Ok(())
 }

@@ -1,7 +1,7 @@
 // Both modes, on problems whose reports, or what is compared of them, are the same for any threads.
 use crate::run::{Ended, run_solve};
 use crate::tests::streams::{ample_sheet, whole_text};
-use crate::tests::watched::{Seen, assert_begins, run_with};
+use crate::tests::watched::{Seen, assert_words_refused, run_with};
 use crate::words::{Mode, SolveOpts};
 use assign_core::Sense;
 use async_workers::{Gate, Note};
@@ -147,7 +147,7 @@ fn refused_modes(rt: HostRuntime) -> Result<(), Fail> {
     ];
     for (line, errors) in table {
         let seen = run_with(&rt, rt.alloc(), line, b"1 7", b"", 4096)?;
-        assert_begins(&rt, &seen, 2, "", errors);
+        assert_words_refused(&rt, &seen, errors);
     }
     Ok(())
 }

@@ -173,3 +173,9 @@ pub fn assert_begins(rt: &impl Abort, seen: &Seen, status: u8, out: &str, errors
     assert_eq!(rt; seen.status, status);
     assert!(rt; seen.whole);
 }
+
+/// The words were refused with this first line, and nothing was written.
+pub fn assert_words_refused(rt: &impl Abort, seen: &Seen, errors: &str) {
+    assert_begins(rt, seen, 2, "", errors);
+    assert_eq!(rt; seen.out.len(), 0);
+}
