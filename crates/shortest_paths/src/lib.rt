@@ -4,6 +4,7 @@
 
 mod answer;
 mod bids;
+mod lowering;
 mod market;
 mod observer;
 mod path;

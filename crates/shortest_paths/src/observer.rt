@@ -4,8 +4,9 @@ use super::market::Market;
 /// Is told how far paths are.
 pub trait Observer {
     /// So many persons have an object by now, from 0 to n. Told as bids and as searches begin, and
-    /// then after some thousand bids and scanned persons. The number falls to 0 alone: where an
-    /// auction before the searches begins, at each of its phases and at its end.
+    /// then after some thousand bids and scanned persons. The number falls to 0 alone: where first
+    /// prices are left for others, and where an auction before the searches begins, at each of its
+    /// phases and at its end.
     fn assigned(&self, persons: u16);
 }
 

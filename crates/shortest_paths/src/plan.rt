@@ -6,14 +6,12 @@ use scaled_values::Scaled;
 // A problem is sparse where fewer than one in so many pairs are listed.
 const SPARSE_BELOW: usize = 8;
 
-// How bids, searches and an auction share the work.
+// How bids and searches share the work, and what an auction does where they leave too much.
 #[derive(Clone, Copy)]
 pub struct Plan {
-    // Persons are matched with best objects before any bid.
-    pub ties_first: bool,
-    // An auction comes before any search where bids leave more persons than so many without objects.
+    // No search begins where more persons than so many are without objects.
     pub most_unserved: usize,
-    // An auction comes too where searches scan more persons than so many.
+    // Searches end where they have scanned more persons than so many.
     pub most_scans: usize,
     // Bids of an auction for each person in each phase, at most.
     pub bids_a_phase: u16,
@@ -28,6 +26,15 @@ impl Plan {
         Bids {
             a_person,
             in_a_row: self.bids_in_a_row,
+        }
+    }
+
+    // The same, with searches that go on until they find something.
+    pub fn to_the_end(self) -> Plan {
+        Plan {
+            most_unserved: usize::MAX,
+            most_scans: usize::MAX,
+            ..self
         }
     }
 }
@@ -47,7 +54,6 @@ pub fn plan_of(scaled: &Scaled) -> Plan {
     let n = scaled.n() as usize;
     if is_sparse(scaled) {
         Plan {
-            ties_first: false,
             most_unserved: n / 64,
             most_scans: n,
             bids_a_phase: 8,
@@ -56,7 +62,6 @@ pub fn plan_of(scaled: &Scaled) -> Plan {
         }
     } else {
         Plan {
-            ties_first: false,
             most_unserved: n / 2,
             most_scans: n * 80,
             bids_a_phase: 32,
@@ -66,13 +71,13 @@ pub fn plan_of(scaled: &Scaled) -> Plan {
     }
 }
 
-// The plan from first prices: they are a reason to search.
+// The plan from first prices: little is tried, since the other plan is as good where they tell
+// nothing of the problem.
 pub fn started_plan(scaled: &Scaled) -> Plan {
     let n = scaled.n() as usize;
     Plan {
-        ties_first: true,
-        most_unserved: n,
-        most_scans: n * 80,
+        most_unserved: n / 32 + 1,
+        most_scans: n * 8,
         ..plan_of(scaled)
     }
 }

@@ -5,6 +5,7 @@ ghost use Rattle.rounds.specs.Outcomes.{IsDecided, IsProof};
 
 use super::answer::{best_of, hall_of};
 use super::bids::bid_all;
+use super::lowering::lower_unowned;
 use super::market::Market;
 use super::observer::{Observer, Telling, Unobserved};
 use super::path::{raise, walk_back};
@@ -106,19 +107,45 @@ fn auction<O: Observer>(
     market.release_all();
 }
 
-// What the searches found, by how the last one ended.
+// What searches left: the last of them, and how it ended where it found no object.
+#[derive(Drop)]
+struct Searched {
+    search: Search,
+    end: Option<End>,
+}
+
+// Bids, and then searches for those who are left, as far as the plan goes.
+fn bid_and_search<O: Observer>(
+    alloc: Global,
+    scaled: &Scaled,
+    market: &mut Market,
+    plan: Plan,
+    telling: &mut Telling<'_, O>,
+) -> Result<Searched, AllocError>
+    requires { length market.old.prices.items ≡ length scaled.now.problem }
+{
+    bid_all(scaled, market, 0, plan.bids(BIDS_BEFORE), telling);
+    let mut search = Search::new(alloc, scaled.n() as usize, plan.by_heap)?;
+    let end = if market.unserved() > plan.most_unserved {
+        Some(End::Long)
+    } else {
+        augment_all(scaled, market, &mut search, plan.most_scans, telling)?
+    };
+    Ok(Searched { search, end })
+}
+
+// What the searches found, if they found something.
 fn answer_of(
     alloc: Global,
     scaled: &Scaled,
     market: &Market,
-    search: &Search,
-    end: Option<End>,
+    searched: &Searched,
 ) -> Result<Option<Outcome>, AllocError>
     ensures { IfOk result (λ found. IfSome found (IsProof scaled.now)) }
 {
-    match end {
+    match searched.end {
         None => best_of(alloc, scaled, market),
-        Some(End::Blocked) => hall_of(alloc, scaled, search),
+        Some(End::Blocked) => hall_of(alloc, scaled, &searched.search),
         Some(_) => Ok(None),
     }
 }
@@ -136,10 +163,8 @@ fn paths_after_auction<O: Observer>(
 {
     let mut market = Market::new(alloc, prices)?;
     auction(scaled, &mut market, plan, telling);
-    bid_all(scaled, &mut market, 0, plan.bids(BIDS_BEFORE), telling);
-    let mut search = Search::new(alloc, scaled.n() as usize, plan.by_heap)?;
-    let end = augment_all(scaled, &mut market, &mut search, usize::MAX, telling)?;
-    answer_of(alloc, scaled, &market, &search, end)
+    let searched = bid_and_search(alloc, scaled, &mut market, plan.to_the_end(), telling)?;
+    answer_of(alloc, scaled, &market, &searched)
 }
 
 // Paths from these prices, and where much is left to search for or the searches turn out long once
@@ -156,25 +181,11 @@ fn paths_from<O: Observer>(
 {
     let mut market = Market::new(alloc, prices.as_slice().to_vec(alloc)?)?;
     let mut telling = Telling::new(observer);
-    if plan.ties_first {
-        match_ties(alloc, scaled, &mut market)?;
-    }
-    bid_all(scaled, &mut market, 0, plan.bids(BIDS_BEFORE), &mut telling);
-    if market.unserved() > plan.most_unserved {
+    let searched = bid_and_search(alloc, scaled, &mut market, plan, &mut telling)?;
+    if let Some(End::Long) = searched.end {
         return paths_after_auction(alloc, scaled, prices, plan, &mut telling);
     }
-    let mut search = Search::new(alloc, scaled.n() as usize, plan.by_heap)?;
-    let end = augment_all(
-        scaled,
-        &mut market,
-        &mut search,
-        plan.most_scans,
-        &mut telling,
-    )?;
-    if let Some(End::Long) = end {
-        return paths_after_auction(alloc, scaled, prices, plan, &mut telling);
-    }
-    answer_of(alloc, scaled, &market, &search, end)
+    answer_of(alloc, scaled, &market, &searched)
 }
 
 // What is found from the usual prices, while an observer is told of it.
@@ -189,7 +200,30 @@ fn find<O: Observer>(
     paths_from(alloc, scaled, prices, plan_of(scaled), observer)
 }
 
-// What is found from these prices, while an observer is told of it.
+// Paths from first prices, if these tell something of the problem: where they do, most persons are
+// matched with best objects, and the searches for the others are short.
+fn started_paths<O: Observer>(
+    alloc: Global,
+    scaled: &Scaled,
+    prices: Vec<i64>,
+    observer: &O,
+) -> Result<Option<Outcome>, AllocError>
+    requires { length prices.items ≡ length scaled.now.problem }
+    ensures { IfOk result (λ found. IfSome found (IsProof scaled.now)) }
+{
+    let plan = started_plan(scaled);
+    let mut market = Market::new(alloc, prices)?;
+    let Some(values) = match_ties(alloc, scaled, &mut market, plan.most_unserved)? else {
+        return Ok(None);
+    };
+    lower_unowned(alloc, scaled, &mut market, values.as_slice())?;
+    let mut telling = Telling::new(observer);
+    let searched = bid_and_search(alloc, scaled, &mut market, plan, &mut telling)?;
+    answer_of(alloc, scaled, &market, &searched)
+}
+
+// What is found from these prices, and where they tell nothing from the usual ones, while an observer
+// is told of it.
 fn find_from<O: Observer>(
     alloc: Global,
     scaled: &Scaled,
@@ -200,7 +234,10 @@ fn find_from<O: Observer>(
     ensures { IfOk result (λ found. IfSome found (IsProof scaled.now)) }
 {
     let prices = given_prices(alloc, scaled, prices)?;
-    paths_from(alloc, scaled, prices, started_plan(scaled), observer)
+    match started_paths(alloc, scaled, prices, observer)? {
+        None => find(alloc, scaled, observer),
+        found => Ok(found),
+    }
 }
 
 /// Looks for a proof by shortest augmenting paths: a best assignment with prices that prove it, or a
@@ -221,7 +258,8 @@ pub fn try_paths(alloc: Global, scaled: &Scaled) -> Result<Option<Outcome>, Allo
 
 /// Looks for a proof as `try_paths` does, beginning at these prices, one for each object. Prices of
 /// a neighbour of the problem save most of the work. They may be any: their differences are cut to
-/// what fits and rounded to multiples of `n + 1`.
+/// what fits and rounded to multiples of `n + 1`, and prices that tell nothing of the problem are left
+/// for the usual ones, before much is done.
 ///
 /// # Errors
 /// Only where memory is refused.

@@ -22,11 +22,30 @@ struct Ties {
     objects: Vec<usize>,
     // How long the list was before each person, and at the end.
     bounds: Vec<usize>,
+    // The value of the best objects of each person.
+    values: Vec<i64>,
 }
 
 impl Ties {
+    // Of nobody yet.
+    fn new(alloc: Global, n: usize) -> Result<Ties, AllocError> {
+        Ok(Ties {
+            objects: Vec::new(alloc),
+            bounds: vec![in alloc; 0usize; 1]?,
+            values: Vec::with_capacity(alloc, n)?,
+        })
+    }
+
     fn bound(&self, person: usize) -> usize {
         self.bounds.get(person).copied().unwrap_or(0)
+    }
+
+    // With those of the next person.
+    fn look(&mut self, scaled: &Scaled, prices: &[i64], person: usize) -> Result<(), AllocError> {
+        let value = keep(scaled, prices, person, &mut self.objects)?;
+        self.values.push(value)?;
+        self.bounds.push(self.objects.len())?;
+        Ok(())
     }
 }
 
@@ -114,45 +133,32 @@ impl Best {
     }
 }
 
-// Keeps best objects of the person at this place. A full row is looked at from this place on, so that
-// of persons to whom many objects are alike not all keep the same.
+// Keeps best objects of the person at this place, and answers their value. A full row is looked at
+// from this place on, so that of persons to whom many objects are alike not all keep the same.
 fn keep(
     scaled: &Scaled,
     prices: &[i64],
     person: usize,
     objects: &mut Vec<usize>,
-) -> Result<(), AllocError> {
+) -> Result<i64, AllocError> {
     let start = objects.len();
     let none = Best {
         start,
         value: i64::MIN,
     };
-    match row_at(scaled, person) {
+    let best = match row_at(scaled, person) {
         Some(Row::Full(benefits)) => {
             let at = person.min(benefits.len()).min(prices.len());
             let (benefits, benefits_on) = benefits.split_at(at);
             let (prices, prices_on) = prices.split_at(at);
             let best = none.with_full(benefits_on, prices_on, at, objects)?;
-            best.with_full(benefits, prices, 0, objects)?;
+            best.with_full(benefits, prices, 0, objects)?
         }
-        Some(Row::Pairs(pairs)) => {
-            none.with_pairs(pairs, prices, objects)?;
-        }
-        None => {}
-    }
+        Some(Row::Pairs(pairs)) => none.with_pairs(pairs, prices, objects)?,
+        None => none,
+    };
     objects.truncate(start.saturating_add(MOST_KEPT));
-    Ok(())
-}
-
-fn ties_of(alloc: Global, scaled: &Scaled, prices: &[i64]) -> Result<Ties, AllocError> {
-    let mut objects = Vec::new(alloc);
-    let mut bounds = Vec::new(alloc);
-    bounds.push(0usize)?;
-    for person in 0..scaled.n() as usize {
-        keep(scaled, prices, person, &mut objects)?;
-        bounds.push(objects.len())?;
-    }
-    Ok(Ties { objects, bounds })
+    Ok(best.value)
 }
 
 // A search along ties: the person from whom each object was reached, and the objects that were reached
@@ -245,22 +251,36 @@ impl Reach {
     }
 }
 
-// Matches persons with best objects, where nobody owns anything yet.
-pub fn match_ties(alloc: Global, scaled: &Scaled, market: &mut Market) -> Result<(), AllocError>
+// Matches persons with best objects, where nobody owns anything yet, and answers the value of these;
+// `None` once more persons than so many can't be matched: no later person changes that for them.
+pub fn match_ties(
+    alloc: Global,
+    scaled: &Scaled,
+    market: &mut Market,
+    most_unserved: usize,
+) -> Result<Option<Vec<i64>>, AllocError>
     requires { length market.old.prices.items ≡ length scaled.now.problem }
     ensures { length market.new.prices.items ≡ length scaled.now.problem }
 {
     let n = scaled.n() as usize;
-    let ties = ties_of(alloc, scaled, market.prices.as_slice())?;
+    let prices = market.prices.as_slice().to_vec(alloc)?;
+    let mut ties = Ties::new(alloc, n)?;
     let mut reach = Reach {
         from: vec![in alloc; None; n]?,
         objects: Vec::new(alloc),
     };
+    let mut unserved = 0usize;
     for person in 0..n {
+        ties.look(scaled, prices.as_slice(), person)?;
         if let Some(object) = reach.run(&ties, market, person)? {
             reach.walk_back(scaled, market, object);
             reach.forget();
+        } else {
+            unserved = unserved.saturating_add(1);
+        }
+        if unserved > most_unserved {
+            return Ok(None);
         }
     }
-    Ok(())
+    Ok(Some(ties.values))
 }

@@ -13,7 +13,7 @@ fn next_number(seed: &mut u64) -> u64 {
 }
 
 // How many kinds there are.
-const KINDS: u8 = 18;
+const KINDS: u8 = 19;
 
 // What person i pays for object j, numbered from 0 among n, where a number is drawn.
 fn cost(kind: u8, n: u16, i: u16, j: u16, drawn: Cost) -> Option<Cost> {
@@ -48,7 +48,12 @@ fn cost(kind: u8, n: u16, i: u16, j: u16, drawn: Cost) -> Option<Cost> {
         15 => (i > half || j < half).then_some(drawn % 100),
         // Few pairs: an assignment and drawn ones, or ten persons for nine objects.
         16 => (i == j || drawn % 16 == 0).then_some(drawn % 100),
-        _ => (i < 10 && j < 9 || i >= 10 && i == j).then_some(drawn % 100),
+        17 => (i < 10 && j < 9 || i >= 10 && i == j).then_some(drawn % 100),
+        // Persons and objects in a line, thirteen places apart: who is at its end moves all others on.
+        _ => {
+            let apart = row + 13 - column;
+            Some(apart.wrapping_mul(apart))
+        }
     }
 }
 
@@ -138,19 +143,25 @@ fn other_than_rounds(alloc: Global, kind: u8, n: u16) -> Result<Option<Finding>,
     Ok((seen != wanted).then_some(seen))
 }
 
-// What paths find from first prices of 0, from which searches for so many persons of kind 7 are so
-// long that an auction takes over.
-fn found_after_long_searches(alloc: Global) -> Result<Finding, AllocError> {
-    let pairs = pairs_of(alloc, 7, 200, 7)?;
-    found(alloc, 200, pairs.as_slice(), Sense::Min, Some(&[]))
+// What paths find from first prices of 0.
+fn found_from_zeros(alloc: Global, kind: u8, n: u16) -> Result<Finding, AllocError> {
+    let pairs = pairs_of(alloc, kind, n, 7)?;
+    found(alloc, n, pairs.as_slice(), Sense::Min, Some(&[]))
 }
 
+// Starts that are left for the usual prices: of kind 7 few persons are matched with best objects, and
+// of the other one all but thirteen, each of whom takes a search through all others.
 #[test]
-fn searches_that_are_given_up(rt: HostRuntime) -> Result<(), Fail> {
+fn starts_that_are_given_up(rt: HostRuntime) -> Result<(), Fail> {
     // The greatest row number with the least column number: i * (199 - i) in sum.
     assert_eq!(rt;
-        found_after_long_searches(rt.alloc())?,
+        found_from_zeros(rt.alloc(), 7, 200)?,
         Finding::Best(1_313_400)
+    );
+    // All are thirteen places away.
+    assert_eq!(rt;
+        found_from_zeros(rt.alloc(), 18, 400)?,
+        Finding::Best(400 * 169)
     );
     Ok(())
 }

@@ -1,0 +1,83 @@
+// Objects that nobody owns, at prices that somebody would pay: each price comes down to where the
+// object is as good to some person as that person's best.
+ghost use Rattle.std.specs.Prelude.{◌≡◌, length};
+
+use super::market::Market;
+use super::rows::{place_of, row_at};
+use assign_core::{Benefit, Object};
+use scaled_values::{Row, Scaled};
+use std::alloc::{AllocError, Global};
+
+// The places of the objects that nobody owns.
+fn unowned(alloc: Global, market: &Market) -> Result<Vec<usize>, AllocError> {
+    let mut places = Vec::with_capacity(alloc, market.unserved())?;
+    for (place, owner) in market.owners.iter().enumerate() {
+        if owner.is_none() {
+            places.push(place)?;
+        }
+    }
+    Ok(places)
+}
+
+// The greater of what stood for an object and what somebody would pay.
+fn raise(levels: &mut [i64], place: usize, level: i64) {
+    if place < levels.len() {
+        levels[place] = levels[place].max(level);
+    }
+}
+
+fn raise_full(levels: &mut [i64], places: &[usize], benefits: &[Benefit], value: i64) {
+    for place in places {
+        if let Some(benefit) = benefits.get(*place) {
+            raise(levels, *place, benefit.wrapping_sub(value));
+        }
+    }
+}
+
+fn raise_pairs(levels: &mut [i64], pairs: &[(Object, Benefit)], value: i64) {
+    for (object, benefit) in pairs {
+        raise(levels, place_of(*object), benefit.wrapping_sub(value));
+    }
+}
+
+// What is paid at most for each object that nobody owns, by persons who want as much as at their best
+// object; the least number where nobody lists it.
+fn levels_of(
+    alloc: Global,
+    scaled: &Scaled,
+    places: &[usize],
+    values: &[i64],
+) -> Result<Vec<i64>, AllocError> {
+    let mut levels = vec![in alloc; i64::MIN; scaled.n() as usize]?;
+    for (person, value) in values.iter().enumerate() {
+        match row_at(scaled, person) {
+            Some(Row::Full(benefits)) => {
+                raise_full(levels.as_mut_slice(), places, benefits, *value);
+            }
+            Some(Row::Pairs(pairs)) => raise_pairs(levels.as_mut_slice(), pairs, *value),
+            None => {}
+        }
+    }
+    Ok(levels)
+}
+
+// Brings the prices of objects that nobody owns down, where each person's best value is this one.
+pub fn lower_unowned(
+    alloc: Global,
+    scaled: &Scaled,
+    market: &mut Market,
+    values: &[i64],
+) -> Result<(), AllocError>
+    requires { length market.old.prices.items ≡ length scaled.now.problem }
+    ensures { length market.new.prices.items ≡ length scaled.now.problem }
+{
+    let places = unowned(alloc, market)?;
+    let levels = levels_of(alloc, scaled, places.as_slice(), values)?;
+    for place in &places {
+        let level = levels.get(*place).copied().unwrap_or(i64::MIN);
+        if level != i64::MIN {
+            market.set_price(*place, level);
+        }
+    }
+    Ok(())
+}
