@@ -24,7 +24,7 @@ pub(crate) struct Desk {
 
 // A book and the desks of its workers.
 #[derive(Drop)]
-pub(crate) struct Office {
+pub(crate) struct Trial {
     pub book: Book,
     pub desks: Vec<Desk>,
     ghost below: { All (λ d. IsBelow d.table (prices_of book)) desks.items },
@@ -33,7 +33,7 @@ pub(crate) struct Office {
 
 // How what a worker brings differs from what it should bring.
 #[derive(Clone, Copy, PartialEq, Eq)]
-pub(crate) enum Slip {
+pub(crate) enum Mistake {
     Nothing,
     // It names another phase.
     Phase,
@@ -46,9 +46,9 @@ pub(crate) enum Slip {
 pub(crate) enum Call {
     Claim,
     // The bid of the claimed person, from the worker's table.
-    Submit(Slip),
+    Submit(Mistake),
     // The Hall set that a search from the claimed person finds.
-    Below(Slip),
+    Below(Mistake),
     GiveUp,
     CatchUp,
     Stop,
@@ -131,7 +131,7 @@ pub(crate) fn claim(book: &mut Book, worker: u16) -> Told
 }
 
 // The person that a worker claimed, or another one.
-fn spoken_for(book: &Book, worker: u16, slip: Slip) -> Person
+fn spoken_for(book: &Book, worker: u16, mistake: Mistake) -> Person
     requires { IsNumber (length book.now.claims) worker }
     ensures person { IsNumber (persons_of book.now) result }
     ensures long { length (prices_of book.now) ≡ persons_of book.now }
@@ -142,7 +142,7 @@ fn spoken_for(book: &Book, worker: u16, slip: Slip) -> Person
         Some(person) => person.0,
         None => 1,
     };
-    if slip == Slip::Person {
+    if mistake == Mistake::Person {
         Person(number(n, if person < n { person + 1 } else { 1 }))
     } else {
         Person(number(n, person))
@@ -150,8 +150,8 @@ fn spoken_for(book: &Book, worker: u16, slip: Slip) -> Person
 }
 
 // The phase, or another one.
-pub(crate) fn named(phase: u16, slip: Slip) -> u16 {
-    if slip != Slip::Phase {
+pub(crate) fn named(phase: u16, mistake: Mistake) -> u16 {
+    if mistake != Mistake::Phase {
         phase
     } else if phase > 1 {
         phase - 1
@@ -171,11 +171,11 @@ pub(crate) fn offered(book: &Book, desk: &Desk, person: Person) -> Offer
 }
 
 // The same from the table of a worker, if there is one.
-pub(crate) fn offer_of(office: &Office, worker: u16, person: u16) -> Option<Offer> {
-    office.book.invariant();
-    let desk = office.desks.get((worker as usize).wrapping_sub(1))?;
-    let person = Person(number(office.book.scaled().n(), person));
-    Some(offered(&office.book, desk, person))
+pub(crate) fn offer_of(trial: &Trial, worker: u16, person: u16) -> Option<Offer> {
+    trial.book.invariant();
+    let desk = trial.desks.get((worker as usize).wrapping_sub(1))?;
+    let person = Person(number(trial.book.scaled().n(), person));
+    Some(offered(&trial.book, desk, person))
 }
 
 fn submit_bid(book: &mut Book, desk: &Desk, worker: u16, bid: Bid) -> Told
@@ -198,14 +198,14 @@ fn in_phase(bid: Bid, phase: u16) -> Bid
     Bid { phase, ..bid }
 }
 
-pub(crate) fn submit(book: &mut Book, desk: &Desk, worker: u16, slip: Slip) -> Told
+pub(crate) fn submit(book: &mut Book, desk: &Desk, worker: u16, mistake: Mistake) -> Told
     requires worker { IsNumber (length book.old.claims) worker }
     requires below { IsBelow desk.now.table (prices_of book.old) }
     ensures { GoesOn book.old book.new }
 {
-    let person = spoken_for(book, worker, slip);
+    let person = spoken_for(book, worker, mistake);
     match offered(book, desk, person) {
-        Offer::Bid(bid) => submit_bid(book, desk, worker, in_phase(bid, named(bid.phase, slip))),
+        Offer::Bid(bid) => submit_bid(book, desk, worker, in_phase(bid, named(bid.phase, mistake))),
         Offer::Below(_) => Told::Unasked,
     }
 }
@@ -227,7 +227,7 @@ pub(crate) fn below(
     alloc: Global,
     book: &mut Book,
     worker: u16,
-    slip: Slip,
+    mistake: Mistake,
 ) -> Result<Told, AllocError>
     requires { IsNumber (length book.old.claims) worker }
     ensures { GoesOn book.old book.new }
@@ -237,8 +237,8 @@ pub(crate) fn below(
         return Ok(Told::Unasked);
     };
     let below = BelowFloor {
-        person: spoken_for(book, worker, slip),
-        phase: named(book.ask().phase, slip),
+        person: spoken_for(book, worker, mistake),
+        phase: named(book.ask().phase, mistake),
     };
     match refute(alloc, book.scaled(), book.owners(), person)? {
         Search::Hall(hall) => Ok(told_below(book.below(worker, below, hall))),
@@ -293,8 +293,8 @@ fn call_at(
 {
     match call {
         Call::Claim => Ok(claim(book, worker)),
-        Call::Submit(slip) => Ok(submit(book, desk, worker, slip)),
-        Call::Below(slip) => below(alloc, book, worker, slip),
+        Call::Submit(mistake) => Ok(submit(book, desk, worker, mistake)),
+        Call::Below(mistake) => below(alloc, book, worker, mistake),
         Call::NextPhase => next_phase(alloc, book),
         Call::GiveUp => Ok(give_up(book, worker)),
         Call::Stop => Ok(stop(book)),
@@ -339,16 +339,16 @@ fn call_by(
 // A call by a worker, if there is such a worker.
 pub(crate) fn call_of(
     alloc: Global,
-    office: &mut Office,
+    trial: &mut Trial,
     worker: u16,
     call: Call,
 ) -> Result<Told, AllocError> {
-    if worker == 0 || worker > office.book.workers() || worker as usize > office.desks.len() {
+    if worker == 0 || worker > trial.book.workers() || worker as usize > trial.desks.len() {
         return Ok(Told::Unasked);
     }
-    office.book.invariant();
-    let desk = &mut office.desks[worker as usize - 1];
-    call_by(alloc, &mut office.book, desk, worker, call)
+    trial.book.invariant();
+    let desk = &mut trial.desks[worker as usize - 1];
+    call_by(alloc, &mut trial.book, desk, worker, call)
 }
 
 // A desk for each of so many workers, with these prices.
@@ -368,7 +368,7 @@ fn open_desks(alloc: Global, book: &Book, workers: u16) -> Result<Vec<Desk>, All
 }
 
 // The book with such desks.
-pub(crate) fn open_office(alloc: Global, book: Book, workers: u16) -> Result<Office, AllocError> {
+pub(crate) fn open_trial(alloc: Global, book: Book, workers: u16) -> Result<Trial, AllocError> {
     let desks = open_desks(alloc, &book, workers)?;
-    Ok(Office { book, desks })
+    Ok(Trial { book, desks })
 }

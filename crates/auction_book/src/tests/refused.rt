@@ -1,9 +1,9 @@
 // What a refused growth leaves. Where no growth is refused, these are calls of two persons to the
 // end; the refusals come from runs in which one allocation after the other fails.
-use super::calls::{Call, Office, Slip, Told, call_of};
+use super::calls::{Call, Mistake, Told, Trial, call_of};
 use super::drawn::two_persons;
 use super::plain_calls;
-use super::sequences::{PlainOffice, open_both, plain_call, same, same_answer};
+use super::sequences::{PlainTrial, open_both, plain_call, same, same_answer};
 use std::alloc::{AllocError, Global};
 use std::test::Fail;
 
@@ -11,13 +11,13 @@ use std::test::Fail;
 // or the bid's person waits again and nothing else has changed.
 fn keeps(
     alloc: Global,
-    office: &mut Office,
-    plain: &mut PlainOffice,
+    trial: &mut Trial,
+    plain: &mut PlainTrial,
     made: (u16, Call),
 ) -> Result<bool, AllocError> {
     let (worker, call) = made;
-    let Ok(told) = call_of(alloc, office, worker, call) else {
-        if same(alloc, &office.book, &plain.book)? {
+    let Ok(told) = call_of(alloc, trial, worker, call) else {
+        if same(alloc, &trial.book, &plain.book)? {
             return Err(AllocError);
         }
         return Ok(false);
@@ -29,14 +29,14 @@ fn keeps(
             return Ok(false);
         }
     }
-    same(alloc, &office.book, &plain.book)
+    same(alloc, &trial.book, &plain.book)
 }
 
 // Two persons and two workers to the end, with the table of worker 1 today's before each claim: two
 // calls a row.
 fn all_calls() -> [[(u16, Call); 2]; 10] {
     let claim = Call::Claim;
-    let submit = Call::Submit(Slip::Nothing);
+    let submit = Call::Submit(Mistake::Nothing);
     let catch_up = Call::CatchUp;
     [
         [(1, claim), (2, claim)],
@@ -52,24 +52,20 @@ fn all_calls() -> [[(u16, Call); 2]; 10] {
     ]
 }
 
-fn all_keep(
-    alloc: Global,
-    office: &mut Office,
-    plain: &mut PlainOffice,
-) -> Result<bool, AllocError> {
+fn all_keep(alloc: Global, trial: &mut Trial, plain: &mut PlainTrial) -> Result<bool, AllocError> {
     for row in all_calls().as_slice() {
-        if !keeps(alloc, office, plain, row[0])? || !keeps(alloc, office, plain, row[1])? {
+        if !keeps(alloc, trial, plain, row[0])? || !keeps(alloc, trial, plain, row[1])? {
             return Ok(false);
         }
     }
-    let ended = office.book.answer(alloc)?.is_some();
-    Ok(ended && same_answer(alloc, &office.book, &plain.book)?)
+    let ended = trial.book.answer(alloc)?.is_some();
+    Ok(ended && same_answer(alloc, &trial.book, &plain.book)?)
 }
 
 fn two_persons_keep(alloc: Global) -> Result<bool, AllocError> {
     let case = two_persons(alloc, &[14, 12])?;
-    let (mut office, mut plain) = open_both(alloc, &case)?;
-    all_keep(alloc, &mut office, &mut plain)
+    let (mut trial, mut plain) = open_both(alloc, &case)?;
+    all_keep(alloc, &mut trial, &mut plain)
 }
 
 #[test]

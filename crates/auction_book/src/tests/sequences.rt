@@ -1,7 +1,7 @@
 // Drawn sequences of calls, beside a plain book.
 use super::super::book::Book;
 use super::calls::{
-    Call, Office, Slip, Told, call_of, named, open_office, told_below, told_bid, told_claim,
+    Call, Mistake, Told, Trial, call_of, named, open_trial, told_below, told_bid, told_claim,
 };
 use super::drawn::{Case, draw, drawn_case, first_prices, scaled_of, size};
 use super::plain::{PlainBook, at, bound, offer, opened, prices, version};
@@ -20,16 +20,16 @@ pub(crate) struct PlainDesk {
 
 // A plain book and the desks of its workers.
 #[derive(Drop)]
-pub(crate) struct PlainOffice {
+pub(crate) struct PlainTrial {
     pub book: PlainBook,
     pub desks: Vec<PlainDesk>,
 }
 
 // Whom a worker speaks for: whom it claimed, or another one.
-fn spoken_for(plain: &PlainBook, worker: u16, slip: Slip) -> Person {
+fn spoken_for(plain: &PlainBook, worker: u16, mistake: Mistake) -> Person {
     let held = at(plain.claims.as_slice(), worker).flatten();
     let person = held.unwrap_or(Person(1));
-    if slip != Slip::Person {
+    if mistake != Mistake::Person {
         person
     } else if person.0 < plain.n {
         Person(person.0.wrapping_add(1))
@@ -43,13 +43,13 @@ fn submit(
     plain: &mut PlainBook,
     desk: &PlainDesk,
     worker: u16,
-    slip: Slip,
+    mistake: Mistake,
 ) -> Result<Told, AllocError> {
-    let person = spoken_for(plain, worker, slip);
+    let person = spoken_for(plain, worker, mistake);
     let Some((object, level)) = offer(plain, desk.table.as_slice(), person.0) else {
         return Ok(Told::Unasked);
     };
-    let phase = named(plain.phase, slip);
+    let phase = named(plain.phase, mistake);
     let answer = plain_calls::submit(alloc, plain, worker, person, phase, object, level)?;
     Ok(told_bid(object, level, answer))
 }
@@ -58,7 +58,7 @@ fn below(
     alloc: Global,
     plain: &mut PlainBook,
     worker: u16,
-    slip: Slip,
+    mistake: Mistake,
 ) -> Result<Told, AllocError> {
     let Some(person) = at(plain.claims.as_slice(), worker).flatten() else {
         return Ok(Told::Unasked);
@@ -66,8 +66,8 @@ fn below(
     let Some(hall) = plain_calls::search(alloc, plain, person)? else {
         return Ok(Told::Path);
     };
-    let person = spoken_for(plain, worker, slip);
-    let phase = named(plain.phase, slip);
+    let person = spoken_for(plain, worker, mistake);
+    let phase = named(plain.phase, mistake);
     let answer = plain_calls::below(plain, worker, person, phase, hall)?;
     Ok(told_below(answer))
 }
@@ -118,8 +118,8 @@ pub(crate) fn plain_call(
 ) -> Result<Told, AllocError> {
     match call {
         Call::Claim => Ok(claim(plain, worker)),
-        Call::Submit(slip) => submit(alloc, plain, desk, worker, slip),
-        Call::Below(slip) => below(alloc, plain, worker, slip),
+        Call::Submit(mistake) => submit(alloc, plain, desk, worker, mistake),
+        Call::Below(mistake) => below(alloc, plain, worker, mistake),
         Call::NextPhase => next_phase(alloc, plain),
         Call::GiveUp => give_up(plain, worker),
         Call::Stop => Ok(set_stopped(plain, true)),
@@ -205,20 +205,20 @@ pub(crate) fn same_answer(
 }
 
 // What a worker brings is right in most draws.
-fn drawn_slip(seed: &mut u64) -> Slip {
+fn drawn_mistake(seed: &mut u64) -> Mistake {
     match draw(seed, 12) {
-        0 => Slip::Phase,
-        1 => Slip::Person,
-        _ => Slip::Nothing,
+        0 => Mistake::Phase,
+        1 => Mistake::Person,
+        _ => Mistake::Nothing,
     }
 }
 
 fn drawn_call(seed: &mut u64) -> Call {
     match draw(seed, 40) {
         0..=12 => Call::Claim,
-        13..=26 => Call::Submit(drawn_slip(seed)),
+        13..=26 => Call::Submit(drawn_mistake(seed)),
         27..=30 => Call::CatchUp,
-        31 => Call::Below(drawn_slip(seed)),
+        31 => Call::Below(drawn_mistake(seed)),
         32 => Call::GiveUp,
         33 => Call::Stop,
         34..=35 => Call::Resume,
@@ -298,14 +298,14 @@ struct Draws {
 // Whether a drawn call does the same to both books.
 fn agrees(
     alloc: Global,
-    office: &mut Office,
-    plain: &mut PlainOffice,
+    trial: &mut Trial,
+    plain: &mut PlainTrial,
     draws: &mut Draws,
 ) -> Result<bool, AllocError> {
     let place = draw(&mut draws.seed, plain.desks.len() as u64) as usize;
     let call = drawn_call(&mut draws.seed);
     let worker = u16::try_from(place).unwrap_or(0).wrapping_add(1);
-    let told = call_of(alloc, office, worker, call)?;
+    let told = call_of(alloc, trial, worker, call)?;
     let Some(desk) = plain.desks.get_mut(place) else {
         return Ok(false);
     };
@@ -313,54 +313,54 @@ fn agrees(
     note(&mut draws.kinds, call, told);
     Ok(
         told == expected
-            && same(alloc, &office.book, &plain.book)?
-            && same_answer(alloc, &office.book, &plain.book)?,
+            && same(alloc, &trial.book, &plain.book)?
+            && same_answer(alloc, &trial.book, &plain.book)?,
     )
 }
 
 // Whether so many drawn calls do the same to both books.
 fn all_agree(
     alloc: Global,
-    office: &mut Office,
-    plain: &mut PlainOffice,
+    trial: &mut Trial,
+    plain: &mut PlainTrial,
     draws: &mut Draws,
     calls: u32,
 ) -> Result<bool, AllocError> {
     for _ in 0..calls {
-        if !agrees(alloc, office, plain, draws)? {
+        if !agrees(alloc, trial, plain, draws)? {
             return Ok(false);
         }
     }
     Ok(true)
 }
 
-// The office of a case, of at least one worker.
-pub(crate) fn open_case(alloc: Global, case: &Case) -> Result<Office, AllocError> {
+// The trial of a case, of at least one worker.
+pub(crate) fn open_case(alloc: Global, case: &Case) -> Result<Trial, AllocError> {
     let n = size(case.n);
     let workers = case.workers.max(1);
     let scaled = scaled_of(alloc, n, case.pairs.as_slice(), case.sense)?;
     let prices = first_prices(alloc, n, case.first.as_slice())?;
     let book = Book::open_from(alloc, scaled, prices, workers)?;
-    open_office(alloc, book, workers)
+    open_trial(alloc, book, workers)
 }
 
 // The same in plain.
-fn open_plain(alloc: Global, case: &Case) -> Result<PlainOffice, AllocError> {
+fn open_plain(alloc: Global, case: &Case) -> Result<PlainTrial, AllocError> {
     let desks = open_plain_desks(alloc, case.first.as_slice(), case.workers)?;
     let book = opened(alloc, case)?;
-    Ok(PlainOffice { book, desks })
+    Ok(PlainTrial { book, desks })
 }
 
-pub(crate) fn open_both(alloc: Global, case: &Case) -> Result<(Office, PlainOffice), AllocError> {
-    let office = open_case(alloc, case)?;
-    Ok((office, open_plain(alloc, case)?))
+pub(crate) fn open_both(alloc: Global, case: &Case) -> Result<(Trial, PlainTrial), AllocError> {
+    let trial = open_case(alloc, case)?;
+    Ok((trial, open_plain(alloc, case)?))
 }
 
 // Whether so many drawn calls on a drawn problem do the same to both books.
 fn sequence_agrees(alloc: Global, draws: &mut Draws, calls: u32) -> Result<bool, AllocError> {
     let case = drawn_case(alloc, &mut draws.seed, 4, 3)?;
-    let (mut office, mut plain) = open_both(alloc, &case)?;
-    all_agree(alloc, &mut office, &mut plain, draws, calls)
+    let (mut trial, mut plain) = open_both(alloc, &case)?;
+    all_agree(alloc, &mut trial, &mut plain, draws, calls)
 }
 
 const NONE_YET: Kinds = Kinds {

@@ -1,6 +1,6 @@
 // Calls of a book on small problems, worked by hand.
 use super::super::book::Book;
-use super::calls::{Call, Office, Slip, Told, call_of, offer_of, open_office, submit_untimely};
+use super::calls::{Call, Mistake, Told, Trial, call_of, offer_of, open_trial, submit_untimely};
 use super::drawn::{Case, scaled_of, size, two_persons};
 use super::plain::Pair;
 use super::sequences::open_case;
@@ -10,11 +10,11 @@ use std::alloc::{AllocError, Global};
 use std::test::Fail;
 
 // Three persons, of whom 1 and 2 list object 1 alone.
-fn three_persons(alloc: Global) -> Result<Office, AllocError> {
+fn three_persons(alloc: Global) -> Result<Trial, AllocError> {
     let n = size(3);
     let pairs = [(1, 1, 4), (2, 1, 6), (3, 2, 1), (3, 3, 2)];
     let scaled = scaled_of(alloc, n, &pairs, Sense::Min)?;
-    open_office(alloc, Book::open(alloc, scaled, 2)?, 2)
+    open_trial(alloc, Book::open(alloc, scaled, 2)?, 2)
 }
 
 // A call by a worker, what it answers, and then the first two who wait and the first two prices.
@@ -30,16 +30,16 @@ const SECOND_OF_1: Told = Told::Person(1, 2, 1, -36);
 
 const SECOND_OF_2: Told = Told::Person(2, 2, 1, -36);
 
-const HONEST: Call = Call::Submit(Slip::Nothing);
+const SUBMIT: Call = Call::Submit(Mistake::Nothing);
 
 const FIRST_PHASE: [Step; 8] = [
     (1, Call::Claim, FIRST_OF_1, [2, 0], [0, 0]),
     (2, Call::Claim, FIRST_OF_2, [0, 0], [0, 0]),
-    (1, HONEST, Told::Accepted(1, 5, 0), [0, 0], [5, 0]),
-    (2, HONEST, Told::Accepted(1, 8, 1), [1, 0], [8, 0]),
+    (1, SUBMIT, Told::Accepted(1, 5, 0), [0, 0], [5, 0]),
+    (2, SUBMIT, Told::Accepted(1, 8, 1), [1, 0], [8, 0]),
     (1, Call::Claim, FIRST_OF_1, [0, 0], [8, 0]),
     (1, Call::CatchUp, Told::Nothing, [0, 0], [8, 0]),
-    (1, HONEST, Told::Accepted(2, 7, 0), [0, 0], [8, 7]),
+    (1, SUBMIT, Told::Accepted(2, 7, 0), [0, 0], [8, 7]),
     (2, Call::Claim, Told::Wait, [0, 0], [8, 7]),
 ];
 
@@ -49,11 +49,11 @@ const SECOND_PHASE: [Step; 11] = [
     (2, Call::CatchUp, Told::Nothing, [1, 2], [8, 7]),
     (1, Call::Claim, SECOND_OF_1, [2, 0], [8, 7]),
     (2, Call::Claim, SECOND_OF_2, [0, 0], [8, 7]),
-    (1, HONEST, Told::Accepted(1, 11, 0), [0, 0], [11, 7]),
-    (2, HONEST, Told::Accepted(1, 14, 1), [1, 0], [14, 7]),
+    (1, SUBMIT, Told::Accepted(1, 11, 0), [0, 0], [11, 7]),
+    (2, SUBMIT, Told::Accepted(1, 14, 1), [1, 0], [14, 7]),
     (1, Call::CatchUp, Told::Nothing, [1, 0], [14, 7]),
     (1, Call::Claim, SECOND_OF_1, [0, 0], [14, 7]),
-    (1, HONEST, Told::Accepted(2, 12, 0), [0, 0], [14, 12]),
+    (1, SUBMIT, Told::Accepted(2, 12, 0), [0, 0], [14, 12]),
     (1, Call::Claim, Told::Done, [0, 0], [14, 12]),
 ];
 
@@ -65,22 +65,22 @@ fn first_two(waiting: &[Person]) -> [u16; 2] {
 }
 
 // Whether a step goes as it was worked out.
-fn goes(alloc: Global, office: &mut Office, step: Step) -> Result<bool, AllocError> {
+fn goes(alloc: Global, trial: &mut Trial, step: Step) -> Result<bool, AllocError> {
     let (worker, call, told, queue, prices) = step;
-    let answer = call_of(alloc, office, worker, call)?;
-    let waiting = office.book.waiting(alloc)?;
+    let answer = call_of(alloc, trial, worker, call)?;
+    let waiting = trial.book.waiting(alloc)?;
     Ok(
         answer == told
             && first_two(waiting.as_slice()) == queue
-            && office.book.prices().as_slice().get(..2) == Some(prices.as_slice()),
+            && trial.book.prices().as_slice().get(..2) == Some(prices.as_slice()),
     )
 }
 
 // How many of the first steps go as they were worked out.
-fn steps_that_go(alloc: Global, office: &mut Office, steps: &[Step]) -> Result<usize, AllocError> {
+fn steps_that_go(alloc: Global, trial: &mut Trial, steps: &[Step]) -> Result<usize, AllocError> {
     let mut count: usize = 0;
     for step in steps {
-        if !goes(alloc, office, *step)? {
+        if !goes(alloc, trial, *step)? {
             break;
         }
         count = count.wrapping_add(1);
@@ -92,21 +92,17 @@ fn steps_that_go(alloc: Global, office: &mut Office, steps: &[Step]) -> Result<u
 // and how many it accepts at most.
 fn after_steps(
     alloc: Global,
-    office: &mut Office,
+    trial: &mut Trial,
     steps: &[Step],
 ) -> Result<(usize, u128, u128), AllocError> {
-    let count = steps_that_go(alloc, office, steps)?;
-    Ok((
-        count,
-        office.book.phase_accepted(),
-        office.book.phase_bound(),
-    ))
+    let count = steps_that_go(alloc, trial, steps)?;
+    Ok((count, trial.book.phase_accepted(), trial.book.phase_bound()))
 }
 
 // Whether both phases go as they were worked out.
-fn both_phases_go(alloc: Global, office: &mut Office) -> Result<bool, AllocError> {
-    let first = after_steps(alloc, office, &FIRST_PHASE)?;
-    let second = after_steps(alloc, office, &SECOND_PHASE)?;
+fn both_phases_go(alloc: Global, trial: &mut Trial) -> Result<bool, AllocError> {
+    let first = after_steps(alloc, trial, &FIRST_PHASE)?;
+    let second = after_steps(alloc, trial, &SECOND_PHASE)?;
     Ok(first == (8, 3, 28) && second == (11, 3, 53))
 }
 
@@ -130,17 +126,17 @@ fn stands_after_six(alloc: Global, book: &Book) -> Result<bool, AllocError> {
     )
 }
 
-// The office of the two persons, with these first prices.
-fn two_office(alloc: Global, first: &[Price]) -> Result<Office, AllocError> {
+// The trial of the two persons, with these first prices.
+fn trial_of_two(alloc: Global, first: &[Price]) -> Result<Trial, AllocError> {
     let case = two_persons(alloc, first)?;
     open_case(alloc, &case)
 }
 
 // Whether all goes as it was worked out.
 fn six_bids_go(alloc: Global) -> Result<bool, AllocError> {
-    let mut office = two_office(alloc, &[])?;
-    let went = both_phases_go(alloc, &mut office)?;
-    Ok(went && stands_after_six(alloc, &office.book)?)
+    let mut trial = trial_of_two(alloc, &[])?;
+    let went = both_phases_go(alloc, &mut trial)?;
+    Ok(went && stands_after_six(alloc, &trial.book)?)
 }
 
 #[test]
@@ -156,7 +152,7 @@ const UNHELD: [Step; 4] = [
     (1, Call::Claim, SECOND_OF_1, [2, 0], [8, 7]),
     (
         1,
-        Call::Submit(Slip::Person),
+        Call::Submit(Mistake::Person),
         Told::NotClaimed(1, 14),
         [2, 0],
         [8, 7],
@@ -189,16 +185,16 @@ fn stands_after_late(alloc: Global, book: &Book) -> Result<bool, AllocError> {
 }
 
 // Whether the steps before go as they were worked out.
-fn late_steps_go(alloc: Global, office: &mut Office) -> Result<bool, AllocError> {
-    let first = steps_that_go(alloc, office, &FIRST_PHASE)?;
-    let second = steps_that_go(alloc, office, &UNHELD)?;
+fn late_steps_go(alloc: Global, trial: &mut Trial) -> Result<bool, AllocError> {
+    let first = steps_that_go(alloc, trial, &FIRST_PHASE)?;
+    let second = steps_that_go(alloc, trial, &UNHELD)?;
     Ok(first == 8 && second == 4)
 }
 
 fn late_bid_goes(alloc: Global) -> Result<bool, AllocError> {
-    let mut office = two_office(alloc, &[])?;
-    let went = late_steps_go(alloc, &mut office)?;
-    let mut book = office.book;
+    let mut trial = trial_of_two(alloc, &[])?;
+    let went = late_steps_go(alloc, &mut trial)?;
+    let mut book = trial.book;
     let told = is_late(&mut book);
     Ok(went && told && stands_after_late(alloc, &book)?)
 }
@@ -213,15 +209,15 @@ fn a_late_bid_and_one_of_another_person(rt: HostRuntime) -> Result<(), Fail> {
 const CONTESTED: [Step; 3] = [
     (1, Call::Claim, Told::Person(1, 1, 4, -72), [2, 3], [0, 0]),
     (2, Call::Claim, Told::Person(2, 1, 4, -72), [3, 0], [0, 0]),
-    (1, HONEST, Told::Accepted(1, 60, 0), [3, 0], [60, 0]),
+    (1, SUBMIT, Told::Accepted(1, 60, 0), [3, 0], [60, 0]),
 ];
 
 // Worker 2 catches up, and records what stops person 2.
 const RECORDED: [Step; 3] = [
-    (2, HONEST, Told::Unasked, [3, 0], [60, 0]),
+    (2, SUBMIT, Told::Unasked, [3, 0], [60, 0]),
     (
         2,
-        Call::Below(Slip::Nothing),
+        Call::Below(Mistake::Nothing),
         Told::Recorded,
         [3, 2],
         [60, 0],
@@ -230,8 +226,8 @@ const RECORDED: [Step; 3] = [
 ];
 
 // The level of what person 2 offers worker 2, if it's a bid.
-fn level_of_second(office: &Office) -> Option<Price> {
-    match offer_of(office, 2, 2) {
+fn level_of_second(trial: &Trial) -> Option<Price> {
+    match offer_of(trial, 2, 2) {
         Some(Offer::Bid(bid)) => Some(bid.level),
         _ => None,
     }
@@ -240,20 +236,20 @@ fn level_of_second(office: &Office) -> Option<Price> {
 // What person 2 offers from the first table and from today's.
 fn old_and_new_offer(
     alloc: Global,
-    office: &mut Office,
+    trial: &mut Trial,
 ) -> Result<(usize, Option<Price>, Option<Price>), AllocError> {
-    let first = steps_that_go(alloc, office, &CONTESTED)?;
-    let old = level_of_second(office);
-    let _told = call_of(alloc, office, 2, Call::CatchUp)?;
-    let new = level_of_second(office);
-    let second = steps_that_go(alloc, office, &RECORDED)?;
+    let first = steps_that_go(alloc, trial, &CONTESTED)?;
+    let old = level_of_second(trial);
+    let _told = call_of(alloc, trial, 2, Call::CatchUp)?;
+    let new = level_of_second(trial);
+    let second = steps_that_go(alloc, trial, &RECORDED)?;
     Ok((first.wrapping_add(second), old, new))
 }
 
 fn old_table_goes(alloc: Global) -> Result<bool, AllocError> {
-    let mut office = three_persons(alloc)?;
-    let offers = old_and_new_offer(alloc, &mut office)?;
-    let hall = office.book.records(&[Person(1), Person(2)], &[Object(1)]);
+    let mut trial = three_persons(alloc)?;
+    let offers = old_and_new_offer(alloc, &mut trial)?;
+    let hall = trial.book.records(&[Person(1), Person(2)], &[Object(1)]);
     Ok(offers == (6, Some(52), None) && hall)
 }
 
@@ -265,10 +261,10 @@ fn an_old_table_hides_the_floor(rt: HostRuntime) -> Result<(), Fail> {
 
 // Whether worker 2, which hasn't caught up, is told today's price of object 1.
 fn low_bid_goes(alloc: Global) -> Result<bool, AllocError> {
-    let mut office = three_persons(alloc)?;
-    let first = steps_that_go(alloc, &mut office, &CONTESTED)?;
-    let low = (2, HONEST, Told::TooLow(1, 52, 60), [3, 2], [60, 0]);
-    Ok(first == 3 && goes(alloc, &mut office, low)?)
+    let mut trial = three_persons(alloc)?;
+    let first = steps_that_go(alloc, &mut trial, &CONTESTED)?;
+    let low = (2, SUBMIT, Told::TooLow(1, 52, 60), [3, 2], [60, 0]);
+    Ok(first == 3 && goes(alloc, &mut trial, low)?)
 }
 
 #[test]
@@ -281,38 +277,38 @@ fn a_low_bid_is_told_the_price(rt: HostRuntime) -> Result<(), Fail> {
 const OLD_TABLES: [Step; 11] = [
     (1, Call::Claim, FIRST_OF_1, [2, 0], [0, 0]),
     (2, Call::Claim, FIRST_OF_2, [0, 0], [0, 0]),
-    (2, HONEST, Told::Accepted(1, 8, 0), [0, 0], [8, 0]),
+    (2, SUBMIT, Told::Accepted(1, 8, 0), [0, 0], [8, 0]),
     (2, Call::Claim, Told::Wait, [0, 0], [8, 0]),
-    (1, HONEST, Told::TooLow(1, 5, 8), [1, 0], [8, 0]),
+    (1, SUBMIT, Told::TooLow(1, 5, 8), [1, 0], [8, 0]),
     (1, Call::CatchUp, Told::Nothing, [1, 0], [8, 0]),
     (1, Call::Claim, FIRST_OF_1, [0, 0], [8, 0]),
-    (1, HONEST, Told::Accepted(2, 7, 0), [0, 0], [8, 7]),
+    (1, SUBMIT, Told::Accepted(2, 7, 0), [0, 0], [8, 7]),
     (1, Call::NextPhase, Told::Nothing, [1, 2], [8, 7]),
     (1, Call::Claim, SECOND_OF_1, [2, 0], [8, 7]),
     (2, Call::Claim, SECOND_OF_2, [0, 0], [8, 7]),
 ];
 
 const OLD_TABLES_TO_THE_END: [Step; 14] = [
-    (1, HONEST, Told::TooLow(2, 6, 7), [1, 0], [8, 7]),
+    (1, SUBMIT, Told::TooLow(2, 6, 7), [1, 0], [8, 7]),
     (1, Call::CatchUp, Told::Nothing, [1, 0], [8, 7]),
     (1, Call::Claim, SECOND_OF_1, [0, 0], [8, 7]),
-    (2, HONEST, Told::TooLow(1, 7, 8), [2, 0], [8, 7]),
+    (2, SUBMIT, Told::TooLow(1, 7, 8), [2, 0], [8, 7]),
     (2, Call::Claim, SECOND_OF_2, [0, 0], [8, 7]),
-    (1, HONEST, Told::Accepted(1, 11, 0), [0, 0], [11, 7]),
+    (1, SUBMIT, Told::Accepted(1, 11, 0), [0, 0], [11, 7]),
     (1, Call::Claim, Told::Wait, [0, 0], [11, 7]),
-    (2, HONEST, Told::TooLow(1, 7, 11), [2, 0], [11, 7]),
+    (2, SUBMIT, Told::TooLow(1, 7, 11), [2, 0], [11, 7]),
     (2, Call::CatchUp, Told::Nothing, [2, 0], [11, 7]),
     (2, Call::Claim, SECOND_OF_2, [0, 0], [11, 7]),
-    (2, HONEST, Told::Accepted(1, 14, 1), [1, 0], [14, 7]),
+    (2, SUBMIT, Told::Accepted(1, 14, 1), [1, 0], [14, 7]),
     (2, Call::Claim, SECOND_OF_1, [0, 0], [14, 7]),
-    (2, HONEST, Told::Accepted(2, 9, 0), [0, 0], [14, 9]),
+    (2, SUBMIT, Told::Accepted(2, 9, 0), [0, 0], [14, 9]),
     (2, Call::Claim, Told::Done, [0, 0], [14, 9]),
 ];
 
 fn old_tables_go(alloc: Global) -> Result<bool, AllocError> {
-    let mut office = two_office(alloc, &[])?;
-    let first = steps_that_go(alloc, &mut office, &OLD_TABLES)?;
-    let second = steps_that_go(alloc, &mut office, &OLD_TABLES_TO_THE_END)?;
+    let mut trial = trial_of_two(alloc, &[])?;
+    let first = steps_that_go(alloc, &mut trial, &OLD_TABLES)?;
+    let second = steps_that_go(alloc, &mut trial, &OLD_TABLES_TO_THE_END)?;
     Ok(first == 11 && second == 14)
 }
 
@@ -336,8 +332,8 @@ fn starts_lowered(book: &Book) -> bool {
 }
 
 fn lowered_goes(alloc: Global) -> Result<bool, AllocError> {
-    let office = two_office(alloc, &[14, 12])?;
-    Ok(starts_lowered(&office.book))
+    let trial = trial_of_two(alloc, &[14, 12])?;
+    Ok(starts_lowered(&trial.book))
 }
 
 #[test]
@@ -359,27 +355,27 @@ fn narrow_pairs(alloc: Global, n: u16, shift: u16) -> Result<Vec<Pair>, AllocErr
 }
 
 // Worker 1 claims, bids, and begins the next phase where this one is over.
-fn session(alloc: Global, office: &mut Office) -> Result<(), AllocError> {
-    let _claim = call_of(alloc, office, 1, Call::Claim)?;
-    let _bid = call_of(alloc, office, 1, HONEST)?;
-    let _phase = call_of(alloc, office, 1, Call::NextPhase)?;
+fn session(alloc: Global, trial: &mut Trial) -> Result<(), AllocError> {
+    let _claim = call_of(alloc, trial, 1, Call::Claim)?;
+    let _bid = call_of(alloc, trial, 1, SUBMIT)?;
+    let _phase = call_of(alloc, trial, 1, Call::NextPhase)?;
     Ok(())
 }
 
-fn sessions(alloc: Global, office: &mut Office, count: u32) -> Result<(), AllocError> {
+fn sessions(alloc: Global, trial: &mut Trial, count: u32) -> Result<(), AllocError> {
     for _ in 0..count {
-        session(alloc, office)?;
+        session(alloc, trial)?;
     }
     Ok(())
 }
 
-// An office of as many persons as there may be. With a shift of 1 persons 1 and 2 both list object 1.
-fn wide_office(
+// An trial of as many persons as there may be. With a shift of 1 persons 1 and 2 both list object 1.
+fn wide_trial(
     alloc: Global,
     shift: u16,
     first: &[Price],
     workers: u16,
-) -> Result<Office, AllocError> {
+) -> Result<Trial, AllocError> {
     let case = Case {
         n: MOST_PERSONS,
         pairs: narrow_pairs(alloc, MOST_PERSONS, shift)?,
@@ -416,9 +412,9 @@ fn wide_ends(alloc: Global, book: &Book) -> Result<bool, AllocError> {
 }
 
 fn wide_goes(alloc: Global) -> Result<bool, AllocError> {
-    let mut office = wide_office(alloc, 0, &[], 1)?;
-    sessions(alloc, &mut office, 49_152)?;
-    wide_ends(alloc, &office.book)
+    let mut trial = wide_trial(alloc, 0, &[], 1)?;
+    sessions(alloc, &mut trial, 49_152)?;
+    wide_ends(alloc, &trial.book)
 }
 
 #[test]
@@ -430,33 +426,29 @@ fn as_many_persons_as_there_may_be(rt: HostRuntime) -> Result<(), Fail> {
 // Worker 1 finds a free object from person 3, and worker 2 none from person 2.
 const TWO_SEARCHES: [(u16, Call); 10] = [
     (1, Call::Claim),
-    (1, HONEST),
+    (1, SUBMIT),
     (2, Call::Claim),
     (1, Call::Claim),
-    (1, Call::Below(Slip::Nothing)),
+    (1, Call::Below(Mistake::Nothing)),
     (1, Call::GiveUp),
     (1, Call::Stop),
     (1, Call::Resume),
     (2, Call::CatchUp),
-    (2, Call::Below(Slip::Nothing)),
+    (2, Call::Below(Mistake::Nothing)),
 ];
 
 // What the last of these calls answers.
-fn last_told(
-    alloc: Global,
-    office: &mut Office,
-    calls: &[(u16, Call)],
-) -> Result<Told, AllocError> {
+fn last_told(alloc: Global, trial: &mut Trial, calls: &[(u16, Call)]) -> Result<Told, AllocError> {
     let mut told = Told::Unasked;
     for pair in calls {
-        told = call_of(alloc, office, pair.0, pair.1)?;
+        told = call_of(alloc, trial, pair.0, pair.1)?;
     }
     Ok(told)
 }
 
 // Whether the last search is told as recorded.
-fn is_recorded(alloc: Global, office: &mut Office) -> Result<bool, AllocError> {
-    Ok(last_told(alloc, office, &TWO_SEARCHES)? == Told::Recorded)
+fn is_recorded(alloc: Global, trial: &mut Trial) -> Result<bool, AllocError> {
+    Ok(last_told(alloc, trial, &TWO_SEARCHES)? == Told::Recorded)
 }
 
 // Whether person 2 waits at the back of the queue, and is in the recorded Hall set with person 1.
@@ -467,9 +459,9 @@ fn stands_after_searches(alloc: Global, book: &Book) -> Result<bool, AllocError>
 }
 
 fn searches_go(alloc: Global) -> Result<bool, AllocError> {
-    let mut office = wide_office(alloc, 1, &[7], 2)?;
-    let told = is_recorded(alloc, &mut office)?;
-    Ok(told && stands_after_searches(alloc, &office.book)?)
+    let mut trial = wide_trial(alloc, 1, &[7], 2)?;
+    let told = is_recorded(alloc, &mut trial)?;
+    Ok(told && stands_after_searches(alloc, &trial.book)?)
 }
 
 #[test]

@@ -1,5 +1,5 @@
 // Command lines, with the statuses and the first lines that they give.
-use crate::tests::watched::{assert_begins, run_with, watched_run, whole_scene};
+use crate::tests::watched::{assert_begins, run_with, watched_run, whole_devices};
 use std::test::Fail;
 
 // Valid in both layouts.
@@ -126,8 +126,8 @@ fn lines_that_are_refused(rt: HostRuntime) -> Result<(), Fail> {
 #[test]
 fn no_name(rt: HostRuntime) -> Result<(), Fail> {
     let words = Vec::from_slice(rt.alloc(), &["", "solve", "--sparse", "--max"])?;
-    let scene = whole_scene(rt.alloc(), TEXT, REPORT, 100);
-    let seen = watched_run(&rt, rt.alloc(), Ok(words), scene);
+    let devices = whole_devices(rt.alloc(), TEXT, REPORT, 100);
+    let seen = watched_run(&rt, rt.alloc(), Ok(words), devices);
     assert_begins(&rt, &seen, 0, "sense max", "");
     Ok(())
 }

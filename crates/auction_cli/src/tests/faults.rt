@@ -1,8 +1,8 @@
 // Runs that fail, with the lines and the statuses that they are to give.
 use crate::program::NoWords;
 use crate::run::{CliFault, status_of};
-use crate::tests::streams::blank_sheet;
-use crate::tests::watched::{Seen, assert_told, run_scene, run_with, watched_run, whole_scene};
+use crate::tests::streams::failing_writer;
+use crate::tests::watched::{Seen, assert_told, run_on, run_with, watched_run, whole_devices};
 use assign_core::{Object, Person};
 use orlib_reader::InputFault;
 use report::{ReportFault, StartFault};
@@ -54,9 +54,9 @@ fn input_that_fails(rt: HostRuntime) -> Result<(), Fail> {
     let alloc = rt.alloc();
     let texts: [&[u8]; 3] = [b"", b"2 1 2", b"2 1 2 3 5"];
     for text in texts {
-        let mut scene = whole_scene(alloc, text, b"", 2);
-        scene.text.fails = true;
-        let seen = run_scene(&rt, alloc, "solve", scene)?;
+        let mut devices = whole_devices(alloc, text, b"", 2);
+        devices.text.fails = true;
+        let seen = run_on(&rt, alloc, "solve", devices)?;
         assert_told(&rt, &seen, 4, "device: read failed\n");
     }
     Ok(())
@@ -88,9 +88,9 @@ fn reports_that_cannot_be_read(rt: HostRuntime) -> Result<(), Fail> {
         ("solve --sparse --start=report", b"2 1", 3, cut_off),
     ];
     for (line, text, status, told) in table {
-        let mut scene = whole_scene(alloc, text, b"cost 5\nass", 2);
-        scene.report.fails = true;
-        let seen = run_scene(&rt, alloc, line, scene)?;
+        let mut devices = whole_devices(alloc, text, b"cost 5\nass", 2);
+        devices.report.fails = true;
+        let seen = run_on(&rt, alloc, line, devices)?;
         assert_told(&rt, &seen, status, told);
     }
     Ok(())
@@ -116,9 +116,9 @@ fn assert_cut_off(
     for room in 0..text.len() {
         let (front, _) = text.split_at(room);
         for (most, fails) in [(1, true), (1, false), (100, true), (100, false)] {
-            let mut scene = whole_scene(alloc, b"2 1 2 3 5", report, 100);
-            scene.out = blank_sheet(alloc, room, most, fails);
-            let seen = run_scene(rt, alloc, line, scene)?;
+            let mut devices = whole_devices(alloc, b"2 1 2 3 5", report, 100);
+            devices.out = failing_writer(alloc, room, most, fails);
+            let seen = run_on(rt, alloc, line, devices)?;
             assert_left(rt, &seen, 4, front, b"device: write failed\n");
         }
     }
@@ -152,9 +152,9 @@ fn errors_that_fail(rt: HostRuntime) -> Result<(), Fail> {
     ];
     for (line, status, start) in table {
         for room in [0, 10] {
-            let mut scene = whole_scene(alloc, b"x", b"", 100);
-            scene.errors = blank_sheet(alloc, room, 3, false);
-            let seen = run_scene(&rt, alloc, line, scene)?;
+            let mut devices = whole_devices(alloc, b"x", b"", 100);
+            devices.errors = failing_writer(alloc, room, 3, false);
+            let seen = run_on(&rt, alloc, line, devices)?;
             let (wanted, _) = start.split_at(room);
             assert_left(&rt, &seen, status, b"", wanted);
             assert!(rt; !seen.whole);
@@ -171,8 +171,8 @@ fn no_words(rt: HostRuntime) -> Result<(), Fail> {
         (NoWords::Memory, 4, "memory refused\n"),
     ];
     for (none, status, line) in table {
-        let scene = whole_scene(alloc, b"1 7", b"", 100);
-        let seen = watched_run(&rt, alloc, Err(none), scene);
+        let devices = whole_devices(alloc, b"1 7", b"", 100);
+        let seen = watched_run(&rt, alloc, Err(none), devices);
         assert_told(&rt, &seen, status, line);
     }
     Ok(())

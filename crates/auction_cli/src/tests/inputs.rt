@@ -1,6 +1,6 @@
 // Runs whose problem lies in a file that the words name.
 use crate::tests::streams::whole_text;
-use crate::tests::watched::{Seen, assert_reported, assert_told, run_scene, whole_scene};
+use crate::tests::watched::{Seen, assert_reported, assert_told, run_on, whole_devices};
 use std::alloc::{AllocError, Global};
 use std::process::Abort;
 use std::sync::Wait;
@@ -22,10 +22,10 @@ fn run_on_file(
     fails: bool,
     most: usize,
 ) -> Result<Seen, AllocError> {
-    let mut scene = whole_scene(alloc, STANDARD, REPORT, most);
-    scene.problem = whole_text(PROBLEM, most);
-    scene.problem.fails = fails;
-    run_scene(rt, alloc, line, scene)
+    let mut devices = whole_devices(alloc, STANDARD, REPORT, most);
+    devices.problem = whole_text(PROBLEM, most);
+    devices.problem.fails = fails;
+    run_on(rt, alloc, line, devices)
 }
 
 // The run read nothing from standard input.

@@ -1,6 +1,6 @@
 // Both modes, on problems whose reports, or what is compared of them, are the same for any threads.
 use crate::run::{Ended, run_solve};
-use crate::tests::streams::{ample_sheet, whole_text};
+use crate::tests::streams::{ample_writer, whole_text};
 use crate::tests::watched::{Seen, assert_words_refused, run_with};
 use crate::words::{Mode, SolveOpts};
 use assign_core::Sense;
@@ -222,10 +222,10 @@ fn report_of_two(
         prices: true,
         sense: Sense::Min,
     };
-    let mut sheet = ample_sheet(alloc);
+    let mut writer = ample_writer(alloc);
     let mut text = whole_text(b"2 2 2 2 2", 64);
-    match run_solve(rt, alloc, &mut text, &mut sheet, options, gate) {
-        Ok(Ended::Optimal) => Some(sheet.taken),
+    match run_solve(rt, alloc, &mut text, &mut writer, options, gate) {
+        Ok(Ended::Optimal) => Some(writer.taken),
         _ => None,
     }
 }

@@ -2,7 +2,7 @@
 use crate::progress::{Progress, Watch};
 use crate::run::{Ended, run_solve_watched};
 use crate::teller::{Console, Teller};
-use crate::tests::streams::{ample_sheet, whole_text};
+use crate::tests::streams::{ample_writer, whole_text};
 use crate::words::{Method, Mode, SolveOpts};
 use assign_core::Sense;
 use async_workers::OpenGate;
@@ -126,21 +126,21 @@ fn follows(
         prices: false,
         sense: Sense::Min,
     };
-    let mut sheet = ample_sheet(alloc);
+    let mut writer = ample_writer(alloc);
     let mut text_left = whole_text(text, 7);
     let end = run_solve_watched(
         rt,
         alloc,
         &mut text_left,
         start,
-        &mut sheet,
+        &mut writer,
         options,
         method,
         &OpenGate,
         follower,
     );
     matches!(end, Ok(Ended::Optimal))
-        && sheet.taken.as_slice().starts_with(b"sense min\ncost ")
+        && writer.taken.as_slice().starts_with(b"sense min\ncost ")
         && seen(&follower.bytes) == text.len() as u64
         && seen(&follower.overs) == 1
         && !follower.wrong.load(Ordering::SeqCst)
@@ -199,14 +199,14 @@ fn long_runs_are_told(rt: HostRuntime) -> Result<(), Fail> {
     Ok(())
 }
 
-// A clock that goes on by a step each time it is asked, and a sheet that takes so many texts and then fails.
+// A clock that goes on by a step each time it is asked, and a screen that takes so many texts and then fails.
 #[derive(Drop)]
 struct Screen<'a> {
     time: AtomicU64,
     step: u64,
     writes: AtomicU64,
     most: u64,
-    sheet: &'a RefCell<Vec<u8>>,
+    written: &'a RefCell<Vec<u8>>,
 }
 
 impl Console for Screen<'_> {
@@ -218,28 +218,28 @@ impl Console for Screen<'_> {
         if self.writes.fetch_add(1, Ordering::SeqCst) >= self.most {
             return false;
         }
-        match self.sheet.try_borrow_mut() {
-            Ok(mut sheet) => sheet.extend_from_slice(text).is_ok(),
+        match self.written.try_borrow_mut() {
+            Ok(mut written) => written.extend_from_slice(text).is_ok(),
             Err(_) => false,
         }
     }
 }
 
 // A screen whose clock goes on by so many milliseconds a look, and which takes so many texts.
-fn new_screen(sheet: &RefCell<Vec<u8>>, step: u64, most: u64) -> Screen<'_> {
+fn new_screen(written: &RefCell<Vec<u8>>, step: u64, most: u64) -> Screen<'_> {
     Screen {
         time: AtomicU64::new(7),
         step,
         writes: AtomicU64::new(0),
         most,
-        sheet,
+        written,
     }
 }
 
-// What some news of each kind leave on the sheet.
+// What some news of each kind leave on a screen.
 fn told(alloc: Global, step: u64, most: u64, in_place: bool, asked: bool, ends: bool) -> Vec<u8> {
-    let sheet = RefCell::new(Vec::new(alloc));
-    let teller = Teller::new(new_screen(&sheet, step, most), in_place, false);
+    let written = RefCell::new(Vec::new(alloc));
+    let teller = Teller::new(new_screen(&written, step, most), in_place, false);
     let progress = Progress {
         phase: 3,
         phases: 8,
@@ -258,7 +258,7 @@ fn told(alloc: Global, step: u64, most: u64, in_place: bool, asked: bool, ends: 
         teller.round(progress);
     }
     drop(teller);
-    sheet.into_inner()
+    written.into_inner()
 }
 
 const ALL: &str = "progress: 12.3 MB read, 0.6 s

@@ -36,14 +36,14 @@ pub fn whole_text(text: &[u8], most: usize) -> Pieces<'_> {
 
 /// Takes so many bytes, in pieces of at most so many, and then is interrupted, or takes none.
 #[derive(Drop)]
-pub struct Sheet {
+pub struct FailingWriter {
     pub taken: Vec<u8>,
     room: usize,
     most: usize,
     fails: bool,
 }
 
-impl Write for Sheet {
+impl Write for FailingWriter {
     fn write(&mut self, buf: &[u8]) -> io::Result<usize> {
         let count = self.room.min(self.most).min(buf.len());
         if count == 0 && self.fails {
@@ -60,8 +60,8 @@ impl Write for Sheet {
     }
 }
 
-pub fn blank_sheet(alloc: Global, room: usize, most: usize, fails: bool) -> Sheet {
-    Sheet {
+pub fn failing_writer(alloc: Global, room: usize, most: usize, fails: bool) -> FailingWriter {
+    FailingWriter {
         taken: Vec::new(alloc),
         room,
         most,
@@ -69,9 +69,9 @@ pub fn blank_sheet(alloc: Global, room: usize, most: usize, fails: bool) -> Shee
     }
 }
 
-/// A sheet with more room than any report here.
-pub fn ample_sheet(alloc: Global) -> Sheet {
-    blank_sheet(alloc, 1 << 20, 1 << 20, true)
+/// A writer with more room than any report here.
+pub fn ample_writer(alloc: Global) -> FailingWriter {
+    failing_writer(alloc, 1 << 20, 1 << 20, true)
 }
 
 /// The next number of a congruential generator, by its high bits.

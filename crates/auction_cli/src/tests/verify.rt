@@ -1,7 +1,7 @@
 // Reports held against problems, with the lines that are told of them.
 use crate::finding::Finding;
 use crate::run::CliFault;
-use crate::tests::streams::{Pieces, blank_sheet, whole_text};
+use crate::tests::streams::{Pieces, failing_writer, whole_text};
 use crate::verify::{Verified, run_verify, run_verify_under};
 use assign_core::{Object, Sense};
 use dual_checker::{HallVerdict, Verdict};
@@ -23,11 +23,11 @@ fn watched_run(
     room: usize,
     fails: bool,
 ) -> Seen {
-    let mut sheet = blank_sheet(alloc, room, 1 << 20, fails);
-    let answer = run_verify(alloc, &mut problem, &mut report, sparse, &mut sheet);
+    let mut writer = failing_writer(alloc, room, 1 << 20, fails);
+    let answer = run_verify(alloc, &mut problem, &mut report, sparse, &mut writer);
     Seen {
         answer,
-        out: sheet.taken,
+        out: writer.taken,
     }
 }
 
@@ -296,12 +296,12 @@ fn persons_that_list_nothing(rt: HostRuntime) -> Result<(), Fail> {
 fn asked(alloc: Global, problem: &[u8], report: &[u8], wanted: Sense) -> Seen {
     let mut problem = whole_text(problem, 16);
     let mut report = whole_text(report, 16);
-    let mut sheet = blank_sheet(alloc, 1 << 20, 1 << 20, true);
+    let mut writer = failing_writer(alloc, 1 << 20, 1 << 20, true);
     let wanted = Some(wanted);
-    let answer = run_verify_under(alloc, &mut problem, &mut report, true, wanted, &mut sheet);
+    let answer = run_verify_under(alloc, &mut problem, &mut report, true, wanted, &mut writer);
     Seen {
         answer,
-        out: sheet.taken,
+        out: writer.taken,
     }
 }
 

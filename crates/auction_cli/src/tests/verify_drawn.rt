@@ -1,7 +1,7 @@
 // What is printed for drawn problems is verified, and with a number changed only where it is
 // right still.
 use crate::run::{read_problem, run_solve};
-use crate::tests::streams::{ample_sheet, next_number, whole_text};
+use crate::tests::streams::{ample_writer, next_number, whole_text};
 use crate::verify::{Verified, run_verify};
 use crate::words::{Mode, SolveOpts};
 use assign_core::{Cost, Object, Person, Price, Problem, Sense, plain_best};
@@ -59,7 +59,7 @@ fn draw(alloc: Global, seed: &mut u64) -> Result<Drawn, AllocError> {
 
 // The report that is printed, or a part of it where the run fails.
 fn printed(rt: &(impl Threads + Wait + Sync), alloc: Global, drawn: &Drawn) -> Vec<u8> {
-    let mut sheet = ample_sheet(alloc);
+    let mut writer = ample_writer(alloc);
     let mut problem = whole_text(drawn.text.as_bytes(), 64);
     let options = SolveOpts {
         sparse: drawn.sparse,
@@ -69,16 +69,16 @@ fn printed(rt: &(impl Threads + Wait + Sync), alloc: Global, drawn: &Drawn) -> V
         prices: true,
         sense: drawn.sense,
     };
-    let _end = run_solve(rt, alloc, &mut problem, &mut sheet, options, &OpenGate);
-    sheet.taken
+    let _end = run_solve(rt, alloc, &mut problem, &mut writer, options, &OpenGate);
+    writer.taken
 }
 
 fn is_verified(alloc: Global, drawn: &Drawn, report: &[u8]) -> bool {
-    let mut sheet = ample_sheet(alloc);
+    let mut writer = ample_writer(alloc);
     let mut problem = whole_text(drawn.text.as_bytes(), 64);
     let mut report = whole_text(report, 64);
     let sparse = drawn.sparse;
-    let end = run_verify(alloc, &mut problem, &mut report, sparse, &mut sheet);
+    let end = run_verify(alloc, &mut problem, &mut report, sparse, &mut writer);
     matches!(end, Ok(Verified::Yes))
 }
 

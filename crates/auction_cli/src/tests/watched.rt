@@ -1,7 +1,7 @@
 // Runs of the whole program whose streams are watched, for tests.
 use crate::program::{Files, NoFile, NoWords, ProgramEnd, Told, run_program};
 use crate::progress::Unwatched;
-use crate::tests::streams::{Pieces, Sheet, blank_sheet, whole_text};
+use crate::tests::streams::{FailingWriter, Pieces, failing_writer, whole_text};
 use std::alloc::{AllocError, Global};
 use std::process::Abort;
 use std::sync::Wait;
@@ -33,22 +33,27 @@ impl<'a> Files for Shelf<'a> {
 
 /// What a run reads, from standard input and from files, and what it may write on.
 #[derive(Drop)]
-pub struct Scene<'a> {
+pub struct Devices<'a> {
     pub text: Pieces<'a>,
     pub report: Pieces<'a>,
     pub problem: Pieces<'a>,
-    pub out: Sheet,
-    pub errors: Sheet,
+    pub out: FailingWriter,
+    pub errors: FailingWriter,
 }
 
 /// A text, a report, an empty problem and ample room, all in pieces of at most so many bytes.
-pub fn whole_scene<'a>(alloc: Global, text: &'a [u8], report: &'a [u8], most: usize) -> Scene<'a> {
-    Scene {
+pub fn whole_devices<'a>(
+    alloc: Global,
+    text: &'a [u8],
+    report: &'a [u8],
+    most: usize,
+) -> Devices<'a> {
+    Devices {
         text: whole_text(text, most),
         report: whole_text(report, most),
         problem: whole_text(b"", most),
-        out: blank_sheet(alloc, 1 << 20, most, true),
-        errors: blank_sheet(alloc, 1 << 20, most, true),
+        out: failing_writer(alloc, 1 << 20, most, true),
+        errors: failing_writer(alloc, 1 << 20, most, true),
     }
 }
 
@@ -78,13 +83,13 @@ pub fn watched_run(
     rt: &(impl Threads + Wait + Sync),
     alloc: Global,
     words: Result<Vec<&str>, NoWords>,
-    scene: Scene<'_>,
+    devices: Devices<'_>,
 ) -> Seen {
     let shelf = Shelf {
-        report: scene.report,
-        problem: scene.problem,
+        report: devices.report,
+        problem: devices.problem,
     };
-    let (mut text, mut out, mut errors) = (scene.text, scene.out, scene.errors);
+    let (mut text, mut out, mut errors) = (devices.text, devices.out, devices.errors);
     let end = run_program(
         rt,
         alloc,
@@ -119,13 +124,13 @@ fn words_of(alloc: Global, line: &str) -> Result<Vec<&str>, AllocError> {
 }
 
 /// A run with the words of a line.
-pub fn run_scene(
+pub fn run_on(
     rt: &(impl Threads + Wait + Sync),
     alloc: Global,
     line: &str,
-    scene: Scene<'_>,
+    devices: Devices<'_>,
 ) -> Result<Seen, AllocError> {
-    Ok(watched_run(rt, alloc, Ok(words_of(alloc, line)?), scene))
+    Ok(watched_run(rt, alloc, Ok(words_of(alloc, line)?), devices))
 }
 
 /// A run with the words of a line on a text and a report in pieces of at most so many bytes, written
@@ -138,7 +143,7 @@ pub fn run_with(
     report: &[u8],
     most: usize,
 ) -> Result<Seen, AllocError> {
-    run_scene(rt, alloc, line, whole_scene(alloc, text, report, most))
+    run_on(rt, alloc, line, whole_devices(alloc, text, report, most))
 }
 
 /// The bytes up to the first line feed.
