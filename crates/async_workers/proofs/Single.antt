@@ -1,31 +1,28 @@
 -- One thread goes on with a book as worker 1.
-use Rattle.std.proofs.Common.{◌≡◌, ℕ, ℤ, zero, suc, ◌+◌, ◌<◌, List, [], ◌∷◌, Option, None, Some, cond, length, get_or, refl, sym, ap, ◌∙◌, subst, arith, Result, Ok, Err, OnOk, false}
+use Rattle.std.proofs.Common.{◌≡◌, ℕ, ℤ, zero, suc, ◌+◌, ◌<◌, List, ◌∷◌, Option, None, Some, length, get_or, refl, sym, ap, ◌∙◌, subst, arith, Result, Ok, Err, OnOk, false}
 use Rattle.assign_core.specs.Numbered.{IsNumber, numbered}
-use Rattle.assign_core.proofs.NumberedLemmas.{numbered-same, numbered_in}
+use Rattle.assign_core.proofs.NumberedLemmas.{numbered-same}
 use Rattle.scaled_values.specs.Scaled.{ScaledProblem}
 use Rattle.scaled_values.proofs.RowFacts.{benefit_row_is}
 use Rattle.bidder.specs.declared.offers.Offer.{Offer}
 use Rattle.bidder.proofs.Sound.{offer_is}
 use Rattle.auction_book.specs.declared.answers.Claim.{Claim}
 use Rattle.auction_book.specs.declared.answers.Claim.TheVariants as claim
-use Rattle.auction_book.specs.Book.{BookData, ask_of, is_refuted, persons_of, prices_of}
+use Rattle.auction_book.specs.Book.{BookData, ask_of, persons_of, prices_of}
 use Rattle.auction_book.specs.Changes.{given_up, phased}
-use Rattle.auction_book.specs.Claims.{after_claim, claim_front, claim_of}
+use Rattle.auction_book.specs.Claims.{after_claim, claim_of}
 use Rattle.auction_book.specs.Follows.{Follows, GoesOn}
 use Rattle.auction_book.specs.Free.{IsFree}
-use Rattle.auction_book.specs.Phases.{is_done, is_over}
+use Rattle.auction_book.specs.Phases.{is_over}
 use Rattle.auction_book.specs.Session.{IsPrepared, next_if_over, prepared}
-use Rattle.auction_book.proofs.Claiming.{cond_by}
+use Rattle.auction_book.proofs.Claiming.{claim_by, cond_by}
 use Rattle.auction_book.proofs.Following.{claimed_follows, follows_itself, given_up_follows, goes_on_through, over_is, phased_follows, stop_follows}
 use Rattle.auction_book.proofs.Places.{claimed_person}
-
-given_none : (b : BookData) (worker : ℕ) (o : Option ℕ) → numbered b.claims worker None ≡ o → numbered (given_up b worker o).claims worker None ≡ None
-given_none b worker None is = is
-given_none b worker (Some person) is = let r = numbered_in b.claims worker person is in numbered-same b.claims worker None None r.0 r.1
+use Rattle.async_workers.proofs.Turning.{given_up_none}
 
 -- once worker 1 has given up its claim it has none, whoever gives up next
 pub one_given_up : (b : BookData) (before : ℕ) → (0 < before → numbered b.claims 1 None ≡ None) → numbered (given_up b (before + 1) (numbered b.claims (before + 1) None)).claims 1 None ≡ None
-one_given_up b zero h = given_none b 1 (numbered b.claims 1 None) refl
+one_given_up b zero h = given_up_none b 1 (numbered b.claims 1 None) refl
 one_given_up b (suc k) h = (given_up_follows b (suc k + 1)).claims 1 (λ e. omega (arith, e)) ∙ h (omega arith)
 
 -- what worker 1 has after a claim: an offer from today's prices, where it has a person
@@ -35,9 +32,8 @@ record IsClaimed (b : BookData) (version : ℕ) (answer : Claim) : Type 0 where
   pub base : (after_claim b 1 answer).base ≡ b.base
   pub prepared : IsPrepared (after_claim b 1 answer) 1 (prices_of b) version (prepared b.base (prices_of b) version answer)
 
-claimed_front : (b : BookData) (version : ℕ) (queue : List ℕ) → IsFree b → IsNumber (length b.claims) 1 → numbered b.claims 1 None ≡ None → b.queue ≡ queue → IsClaimed b version (claim_front b queue)
-claimed_front b version [] free number none e = record { follows = follows_itself b 1; prices = refl; base = refl; prepared = none }
-claimed_front b version (person ∷ rest) free number none e =
+claimed_front : (b : BookData) (version person : ℕ) (rest : List ℕ) → IsFree b → IsNumber (length b.claims) 1 → b.queue ≡ person ∷ rest → IsClaimed b version (claim.Person person (ask_of b))
+claimed_front b version person rest free number e =
     let p = claimed_person (persons_of b) b.owners b.queue b.claims person rest free.placed_once e in
     let row = benefit_row_is b.base person free.problem p in
     record {
@@ -49,10 +45,12 @@ claimed_front b version (person ∷ rest) free number none e =
 
 claimed_is : (b : BookData) (version : ℕ) → IsFree b → IsNumber (length b.claims) 1 → numbered b.claims 1 None ≡ None → IsClaimed b version (claim_of b)
 claimed_is b version free number none =
-    cond_by (IsClaimed b version) (is_refuted b.refuted) claim.Refuted (cond (is_done b) claim.Done (cond b.stopped claim.Stopped (claim_front b b.queue))) (λ h. record { follows = follows_itself b 1; prices = refl; base = refl; prepared = none })
-    (λ h. cond_by (IsClaimed b version) (is_done b) claim.Done (cond b.stopped claim.Stopped (claim_front b b.queue)) (λ h. record { follows = follows_itself b 1; prices = refl; base = refl; prepared = none })
-    (λ h. cond_by (IsClaimed b version) b.stopped claim.Stopped (claim_front b b.queue) (λ h. record { follows = follows_itself b 1; prices = refl; base = refl; prepared = none })
-    (λ h. claimed_front b version b.queue free number none refl)))
+    claim_by (IsClaimed b version) b
+    (λ h. record { follows = follows_itself b 1; prices = refl; base = refl; prepared = none })
+    (λ h. record { follows = follows_itself b 1; prices = refl; base = refl; prepared = none })
+    (λ h. record { follows = follows_itself b 1; prices = refl; base = refl; prepared = none })
+    (λ going e. record { follows = follows_itself b 1; prices = refl; base = refl; prepared = none })
+    (λ person rest going e. claimed_front b version person rest free number e)
 
 -- the offer that is made of the claim is prepared
 pub alone_prepared : (b new : BookData) (s : ScaledProblem) (table : List ℤ) (version : ℕ) (answer : Claim) (offer : Option Offer) → IsFree b → IsNumber (length b.claims) 1 → numbered b.claims 1 None ≡ None →

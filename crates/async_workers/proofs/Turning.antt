@@ -1,5 +1,5 @@
 -- From a session with the book in hand to a turn.
-use Rattle.std.proofs.Common.{◌≡◌, ℕ, ℤ, List, [], ◌∷◌, Bool, true, false, true≢false, ◌||◌, cond, length, get_or, Option, None, Some, MatchOption, refl, sym, ap, ◌∙◌, subst}
+use Rattle.std.proofs.Common.{◌≡◌, ℕ, ℤ, List, Bool, true, false, true≢false, ◌||◌, length, get_or, Option, None, Some, MatchOption, refl, sym, ap, ◌∙◌, subst}
 use Rattle.atomic_table.specs.Seated.{TableId}
 use Rattle.assign_core.specs.Numbered.{IsNumber, numbered}
 use Rattle.assign_core.proofs.NumberedLemmas.{numbered-same, numbered_in}
@@ -11,15 +11,14 @@ use Rattle.bidder.specs.Offers.{IsOffer}
 use Rattle.bidder.proofs.Sound.{offer_is}
 use Rattle.auction_book.specs.declared.answers.Claim.{Claim}
 use Rattle.auction_book.specs.declared.answers.Claim.TheVariants as claim
-use Rattle.auction_book.specs.Book.{BookData, ask_of, is_refuted, persons_of}
+use Rattle.auction_book.specs.Book.{BookData, ask_of, persons_of}
 use Rattle.auction_book.specs.Changes.{given_up}
-use Rattle.auction_book.specs.Claims.{after_claim, claim_front, claim_of}
+use Rattle.auction_book.specs.Claims.{after_claim, claim_of}
 use Rattle.auction_book.specs.Follows.{Follows}
 use Rattle.auction_book.specs.Free.{IsFree}
-use Rattle.auction_book.specs.Phases.{is_done}
 use Rattle.auction_book.specs.Schedule.{IsSeat}
 use Rattle.auction_book.specs.Session.{IsPrepared, book_left, book_next, book_taken, prepared, table_taken, version_taken}
-use Rattle.auction_book.proofs.Claiming.{cond_by}
+use Rattle.auction_book.proofs.Claiming.{claim_by}
 use Rattle.auction_book.proofs.Following.{given_up_follows}
 use Rattle.auction_book.proofs.Places.{claimed_person}
 use Rattle.auction_book.proofs.Runs.{IsAttended, attended, next_workers, same_offers}
@@ -75,17 +74,6 @@ seated d b taken put has told = record {
   prepared = prepared_from d.offer d.known.claim d.base d.known.table d.known.version b d.known.number has told.claim told.base;
 }
 
--- what a claim answers, by cases
-claim_by : (P : Claim → Type 0) (b : BookData) → P claim.Refuted → P claim.Done → P claim.Stopped → P claim.Wait → ((person : ℕ) (rest : List ℕ) → b.queue ≡ person ∷ rest → P (claim.Person person (ask_of b))) → P (claim_of b)
-claim_by P b refuted done stopped wait person =
-    cond_by P (is_refuted b.refuted) claim.Refuted (cond (is_done b) claim.Done (cond b.stopped claim.Stopped (claim_front b b.queue))) (λ h. refuted)
-    (λ h. cond_by P (is_done b) claim.Done (cond b.stopped claim.Stopped (claim_front b b.queue)) (λ h. done)
-    (λ h. cond_by P b.stopped claim.Stopped (claim_front b b.queue) (λ h. stopped) (λ h. front b.queue refl)))
-  where
-    front : (queue : List ℕ) → b.queue ≡ queue → P (claim_front b queue)
-    front [] e = wait
-    front (i ∷ rest) e = person i rest e
-
 -- the offer that is prepared is that of the claim
 abbrev IsOffered : BookData → ℕ → List ℤ → ℕ → Claim → Type 0
 IsOffered b worker table version answer = MatchOption (prepared b.base table version answer) (claim_in (after_claim b worker answer) worker ≡ None)
@@ -94,7 +82,7 @@ IsOffered b worker table version answer = MatchOption (prepared b.base table ver
 offered : (b : BookData) (worker : ℕ) (table : List ℤ) (version : ℕ) → IsFree b → numbered b.claims worker None ≡ None → IsNumber (length b.claims) worker → IsOffered b worker table version (claim_of b)
 offered b worker table version free none number =
     let nobody : claim_in b worker ≡ None = ap (λ c. claim_with c (ask_of b)) none in
-    claim_by (IsOffered b worker table version) b nobody nobody nobody nobody (λ person rest e.
+    claim_by (IsOffered b worker table version) b (λ h. nobody) (λ h. nobody) (λ h. nobody) (λ going e. nobody) (λ person rest going e.
     let p = claimed_person (persons_of b) b.owners b.queue b.claims person rest free.placed_once e in
     let row = benefit_row_is b.base person free.problem p in
     let c : Claimed = record { person = person; ask = ask_of b } in
@@ -182,15 +170,8 @@ stops_run refresh place d k told answer t can g is asked =
     let stopped : b.stopped ≡ true = next_stopped (book_taken c mid w) ∙ taken_stopped c mid w ∙ (event refresh d k told answer away.0 away.1 away.2 can.offer g).left.ends.stopped ∙ (g.told away.0 away.1 away.2).stopped asked in
     subst EndsRun (sym (is ∙ ap turn_of g.ends.answered)) (ends_stopped b stopped)
   where
-    ends_when : (stopped : Bool) (c : Claim) → stopped ≡ true → EndsRun (turn_of (cond stopped claim.Stopped c))
-    ends_when true c e = tt
-    ends_when false c e = absurd (true≢false (sym e))
-
     ends_stopped : (b : BookData) → b.stopped ≡ true → EndsRun (turn_of (claim_of b))
-    ends_stopped b stopped =
-        let P : Claim → Type 0 = λ c. EndsRun (turn_of c) in
-        cond_by P (is_refuted b.refuted) claim.Refuted (cond (is_done b) claim.Done (cond b.stopped claim.Stopped (claim_front b b.queue))) (λ h. tt)
-        (λ h. cond_by P (is_done b) claim.Done (cond b.stopped claim.Stopped (claim_front b b.queue)) (λ h. tt) (λ h. ends_when b.stopped (claim_front b b.queue) stopped))
+    ends_stopped b stopped = claim_by (λ c. EndsRun (turn_of c)) b (λ h. tt) (λ h. tt) (λ h. tt) (λ going e. absurd (true≢false (sym stopped ∙ going))) (λ person rest going e. absurd (true≢false (sym stopped ∙ going)))
 
 pub works_with_offer : (d k e : DeskData) (offer : Option Offer) → WorksOn d k → e ≡ record k { offer = offer } → WorksOn d e
 works_with_offer d k e offer works is = subst (WorksOn d) (sym is) record { place = works.place; base = works.base; number = works.number; extends = works.extends }
@@ -207,7 +188,7 @@ stopped_claims : (stopping : Bool) (b : BookData) → (stopped_if stopping b).cl
 stopped_claims true b = refl
 stopped_claims false b = refl
 
-given_up_none : (b : BookData) (worker : ℕ) (o : Option ℕ) → numbered b.claims worker None ≡ o → numbered (given_up b worker o).claims worker None ≡ None
+pub given_up_none : (b : BookData) (worker : ℕ) (o : Option ℕ) → numbered b.claims worker None ≡ o → numbered (given_up b worker o).claims worker None ≡ None
 given_up_none b worker None is = is
 given_up_none b worker (Some person) is = let r = numbered_in b.claims worker person is in numbered-same b.claims worker None None r.0 r.1
 

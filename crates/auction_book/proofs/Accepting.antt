@@ -1,5 +1,5 @@
 -- An accepted bid keeps the invariant, and so does a refused one.
-use Rattle.std.proofs.Common.{◌≡◌, ℕ, ℤ, pos, zero, suc, ◌+ℤ◌, ◌*ℤ◌, ◌≤ℤ◌, ◌<ℤ◌, ◌+◌, ◌-◌, ◌<◌, ◌≤◌, List, [], ◌∷◌, ◌++◌, length, get_or, refl, ap, arith, sym, ◌∙◌, subst, Option, None, Some, inl, inr, sum}
+use Rattle.std.proofs.Common.{◌≡◌, ℕ, ℤ, pos, zero, suc, ◌+ℤ◌, ◌*ℤ◌, ◌≤ℤ◌, ◌<ℤ◌, ◌+◌, ◌-◌, ◌<◌, ◌≤◌, List, [], ◌∷◌, ◌++◌, length, get_or, refl, ap, arith, sym, ◌∙◌, subst, Option, None, Some, inl, inr, sum, is_some}
 use Rattle.std.specs.List.{All}
 use Rattle.std.proofs.lemmas.Int.{ints}
 use Rattle.std.proofs.lemmas.List.Sums.{sum_by-set}
@@ -21,7 +21,7 @@ use Rattle.bidder.specs.declared.offers.Bid.{Bid}
 use Rattle.bidder.specs.Offers.{IsSound, benefits_at}
 use Rattle.bidder.proofs.Accepted.{slack_raised}
 use Rattle.bidder.proofs.Sound.{sound_topped}
-use Rattle.auction_book.specs.Book.{BookData, Holds, ask_of, is_some, persons_of, prices_of, version_of}
+use Rattle.auction_book.specs.Book.{BookData, Holds, ask_of, persons_of, prices_of, version_of}
 use Rattle.auction_book.specs.Changes.{accepted, released}
 use Rattle.auction_book.specs.Follows.{Follows}
 use Rattle.auction_book.specs.Free.{IsFree, IsPriced, IsProgress}
@@ -90,7 +90,7 @@ level_topped b q bid free sound = sound_topped b.base (greatest_of b.start) (ask
 pub bid_range : (b : BookData) (q : List ℤ) (bid : Bid) → IsFree b → IsSound b.base (ask_of b) q bid → IsListedPair (persons_of b) bid.person bid.object
 bid_range b q bid free sound = listed_range b.base.problem bid.person bid.object free.problem (listed_problem b.base bid.person bid.object sound.listed)
 
-price_in : (p : List ℤ) (j : ℕ) → All IsPrice p → 0 < j → j ≤ length p → IsPrice (price_of p j)
+pub price_in : (p : List ℤ) (j : ℕ) → All IsPrice p → 0 < j → j ≤ length p → IsPrice (price_of p j)
 price_in p zero a h l = absurd (omega arith)
 price_in p (suc k) a h l = a k (pos 0) (omega arith)
 

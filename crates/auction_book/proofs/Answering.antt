@@ -1,11 +1,12 @@
 -- Where everybody is assigned in the last phase, the owners and the prices are a certificate.
-use Rattle.std.proofs.Common.{◌≡◌, ℕ, ℤ, pos, suc, ◌+◌, ◌<◌, ◌≤◌, List, [], ◌∷◌, length, get_or, nat_eq, Bool, true, false, cond, ◌&&◌, refl, ap, arith, sym, ◌∙◌, subst, Option, None, Some, inl, inr, ◌⊎◌}
+use Rattle.std.proofs.Common.{◌≡◌, ℕ, ℤ, pos, suc, ◌+◌, ◌<◌, ◌≤◌, List, [], ◌∷◌, length, get_or, nat_eq, Bool, true, false, cond, ◌&&◌, refl, ap, arith, sym, ◌∙◌, subst, Option, None, Some, inl, inr, ◌⊎◌, is_some}
 use Rattle.std.specs.List.{count_by}
 use Rattle.std.specs.Ordering.{int_eq}
 use Rattle.std.specs.Cmp.{signed_Decides}
 use Rattle.std.proofs.lemmas.Bool.{eqb-true}
 use Rattle.std.proofs.lemmas.Bool.Decides.{eqb_tells}
 use Rattle.std.proofs.lemmas.List.Sums.{sum_by-cons, sum_by-le-sum_by}
+use Rattle.std.proofs.lemmas.Option.{same_Some}
 use Rattle.assign_core.specs.Numbered.{IsNumber, numbered, renumbered}
 use Rattle.assign_core.specs.Matching.{owner_of}
 use Rattle.assign_core.specs.Slackness.{HasSlack, IsCertificate}
@@ -17,7 +18,7 @@ use Rattle.scaled_values.specs.Scaled.{benefits_of}
 use Rattle.bidder.specs.Offers.{benefits_at}
 use Rattle.std.proofs.lemmas.List.{get_or_default}
 use Rattle.auction_book.specs.Answers.{IsAnswer}
-use Rattle.auction_book.specs.Book.{BookData, is_person, is_some, persons_of, prices_of}
+use Rattle.auction_book.specs.Book.{BookData, is_person, persons_of, prices_of}
 use Rattle.auction_book.specs.Free.{IsFree}
 use Rattle.auction_book.specs.Phases.{is_assigned, is_done}
 use Rattle.auction_book.proofs.Places.{everyone, one_yes, person_is_some}
@@ -28,9 +29,6 @@ IsInverse owners objects n = (i j : ℕ) → j ≤ n → owner_of owners j ≡ S
 
 abbrev pub OwnsOne : List (Option ℕ) → Type 0
 OwnsOne owners = (i j k : ℕ) → owner_of owners j ≡ Some i → owner_of owners k ≡ Some i → j ≡ k
-
-same_some : (i k : ℕ) → Some i ≡ Some k → i ≡ k
-same_some i k e = cc
 
 last_or_before : (j n : ℕ) → j ≤ n + 1 → (j ≡ n + 1) ⊎ (j ≤ n)
 last_or_before j n h = elim (eqb_tells j (n + 1)) [
@@ -43,7 +41,7 @@ pub inverse_more : (owners : List (Option ℕ)) (objects : List ℕ) (n p : ℕ)
     IsInverse owners (renumbered objects p (n + 1)) (n + 1)
 inverse_more owners objects n p apart number own was i j h e = elim (last_or_before j n h) [
   | inl last ↦
-      let who : p ≡ i = same_some p i (sym own ∙ ap (owner_of owners) (sym last) ∙ e) in
+      let who : p ≡ i = same_Some p i (sym own ∙ ap (owner_of owners) (sym last) ∙ e) in
       subst (λ k. numbered (renumbered objects p (n + 1)) k 0 ≡ j) who (numbered-same objects p (n + 1) 0 number.first number.last ∙ sym last)
   | inr before ↦
       let other : i ≡ p → ⊥ = λ same. let both : j ≡ n + 1 = apart i j (n + 1) e (own ∙ ap Some (sym same)) in absurd (omega arith) in
@@ -73,7 +71,7 @@ there i (Some m ∷ xs) h = elim (eqb_tells i m) [
       (suc r.0, r.1)
 ]
 
-both : (x y : Bool) → (x && y) ≡ true → (x ≡ true) × (y ≡ true)
+pub both : (x y : Bool) → (x && y) ≡ true → (x ≡ true) × (y ≡ true)
 both true true h = (refl, refl)
 both true false h = cc
 both false true h = cc

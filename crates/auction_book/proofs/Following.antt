@@ -1,5 +1,5 @@
 -- What other workers rely on stays through each change.
-use Rattle.std.proofs.Common.{◌≡◌, ℕ, get_or, Bool, true, false, ◌&&◌, not, refl, arith, sym, ◌∙◌, subst, Option, None, Some, pos}
+use Rattle.std.proofs.Common.{◌≡◌, ℕ, get_or, Bool, true, false, not, refl, arith, sym, ◌∙◌, subst, Option, None, Some, pos, is_some}
 use Rattle.std.specs.List.{count_by}
 use Rattle.std.specs.Ordering.{int_eq}
 use Rattle.std.specs.Cmp.{signed_Decides}
@@ -10,12 +10,13 @@ use Rattle.assign_core.specs.Prices.{IsBelow}
 use Rattle.assign_core.proofs.Matchings.{below_itself, below_through}
 use Rattle.assign_core.proofs.NumberedLemmas.{length-renumbered, numbered-other, numbered_in}
 use Rattle.price_log.proofs.Histories.{continues-refl, continues-trans}
-use Rattle.auction_book.specs.Book.{BookData, Holds, is_some, persons_of, prices_of}
+use Rattle.auction_book.specs.Book.{BookData, Holds, persons_of, prices_of}
 use Rattle.auction_book.specs.Phases.{IsOver, is_assigned, is_over}
 use Rattle.auction_book.specs.Changes.{caught_up, claimed, given_up, phased, recorded}
 use Rattle.auction_book.specs.Follows.{Follows, GoesOn}
 use Rattle.auction_book.specs.Free.{IsFree}
 use Rattle.auction_book.proofs.Accepting.{released_follows}
+use Rattle.auction_book.proofs.Answering.{both}
 use Rattle.auction_book.proofs.OtherChanges.{caught_up_trimmed}
 use Rattle.auction_book.proofs.Places.{everyone, some_there as some_claim}
 
@@ -112,12 +113,6 @@ stop_follows b w s = record {
   claims = λ k ne. refl;
   asked = λ k person ne h. refl;
 }
-
-both : (x y : Bool) → (x && y) ≡ true → (x ≡ true) × (y ≡ true)
-both true true h = (refl, refl)
-both true false h = cc
-both false true h = cc
-both false false h = cc
 
 not_true : (x : Bool) → not x ≡ true → x ≡ false
 not_true true h = cc

@@ -1,5 +1,5 @@
 -- A book at the start of a run, and at the start of a phase.
-use Rattle.std.proofs.Common.{◌≡◌, ℕ, ℤ, pos, zero, suc, ◌+ℤ◌, ◌*ℤ◌, ◌≤ℤ◌, ◌+◌, ◌-◌, ◌<◌, ◌≤◌, List, [], ◌∷◌, ◌++◌, length, take, drop, replicate, nat_eq, sum, Bool, false, cond, refl, ap, arith, sym, ◌∙◌, subst, Option, None, Some}
+use Rattle.std.proofs.Common.{◌≡◌, ℕ, ℤ, pos, zero, suc, ◌+ℤ◌, ◌*ℤ◌, ◌≤ℤ◌, ◌+◌, ◌-◌, ◌<◌, ◌≤◌, List, [], ◌∷◌, ◌++◌, length, take, drop, replicate, nat_eq, sum, Bool, false, cond, refl, ap, arith, sym, ◌∙◌, subst, Option, None, Some, is_some}
 use Rattle.std.specs.List.{All, count_by}
 use Rattle.std.specs.Option.{option_and_then}
 use Rattle.std.proofs.lemmas.Int.{ints}
@@ -18,7 +18,7 @@ use Rattle.scaled_values.specs.Scaled.{ScaledProblem, eps_after, fifth, first_ep
 use Rattle.scaled_values.proofs.BenefitRange.{greatest_holds}
 use Rattle.scaled_values.proofs.EpsList.{IsEps-first, few, next_is}
 use Rattle.assign_core.specs.declared.numbers.TheConstants.{GREATEST_FIRST_PRICE}
-use Rattle.auction_book.specs.Book.{BookData, is_person, is_some, one_if_person, persons_of, prices_of, version_of}
+use Rattle.auction_book.specs.Book.{BookData, is_person, one_if_person, persons_of, prices_of, version_of}
 use Rattle.auction_book.specs.Changes.{phased}
 use Rattle.auction_book.specs.Free.{IsFree, IsPriced}
 use Rattle.auction_book.specs.Phases.{IsOver, opened, persons}
@@ -185,8 +185,11 @@ empty_list [] e = refl
 empty_list (x ∷ xs) e = absurd (omega arith)
 
 -- where everybody is assigned nobody waits
+pub none_wait : (b : BookData) → IsFree b → count_by is_some b.owners ≡ persons_of b → b.queue ≡ []
+none_wait b free all = let e = everyone (persons_of b) b.owners b.queue b.claims free.placed_once in empty_list b.queue (omega arith)
+
 pub queue_empty : (b : BookData) → IsFree b → IsOver b → b.queue ≡ []
-queue_empty b free over = let e = everyone (persons_of b) b.owners b.queue b.claims free.placed_once in let a = over.assigned in empty_list b.queue (omega arith)
+queue_empty b free over = none_wait b free over.assigned
 
 -- a slice that was written whole
 pub written_whole : (xs ys : List (Option ℕ)) (n : ℕ) → length xs ≡ n → take n (xs ++ drop (length xs) ys) ≡ xs

@@ -1,10 +1,10 @@
 -- Claims, recorded Hall sets, stops and catching up keep the invariant.
-use Rattle.std.proofs.Common.{◌≡◌, ℕ, ◌<◌, ◌≤◌, List, [], ◌∷◌, length, drop, get_or, fold, min, nat_le, refl, ap, arith, sym, ◌∙◌, Option, None, Some, inl, inr, ◌⊎◌, zero, suc}
+use Rattle.std.proofs.Common.{◌≡◌, ℕ, ◌<◌, ◌≤◌, List, [], ◌∷◌, length, drop, get_or, fold, min, nat_le, refl, ap, arith, sym, ◌∙◌, Option, None, Some, inl, inr}
 use Rattle.std.proofs.lemmas.Bool.{cond-true, cond-false}
-use Rattle.std.proofs.lemmas.Bool.Decides.{eqb_tells, leb_tells}
+use Rattle.std.proofs.lemmas.Bool.Decides.{leb_tells}
 use Rattle.assign_core.specs.Numbered.{numbered, renumbered}
 use Rattle.assign_core.specs.Hall.{HallLists, IsHallSet}
-use Rattle.assign_core.proofs.NumberedLemmas.{length-renumbered, numbered-other, numbered-past, numbered-same}
+use Rattle.assign_core.proofs.NumberedLemmas.{length-renumbered}
 use Rattle.auction_book.specs.Book.{BookData, Holds, version_of}
 use Rattle.auction_book.specs.Changes.{caught_up, claimed, least_taken, released, recorded, trimmed_to, with_set}
 use Rattle.auction_book.specs.Free.{IsFree}

@@ -1,5 +1,5 @@
 -- Each person stands in one place: so the places are as many as the persons.
-use Rattle.std.proofs.Common.{◌≡◌, ◌≢◌, ℕ, zero, suc, ◌+◌, ◌<◌, ◌≤◌, List, [], ◌∷◌, ◌++◌, length, map, drop, set, ◌-◌, get_or, nat_eq, cond, refl, ap, arith, sym, ◌∙◌, subst, inl, inr, Option, None, Some}
+use Rattle.std.proofs.Common.{◌≡◌, ◌≢◌, ℕ, zero, suc, ◌+◌, ◌<◌, ◌≤◌, List, [], ◌∷◌, ◌++◌, length, map, drop, set, ◌-◌, get_or, nat_eq, cond, refl, ap, arith, sym, ◌∙◌, subst, inl, inr, Option, None, Some, is_some}
 use Rattle.std.specs.List.{count_by}
 use Rattle.std.proofs.lemmas.List.Sums.{sum_by-cons, sum_by_push, get_or-le-sum_by}
 use Rattle.std.proofs.lemmas.Bool.{cond-true, cond-false}
@@ -7,7 +7,7 @@ use Rattle.std.proofs.lemmas.Bool.Decides.{eqb_tells, nat_tests}
 use Rattle.assign_core.specs.Numbered.{IsNumber, numbered, renumbered}
 use Rattle.assign_core.specs.Matching.{owner_of}
 use Rattle.assign_core.proofs.NumberedLemmas.{count-renumbered, renumber-set, numbered_in}
-use Rattle.auction_book.specs.Book.{is_person, is_some, one_if_person, places}
+use Rattle.auction_book.specs.Book.{is_person, one_if_person, places}
 use Rattle.auction_book.specs.Changes.{requeued}
 
 -- f 1 + .. + f n

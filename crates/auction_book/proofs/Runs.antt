@@ -1,5 +1,5 @@
 -- Each event keeps what holds of the core.
-use Rattle.std.proofs.Common.{◌≡◌, ◌≢◌, ℕ, ℤ, zero, suc, ◌+◌, ◌<◌, ◌≤◌, ◌≤ℤ◌, List, [], ◌∷◌, ◌++◌, length, get_or, replicate, nat_le, Bool, true, false, cond, ◌&&◌, MatchBool, Result, Ok, Err, refl, ap, arith, sym, ◌∙◌, subst, Option, None, Some, inl, inr}
+use Rattle.std.proofs.Common.{◌≡◌, ◌≢◌, ℕ, ℤ, zero, suc, ◌+◌, ◌<◌, ◌≤◌, ◌≤ℤ◌, List, [], ◌∷◌, ◌++◌, length, get_or, replicate, nat_le, Bool, true, false, ◌&&◌, MatchBool, Result, Ok, Err, refl, ap, arith, sym, ◌∙◌, subst, Option, None, Some, inl, inr}
 use Rattle.std.proofs.lemmas.List.{get_or-replicate, length-replicate}
 use Rattle.std.proofs.lemmas.Bool.Decides.{eqb_tells, nat_tests}
 use Rattle.assign_core.specs.Numbered.{IsNumber, numbered, renumbered}
@@ -25,17 +25,17 @@ use Rattle.auction_book.specs.declared.answers.Claim.{Claim}
 use Rattle.auction_book.specs.declared.answers.Claim.TheVariants as claim
 use Rattle.auction_book.specs.declared.schedule.Event.{Event}
 use Rattle.auction_book.specs.declared.schedule.Seat.{Seat}
-use Rattle.auction_book.specs.Book.{BookData, Holds, ask_of, is_refuted, persons_of, prices_of, version_of}
+use Rattle.auction_book.specs.Book.{BookData, Holds, ask_of, persons_of, prices_of, version_of}
 use Rattle.auction_book.specs.Changes.{caught_up, claimed, phased, released}
-use Rattle.auction_book.specs.Claims.{after_claim, claim_front, claim_of}
+use Rattle.auction_book.specs.Claims.{after_claim, claim_of}
 use Rattle.auction_book.specs.Follows.{Follows, GoesOn}
 use Rattle.auction_book.specs.Free.{IsFree}
-use Rattle.auction_book.specs.Phases.{is_done, is_over, opened}
+use Rattle.auction_book.specs.Phases.{is_over, opened}
 use Rattle.auction_book.specs.Schedule.{CoreData, Happens, IsFit, IsSeat, Run, core_opened, goes_on, is_worker, seat_at, seat_next, seat_of_prices}
 use Rattle.auction_book.specs.Session.{EndsClaim, IsHandedIn, IsNoted, IsPrepared, IsUndone, Submits, book_left, book_next, book_taken, next_if_over, prepared, table_taken, version_taken}
 use Rattle.auction_book.specs.Submissions.{IsSubmitted}
 use Rattle.auction_book.proofs.Accepting.{accepted_follows, accepted_free, released_follows, released_free}
-use Rattle.auction_book.proofs.Claiming.{cond_by}
+use Rattle.auction_book.proofs.Claiming.{claim_by, cond_by}
 use Rattle.auction_book.proofs.Following.{caught_up_follows, claimed_follows, follows_itself, goes_on_itself, goes_on_through, over_is, phased_follows, recorded_follows}
 use Rattle.auction_book.proofs.Opening.{no_owner, no_version, opened_free, phased_free}
 use Rattle.auction_book.proofs.OtherChanges.{caught_up_free, caught_up_trimmed, claimed_free, recorded_free}
@@ -198,17 +198,10 @@ claimed_some w b table version person rest free none number e =
       counts = refl;
     }
 
-claimed_front : (w : ℕ) (b : BookData) (table : List ℤ) (version : ℕ) (queue : List ℕ) → IsFree b → numbered b.claims w None ≡ None → IsNumber (length b.claims) w → b.queue ≡ queue → IsClaimed w b table version (claim_front b queue)
-claimed_front w b table version [] free none number e = (claimed_none w b table version free none).3
-claimed_front w b table version (person ∷ rest) free none number e = claimed_some w b table version person rest free none number e
-
 claim_is : (w : ℕ) (b : BookData) (table : List ℤ) (version : ℕ) → IsFree b → numbered b.claims w None ≡ None → IsNumber (length b.claims) w → IsClaimed w b table version (claim_of b)
 claim_is w b table version free none number =
     let n = claimed_none w b table version free none in
-    cond_by (IsClaimed w b table version) (is_refuted b.refuted) claim.Refuted (cond (is_done b) claim.Done (cond b.stopped claim.Stopped (claim_front b b.queue))) (λ h. n.0)
-    (λ h. cond_by (IsClaimed w b table version) (is_done b) claim.Done (cond b.stopped claim.Stopped (claim_front b b.queue)) (λ h. n.1)
-    (λ h. cond_by (IsClaimed w b table version) b.stopped claim.Stopped (claim_front b b.queue) (λ h. n.2)
-    (λ h. claimed_front w b table version b.queue free none number refl)))
+    claim_by (IsClaimed w b table version) b (λ h. n.0) (λ h. n.1) (λ h. n.2) (λ going e. n.3) (λ person rest going e. claimed_some w b table version person rest free none number e)
 
 in_range : (n w : ℕ) → (nat_le 1 w && nat_le w n) ≡ true → IsNumber n w
 in_range n w h = record { first = grind (arith, nat_tests); last = grind (arith, nat_tests) }

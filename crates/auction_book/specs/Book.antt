@@ -1,5 +1,5 @@
 -- What a book is to a contract.
-use Rattle.std.specs.Prelude.{◌≡◌, ℕ, ℤ, pos, ◌+◌, ◌-◌, ◌+ℤ◌, ◌-ℤ◌, List, [], ◌∷◌, Option, None, Some, Bool, true, false, cond, nat_eq, nat_le, ◌&&◌, count_by, length, int_div}
+use Rattle.std.specs.Prelude.{◌≡◌, ℕ, ℤ, pos, ◌+◌, ◌-◌, ◌+ℤ◌, ◌-ℤ◌, List, [], ◌∷◌, Option, None, Some, Bool, false, cond, nat_eq, nat_le, ◌&&◌, count_by, length, int_div}
 use Rattle.assign_core.specs.Hall.{HallLists}
 use Rattle.assign_core.specs.Numbered.{numbered}
 use Rattle.scaled_values.specs.Scaled.{ScaledProblem, greatest_of, top_of}
@@ -41,11 +41,6 @@ ask_of b = record { phase = b.phase; eps = b.eps; floor = b.floor }
 abbrev pub Holds : BookData → ℕ → ℕ → Type 0
 Holds b worker person = numbered b.claims worker None ≡ Some person
 
--- a Hall set is recorded
-abbrev pub is_refuted : Option HallLists → Bool
-is_refuted None = false
-is_refuted (Some lists) = true
-
 -- how many bids were accepted in this phase
 abbrev pub phase_accepted : BookData → ℕ
 phase_accepted b = version_of b - b.start_version
@@ -63,10 +58,6 @@ phase_bound b = int_div (room_under (top_of b.base (greatest_of b.start) b.eps) 
 abbrev pub is_person : ℕ → Option ℕ → Bool
 is_person i None = false
 is_person i (Some k) = nat_eq i k
-
-abbrev pub is_some : Option ℕ → Bool
-is_some None = false
-is_some (Some k) = true
 
 -- in how many places person i stands: as owner, in the queue, as claimed
 abbrev pub places : List (Option ℕ) → List ℕ → List (Option ℕ) → ℕ → ℕ

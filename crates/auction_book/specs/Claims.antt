@@ -1,11 +1,11 @@
 -- What a claim answers.
-use Rattle.std.specs.Prelude.{◌≡◌, ℕ, List, [], ◌∷◌, length, cond}
+use Rattle.std.specs.Prelude.{◌≡◌, ℕ, List, [], ◌∷◌, length, cond, is_some}
 use Rattle.assign_core.specs.Numbered.{IsNumber}
 use Rattle.scaled_values.specs.Scaled.{ScaledProblem}
 use Rattle.bidder.specs.Offers.{IsAsk}
 use Rattle.auction_book.specs.declared.answers.Claim.{Claim}
 use Rattle.auction_book.specs.declared.answers.Claim.TheVariants as claim
-use Rattle.auction_book.specs.Book.{BookData, Holds, ask_of, is_refuted}
+use Rattle.auction_book.specs.Book.{BookData, Holds, ask_of}
 use Rattle.auction_book.specs.Phases.{is_done}
 use Rattle.auction_book.specs.Changes.{claimed}
 
@@ -16,7 +16,7 @@ claim_front b (person ∷ queue) = claim.Person person (ask_of b)
 
 -- the first of the answers that applies
 abbrev pub claim_of : BookData → Claim
-claim_of b = cond (is_refuted b.refuted) claim.Refuted (cond (is_done b) claim.Done (cond b.stopped claim.Stopped (claim_front b b.queue)))
+claim_of b = cond (is_some b.refuted) claim.Refuted (cond (is_done b) claim.Done (cond b.stopped claim.Stopped (claim_front b b.queue)))
 
 -- the book after that answer
 abbrev pub after_claim : BookData → ℕ → Claim → BookData

@@ -1,9 +1,9 @@
 -- What stays of a book through the changes that workers make.
-use Rattle.std.specs.Prelude.{◌≡◌, ◌≢◌, ℕ, None, IsTrue, length}
+use Rattle.std.specs.Prelude.{◌≡◌, ◌≢◌, ℕ, None, IsTrue, length, is_some}
 use Rattle.assign_core.specs.Numbered.{numbered}
 use Rattle.assign_core.specs.Prices.{IsBelow}
 use Rattle.price_log.specs.History.{Continues}
-use Rattle.auction_book.specs.Book.{BookData, Holds, ask_of, is_refuted, prices_of}
+use Rattle.auction_book.specs.Book.{BookData, Holds, ask_of, prices_of}
 
 -- the later book is of the same problem and number of workers, no price is lower, its log continues, and a Hall set
 -- is recorded where one was
@@ -12,7 +12,7 @@ pub record GoesOn (old new : BookData) : Type 0 where
   pub workers : length new.claims ≡ length old.claims
   pub below : IsBelow (prices_of old) (prices_of new)
   pub log : Continues old.log new.log
-  pub refuted : IsTrue (is_refuted old.refuted) → IsTrue (is_refuted new.refuted)
+  pub refuted : IsTrue (is_some old.refuted) → IsTrue (is_some new.refuted)
 
 -- a change by one worker: the book goes on, other workers' counts and claims stay, and where one of them has a claim
 -- the same is asked of its bid

@@ -1,5 +1,5 @@
 -- What holds of every book between two calls: a free book.
-use Rattle.std.specs.Prelude.{◌≡◌, ℕ, ℤ, pos, ◌-◌, ◌*ℤ◌, ◌+ℤ◌, ◌≤ℤ◌, ◌<◌, ◌≤◌, List, Option, None, Some, MatchOption, count_by, length, sum}
+use Rattle.std.specs.Prelude.{◌≡◌, ℕ, ℤ, pos, ◌-◌, ◌*ℤ◌, ◌+ℤ◌, ◌≤ℤ◌, ◌<◌, ◌≤◌, List, Option, None, Some, MatchOption, count_by, length, sum, is_some}
 use Rattle.assign_core.specs.Rows.{IsProblem}
 use Rattle.assign_core.specs.Prices.{IsTable, price_of}
 use Rattle.assign_core.specs.Matching.{IsMatching, owner_of}
@@ -9,7 +9,7 @@ use Rattle.scaled_values.specs.Scaled.{ScaledProblem, eps_after, first_eps, floo
 use Rattle.bidder.specs.Offers.{benefits_at}
 use Rattle.price_log.specs.History.{IsHistory, sum_of}
 use Rattle.assign_core.specs.declared.numbers.TheConstants.{GREATEST_FIRST_PRICE}
-use Rattle.auction_book.specs.Book.{BookData, is_some, one_if_person, persons_of, places, prices_of, version_of}
+use Rattle.auction_book.specs.Book.{BookData, one_if_person, persons_of, places, prices_of, version_of}
 
 -- a price for each object at a phase's start and now, and each of the lists by worker as long as the others
 pub record HasSizes (n : ℕ) (prices start : List ℤ) (claims : List (Option ℕ)) (counts taken : List ℕ) : Type 0 where

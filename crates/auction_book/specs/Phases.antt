@@ -1,9 +1,9 @@
 -- The opening of a book, and when a phase is over.
-use Rattle.std.specs.Prelude.{◌≡◌, ◌≢◌, ℕ, ℤ, zero, suc, pos, List, [], ◌∷◌, ◌++◌, None, Bool, false, not, nat_eq, ◌&&◌, length, replicate, count_by}
+use Rattle.std.specs.Prelude.{◌≡◌, ◌≢◌, ℕ, ℤ, zero, suc, pos, List, [], ◌∷◌, ◌++◌, None, Bool, false, not, nat_eq, ◌&&◌, length, replicate, count_by, is_some}
 use Rattle.std.specs.Ordering.{int_eq}
 use Rattle.scaled_values.specs.Scaled.{ScaledProblem, first_eps, floor_of, greatest_of}
 use Rattle.price_log.specs.History.{started}
-use Rattle.auction_book.specs.Book.{BookData, is_some, persons_of}
+use Rattle.auction_book.specs.Book.{BookData, persons_of}
 
 -- 1 to n
 abbrev pub persons : ℕ → List ℕ

@@ -1,9 +1,9 @@
 -- What is stored of a book, and which book it is to a contract.
-use Rattle.std.specs.Prelude.{◌≡◌, ◌≤◌, count_by, length}
+use Rattle.std.specs.Prelude.{◌≡◌, ◌≤◌, count_by, length, is_some}
 use Rattle.std.specs.Arc.{arc_value}
 use Rattle.std.specs.VecDeque.{deque_capacity}
 use Rattle.auction_book.specs.declared.book.Book.TheInside.{Inside}
-use Rattle.auction_book.specs.Book.{BookData, is_some}
+use Rattle.auction_book.specs.Book.{BookData}
 use Rattle.auction_book.specs.Free.{IsFree}
 
 -- the book of these fields

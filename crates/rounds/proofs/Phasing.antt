@@ -1,6 +1,7 @@
 -- Phases follow each other, and a round is one of the plain definition.
 use Rattle.std.proofs.Common.{◌≡◌, ℕ, pos, ◌+◌, ◌<◌, ◌&&◌, List, [], ◌∷◌, None, Some, option_map, Bool, true, false, not, cond, length, refl, ap, sym, ◌∙◌, subst, arith}
 use Rattle.std.specs.Ordering.{int_eq}
+use Rattle.std.specs.Cmp.Derive.{both_true}
 use Rattle.scaled_values.specs.Scaled.{ScaledProblem, fifth, next_eps}
 use Rattle.scaled_values.proofs.EpsList.{next_is}
 use Rattle.bidder.specs.declared.offers.Offer.{Offer}
@@ -9,17 +10,13 @@ use Rattle.auction_book.specs.Changes.{phased}
 use Rattle.auction_book.specs.Free.{IsFree}
 use Rattle.auction_book.specs.Phases.{is_assigned, is_done, is_over, persons}
 use Rattle.auction_book.specs.Session.{next_if_over}
+use Rattle.auction_book.proofs.Answering.{both}
 use Rattle.auction_book.proofs.Opening.{length-persons}
 use Rattle.auction_book.proofs.Following.{over_is}
 use Rattle.rounds.specs.inside.Books.{HaveOffered, IsAtRest, IsClaimed, plain_of}
 use Rattle.rounds.specs.Offers.{offers_of}
 use Rattle.rounds.specs.Plain.{Plain, all_turned, begun, ready, ready_by, round}
 use Rattle.rounds.proofs.Waiting.{assigned_empty, empty_assigned}
-
-both_true : (x y : Bool) → x ≡ true → y ≡ true → x && y ≡ true
-both_true true true h k = refl
-both_true true false h k = cc
-both_true false y h k = absurd cc
 
 not_false : (x : Bool) → not x ≡ false → x ≡ true
 not_false true h = refl
@@ -29,19 +26,13 @@ and_true : (x y : Bool) → x ≡ true → x && y ≡ false → y ≡ false
 and_true true y h k = k
 and_true false y h k = absurd cc
 
-both_left : (x y : Bool) → x && y ≡ true → x ≡ true
-both_left true true h = refl
-both_left true false h = cc
-both_left false true h = cc
-both_left false false h = cc
-
 -- where nobody waits or is claimed and no phase follows, it is the last phase
 last_phase : (b : BookData) → IsAtRest b → b.queue ≡ [] → is_over b ≡ false → int_eq b.eps (pos 1) ≡ true
 last_phase b rest none last = not_false (int_eq b.eps (pos 1)) (and_true (is_assigned b) (not (int_eq b.eps (pos 1))) (empty_assigned b rest none) last)
 
 -- so everything is done
 pub all_done : (b : BookData) → IsAtRest b → b.queue ≡ [] → is_over b ≡ false → is_done b ≡ true
-all_done b rest none last = both_true (is_assigned b) (int_eq b.eps (pos 1)) (empty_assigned b rest none) (last_phase b rest none last)
+all_done b rest none last = both_true (empty_assigned b rest none) (last_phase b rest none last)
 
 ready_as : (s : ScaledProblem) (b : Plain) (queue : List ℕ) → b.queue ≡ queue → ready s b ≡ ready_by s b queue
 ready_as s b queue e = ap (ready_by s b) e
@@ -64,7 +55,7 @@ some_ready s b some = by_queue s b b.queue refl some where
 pub phase_ready : (b : BookData) → IsFree b → is_over b ≡ true → ready b.base (plain_of b) ≡ Some (plain_of (phased b))
 phase_ready b free over =
     let is = over_is b over in
-    let none = assigned_empty b free (both_left (is_assigned b) (not (int_eq b.eps (pos 1))) over) in
+    let none = assigned_empty b free (both (is_assigned b) (not (int_eq b.eps (pos 1))) over).0 in
     ready_as b.base (plain_of b) [] none ∙ ap (option_map (begun b.base (prices_of b) (b.phase + 1))) (next_is b.eps is.more)
 
 -- a phase begins with nobody claimed where nobody was

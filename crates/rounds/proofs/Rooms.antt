@@ -8,14 +8,11 @@ use Rattle.assign_core.specs.Numbered.{renumbered}
 use Rattle.assign_core.specs.declared.numbers.TheConstants.{PRICE_END}
 use Rattle.assign_core.specs.Prices.{IsPrice, price_of}
 use Rattle.assign_core.proofs.NumberedLemmas.{length-renumbered, numbered-same}
+use Rattle.auction_book.proofs.Accepting.{price_in}
 use Rattle.rounds.specs.inside.Books.{room}
 
 room_less : (p q : ℤ) → IsPrice p → IsPrice q → p <ℤ q → unsigned_abs (PRICE_END -ℤ q) < unsigned_abs (PRICE_END -ℤ p)
 room_less p q f g h = let a = f.least in let b = g.below in omega (arith, ints)
-
-at_price : (prices : List ℤ) (j : ℕ) → All IsPrice prices → 0 < j → j ≤ length prices → IsPrice (price_of prices j)
-at_price prices zero h first last = absurd (omega arith)
-at_price prices (suc k) h first last = h k (pos 0) (omega arith)
 
 room_set : (prices : List ℤ) (j : ℕ) (level : ℤ) → 0 < j → j ≤ length prices → All IsPrice prices → IsPrice level → price_of prices j <ℤ level → room (renumbered prices j level) < room prices
 room_set prices zero level first last each fit above = absurd (omega arith)
@@ -29,4 +26,4 @@ room_set prices (suc k) level first last each fit above =
 pub room_falls : (prices : List ℤ) (j : ℕ) (level : ℤ) → 0 < j → j ≤ length prices → All IsPrice prices → All IsPrice (renumbered prices j level) → price_of prices j <ℤ level → room (renumbered prices j level) < room prices
 room_falls prices j level first last each after above =
     let long : length (renumbered prices j level) ≡ length prices = length-renumbered prices j level in
-    room_set prices j level first last each (subst IsPrice (numbered-same prices j level (pos 0) first last) (at_price (renumbered prices j level) j after first (omega arith))) above
+    room_set prices j level first last each (subst IsPrice (numbered-same prices j level (pos 0) first last) (price_in (renumbered prices j level) j after first (omega arith))) above

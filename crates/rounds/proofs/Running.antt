@@ -1,11 +1,11 @@
 -- A run of rounds over a book, up to its end.
-use Rattle.std.proofs.Common.{◌≡◌, ℕ, ℤ, pos, suc, ◌<◌, ◌&&◌, List, [], None, Some, Bool, true, false, not, cond, nat_eq, length, refl, ap, sym, ◌∙◌, subst, arith, Result, Ok, Err, IfOk}
+use Rattle.std.proofs.Common.{◌≡◌, ℕ, ℤ, pos, suc, ◌<◌, ◌&&◌, List, [], None, Some, Bool, true, false, not, cond, nat_eq, length, refl, ap, sym, ◌∙◌, subst, arith, Result, Ok, Err, IfOk, is_some}
 use Rattle.std.specs.List.{count_by}
 use Rattle.std.specs.Ordering.{int_eq}
 use Rattle.std.proofs.lemmas.List.{length-replicate}
 use Rattle.assign_core.specs.declared.outcome.Outcome.{Outcome}
 use Rattle.scaled_values.specs.Scaled.{ScaledProblem}
-use Rattle.auction_book.specs.Book.{BookData, is_some, prices_of}
+use Rattle.auction_book.specs.Book.{BookData, prices_of}
 use Rattle.auction_book.specs.Free.{IsFree}
 use Rattle.auction_book.specs.Changes.{phased}
 use Rattle.auction_book.specs.Phases.{is_over, opened}

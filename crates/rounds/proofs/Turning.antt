@@ -2,12 +2,14 @@
 use Rattle.std.proofs.Common.{◌≡◌, ℕ, ℤ, zero, suc, ◌+◌, ◌<◌, ◌≤◌, ◌+ℤ◌, ◌≤ℤ◌, ◌<ℤ◌, ◌⊎◌, inl, inr, List, ◌∷◌, None, Some, Bool, true, false, length, get_or, drop, refl, ap, sym, ◌∙◌, subst, arith}
 use Rattle.std.proofs.lemmas.Int.{ints}
 use Rattle.std.proofs.lemmas.List.{at_drop_more, get_or-map, length-map}
+use Rattle.std.proofs.lemmas.Option.{same_Some}
 use Rattle.std.specs.Int.Signed.{lt_z}
 use Rattle.assign_core.specs.declared.numbers.TheConstants.{MOST_PERSONS}
 use Rattle.assign_core.specs.Numbered.{IsNumber, numbered}
 use Rattle.std.specs.List.{All}
 use Rattle.assign_core.specs.Prices.{IsBelow, IsPrice, price_of}
 use Rattle.assign_core.proofs.NumberedLemmas.{length-renumbered, numbered_in}
+use Rattle.assign_core.proofs.Orders.{where_not_less}
 use Rattle.assign_core.proofs.Matchings.{below_through}
 use Rattle.scaled_values.specs.Scaled.{ScaledProblem}
 use Rattle.scaled_values.proofs.RowFacts.{benefit_row_is}
@@ -48,9 +50,6 @@ pub record IsMade (b : BookData) (persons : List ℕ) (offers : List Offer) (i :
   pub at : (d : ℕ) → get_or persons i d ≡ person
   pub is : IsOffer b.base (prices_of b) 0 (ask_of b) person offer
 
-held_same : (x y : ℕ) → Some x ≡ Some y → x ≡ y
-held_same x y h = cc
-
 pub made_at : (b : BookData) (persons : List ℕ) (offers : List Offer) (i : ℕ) (offer : Offer) → HaveOffered b persons offers → i < length offers → get_or offers i offer ≡ offer → IsMade b persons offers i offer
 made_at b persons offers i offer have within here =
     let f = offer_of b.base (prices_of b) 0 (ask_of b) in
@@ -66,7 +65,7 @@ made_at b persons offers i offer have within here =
       here = here;
       person = person;
       held = held;
-      at = λ d. held_same (get_or persons i d) person (sym (have.claimed.held i d (omega arith) many) ∙ held);
+      at = λ d. same_Some (get_or persons i d) person (sym (have.claimed.held i d (omega arith) many) ∙ held);
       is = subst (IsOffer b.base (prices_of b) 0 (ask_of b) person) (sym made_is ∙ here) (offer_is b.base (prices_of b) 0 (ask_of b) person (benefit_row_is b.base person have.going.free.problem number).rising);
     }
 
@@ -136,9 +135,6 @@ next_bid {old} {now} {offers} {i} {bid} read is within at e =
       fitting = λ same. (prices_of old, turning.below, subst (λ a. IsSound now.base a (prices_of old) bid) (sym turning.asked) asked);
     }
 
-not_less : (v w : ℤ) → lt_z v w ≡ false → w ≤ℤ v
-not_less v w h = grind (arith, ints)
-
 is_less : (v w : ℤ) → lt_z v w ≡ true → v <ℤ w
 is_less v w h = grind (arith, ints)
 
@@ -169,7 +165,7 @@ turned_by true old now persons offers i bid t next free is left =
       ];
     }
 turned_by false old now persons offers i bid t next free is left =
-    let high = not_less bid.level (price_of (prices_of now) bid.object +ℤ now.eps) t in
+    let high = where_not_less bid.level (price_of (prices_of now) bid.object +ℤ now.eps) t in
     let place = next.worker.last in
     let fit = next.fitting next.phase in
     let follows = accepted_follows now (suc i) bid fit.0 is.going.free fit.1 fit.2 high in

@@ -1,7 +1,6 @@
 // Claims, and how they end without a bid.
-ghost use Rattle.std.specs.Prelude.{◌≡◌, ℕ, List, [], ◌∷◌, None, false, true, IfNone, IfSome, length};
+ghost use Rattle.std.specs.Prelude.{◌≡◌, ℕ, List, [], ◌∷◌, None, false, true, IfNone, IfSome, length, is_some};
 ghost use Rattle.assign_core.specs.Numbered.{IsNumber, numbered};
-ghost use Rattle.auction_book.specs.Book.{is_refuted};
 ghost use Rattle.auction_book.specs.Changes.{claimed, given_up};
 ghost use Rattle.auction_book.specs.Claims.{IsAsked, IsHeld, after_claim, claim_of};
 ghost use Rattle.auction_book.specs.Free.{IsFree};
@@ -12,7 +11,7 @@ use assign_core::Person;
 
 impl Book {
     fn is_refuted(&self) -> bool
-        ensures refuted { result ≡ is_refuted self.now.refuted }
+        ensures refuted { result ≡ is_some self.now.refuted }
     {
         self.refuted.is_some()
     }

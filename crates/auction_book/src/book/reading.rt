@@ -1,8 +1,8 @@
 // What a book holds.
-ghost use Rattle.std.specs.Prelude.{◌≡◌, None, Some, MatchOption, count_by, length};
+ghost use Rattle.std.specs.Prelude.{◌≡◌, None, Some, MatchOption, count_by, length, is_some};
 ghost use Rattle.std.specs.Arc.{arc_value};
 ghost use Rattle.assign_core.specs.Numbered.{IsNumber, numbered};
-ghost use Rattle.auction_book.specs.Book.{ask_of, is_some, prices_of, version_of};
+ghost use Rattle.auction_book.specs.Book.{ask_of, prices_of, version_of};
 ghost use Rattle.auction_book.specs.Free.{IsFree};
 
 use super::Book;

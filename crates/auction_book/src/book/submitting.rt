@@ -1,11 +1,11 @@
 // Bids, and what is found below the floor.
-ghost use Rattle.std.specs.Prelude.{◌≡◌, ◌+◌, ◌+ℤ◌, ◌≤ℤ◌, ◌<ℤ◌, ℤ, List, None, cond, length, MatchBool, IfOk, OnErr};
+ghost use Rattle.std.specs.Prelude.{◌≡◌, ◌+◌, ◌+ℤ◌, ◌≤ℤ◌, ◌<ℤ◌, ℤ, List, None, cond, length, MatchBool, IfOk, OnErr, is_some};
 ghost use Rattle.assign_core.specs.Hall.{IsHallSet};
 ghost use Rattle.assign_core.specs.Matching.{owner_of};
 ghost use Rattle.assign_core.specs.Numbered.{IsNumber};
 ghost use Rattle.assign_core.specs.Prices.{IsBelow, IsPrice, price_of};
 ghost use Rattle.bidder.specs.Offers.{IsSound};
-ghost use Rattle.auction_book.specs.Book.{Holds, ask_of, is_some, prices_of};
+ghost use Rattle.auction_book.specs.Book.{Holds, ask_of, prices_of};
 ghost use Rattle.auction_book.specs.Changes.{accepted, with_set};
 ghost use Rattle.auction_book.specs.Free.{IsFree};
 ghost use Rattle.auction_book.specs.Submissions.{IsFitting, IsHigh, IsRecorded, IsSubmitted};

@@ -1,11 +1,11 @@
-use Rattle.std.proofs.Common.{◌≡◌, pos, Option, None, count_by, length, replicate, unwrap_or, ℕ, refl, sym, ap, ◌∙◌, subst, arith, rules, SFits}
+use Rattle.std.proofs.Common.{◌≡◌, pos, Option, None, count_by, length, replicate, unwrap_or, ℕ, refl, sym, ap, ◌∙◌, subst, arith, rules, SFits, is_some}
 use Rattle.std.specs.Int.{w64, w128}
 use Rattle.std.specs.Arc.{arc_value}
 use Rattle.std.proofs.lemmas.Int.{to_z-of_z}
 use Rattle.std.proofs.lemmas.List.{length-replicate}
 use Rattle.scaled_values.specs.Scaled.{ScaledProblem, IsEps, fifth, floor_of, greatest_of, next_eps}
 use Rattle.scaled_values.proofs.EpsList.{IsEps-next, next_is}
-use Rattle.auction_book.specs.Book.{BookData, is_some, prices_of}
+use Rattle.auction_book.specs.Book.{BookData, prices_of}
 use Rattle.auction_book.specs.Changes.{phased}
 use Rattle.auction_book.specs.Free.{IsFree}
 use Rattle.auction_book.specs.Phases.{IsOver, persons}

@@ -1,4 +1,4 @@
-use Rattle.std.proofs.Common.{◌∙◌, None, Some, ap, get_or, refl, sym, subst}
+use Rattle.std.proofs.Common.{◌∙◌, None, Some, ap, get_or, sym, subst}
 use Rattle.assign_core.specs.Numbered.{numbered}
 use Rattle.assign_core.proofs.NumberedLemmas.{numbered-same}
 use Rattle.bidder.specs.Offers.{IsAsk}

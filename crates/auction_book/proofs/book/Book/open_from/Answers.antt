@@ -1,11 +1,11 @@
-use Rattle.std.proofs.Common.{◌≡◌, ℕ, Option, None, count_by, length, replicate, sym, ap, ◌∙◌, subst, refl, arith, rules, SFits}
+use Rattle.std.proofs.Common.{◌≡◌, ℕ, Option, None, count_by, length, replicate, sym, ap, ◌∙◌, subst, refl, arith, rules, SFits, is_some}
 use Rattle.std.specs.Int.{w64, w128}
 use Rattle.std.specs.Arc.{arc_value}
 use Rattle.std.proofs.lemmas.Int.{to_z-of_z}
 use Rattle.std.proofs.lemmas.List.{length-replicate}
 use Rattle.assign_core.specs.Rows.{IsProblem}
 use Rattle.scaled_values.specs.Scaled.{ScaledProblem, first_eps, floor_of, greatest_of}
-use Rattle.auction_book.specs.Book.{BookData, is_some}
+use Rattle.auction_book.specs.Book.{BookData}
 use Rattle.auction_book.specs.Free.{IsFree}
 use Rattle.auction_book.specs.Phases.{opened, persons}
 use Rattle.auction_book.proofs.Opening.{greatest_read, none_counted, opened_free}
