@@ -5,7 +5,9 @@
                                 (0 with the word alone: it isn't called), and of the check
      door drawn N COUNT TIMES   so many dense problems of N persons, costs 1..1000: the same
      door starts TIMES          N = 2000, costs 1..1000: cold, then from the prices of the same problem, of one with one
-                                row drawn anew, and with one row in a hundred; seconds
+                                row drawn anew, and with more and more of them; seconds
+     door poor TIMES            a dense problem from standard input: cold, then from first prices that tell nothing of
+                                it: drawn, drawn up to 10^21, one of 10^21, and the prices of it turned round; seconds
      door wide                  three equal objects with first prices 0, 0 and 10^21, and prices 1, 5 and 7: seconds */
 #define _POSIX_C_SOURCE 200809L
 #include "../c/nushbaret.h"
@@ -164,15 +166,15 @@ static void tell(const char *what, double seconds, double beside, double check) 
 }
 
 static void starts(int times) {
-    static const size_t every[] = {0, 2000, 100};
-    static const char *names[] = {"same", "one row", "1 %"};
+    static const size_t every[] = {0, 2000, 100, 50, 20, 10};
+    static const char *names[] = {"same", "one row", "1 %", "2 %", "5 %", "10 %"};
     size_t n = 2000, k, i;
     struct problem p = problem(n, n * n, 0);
     struct nushbaret_price *first = (struct nushbaret_price *)room(n * sizeof *first);
     draw(p.costs, p.pairs);
     proved(&p, NULL);
     memcpy(first, p.prices, n * sizeof *first);
-    for (k = 0; k < 3; k++) {
+    for (k = 0; k < sizeof every / sizeof *every; k++) {
         double cold = 1e9, warm = 1e9, check = 1e9;
         int turn;
         for (i = 0; every[k] > 0 && i < n; i += every[k]) draw(p.costs + i * n, n);
@@ -185,6 +187,42 @@ static void starts(int times) {
             less(&check, checked(&p));
         }
         tell(names[k], warm, cold, check);
+    }
+}
+
+/* First prices that tell nothing of a problem. `own` are the prices that a cold call found. */
+static struct nushbaret_price poor_price(int kind, size_t n, struct nushbaret_price own, size_t place) {
+    struct nushbaret_price price = {0, 0};
+    int64_t drawn[2];
+    draw(drawn, 2);
+    if (kind == 0) price.low = (uint64_t)(drawn[0] * 1000 + drawn[1]) * (n + 1);
+    if (kind == 1) price.high = drawn[0] % 54, price.low = (uint64_t)drawn[1] << 54;
+    if (kind == 2 && place == 0) price.high = 54;
+    if (kind == 3) price.low = ((uint64_t)1 << 55) - (own.low & (((uint64_t)1 << 55) - 1));
+    return price;
+}
+
+static void poor(int times) {
+    static const char *names[] = {"drawn", "drawn up to 10^21", "one of 10^21", "turned round"};
+    struct problem p = read_text(0);
+    struct nushbaret_price *own = (struct nushbaret_price *)room(p.n * sizeof *own);
+    struct nushbaret_price *first = (struct nushbaret_price *)room(p.n * sizeof *first);
+    size_t j;
+    int kind, turn;
+    proved(&p, NULL);
+    memcpy(own, p.prices, p.n * sizeof *own);
+    for (kind = 0; kind < 4; kind++) {
+        double cold = 1e9, warm = 1e9, check = 1e9;
+        for (j = 0; j < p.n; j++) first[j] = poor_price(kind, p.n, own[j], j);
+        for (turn = 0; turn < times; turn++) {
+            int64_t total;
+            less(&cold, proved(&p, NULL));
+            total = p.total;
+            less(&warm, proved(&p, first));
+            if (total != p.total) exit(5);
+            less(&check, checked(&p));
+        }
+        tell(names[kind], warm, cold, check);
     }
 }
 
@@ -230,6 +268,8 @@ int main(int argc, char **argv) {
         tell("drawn", least, beside, check);
     } else if (strcmp(what, "starts") == 0 && argc > 2) {
         starts(atoi(argv[2]));
+    } else if (strcmp(what, "poor") == 0 && argc > 2) {
+        poor(atoi(argv[2]));
     } else if (strcmp(what, "wide") == 0) {
         wide();
     } else {

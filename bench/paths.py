@@ -3,7 +3,7 @@
 `auction_cli solve` in rounds and with one worker; starts from first prices; and calls from C.
 
 Run it at the top of the repository after c/build.sh and `rt run` in crates/auction_cli: bench/paths.py [PROGRAM
-[kinds | large | starts | calls | whole]]. It writes its inputs below bench/out and needs rustc and cc. Calls and plain Rust take turns in one
+[kinds | large | starts | poor | calls | whole]]. It writes its inputs below bench/out and needs rustc and cc. Calls and plain Rust take turns in one
 process (bench/door.c), and of each the least processor time counts. Of a call, where the solve alone is wanted, the time of a
 check is taken off, which builds the same problem. Of the program it is that of the whole run, on one processor, less that
 of reading the same text with a word too many behind it. A run of more than LIMIT seconds is cut off,
@@ -121,6 +121,15 @@ def starts():
         print(f"first prices {name} of three equal objects: {seconds:.6f} s", flush=True)
 
 
+def poor():
+    """First prices that tell nothing: a call from them beside a cold one."""
+    print("| kind | drawn | drawn up to 10^21 | one of 10^21 | turned round |")
+    for name in DENSE:
+        with open(text_of(name, 1000)) as file:
+            ratios = [f"{warm / cold:.2f}" for _, (warm, cold, _) in door("poor", TIMES, stdin=file)]
+        print(f"| {name} | {' | '.join(ratios)} |", flush=True)
+
+
 def calls():
     for n, count, times in ((8, 1000, TIMES), (2000, 1, TIMES), (8192, 1, 1)):
         [(_, (call, plain, check))] = door("drawn", n, count, times)
@@ -137,9 +146,9 @@ def whole():
 
 def main():
     build_door()
-    wanted = sys.argv[2:] or ["kinds", "large", "starts", "calls", "whole"]
-    for part in wanted:
-        {"kinds": kinds, "large": large, "starts": starts, "calls": calls, "whole": whole}[part]()
+    parts = {"kinds": kinds, "large": large, "starts": starts, "poor": poor, "calls": calls, "whole": whole}
+    for part in sys.argv[2:] or parts:
+        parts[part]()
 
 
 if __name__ == "__main__":

@@ -257,12 +257,27 @@ static int64_t least(size_t n, const int64_t *costs, const char *listed, size_t 
     return best;
 }
 
+/* Of all assignments that give persons from i on what isn't used, how many are judged wrongly under the prices that
+   were found: those of the best sum are to pass, whoever found them, and no others. */
+static int wrongly_judged(struct call *c, const int64_t *costs, const char *listed, int64_t left, size_t i, unsigned used) {
+    size_t j, n = c->n;
+    int wrong = 0;
+    if (i == n) return (check(c) == NUSHBARET_BEST) != (left == 0);
+    for (j = 0; j < n; j++)
+        if (!(used >> j & 1) && listed[i * n + j]) {
+            c->objects[i] = (uint16_t)(j + 1);
+            wrong += wrongly_judged(c, costs, listed, left - costs[i * n + j], i + 1, used | 1u << j);
+        }
+    return wrong;
+}
+
 static unsigned drawn(unsigned *seed) {
     *seed = *seed * 1664525u + 1013904223u;
     return *seed >> 16;
 }
 
-/* A problem of up to six persons, dense or sparse, under either sense; 1 where it is solved as the slow search says. */
+/* A problem of up to six persons, dense or sparse, under either sense; 1 where it is solved as the slow search says,
+   and the prices prove each best assignment. */
 static int is_right(unsigned *seed) {
     struct call c;
     int64_t costs[36], best, sign;
@@ -284,7 +299,8 @@ static int is_right(unsigned *seed) {
     best = least(n, costs, listed, 0, 0);
     code = solve(&c);
     if (best == INT64_MAX) return code == NUSHBARET_HALL && check_hall(&c) == NUSHBARET_HALL;
-    return code == NUSHBARET_BEST && c.told.total == sign * best && check(&c) == NUSHBARET_BEST;
+    return code == NUSHBARET_BEST && c.told.total == sign * best && check(&c) == NUSHBARET_BEST
+        && wrongly_judged(&c, costs, listed, best, 0, 0) == 0;
 }
 
 static void *many(void *seed) {
