@@ -21,10 +21,12 @@ fn objects_of(alloc: Global, market: &Market) -> Result<Vec<Object>, AllocError>
     Ok(objects)
 }
 
+// The prices, all as much higher as the least of them is below 0: the differences are what proves.
 fn prices_of(alloc: Global, market: &Market) -> Result<Vec<Price>, AllocError> {
+    let lift = Price::from(market.prices.iter().copied().min().unwrap_or(0)).min(0);
     let mut prices = Vec::with_capacity(alloc, market.prices.len())?;
     for price in &market.prices {
-        prices.push(Price::from(*price))?;
+        prices.push(Price::from(*price).wrapping_sub(lift))?;
     }
     Ok(prices)
 }

@@ -77,7 +77,7 @@ pub fn started_plan(scaled: &Scaled) -> Plan {
     let n = scaled.n() as usize;
     Plan {
         most_unserved: n / 32 + 1,
-        most_scans: n * 8,
+        most_scans: n * 6,
         ..plan_of(scaled)
     }
 }

@@ -7,7 +7,7 @@ use assign_core::{Benefit, Object, Price, Prices};
 use scaled_values::{Row, Scaled};
 use std::alloc::{AllocError, Global};
 
-// A first price is cut to less than this, so that a search has room for its sums.
+// A first price is cut to this at most, so that a search has room for its sums.
 const PRICE_CUT: i64 = 1 << 58;
 
 // The greater of each benefit and what stood before.

@@ -225,7 +225,7 @@ impl Search {
     }
 
     // The search from a person. Objects at one distance are passed in the order in which they were
-    // reached, which leads to a free one far sooner than the order of their numbers.
+    // reached, which leads to an unowned one far sooner than the order of their numbers.
     pub fn run(&mut self, scaled: &Scaled, market: &Market, first: usize) -> Result<End, AllocError>
         requires costs { length self.old.costs.items ≡ length scaled.now.problem }
         requires keys { length self.old.keys.items ≡ length scaled.now.problem }

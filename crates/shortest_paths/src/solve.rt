@@ -15,7 +15,7 @@ use super::search::{End, Search};
 use super::ties::match_ties;
 use assign_core::{Outcome, Prices};
 use rounds::solve_rounds_alone;
-use scaled_values::Scaled;
+use scaled_values::{EPS_DIVISOR, Scaled};
 use std::alloc::{AllocError, Global};
 use std::sync::Arc;
 
@@ -90,7 +90,7 @@ fn auction<O: Observer>(
     ensures { length market.new.prices.items ≡ length scaled.now.problem }
 {
     let step = i64::from(scaled.n()) + 1;
-    let mut eps = scaled.spread() / 5;
+    let mut eps = scaled.spread() / EPS_DIVISOR;
     for _phase in 0..PHASES {
         if eps >= step {
             market.release_all();
@@ -101,7 +101,7 @@ fn auction<O: Observer>(
                 plan.bids(plan.bids_a_phase),
                 telling,
             );
-            eps = eps / 5;
+            eps = eps / EPS_DIVISOR;
         }
     }
     market.release_all();
@@ -241,8 +241,8 @@ fn find_from<O: Observer>(
 }
 
 /// Looks for a proof by shortest augmenting paths: a best assignment with prices that prove it, or a
-/// Hall set. `None` where what was found is no proof, which is not known to happen but where sums
-/// leave 64 bits: with costs near `GREATEST_COST`.
+/// Hall set. `None` where what was found is no proof, which is not known to happen but where distances
+/// go beyond 2^60: with costs near `GREATEST_COST`.
 ///
 /// The prices of a best assignment are multiples of `n + 1` under which each person has slackness 0.
 /// The time is at most that of twice `n` searches over all listed pairs and of an auction's bids, and
@@ -258,8 +258,8 @@ pub fn try_paths(alloc: Global, scaled: &Scaled) -> Result<Option<Outcome>, Allo
 
 /// Looks for a proof as `try_paths` does, beginning at these prices, one for each object. Prices of
 /// a neighbour of the problem save most of the work. They may be any: their differences are cut to
-/// what fits and rounded to multiples of `n + 1`, and prices that tell nothing of the problem are left
-/// for the usual ones, before much is done.
+/// what fits and rounded to multiples of `n + 1`, and prices at which few persons can be matched, or
+/// the searches for the others turn out long, are left for the usual ones.
 ///
 /// # Errors
 /// Only where memory is refused.

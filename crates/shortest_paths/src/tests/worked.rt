@@ -116,7 +116,7 @@ fn public_calls(rt: HostRuntime) -> Result<(), Fail> {
     Ok(())
 }
 
-// Distances climb out of 64 bits: a search finds nothing, and rounds answer.
+// Distances climb beyond 2^60: a search finds nothing, and rounds answer.
 #[test]
 fn costs_too_great_for_a_search(rt: HostRuntime) -> Result<(), Fail> {
     let pairs = chain(rt.alloc(), 1500, GREATEST_COST, -GREATEST_COST)?;
@@ -128,13 +128,25 @@ fn costs_too_great_for_a_search(rt: HostRuntime) -> Result<(), Fail> {
     Ok(())
 }
 
-// Follows a search: how often it told a number, the last one, and whether it told one that can't be.
+// Follows a search: how often it told a number, the last one, whether it told that nobody has an
+// object, and whether it told a number that can't be.
 #[derive(Drop)]
 struct Follower {
     persons: u16,
     told: AtomicU64,
     last: AtomicU64,
+    nobody: AtomicBool,
     wrong: AtomicBool,
+}
+
+fn new_follower(persons: u16) -> Follower {
+    Follower {
+        persons,
+        told: AtomicU64::new(0),
+        last: AtomicU64::new(0),
+        nobody: AtomicBool::new(false),
+        wrong: AtomicBool::new(false),
+    }
 }
 
 impl Observer for Follower {
@@ -142,6 +154,9 @@ impl Observer for Follower {
         self.told.fetch_add(1, Ordering::SeqCst);
         let before = self.last.swap(u64::from(persons), Ordering::SeqCst);
         let fell = persons > 0 && before > u64::from(persons);
+        if persons == 0 {
+            self.nobody.store(true, Ordering::SeqCst);
+        }
         if fell || persons > self.persons {
             self.wrong.store(true, Ordering::SeqCst);
         }
@@ -190,12 +205,7 @@ fn products_followed(
     first: Option<&[Price]>,
 ) -> Result<(Option<Cost>, [u64; 2], bool), AllocError> {
     let pairs = products(alloc, 120)?;
-    let follower = Follower {
-        persons: 120,
-        told: AtomicU64::new(0),
-        last: AtomicU64::new(0),
-        wrong: AtomicBool::new(false),
-    };
+    let follower = new_follower(120);
     let seen = followed(alloc, pairs.as_slice(), first, &follower)?;
     let told = [&follower.told, &follower.last].map(|count| count.load(Ordering::SeqCst));
     Ok((seen, told, follower.wrong.load(Ordering::SeqCst)))
@@ -209,5 +219,28 @@ fn numbers_of_assigned_persons(rt: HostRuntime) -> Result<(), Fail> {
         assert_eq!(rt; cost, Some(295_240));
         assert!(rt; told > 2 && last > 0 && !wrong);
     }
+    Ok(())
+}
+
+// The cost of a problem of two persons from first prices, and whether all began without an object.
+fn cost_and_beginning(
+    alloc: Global,
+    pairs: &[Pair],
+    first: &[Price],
+) -> Result<(Option<Cost>, bool), AllocError> {
+    let follower = new_follower(2);
+    let seen = followed(alloc, pairs, Some(first), &follower)?;
+    Ok((seen, follower.nobody.load(Ordering::SeqCst)))
+}
+
+// Both persons like object 1 best, so that the price of the other one falls below 0. The start is
+// kept all the same: nothing begins anew.
+#[test]
+fn a_start_whose_prices_fall(rt: HostRuntime) -> Result<(), Fail> {
+    let pairs = [(1, 1, 1), (1, 2, 5), (2, 1, 3), (2, 2, 4)];
+    assert_eq!(rt;
+        cost_and_beginning(rt.alloc(), &pairs, &[5, 5])?,
+        (Some(5), false)
+    );
     Ok(())
 }
