@@ -23,7 +23,7 @@ walks_within P rows owners i (j ∷ js) x on p w = walks_within P rows owners w.
 pub reached_within : (P : ℕ → Type 0) (rows : List Listing) (owners : List (Option ℕ)) (i x : ℕ) → ((y j v : ℕ) → P y → IsListed rows y j → owner_of owners j ≡ Some v → P v) → P i → IsReached rows owners i x → P x
 reached_within P rows owners i x on p r = walks_within P rows owners i r.0 x on p r.1
 
--- a path ends in a free object, so its first person isn't blocked
+-- a path ends in an unowned object, so its first person isn't blocked
 open_walk : (rows : List Listing) (owners : List (Option ℕ)) (i x : ℕ) (js : List ℕ) → IsReached rows owners i x → Alternates rows owners x js → IsBlocked rows owners i → ⊥
 open_walk rows owners i x [] r a b = a
 open_walk rows owners i x (j ∷ []) r a b = none (owner_of owners j) a.1 (b x j r a.0) where

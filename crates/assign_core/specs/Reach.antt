@@ -27,7 +27,7 @@ Alternates rows owners i (j ∷ []) = IsListed rows i j × (owner_of owners j �
 Alternates rows owners i (j ∷ k ∷ js) =
     IsListed rows i j × (v : ℕ) × (owner_of owners j ≡ Some v) × Alternates rows owners v (k ∷ js)
 
--- an alternating path from person i to a free object, which meets no object twice
+-- an alternating path from person i to an unowned object, which meets no object twice
 pub record IsPath (rows : List Listing) (owners : List (Option ℕ)) (i : ℕ) (js : List ℕ) : Type 0 where
   pub alternates : Alternates rows owners i js
   pub apart : IsDistinct nat_eq js

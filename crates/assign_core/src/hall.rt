@@ -89,7 +89,7 @@ pub fn reach_is_least()
         → IsReached rows owners i x → IsTrue (members x) }
 {}
 
-/// Where there is an alternating path from a person, some reached person lists a free object.
+/// Where there is an alternating path from a person, some reached person lists an unowned object.
 pub fn paths_are_open()
     ensures { (rows : List Listing) (owners : List (Option ℕ)) (i : ℕ) (js : List ℕ)
         → IsPath rows owners i js → IsBlocked rows owners i → ⊥ }

@@ -16,6 +16,6 @@ pub enum Outcome {
 pub enum SolveFault {
     /// Memory was refused.
     Memory,
-    /// A person who is stuck, with an alternating path to a free object.
+    /// A person who is stuck, with an alternating path to an unowned object.
     Stuck(Person, Vec<Object>),
 }

@@ -97,7 +97,7 @@ blocked b q i free below under = λ x j reach l. elim (some_or_none (owner_of b.
       let z = rung_first (start_top b) (step_in b) in
       omega (arith, ints)
 
--- no path to a free object follows an offer below the floor
+-- no path to an unowned object follows an offer below the floor
 pub no_path : (b : BookData) (q : List ℤ) (i : ℕ) (js : List ℕ) → IsFree b → IsBelow q (prices_of b) → IsUnder (benefits_at b.base i) q b.floor → IsPath b.base.problem b.owners i js → ⊥
 no_path b q i js free below under path = path_open b.base.problem b.owners i js path (blocked b q i free below under)
 

@@ -32,21 +32,31 @@ use std::sync::Arc;
 /// `IsFree` names holds.
 #[derive(Drop)]
 pub struct Book {
+    // The problem with its benefits.
     scaled: Arc<Scaled>,
+    // The phase's number, its slackness, and the value below which nobody bids in it.
     phase: u16,
     eps: i64,
     floor: Price,
+    // The prices at the phase's start, and which version these were.
     start: Prices,
     start_version: u128,
+    // Who owns each object.
     owners: Vec<Option<Person>>,
+    // Who waits, the next one in front.
     queue: VecDeque<Person>,
+    // For each worker the person that it claimed, how many of its bids were accepted, and the
+    // version that it last took.
     claims: Vec<Option<Person>>,
     counts: Vec<u128>,
     taken: Vec<u128>,
+    // Today's prices, and how they rose.
     log: PriceLog,
+    // The Hall set that was recorded last.
     refuted: Option<HallSet>,
+    // Whether workers are to end.
     stopped: bool,
-    // How many objects are owned.
+    // How many objects are owned, and how many workers there are.
     owned: u16,
     workers: u16,
 }

@@ -81,7 +81,7 @@ pub fn fresh_bids_are_high()
 
 /// The floor is exact: where a person lists nothing, or all that it lists is worth less than the
 /// book's floor under a table below the book's, each object that its alternating walks reach is
-/// owned. So no path to a free object is ever found (Bertsekas, Network Optimization, 1998,
+/// owned. So no path to an unowned object is ever found (Bertsekas, Network Optimization, 1998,
 /// section 7.1.5).
 pub fn floor_is_exact()
     ensures blocked { (b : BookData) (q : List ℤ) (i : ℕ) → IsFree b → IsBelow q (prices_of b)

@@ -51,7 +51,7 @@ pub enum CliFault {
     Write,
     /// Memory was refused.
     Memory,
-    /// A person is stuck between a floor and a free object. Kept for callers; no run ends so.
+    /// A person is stuck between a floor and an unowned object. Kept for callers; no run ends so.
     Stuck(Person),
 }
 

@@ -24,7 +24,7 @@ use std::convert::AsStr;
 /// The most workers.
 pub const MOST_WORKERS: u64 = 64;
 
-/// The most turns behind which a worker takes today's prices.
+/// The most sessions after which a worker takes today's prices.
 pub const MOST_REFRESH: u64 = 1_000_000;
 
 // What help says behind the subcommands.

@@ -32,7 +32,8 @@ pub struct Bid {
     pub level: Price,
     /// The phase in which it was made.
     pub phase: u16,
-    /// The version of the table from which it was made.
+    /// The version that its maker handed in: that of the table from which it was made, and 0 in
+    /// rounds, which keep none.
     pub version: u128,
 }
 

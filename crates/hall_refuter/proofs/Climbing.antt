@@ -101,7 +101,7 @@ climbed rows owners found met t (j ∷ js) ks r lt c p =
     let on : IsPathOn rows owners found c.0.parent (j ∷ ks) = subst (λ i. IsPathOn rows owners found c.0.parent (i ∷ ks)) c.2 up in
     rw turned (climbed rows owners found met c.0.parent js (j ∷ ks) r (omega arith) c.3 on)
 
--- the objects up to a free one, from the first person on
+-- the objects up to an unowned one, from the first person on
 pub path_found : (rows : List Listing) (owners : List (Option ℕ)) (found : List Found) (met : List Bool) (last j : ℕ) (js path : List ℕ) → IsReach rows owners found met → last < length found →
     IsListed rows (person_at found last) j → owner_of owners j ≡ None → Climbs found last js → path ≡ reverse (j ∷ js) → IsPath rows owners (person_at found 0) path
 unfolding IsDistinct IsBeyond

@@ -78,7 +78,7 @@ hall_answer rows owners found met x h lists r m e number alone walked all are =
     } in
     subst (λ y. IsRefuted rows owners y lists) e (refuted rows owners found met lists over are)
 
--- a free object is met
+-- an unowned object is met
 pub path_answer : (rows : List Listing) (owners : List (Option ℕ)) (found later : List Found) (met marks : List Bool) (x h j : ℕ) (path : List ℕ) → IsReach rows owners later marks → Grows found met later marks → person_at found 0 ≡ x → h < length found →
     IsVisited rows owners marks (person_at found h) (Some j) → (js : List ℕ) × Climbs later h js × (path ≡ reverse (j ∷ js)) → IsPath rows owners x path
 path_answer rows owners found later met marks x h j path r g e lt v w =

@@ -12,7 +12,7 @@ pub record IsRefuted (rows : List Listing) (owners : List (Option ℕ)) (i : ℕ
   pub hall : IsHallSet rows lists.persons lists.objects
   pub blocked : IsBlocked rows owners i
 
--- a Hall set, or an alternating path to a free object
+-- a Hall set, or an alternating path to an unowned object
 abbrev pub IsFound : List Listing → List (Option ℕ) → ℕ → Search → Type 0
 IsFound rows owners i (Hall lists) = IsRefuted rows owners i lists
 IsFound rows owners i (Path path) = IsPath rows owners i path.items

@@ -1,4 +1,4 @@
-//! For a person who owns nothing: a Hall set, or an alternating path to a free object.
+//! For a person who owns nothing: a Hall set, or an alternating path to an unowned object.
 #![tactic(auto)]
 
 mod law;

@@ -91,7 +91,7 @@ fn meet(
     }
 }
 
-// Meets the objects that the person found at place `next` lists, up to the first free one.
+// Meets the objects that the person found at place `next` lists, up to the first unowned one.
 pub fn visit(
     reach: &mut Reach,
     problem: &Problem,

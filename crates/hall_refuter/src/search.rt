@@ -15,7 +15,7 @@ use scaled_values::Scaled;
 use std::alloc::{AllocError, Global};
 
 /// What a search finds: a Hall set of all that a person reaches, or an alternating path from the
-/// person to a free object.
+/// person to an unowned object.
 #[derive(Debug, Drop)]
 pub enum Search {
     Hall(HallSet),
@@ -67,8 +67,8 @@ fn search_from(
 
 /// For a person who owns nothing, under a matching along listed pairs: either the Hall set of all
 /// persons that alternating walks reach and of all objects that they list, or an alternating path
-/// to a free object. It is the Hall set exactly where each object that a reached person lists is
-/// owned, and then no assignment exists.
+/// to an unowned object. It is the Hall set exactly where each object that a reached person lists
+/// is owned, and then no assignment exists.
 ///
 /// Breadth-first search over what the persons list, in time linear in the pairs of the reached
 /// persons and in `n` (the search for an augmenting path; Burkard, Dell'Amico and Martello,

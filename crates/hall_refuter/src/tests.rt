@@ -42,7 +42,7 @@ fn a_path_of_one_object(rt: HostRuntime) -> Result<(), Fail> {
     Ok(())
 }
 
-// Person 1 lists an object whose owner lists a free one.
+// Person 1 lists an object whose owner lists an unowned one.
 fn two_objects(alloc: Global) -> Result<String, AllocError> {
     let first = vec![in alloc; (Object(1), 4)]?;
     let second = vec![in alloc; (Object(1), 6), (Object(2), 1)]?;

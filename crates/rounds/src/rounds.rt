@@ -150,8 +150,8 @@ fn finish(alloc: Global, book: &Book) -> Result<Outcome, AllocError>
     }
 }
 
-// What a person reaches that finds nothing worth the floor: never a free object, since the floor is
-// exact.
+// What a person reaches that finds nothing worth the floor: never an unowned object, since the floor
+// is exact.
 fn halt(alloc: Global, book: &Book, person: Person) -> Result<Outcome, AllocError>
     requires { IsBelowFloor book.now person }
     ensures outcome { IfOk result (IsOutcome book.now.base (Halted person (plain_of book.now))) }

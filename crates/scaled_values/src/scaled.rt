@@ -165,8 +165,8 @@ impl Scaled {
     /// of benefits: the least benefit less `p0`, and less `n - 1` times the spread with `eps`.
     ///
     /// It is meant for auctions that keep slackness `eps`: there it is so low that a person whose
-    /// best value is below it has no way to a free object (Bertsekas, Network Optimization, 1998,
-    /// section 7.1.5). This call says the number alone; what it means is for the auction to prove.
+    /// best value is below it has no way to an unowned object (Bertsekas, Network Optimization,
+    /// 1998, section 7.1.5). This call says the number alone; what it means is for the auction to prove.
     pub fn floor(&self, p0: Price, eps: i64) -> Price
         requires price { IsPrice p0 }
         requires eps { IsEps self.now eps }

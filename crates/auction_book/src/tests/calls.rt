@@ -77,7 +77,7 @@ pub(crate) enum Told {
     Memory,
     // A Hall set was recorded.
     Recorded,
-    // The search found a free object.
+    // The search found an unowned object.
     Path,
     // The call answers nothing.
     Nothing,

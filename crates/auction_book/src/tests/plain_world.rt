@@ -31,8 +31,8 @@ fn open_seats(alloc: Global, first: &[Price], workers: u16) -> Result<Vec<PlainS
     Ok(seats)
 }
 
-// The prepared offer is submitted. A person below the floor is searched, and where a free object is
-// found it waits again.
+// The prepared offer is submitted. A person below the floor is searched, and where an unowned object
+// is found it waits again.
 fn submit(
     alloc: Global,
     plain: &mut PlainBook,

@@ -423,7 +423,7 @@ fn as_many_persons_as_there_may_be(rt: HostRuntime) -> Result<(), Fail> {
     Ok(())
 }
 
-// Worker 1 finds a free object from person 3, and worker 2 none from person 2.
+// Worker 1 finds an unowned object from person 3, and worker 2 none from person 2.
 const TWO_SEARCHES: [(u16, Call); 10] = [
     (1, Call::Claim),
     (1, SUBMIT),

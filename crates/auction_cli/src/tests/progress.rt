@@ -102,7 +102,7 @@ impl Watch for Follower {
     }
 }
 
-// Two free objects are bid up to the third one's price, by 1 or 2 a bid.
+// Two unowned objects are bid up to the third one's price, by 1 or 2 a bid.
 const WAR: &[u8] = b"3 1 1 1 1 1 1 1 1 1";
 
 const FAR: &[u8] =

@@ -75,7 +75,7 @@ IsMet owners met j false = IsMarked met j
 abbrev pub IsWalked : List Listing → List Found → List Bool → ℕ → Type 0
 IsWalked rows found met h = (t j : ℕ) → t < h → IsListed rows (person_at found t) j → IsMarked met j
 
--- what became of a visit at person x: the person lists a free object, or each object that it lists is met
+-- what became of a visit at person x: the person lists an unowned object, or each object that it lists is met
 abbrev pub IsVisited : List Listing → List (Option ℕ) → List Bool → ℕ → Option ℕ → Type 0
 IsVisited rows owners met x (Some j) = IsListed rows x j × (owner_of owners j ≡ None)
 IsVisited rows owners met x None = (j : ℕ) → IsListed rows x j → IsMarked met j
