@@ -76,8 +76,8 @@ pub fn plan_of(scaled: &Scaled) -> Plan {
 pub fn started_plan(scaled: &Scaled) -> Plan {
     let n = scaled.n() as usize;
     Plan {
-        most_unserved: n / 32 + 1,
-        most_scans: n * 6,
+        most_unserved: n / 64 + 1,
+        most_scans: n * 8,
         ..plan_of(scaled)
     }
 }

@@ -49,9 +49,9 @@ fn cost(kind: u8, n: u16, i: u16, j: u16, drawn: Cost) -> Option<Cost> {
         // Few pairs: an assignment and drawn ones, or ten persons for nine objects.
         16 => (i == j || drawn % 16 == 0).then_some(drawn % 100),
         17 => (i < 10 && j < 9 || i >= 10 && i == j).then_some(drawn % 100),
-        // Persons and objects in a line, thirteen places apart: who is at its end moves all others on.
+        // Persons and objects in a line, ten places apart: who is at its end moves all others on.
         _ => {
-            let apart = row + 13 - column;
+            let apart = row + 10 - column;
             Some(apart.wrapping_mul(apart))
         }
     }
@@ -150,7 +150,7 @@ fn found_from_zeros(alloc: Global, kind: u8, n: u16) -> Result<Finding, AllocErr
 }
 
 // Starts that are left for the usual prices: of kind 7 few persons are matched with best objects, and
-// of the other one all but thirteen, each of whom takes a search through all others.
+// of the other one all but ten, each of whom takes a search through all others.
 #[test]
 fn starts_that_are_given_up(rt: HostRuntime) -> Result<(), Fail> {
     // The greatest row number with the least column number: i * (199 - i) in sum.
@@ -158,10 +158,10 @@ fn starts_that_are_given_up(rt: HostRuntime) -> Result<(), Fail> {
         found_from_zeros(rt.alloc(), 7, 200)?,
         Finding::Best(1_313_400)
     );
-    // All are thirteen places away.
+    // All are ten places away.
     assert_eq!(rt;
-        found_from_zeros(rt.alloc(), 18, 400)?,
-        Finding::Best(400 * 169)
+        found_from_zeros(rt.alloc(), 18, 640)?,
+        Finding::Best(640 * 100)
     );
     Ok(())
 }
