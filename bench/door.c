@@ -6,6 +6,8 @@
      door drawn N COUNT TIMES   so many dense problems of N persons, costs 1..1000: the same
      door starts TIMES          N = 2000, costs 1..1000: cold, then from the prices of the same problem, of one with one
                                 row drawn anew, and with more and more of them; seconds
+     door neighbours TIMES      N = 1000, six drawn problems each: cold, then from the prices before one row in 200, 50, 30
+                                and 20 was drawn anew; seconds
      door poor TIMES            a dense problem from standard input: cold, then from first prices that tell nothing of
                                 it: drawn, drawn up to 10^21, one of 10^21, and the prices of it turned round; seconds
      door wide                  three equal objects with first prices 0, 0 and 10^21, and prices 1, 5 and 7: seconds */
@@ -154,10 +156,10 @@ static struct problem read_text(int is_sparse) {
 
 static uint64_t state = 7;
 
-static void draw(int64_t *costs, size_t count) {
+static void draw(int64_t *costs, size_t count, int64_t most) {
     while (count-- > 0) {
         state = state * UINT64_C(6364136223846793005) + UINT64_C(1442695040888963407);
-        *costs++ = 1 + (int64_t)((state >> 33) % 1000);
+        *costs++ = 1 + (int64_t)(state >> 33) % most;
     }
 }
 
@@ -165,36 +167,70 @@ static void tell(const char *what, double seconds, double beside, double check) 
     printf("%s %.6f %.6f %.6f\n", what, seconds, beside, check);
 }
 
+/* Cold, from first prices, and a check, in turns: the least of each. */
+static void tell_start(const char *name, struct problem *p, const struct nushbaret_price *first, int times) {
+    double cold = 1e9, warm = 1e9, check = 1e9;
+    int turn;
+    for (turn = 0; turn < times; turn++) {
+        int64_t total;
+        less(&cold, proved(p, NULL));
+        total = p->total;
+        less(&warm, proved(p, first));
+        if (total != p->total) exit(5);
+        less(&check, checked(p));
+    }
+    tell(name, warm, cold, check);
+}
+
+/* A problem whose costs are drawn up to so much, its best prices, and then one row in so many drawn anew. */
+static void draw_rows(struct problem *p, int64_t most, size_t every) {
+    size_t i;
+    for (i = 0; every > 0 && i < p->n; i += every) draw(p->costs + i * p->n, p->n, most);
+}
+
+static struct nushbaret_price *drawn_prices(struct problem *p, int64_t most) {
+    struct nushbaret_price *first = (struct nushbaret_price *)room(p->n * sizeof *first);
+    draw(p->costs, p->pairs, most);
+    proved(p, NULL);
+    memcpy(first, p->prices, p->n * sizeof *first);
+    return first;
+}
+
 static void starts(int times) {
     static const size_t every[] = {0, 2000, 100, 50, 20, 10};
     static const char *names[] = {"same", "one row", "1 %", "2 %", "5 %", "10 %"};
-    size_t n = 2000, k, i;
-    struct problem p = problem(n, n * n, 0);
-    struct nushbaret_price *first = (struct nushbaret_price *)room(n * sizeof *first);
-    draw(p.costs, p.pairs);
-    proved(&p, NULL);
-    memcpy(first, p.prices, n * sizeof *first);
+    size_t k;
+    struct problem p = problem(2000, 2000 * 2000, 0);
+    struct nushbaret_price *first = drawn_prices(&p, 1000);
     for (k = 0; k < sizeof every / sizeof *every; k++) {
-        double cold = 1e9, warm = 1e9, check = 1e9;
-        int turn;
-        for (i = 0; every[k] > 0 && i < n; i += every[k]) draw(p.costs + i * n, n);
-        for (turn = 0; turn < times; turn++) {
-            int64_t total;
-            less(&cold, proved(&p, NULL));
-            total = p.total;
-            less(&warm, proved(&p, first));
-            if (total != p.total) exit(5);
-            less(&check, checked(&p));
-        }
-        tell(names[k], warm, cold, check);
+        draw_rows(&p, 1000, every[k]);
+        tell_start(names[k], &p, first, times);
     }
+}
+
+static void neighbours(int times) {
+    static const int64_t most[] = {10, 1000, 1000000};
+    static const size_t every[] = {200, 50, 30, 20};
+    size_t i, k;
+    int drawn;
+    struct problem p = problem(1000, 1000 * 1000, 0);
+    for (i = 0; i < sizeof most / sizeof *most; i++)
+        for (k = 0; k < sizeof every / sizeof *every; k++)
+            for (drawn = 0; drawn < 6; drawn++) {
+                char name[64];
+                struct nushbaret_price *first = drawn_prices(&p, most[i]);
+                draw_rows(&p, most[i], every[k]);
+                sprintf(name, "1..%ld every %zu", (long)most[i], every[k]);
+                tell_start(name, &p, first, times);
+                free(first);
+            }
 }
 
 /* First prices that tell nothing of a problem. `own` are the prices that a cold call found. */
 static struct nushbaret_price poor_price(int kind, size_t n, struct nushbaret_price own, size_t place) {
     struct nushbaret_price price = {0, 0};
     int64_t drawn[2];
-    draw(drawn, 2);
+    draw(drawn, 2, 1000);
     if (kind == 0) price.low = (uint64_t)(drawn[0] * 1000 + drawn[1]) * (n + 1);
     if (kind == 1) price.high = drawn[0] % 54, price.low = (uint64_t)drawn[1] << 54;
     if (kind == 2 && place == 0) price.high = 54;
@@ -208,21 +244,12 @@ static void poor(int times) {
     struct nushbaret_price *own = (struct nushbaret_price *)room(p.n * sizeof *own);
     struct nushbaret_price *first = (struct nushbaret_price *)room(p.n * sizeof *first);
     size_t j;
-    int kind, turn;
+    int kind;
     proved(&p, NULL);
     memcpy(own, p.prices, p.n * sizeof *own);
     for (kind = 0; kind < 4; kind++) {
-        double cold = 1e9, warm = 1e9, check = 1e9;
         for (j = 0; j < p.n; j++) first[j] = poor_price(kind, p.n, own[j], j);
-        for (turn = 0; turn < times; turn++) {
-            int64_t total;
-            less(&cold, proved(&p, NULL));
-            total = p.total;
-            less(&warm, proved(&p, first));
-            if (total != p.total) exit(5);
-            less(&check, checked(&p));
-        }
-        tell(names[kind], warm, cold, check);
+        tell_start(names[kind], &p, first, times);
     }
 }
 
@@ -258,7 +285,7 @@ int main(int argc, char **argv) {
             double seconds = 0, others = 0, checks = 0;
             state = 7;
             for (k = 0; k < count; k++) {
-                draw(p.costs, p.pairs);
+                draw(p.costs, p.pairs, 1000);
                 seconds += proved(&p, NULL);
                 checks += checked(&p);
                 others += plain(&p);
@@ -268,6 +295,8 @@ int main(int argc, char **argv) {
         tell("drawn", least, beside, check);
     } else if (strcmp(what, "starts") == 0 && argc > 2) {
         starts(atoi(argv[2]));
+    } else if (strcmp(what, "neighbours") == 0 && argc > 2) {
+        neighbours(atoi(argv[2]));
     } else if (strcmp(what, "poor") == 0 && argc > 2) {
         poor(atoi(argv[2]));
     } else if (strcmp(what, "wide") == 0) {

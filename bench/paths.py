@@ -3,12 +3,13 @@
 `auction_cli solve` in rounds and with one worker; starts from first prices; and calls from C.
 
 Run it at the top of the repository after c/build.sh and `rt run` in crates/auction_cli: bench/paths.py [PROGRAM
-[kinds | large | starts | poor | calls | whole]]. It writes its inputs below bench/out and needs rustc and cc. Calls and plain Rust take turns in one
+[kinds | large | starts | neighbours | poor | calls | whole]]. It writes its inputs below bench/out and needs rustc and cc. Calls and plain Rust take turns in one
 process (bench/door.c), and of each the least processor time counts. Of a call, where the solve alone is wanted, the time of a
 check is taken off, which builds the same problem. Of the program it is that of the whole run, on one processor, less that
 of reading the same text with a word too many behind it. A run of more than LIMIT seconds is cut off,
 one of more than a second isn't repeated. Whole runs by shortest paths are told last.
 """
+import collections
 import os
 import subprocess
 import sys
@@ -121,6 +122,15 @@ def starts():
         print(f"first prices {name} of three equal objects: {seconds:.6f} s", flush=True)
 
 
+def neighbours():
+    """Calls from the prices of a neighbour beside cold ones, six drawn problems each."""
+    ratios = collections.defaultdict(list)
+    for name, (warm, cold, check) in door("neighbours", TIMES):
+        ratios[name].append((warm - check) / (cold - check))
+    for name, those in ratios.items():
+        print(f"from a neighbour's prices, {name}: {' '.join(f'{ratio:.2f}' for ratio in those)}", flush=True)
+
+
 def poor():
     """First prices that tell nothing: a call from them beside a cold one."""
     print("| kind | drawn | drawn up to 10^21 | one of 10^21 | turned round |")
@@ -146,7 +156,7 @@ def whole():
 
 def main():
     build_door()
-    parts = {"kinds": kinds, "large": large, "starts": starts, "poor": poor, "calls": calls, "whole": whole}
+    parts = {"kinds": kinds, "large": large, "starts": starts, "neighbours": neighbours, "poor": poor, "calls": calls, "whole": whole}
     for part in sys.argv[2:] or parts:
         parts[part]()
 
