@@ -105,13 +105,13 @@ def kinds():
     for name in DENSE:
         kind(name, 1000)
     for name, n in SPARSE:
-        kind(name, n, 3, 3)
+        kind(name, n)
 
 
 def large():
     # Plain Rust takes minutes for the products.
     for name in DENSE:
-        kind(name, 4000, 3, 1, ["alone"] if name == "products" else ())
+        kind(name, 4000, TIMES, 1, ["alone"] if name == "products" else ())
 
 
 def starts():
@@ -149,9 +149,10 @@ def calls():
 
 
 def whole():
-    for name in DENSE:
-        least = min(spent(PATHS, text_of(name, 1000), (0, 1)) for _ in range(TIMES))
-        print(f"whole run by shortest paths, {name}, n = 1000: {least:.3f} s", flush=True)
+    for name, n in (*((name, 1000) for name in DENSE), *SPARSE, *((name, 4000) for name in DENSE)):
+        words = [*PATHS, "--sparse"] if "=" in name else PATHS
+        least = min(spent(words, text_of(name, n), (0, 1)) for _ in range(TIMES))
+        print(f"whole run by shortest paths, {name}, n = {n}: {least:.3f} s", flush=True)
 
 
 def main():
