@@ -1,5 +1,5 @@
 -- The desks that a place is opened with.
-use Rattle.std.proofs.Common.{◌≡◌, ℕ, ℤ, zero, suc, ◌+◌, arith, refl, subst, List, [], ◌∷◌, ◌++◌, sym, ap, ◌∙◌, add-one, Result, Ok, Err, IfOk}
+use Rattle.std.proofs.Common.{◌≡◌, ℕ, ℤ, zero, suc, ◌+◌, arith, refl, subst, List, [], ◌∷◌, ◌++◌, sym, ap, ◌∙◌, add-one}
 use Rattle.std.specs.List.{All}
 use Rattle.std.proofs.lemmas.List.Elements.{All-push}
 use Rattle.atomic_table.specs.Seated.{TableId}
@@ -33,8 +33,3 @@ new_desks_can place b n desks is = subst (All (CanTurn place)) (sym is) (each n)
   each : (n : ℕ) → All (CanTurn place) (new_desks place b n)
   each zero = λ k d lt. absurd (omega arith)
   each (suc n) = All-push (CanTurn place) (new_desks place b n) (new_desk place b (n + 1)) (each n) (record { ready = (refl, (b, b, refl)); offer = refl })
-
--- a fact of a success gives another
-pub if_ok : {A E : Type 0} (P Q : A → Type 0) (r : Result A E) → IfOk r P → ((x : A) → P x → Q x) → IfOk r Q
-if_ok P Q (Ok x) h f = f x h
-if_ok P Q (Err e) h f = h

@@ -19,15 +19,16 @@ use Rattle.auction_book.specs.Phases.{is_over}
 use Rattle.auction_book.specs.Session.{EndsClaim, IsHandedIn, IsNoted, IsPrepared, IsUndone, book_next, book_taken, next_if_over, note_of}
 use Rattle.auction_book.specs.Submissions.{IsSubmitted}
 use Rattle.auction_book.proofs.Claiming.{cond_by}
-use Rattle.auction_book.proofs.Following.{claimed_follows, follows_itself, follows_through, over_is}
+use Rattle.auction_book.proofs.Answering.{over_is}
+use Rattle.auction_book.proofs.Following.{claimed_follows, follows_itself, follows_through}
 use Rattle.auction_book.proofs.Places.{everyone}
 use Rattle.auction_book.proofs.Runs.{ready}
 use Rattle.scaled_values.specs.Scaled.{ScaledProblem}
 use Rattle.auction_book.specs.declared.answers.Note.{Note}
 use Rattle.async_workers.specs.declared.rule.Known.{Known}
 use Rattle.async_workers.specs.Desk.{DeskData}
-use Rattle.async_workers.specs.inside.Hand.{IsInHand}
-use Rattle.async_workers.specs.Session.{Ends, EndsUndone, Leaves, caught_in, with_table}
+use Rattle.async_workers.specs.inside.Hand.{Ends, IsInHand}
+use Rattle.async_workers.specs.Session.{EndsUndone, Leaves, caught_in, with_table}
 use Rattle.async_workers.proofs.Hands.{hand_follows, hand_own}
 
 -- an offer prepared from the desk's table may go in

@@ -1,14 +1,15 @@
 -- One thread goes on with a book as worker 1.
-use Rattle.std.proofs.Common.{◌≡◌, ℕ, ℤ, zero, suc, ◌+◌, ◌<◌, List, ◌∷◌, Option, None, Some, length, get_or, refl, sym, ap, ◌∙◌, subst, arith, Result, Ok, Err, OnOk, false}
+use Rattle.std.proofs.Common.{◌≡◌, ℕ, ℤ, zero, suc, ◌+◌, ◌<◌, ◌≤◌, ◌⊎◌, inl, inr, ⊎_elim, List, ◌∷◌, Option, None, Some, length, get_or, refl, sym, ap, ◌∙◌, subst, arith, false}
+use Rattle.std.proofs.lemmas.Bool.Decides.{eqb_tells}
 use Rattle.assign_core.specs.Numbered.{IsNumber, numbered}
-use Rattle.assign_core.proofs.NumberedLemmas.{numbered-same}
+use Rattle.assign_core.proofs.NumberedLemmas.{numbered-past, numbered-same}
 use Rattle.scaled_values.specs.Scaled.{ScaledProblem}
 use Rattle.scaled_values.proofs.RowFacts.{benefit_row_is}
 use Rattle.bidder.specs.declared.offers.Offer.{Offer}
 use Rattle.bidder.proofs.Sound.{offer_is}
 use Rattle.auction_book.specs.declared.answers.Claim.{Claim}
 use Rattle.auction_book.specs.declared.answers.Claim.TheVariants as claim
-use Rattle.auction_book.specs.Book.{BookData, ask_of, persons_of, prices_of}
+use Rattle.auction_book.specs.Book.{BookData, persons_of, prices_of}
 use Rattle.auction_book.specs.Changes.{given_up, phased}
 use Rattle.auction_book.specs.Claims.{after_claim, claim_of}
 use Rattle.auction_book.specs.Follows.{Follows, GoesOn}
@@ -16,14 +17,32 @@ use Rattle.auction_book.specs.Free.{IsFree}
 use Rattle.auction_book.specs.Phases.{is_over}
 use Rattle.auction_book.specs.Session.{IsPrepared, next_if_over, prepared}
 use Rattle.auction_book.proofs.Claiming.{claim_by, cond_by}
-use Rattle.auction_book.proofs.Following.{claimed_follows, follows_itself, given_up_follows, goes_on_through, over_is, phased_follows, stop_follows}
+use Rattle.auction_book.proofs.Following.{claimed_follows, follows_itself, given_up_follows, goes_on_through, phased_follows, stop_follows}
 use Rattle.auction_book.proofs.Places.{claimed_person}
 use Rattle.async_workers.proofs.Turning.{given_up_none}
 
--- once worker 1 has given up its claim it has none, whoever gives up next
-pub one_given_up : (b : BookData) (before : ℕ) → (0 < before → numbered b.claims 1 None ≡ None) → numbered (given_up b (before + 1) (numbered b.claims (before + 1) None)).claims 1 None ≡ None
-one_given_up b zero h = given_up_none b 1 (numbered b.claims 1 None) refl
-one_given_up b (suc k) h = (given_up_follows b (suc k + 1)).claims 1 (λ e. omega (arith, e)) ∙ h (omega arith)
+-- the first so many workers have no claim
+abbrev pub HaveNone : List (Option ℕ) → ℕ → Type 0
+HaveNone claims before = (worker : ℕ) → worker ≤ before → numbered claims worker None ≡ None
+
+pub none_first : (claims : List (Option ℕ)) → HaveNone claims 0
+none_first claims zero le = refl
+none_first claims (suc worker) le = absurd (omega arith)
+
+-- one more gives its claim up
+pub one_given_up : (b : BookData) (before : ℕ) → HaveNone b.claims before → HaveNone (given_up b (before + 1) (numbered b.claims (before + 1) None)).claims (before + 1)
+one_given_up b before h worker le = elim (eqb_tells worker (before + 1)) [
+  | inl t ↦
+      let claims = (given_up b (before + 1) (numbered b.claims (before + 1) None)).claims in
+      ap (λ w. numbered claims w None) t.1 ∙ given_up_none b (before + 1) (numbered b.claims (before + 1) None) refl
+  | inr t ↦ let other = t.1 in (given_up_follows b (before + 1)).claims worker other ∙ h worker (omega arith)
+]
+
+-- so nobody has one, when all have given theirs up
+pub all_none : (claims : List (Option ℕ)) (before : ℕ) → length claims ≤ before → HaveNone claims before → (worker : ℕ) → numbered claims worker None ≡ None
+all_none claims before long h worker = ⊎_elim (h worker) (λ past. numbered-past claims worker None (omega arith)) (within worker before) where
+  within : (a b : ℕ) → (a ≤ b) ⊎ (b < a)
+  within a b = grind arith
 
 -- what worker 1 has after a claim: an offer from today's prices, where it has a person
 record IsClaimed (b : BookData) (version : ℕ) (answer : Claim) : Type 0 where
@@ -32,7 +51,7 @@ record IsClaimed (b : BookData) (version : ℕ) (answer : Claim) : Type 0 where
   pub base : (after_claim b 1 answer).base ≡ b.base
   pub prepared : IsPrepared (after_claim b 1 answer) 1 (prices_of b) version (prepared b.base (prices_of b) version answer)
 
-claimed_front : (b : BookData) (version person : ℕ) (rest : List ℕ) → IsFree b → IsNumber (length b.claims) 1 → b.queue ≡ person ∷ rest → IsClaimed b version (claim.Person person (ask_of b))
+claimed_front : (b : BookData) (version person : ℕ) (rest : List ℕ) → IsFree b → IsNumber (length b.claims) 1 → b.queue ≡ person ∷ rest → IsClaimed b version (claim.Person person b.ask)
 claimed_front b version person rest free number e =
     let p = claimed_person (persons_of b) b.owners b.queue b.claims person rest free.placed_once e in
     let row = benefit_row_is b.base person free.problem p in
@@ -40,7 +59,7 @@ claimed_front b version person rest free number e =
       follows = claimed_follows b 1;
       prices = refl;
       base = refl;
-      prepared = (person, numbered-same b.claims 1 (Some (get_or b.queue 0 0)) None number.first number.last ∙ ap (λ q. Some (get_or q 0 0)) e, offer_is b.base (prices_of b) version (ask_of b) person row.rising);
+      prepared = (person, numbered-same b.claims 1 (Some (get_or b.queue 0 0)) None number.first number.last ∙ ap (λ q. Some (get_or q 0 0)) e, offer_is b.base (prices_of b) version b.ask person row.rising);
     }
 
 claimed_is : (b : BookData) (version : ℕ) → IsFree b → IsNumber (length b.claims) 1 → numbered b.claims 1 None ≡ None → IsClaimed b version (claim_of b)
@@ -70,11 +89,7 @@ alone_claimed b new answer free number none is_answer is_new =
 pub alone_next : (b mid new : BookData) → GoesOn b mid → IsFree mid → numbered mid.claims 1 None ≡ None → new ≡ next_if_over mid → GoesOn b new × (numbered new.claims 1 None ≡ None)
 alone_next b mid new on free none is = subst (λ (n : BookData). GoesOn b n × (numbered n.claims 1 None ≡ None)) (sym is)
     (cond_by (λ (n : BookData). GoesOn b n × (numbered n.claims 1 None ≡ None)) (is_over mid) (phased mid) mid
-    (λ h. (goes_on_through b mid (phased mid) on (phased_follows mid 1 free (over_is mid h)).goes_on, none)) (λ h. (on, none)))
-
-pub on_ok : {T E : Type 0} (r : Result T E) (P Q : Type 0) → OnOk r P → (P → Q) → OnOk r Q
-on_ok (Ok v) P Q h f = f h
-on_ok (Err e) P Q h f = tt
+    (λ h. (goes_on_through b mid (phased mid) on (phased_follows mid 1 free h).goes_on, none)) (λ h. (on, none)))
 
 -- who resumes a book alone
 pub alone_resumed : (b mid new : BookData) → GoesOn b mid → new ≡ record mid { stopped = false } → GoesOn b new

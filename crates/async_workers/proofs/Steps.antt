@@ -6,7 +6,7 @@ use lib.ListN.{get_elem?}
 use Rattle.crossbeam_queue.specs.Fifo.{Pushes, Pops, Forks, Merges, Learns}
 use Rattle.crossbeam_queue.proofs.Lists.{at_set, set_here, set_else, at_longer}
 use Rattle.assign_core.specs.Numbered.{IsNumber, numbered}
-use Rattle.auction_book.specs.Book.{BookData, ask_of}
+use Rattle.auction_book.specs.Book.{BookData}
 use Rattle.auction_book.specs.Free.{IsFree}
 use Rattle.async_workers.specs.declared.rule.Known.{Known}
 use Rattle.async_workers.specs.declared.rule.Told.{Told}
@@ -63,10 +63,10 @@ fresh_opening b n e = cc
 -- another worker's claim, and what is asked of it, stay
 claim_kept : (b c : BookData) (number k : ℕ) (o : Option ℕ) → ExtendsBy number b c → k ≢ number → numbered b.claims k None ≡ o → claim_in b k ≡ claim_in c k
 claim_kept b c number k None follows other is =
-    ap (λ x. claim_with x (ask_of b)) is ∙ sym (ap (λ x. claim_with x (ask_of c)) (follows.claims k other ∙ is))
+    ap (λ x. claim_with x b.ask) is ∙ sym (ap (λ x. claim_with x c.ask) (follows.claims k other ∙ is))
 claim_kept b c number k (Some person) follows other is =
-    let asked : ask_of b ≡ ask_of c = sym (follows.asked k person other is) in
-    ap (λ x. claim_with x (ask_of b)) is ∙ ap (λ a. claim_with (Some person) a) asked ∙ sym (ap (λ x. claim_with x (ask_of c)) (follows.claims k other ∙ is))
+    let asked : b.ask ≡ c.ask = sym (follows.asked k person other is) in
+    ap (λ x. claim_with x b.ask) is ∙ ap (λ a. claim_with (Some person) a) asked ∙ sym (ap (λ x. claim_with x c.ask) (follows.claims k other ∙ is))
 
 -- what a desk was told stays true through a change by another worker
 told_kept : (b c : BookData) (number : ℕ) (t : Told) → IsFree b → IsTold b t → ExtendsBy number b c → (b.stopped ≡ true → c.stopped ≡ true) → t.known.number ≢ number → IsTold c t

@@ -1,5 +1,6 @@
 -- From a session with the book in hand to a turn.
 use Rattle.std.proofs.Common.{◌≡◌, ℕ, ℤ, List, Bool, true, false, true≢false, ◌||◌, length, get_or, Option, None, Some, MatchOption, refl, sym, ap, ◌∙◌, subst}
+use Rattle.std.proofs.lemmas.Option.{same_Some}
 use Rattle.atomic_table.specs.Seated.{TableId}
 use Rattle.assign_core.specs.Numbered.{IsNumber, numbered}
 use Rattle.assign_core.proofs.NumberedLemmas.{numbered-same, numbered_in}
@@ -11,7 +12,7 @@ use Rattle.bidder.specs.Offers.{IsOffer}
 use Rattle.bidder.proofs.Sound.{offer_is}
 use Rattle.auction_book.specs.declared.answers.Claim.{Claim}
 use Rattle.auction_book.specs.declared.answers.Claim.TheVariants as claim
-use Rattle.auction_book.specs.Book.{BookData, ask_of, persons_of}
+use Rattle.auction_book.specs.Book.{BookData, persons_of}
 use Rattle.auction_book.specs.Changes.{given_up}
 use Rattle.auction_book.specs.Claims.{after_claim, claim_of}
 use Rattle.auction_book.specs.Follows.{Follows}
@@ -40,22 +41,19 @@ told_none : (o : Option ℕ) (ask : Ask) → None ≡ claim_with o ask → o ≡
 told_none None ask e = refl
 told_none (Some person) ask e = absurd cc
 
-same_claimed : (x c : Claimed) → Some x ≡ Some c → x ≡ c
-same_claimed x c e = cc
-
 told_some : (o : Option ℕ) (ask : Ask) (c : Claimed) → claim_with o ask ≡ Some c → (o ≡ Some c.person) × (c.ask ≡ ask)
 told_some None ask c e = absurd cc
 told_some (Some person) ask c e =
     let x : Claimed = record { person = person; ask = ask } in
-    let same = same_claimed x c e in
+    let same = same_Some x c e in
     (ap (λ (x : Claimed). Some x.person) same, sym (ap (λ (x : Claimed). x.ask) same))
 
 -- the desk's offer is the worker's in the words of the core
 prepared_from : (offer : Option Offer) (told : Option Claimed) (base : ScaledProblem) (table : List ℤ) (version : ℕ) (b : BookData) (worker : ℕ) →
     MatchOption offer (told ≡ None) (λ offer. (c : Claimed) × (told ≡ Some c) × IsOffer base table version c.ask c.person offer) → told ≡ claim_in b worker → base ≡ b.base → IsPrepared b worker table version offer
-prepared_from None told base table version b worker has is same = told_none (numbered b.claims worker None) (ask_of b) (sym has ∙ is)
+prepared_from None told base table version b worker has is same = told_none (numbered b.claims worker None) b.ask (sym has ∙ is)
 prepared_from (Some offer) told base table version b worker has is same =
-    let s = told_some (numbered b.claims worker None) (ask_of b) has.0 (sym is ∙ has.1) in
+    let s = told_some (numbered b.claims worker None) b.ask has.0 (sym is ∙ has.1) in
     (has.0.person, s.0, subst (λ (y : ScaledProblem × Ask). IsOffer y.0 table version y.1 has.0.person offer) (λ i. (same i, s.1 i)) has.2)
 
 pub prepared_taken : (d e : DeskData) (b taken put : BookData) (offer : Option Offer) → IsAway d taken put → HasOffer d → Took d.view b e.view → e ≡ record d { view = e.view; offer = None } → offer ≡ d.offer → IsPrepared b e.known.number e.known.table e.known.version offer
@@ -81,12 +79,12 @@ IsOffered b worker table version answer = MatchOption (prepared b.base table ver
 
 offered : (b : BookData) (worker : ℕ) (table : List ℤ) (version : ℕ) → IsFree b → numbered b.claims worker None ≡ None → IsNumber (length b.claims) worker → IsOffered b worker table version (claim_of b)
 offered b worker table version free none number =
-    let nobody : claim_in b worker ≡ None = ap (λ c. claim_with c (ask_of b)) none in
+    let nobody : claim_in b worker ≡ None = ap (λ c. claim_with c b.ask) none in
     claim_by (IsOffered b worker table version) b (λ h. nobody) (λ h. nobody) (λ h. nobody) (λ going e. nobody) (λ person rest going e.
     let p = claimed_person (persons_of b) b.owners b.queue b.claims person rest free.placed_once e in
     let row = benefit_row_is b.base person free.problem p in
-    let c : Claimed = record { person = person; ask = ask_of b } in
-    (c, ap (λ o. claim_with o (ask_of b)) (numbered-same b.claims worker (Some (get_or b.queue 0 0)) None number.first number.last ∙ ap (λ q. Some (get_or q 0 0)) e), offer_is b.base table version (ask_of b) person row.rising))
+    let c : Claimed = record { person = person; ask = b.ask } in
+    (c, ap (λ o. claim_with o b.ask) (numbered-same b.claims worker (Some (get_or b.queue 0 0)) None number.first number.last ∙ ap (λ q. Some (get_or q 0 0)) e), offer_is b.base table version b.ask person row.rising))
 
 claim_counts : (b : BookData) (worker : ℕ) (answer : Claim) → (after_claim b worker answer).counts ≡ b.counts
 claim_counts b worker (claim.Person person ask) = refl
@@ -180,7 +178,7 @@ works_with_offer d k e offer works is = subst (WorksOn d) (sym is) record { plac
 pub faulted : (refresh : ℕ) (d k : DeskData) → Serves d k (EndsUndone refresh d.since d.known d.offer) → Faulted refresh d k
 faulted refresh d k s = record {
   serves = s;
-  no_claim = ap (λ (d : DeskData). d.known.claim) s.desk ∙ ap (claim_in s.put) s.number ∙ ap (λ c. claim_with c (ask_of s.put)) s.ends.none;
+  no_claim = ap (λ (d : DeskData). d.known.claim) s.desk ∙ ap (claim_in s.put) s.number ∙ ap (λ c. claim_with c s.put.ask) s.ends.none;
 }
 
 -- a session that steps out
@@ -218,7 +216,7 @@ steps_out stopping d k s =
     ap (λ (b : BookData). numbered b.claims w None) s.ends.book ∙ ap (λ c. numbered c w None) (stopped_claims stopping up) ∙ given_up_none s.taken w (numbered s.taken.claims w None) refl in
     record {
       serves = s;
-      no_claim = ap (λ (d : DeskData). d.known.claim) s.desk ∙ ap (claim_in s.put) s.number ∙ ap (λ c. claim_with c (ask_of s.put)) none;
+      no_claim = ap (λ (d : DeskData). d.known.claim) s.desk ∙ ap (claim_in s.put) s.number ∙ ap (λ c. claim_with c s.put.ask) none;
     }
 
 -- a desk that a session left with neither claim nor offer may take a turn

@@ -5,7 +5,7 @@ use Rattle.assign_core.specs.Numbered.{IsNumber, numbered}
 use Rattle.assign_core.proofs.Matchings.{below_itself}
 use Rattle.price_log.specs.History.{History, IsEarlier, last_version, table_at, today}
 use Rattle.price_log.proofs.Histories.{today-at}
-use Rattle.auction_book.specs.Book.{BookData, ask_of, prices_of}
+use Rattle.auction_book.specs.Book.{BookData, prices_of}
 use Rattle.auction_book.specs.Free.{IsFree}
 use Rattle.auction_book.specs.Phases.{opened}
 use Rattle.scaled_values.specs.Scaled.{ScaledProblem}
@@ -43,7 +43,7 @@ first_told b number free untouched in_range = record {
   below = below_itself (prices_of b);
   earlier = first_earlier b.log untouched.no_acceptances;
   accepted = sym (zero_numbered b.counts number (free.counts_total ∙ untouched.no_acceptances));
-  claim = sym (ap (λ c. claim_with c (ask_of b)) (untouched.no_claims number));
+  claim = sym (ap (λ c. claim_with c b.ask) (untouched.no_claims number));
   stopped = λ asked. absurd (true≢false (sym asked));
 }
 

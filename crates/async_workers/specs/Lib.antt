@@ -5,5 +5,4 @@ pub mod Lending
 pub mod Session
 pub mod Turns
 pub mod Solving
-pub mod Pauses
 pub mod inside

@@ -1,5 +1,5 @@
 -- What a worker's session makes of the book and of its desk, in the words of the core.
-use Rattle.std.specs.Prelude.{◌≡◌, ◌⊎◌, ◌+◌, ◌-◌, ◌^◌, ℕ, Option, None, Some, Bool, true, false, cond, Result, Ok, Err, MatchResult, ◌||◌, ◌&&◌, nat_lt, nat_le, min}
+use Rattle.std.specs.Prelude.{◌≡◌, ◌⊎◌, ◌+◌, ◌-◌, ◌^◌, ℕ, Option, None, Some, Bool, true, false, cond, Ok, Err, ◌||◌, ◌&&◌, nat_lt, nat_le, min}
 use Rattle.assign_core.specs.Numbered.{numbered}
 use Rattle.bidder.specs.declared.offers.Offer.{Offer}
 use Rattle.bidder.specs.declared.offers.Offer.TheVariants as made
@@ -66,6 +66,3 @@ pub record EndsUndone (refresh since : ℕ) (k : Known) (offer : Option Offer) (
   pub none : numbered new.claims k.number None ≡ None
   pub book : new ≡ book_taken caught submitted k.number
   pub known : left ≡ with_table caught submitted k
-
-abbrev pub Ends : {E : Type 0} → ℕ → ℕ → Known → Option Offer → Note → Result Claim E → BookData → Known → BookData → Bool → Type 0
-Ends refresh since k offer told outcome b left new caught = MatchResult outcome (λ answer. EndsWell refresh since k offer told answer b left new caught) (λ refused. EndsUndone refresh since k offer b left new caught)

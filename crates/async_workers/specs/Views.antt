@@ -2,7 +2,7 @@
 use Rattle.std.specs.Prelude.{ℕ, ◌+◌, Option, None, Some, Bool, true, false}
 use Rattle.assign_core.specs.Numbered.{numbered}
 use Rattle.bidder.specs.declared.offers.Ask.{Ask}
-use Rattle.auction_book.specs.Book.{BookData, ask_of, prices_of}
+use Rattle.auction_book.specs.Book.{BookData, prices_of}
 use Rattle.async_workers.specs.declared.place.Claimed.{Claimed}
 use Rattle.async_workers.specs.declared.rule.Known.{Known}
 use Rattle.async_workers.specs.declared.rule.Told.{Told}
@@ -15,7 +15,7 @@ claim_with (Some person) ask = Some (record { person = person; ask = ask })
 
 -- a worker's claim, with what the phase asks of its bid
 abbrev pub claim_in : BookData → ℕ → Option Claimed
-claim_in b worker = claim_with (numbered b.claims worker None) (ask_of b)
+claim_in b worker = claim_with (numbered b.claims worker None) b.ask
 
 -- what a desk knows once it was told of the book that it put back
 abbrev pub told_of : Known → BookData → Known

@@ -2,4 +2,5 @@
 pub mod Boxed
 pub mod Hand
 pub mod Passing
+pub mod Pauses
 pub mod Working

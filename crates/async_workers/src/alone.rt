@@ -1,5 +1,5 @@
 // One thread goes on with a book alone.
-ghost use Rattle.std.specs.Prelude.{◌≡◌, ◌<◌, None, IfOk, IfSome, OnOk, length};
+ghost use Rattle.std.specs.Prelude.{◌≡◌, ◌<◌, ℕ, None, IfOk, IfSome, OnOk, length};
 ghost use Rattle.assign_core.specs.Numbered.{IsNumber, numbered};
 ghost use Rattle.auction_book.specs.Follows.{GoesOn};
 ghost use Rattle.auction_book.specs.Free.{IsFree};
@@ -16,8 +16,7 @@ use std::sync::Wait;
 /// # Errors
 /// Only where memory is refused.
 pub fn outcome_of(alloc: Global, book: &Book) -> Result<Option<Outcome>, AllocError>
-    ensures answers { IfOk result (λ found. IfSome found (IsAnsweredBy book.now)) }
-    ensures free { IsFree book.now }
+    ensures { IfOk result (λ found. IfSome found (IsAnsweredBy book.now)) }
 {
     book.invariant();
     if let Some(hall) = book.refuted() {
@@ -32,7 +31,7 @@ pub fn outcome_of(alloc: Global, book: &Book) -> Result<Option<Outcome>, AllocEr
 // All claims are given up.
 fn give_up_all(book: &mut Book)
     ensures goes_on { GoesOn book.old book.new }
-    ensures none { 0 < length book.old.claims → numbered book.new.claims 1 None ≡ None }
+    ensures none { (worker : ℕ) → numbered book.new.claims worker None ≡ None }
     ensures free { IsFree book.new }
 {
     book.invariant();

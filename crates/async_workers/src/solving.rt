@@ -72,6 +72,7 @@ fn finish<R: Wait>(rt: &R, alloc: Global, book: &mut Book) -> Result<Outcome, Al
     ensures answers { IfOk result (IsAnsweredBy book.new) }
     ensures free { IsFree book.new }
 {
+    book.invariant();
     match outcome_of(alloc, book)? {
         Some(outcome) => Ok(outcome),
         None => go_alone(rt, alloc, book),

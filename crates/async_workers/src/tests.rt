@@ -249,12 +249,14 @@ fn give_all_up(book: &mut Book) {
     }
 }
 
-// The person whom worker 1 of a book claims next.
-fn next_person(book: &mut Book) -> Option<Person> {
-    if book.workers() == 0 || book.claimed_by(1).is_some() {
+// The person whom a worker of a book claims next.
+fn next_person(book: &mut Book, worker: u16) -> Option<Person>
+    requires { 0 < worker }
+{
+    if book.workers() < worker || book.claimed_by(worker).is_some() {
         return None;
     }
-    match book.claim(1) {
+    match book.claim(worker) {
         Claim::Person(person, _) => Some(person),
         _ => None,
     }

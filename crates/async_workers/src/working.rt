@@ -21,7 +21,7 @@ pub struct Worker {
 }
 
 // A worker's turns, until one ends its run. The fault, if there was one.
-fn take_turns<G: Gate, R: Wait>(
+pub(super) fn take_turns<G: Gate, R: Wait>(
     rt: &R,
     alloc: Global,
     place: &BookPlace,

@@ -21,7 +21,7 @@ use Rattle.bidder.specs.declared.offers.Bid.{Bid}
 use Rattle.bidder.specs.Offers.{IsSound, benefits_at}
 use Rattle.bidder.proofs.Accepted.{slack_raised}
 use Rattle.bidder.proofs.Sound.{sound_topped}
-use Rattle.auction_book.specs.Book.{BookData, Holds, ask_of, persons_of, prices_of, version_of}
+use Rattle.auction_book.specs.Book.{BookData, Holds, persons_of, prices_of, version_of}
 use Rattle.auction_book.specs.Changes.{accepted, released}
 use Rattle.auction_book.specs.Follows.{Follows}
 use Rattle.auction_book.specs.Free.{IsFree, IsPriced, IsProgress}
@@ -75,26 +75,26 @@ progress_more eps level start p first now j i owners h l m high was =
     }
 
 -- eps is at least 1
-pub eps_least : (b : BookData) → IsFree b → pos 1 ≤ℤ b.eps
-eps_least b free = (range_of_eps b.base b.eps (record { phases = b.phase - 1; at = free.in_phase.slackness })).least
+pub eps_least : (b : BookData) → IsFree b → pos 1 ≤ℤ b.ask.eps
+eps_least b free = (range_of_eps b.base b.ask.eps (record { phases = b.ask.phase - 1; at = free.in_phase.slackness })).least
 
 -- the top of the phase is a price
-pub top_fits_of : (b : BookData) → IsFree b → top_of b.base (greatest_of b.start) b.eps <ℤ PRICE_END
-top_fits_of b free = top_fits b.base b.phase b.eps b.floor b.start free.problem free.in_phase
+pub top_fits_of : (b : BookData) → IsFree b → top_of b.base (greatest_of b.start) b.ask.eps <ℤ PRICE_END
+top_fits_of b free = top_fits b.base b.ask b.start free.problem free.in_phase
 
 -- the level of a sound bid is a price, and is at most top
-pub level_topped : (b : BookData) (q : List ℤ) (bid : Bid) → IsFree b → IsSound b.base (ask_of b) q bid → bid.level ≤ℤ top_of b.base (greatest_of b.start) b.eps
-level_topped b q bid free sound = sound_topped b.base (greatest_of b.start) (ask_of b) q bid free.problem.size.some free.in_phase.floor_is sound
+pub level_topped : (b : BookData) (q : List ℤ) (bid : Bid) → IsFree b → IsSound b.base b.ask q bid → bid.level ≤ℤ top_of b.base (greatest_of b.start) b.ask.eps
+level_topped b q bid free sound = sound_topped b.base (greatest_of b.start) b.ask q bid free.problem.size.some free.in_phase.floor_is sound
 
 -- the person and the object of a sound bid are in range
-pub bid_range : (b : BookData) (q : List ℤ) (bid : Bid) → IsFree b → IsSound b.base (ask_of b) q bid → IsListedPair (persons_of b) bid.person bid.object
+pub bid_range : (b : BookData) (q : List ℤ) (bid : Bid) → IsFree b → IsSound b.base b.ask q bid → IsListedPair (persons_of b) bid.person bid.object
 bid_range b q bid free sound = listed_range b.base.problem bid.person bid.object free.problem (listed_problem b.base bid.person bid.object sound.listed)
 
 pub price_in : (p : List ℤ) (j : ℕ) → All IsPrice p → 0 < j → j ≤ length p → IsPrice (price_of p j)
 price_in p zero a h l = absurd (omega arith)
 price_in p (suc k) a h l = a k (pos 0) (omega arith)
 
-pub accepted_free : (b : BookData) (worker : ℕ) (bid : Bid) → IsFree b → IsSound b.base (ask_of b) (prices_of b) bid → IsHigh b bid → Holds b worker bid.person → IsFree (accepted b worker bid)
+pub accepted_free : (b : BookData) (worker : ℕ) (bid : Bid) → IsFree b → IsSound b.base b.ask (prices_of b) bid → IsHigh b bid → Holds b worker bid.person → IsFree (accepted b worker bid)
 accepted_free b worker bid free sound high held =
     let p = prices_of b in
     let j = bid.object in
@@ -105,11 +105,11 @@ accepted_free b worker bid free sound high held =
     let h : 0 < j = range.object.first in
     let inp : j ≤ length p = subst (λ m. j ≤ m) (sym free.sizes.priced) range.object.last in
     let ino : j ≤ length b.owners = subst (λ m. j ≤ m) (sym free.owners_match.long) range.object.last in
-    let pe : pos 1 ≤ℤ b.eps = eps_least b free in
+    let pe : pos 1 ≤ℤ b.ask.eps = eps_least b free in
     let w = numbered_in b.claims worker bid.person held in
     let inc : worker ≤ length b.counts = subst (λ m. worker ≤ m) (sym free.sizes.counted) w.1 in
     let up : price_of p j ≤ℤ bid.level = omega (arith, ints) in
-    let top : bid.level ≤ℤ top_of b.base (greatest_of b.start) b.eps = level_topped b p bid free sound in
+    let top : bid.level ≤ℤ top_of b.base (greatest_of b.start) b.ask.eps = level_topped b p bid free sound in
     let fits = top_fits_of b free in
     let least = (price_in p j (today_is_table b.log free.log_ascends).each h inp).least in
     let now : prices_of (accepted b worker bid) ≡ renumbered p j bid.level = today-after_raise b.log j bid.level in
@@ -123,20 +123,20 @@ accepted_free b worker bid free sound high held =
         noted = free.sizes.noted ∙ sym (length-renumbered b.claims worker None);
       };
       owners_match = matching_more b.base.problem b.owners j bid.person (record { first = h; last = ino }) free.owners_match (λ k. unowned n b.owners b.queue b.claims worker bid.person k free.placed_once held) listed;
-      owners_slack = subst (λ z. (i k : ℕ) → owner_of (renumbered b.owners j (Some bid.person)) k ≡ Some i → HasSlack b.eps z (benefits_at b.base i) k) (sym now)
-          (owners_by (λ i k. HasSlack b.eps (renumbered p j bid.level) (benefits_at b.base i) k) b.owners j bid.person (record { first = h; last = ino })
-          (slack_raised b.eps p (benefits_at b.base bid.person) j bid.level (omega (arith, ints)) row.rising (record { first = h; last = inp }) sound.near)
-          (λ i k ne e. slack_rises b.eps p (renumbered p j bid.level) (benefits_at b.base i) k (rise p j bid.level up (record { first = h; last = inp })) (numbered-other p j k bid.level (pos 0) ne) (free.owners_slack i k e)));
+      owners_slack = subst (λ z. (i k : ℕ) → owner_of (renumbered b.owners j (Some bid.person)) k ≡ Some i → HasSlack b.ask.eps z (benefits_at b.base i) k) (sym now)
+          (owners_by (λ i k. HasSlack b.ask.eps (renumbered p j bid.level) (benefits_at b.base i) k) b.owners j bid.person (record { first = h; last = ino })
+          (slack_raised b.ask.eps p (benefits_at b.base bid.person) j bid.level (omega (arith, ints)) row.rising (record { first = h; last = inp }) sound.near)
+          (λ i k ne e. slack_rises b.ask.eps p (renumbered p j bid.level) (benefits_at b.base i) k (rise p j bid.level up (record { first = h; last = inp })) (numbered-other p j k bid.level (pos 0) ne) (free.owners_slack i k e)));
       placed_once = λ i. accepted_places b.owners b.queue b.claims worker bid.person j i h ino held ∙ free.placed_once i;
       log_ascends = after_raise_is b.log j bid.level free.log_ascends (record { first = h; last = inp }) (omega (arith, ints)) (record { least = omega (arith, ints); below = omega (arith, ints) });
-      priced = subst (λ z. (k : ℕ) → IsPriced b.eps (price_of b.start k) (price_of z k) (owner_of (renumbered b.owners j (Some bid.person)) k)) (sym now)
-          (priced_accepted b.eps bid.level b.start p b.owners j bid.person pe h inp ino high free.priced);
-      topped = subst (λ z. (k : ℕ) → price_of z k ≤ℤ top_of b.base (greatest_of b.start) b.eps) (sym now) (topped_accepted (top_of b.base (greatest_of b.start) b.eps) bid.level p j h inp top free.topped);
+      priced = subst (λ z. (k : ℕ) → IsPriced b.ask.eps (price_of b.start k) (price_of z k) (owner_of (renumbered b.owners j (Some bid.person)) k)) (sym now)
+          (priced_accepted b.ask.eps bid.level b.start p b.owners j bid.person pe h inp ino high free.priced);
+      topped = subst (λ z. (k : ℕ) → price_of z k ≤ℤ top_of b.base (greatest_of b.start) b.ask.eps) (sym now) (topped_accepted (top_of b.base (greatest_of b.start) b.ask.eps) bid.level p j h inp top free.topped);
       in_phase = free.in_phase;
       counts_total = counted_more b.counts worker (version_of b) w.0 inc free.counts_total ∙ sym next;
-      progress = subst (λ z. IsProgress b.eps b.start z b.start_version (version_of (accepted b worker bid)) (renumbered b.owners j (Some bid.person))) (sym now)
-          (subst (λ v. IsProgress b.eps b.start (renumbered p j bid.level) b.start_version v (renumbered b.owners j (Some bid.person))) (sym next)
-          (progress_more b.eps bid.level b.start p b.start_version (version_of b) j bid.person b.owners h inp ino high free.progress));
+      progress = subst (λ z. IsProgress b.ask.eps b.start z b.start_version (version_of (accepted b worker bid)) (renumbered b.owners j (Some bid.person))) (sym now)
+          (subst (λ v. IsProgress b.ask.eps b.start (renumbered p j bid.level) b.start_version v (renumbered b.owners j (Some bid.person))) (sym next)
+          (progress_more b.ask.eps bid.level b.start p b.start_version (version_of b) j bid.person b.owners h inp ino high free.progress));
       recorded = free.recorded;
     }
 
@@ -146,7 +146,7 @@ released_free b worker person free held =
     moved_free b (b.queue ++ person ∷ []) over b.refuted free (length-renumbered b.claims worker None)
     (λ i. released_places b.owners b.queue b.claims worker person i held) free.recorded
 
-pub accepted_follows : (b : BookData) (worker : ℕ) (bid : Bid) (q : List ℤ) → IsFree b → IsBelow q (prices_of b) → IsSound b.base (ask_of b) q bid → IsHigh b bid → Follows worker b (accepted b worker bid)
+pub accepted_follows : (b : BookData) (worker : ℕ) (bid : Bid) (q : List ℤ) → IsFree b → IsBelow q (prices_of b) → IsSound b.base b.ask q bid → IsHigh b bid → Follows worker b (accepted b worker bid)
 accepted_follows b worker bid q free below sound high =
     let p = prices_of b in
     let range = bid_range b q bid free sound in
@@ -187,10 +187,10 @@ pub record IsAcceptable (b : BookData) (bid : Bid) : Type 0 where
   pub above : price_of (prices_of b) bid.object <ℤ bid.level
   pub price : IsPrice bid.level
 
-pub acceptable : (s b : BookData) (bid : Bid) → s ≡ b → IsFree s → (q : List ℤ) × IsBelow q (prices_of b) × IsSound b.base (ask_of b) q bid → IsHigh b bid → IsAcceptable s bid
+pub acceptable : (s b : BookData) (bid : Bid) → s ≡ b → IsFree s → (q : List ℤ) × IsBelow q (prices_of b) × IsSound b.base b.ask q bid → IsHigh b bid → IsAcceptable s bid
 acceptable s b bid e free sound high =
     let q = sound.0 in
-    let near = subst (λ (x : BookData). IsSound x.base (ask_of x) q bid) (sym e) sound.2 in
+    let near = subst (λ (x : BookData). IsSound x.base x.ask q bid) (sym e) sound.2 in
     let high' = subst (λ (x : BookData). IsHigh x bid) (sym e) high in
     let range = bid_range s q bid free near in
     let pe = eps_least s free in
@@ -210,7 +210,7 @@ pub record IsPlacedBid (b : BookData) (bid : Bid) : Type 0 where
   pub owned : IsNumber (length b.owners) bid.object
   pub priced : IsNumber (length (prices_of b)) bid.object
 
-pub placed_bid : (b : BookData) (bid : Bid) → IsFree b → IsFitting b bid → bid.phase ≡ b.phase → IsPlacedBid b bid
+pub placed_bid : (b : BookData) (bid : Bid) → IsFree b → IsFitting b bid → bid.phase ≡ b.ask.phase → IsPlacedBid b bid
 placed_bid b bid free fitting same =
     let sound = fitting same in
     let range = bid_range b sound.0 bid free sound.2 in

@@ -1,5 +1,5 @@
 -- Where everybody is assigned in the last phase, the owners and the prices are a certificate.
-use Rattle.std.proofs.Common.{◌≡◌, ℕ, ℤ, pos, suc, ◌+◌, ◌<◌, ◌≤◌, List, [], ◌∷◌, length, get_or, nat_eq, Bool, true, false, cond, ◌&&◌, refl, ap, arith, sym, ◌∙◌, subst, Option, None, Some, inl, inr, ◌⊎◌, is_some}
+use Rattle.std.proofs.Common.{◌≡◌, ◌≢◌, ℕ, ℤ, pos, suc, ◌+◌, ◌<◌, ◌≤◌, List, [], ◌∷◌, length, get_or, nat_eq, Bool, true, false, not, cond, ◌&&◌, refl, ap, arith, sym, ◌∙◌, subst, Option, None, Some, inl, inr, ◌⊎◌, is_some}
 use Rattle.std.specs.List.{count_by}
 use Rattle.std.specs.Ordering.{int_eq}
 use Rattle.std.specs.Cmp.{signed_Decides}
@@ -20,7 +20,7 @@ use Rattle.std.proofs.lemmas.List.{get_or_default}
 use Rattle.auction_book.specs.Answers.{IsAnswer}
 use Rattle.auction_book.specs.Book.{BookData, is_person, persons_of, prices_of}
 use Rattle.auction_book.specs.Free.{IsFree}
-use Rattle.auction_book.specs.Phases.{is_assigned, is_done}
+use Rattle.auction_book.specs.Phases.{is_assigned, is_done, is_over}
 use Rattle.auction_book.proofs.Places.{everyone, one_yes, person_is_some}
 
 -- the list gives each person that owns one of the first n objects its object
@@ -80,12 +80,30 @@ both false false h = cc
 -- everybody is assigned in the last phase
 pub record IsComplete (b : BookData) : Type 0 where
   pub assigned : count_by is_some b.owners ≡ persons_of b
-  pub last : b.eps ≡ pos 1
+  pub last : b.ask.eps ≡ pos 1
 
 pub done_is : (b : BookData) → is_done b ≡ true → IsComplete b
 done_is b h =
-    let w = both (is_assigned b) (int_eq b.eps (pos 1)) h in
-    record { assigned = eqb-true (count_by is_some b.owners) (persons_of b) w.0; last = (signed_Decides b.eps (pos 1)).0 w.1 }
+    let w = both (is_assigned b) (int_eq b.ask.eps (pos 1)) h in
+    record { assigned = eqb-true (count_by is_some b.owners) (persons_of b) w.0; last = (signed_Decides b.ask.eps (pos 1)).0 w.1 }
+
+-- everybody is assigned, and a phase follows
+pub record IsOver (b : BookData) : Type 0 where
+  pub assigned : count_by is_some b.owners ≡ persons_of b
+  pub more : b.ask.eps ≢ pos 1
+
+not_true : (x : Bool) → not x ≡ true → x ≡ false
+not_true true h = cc
+not_true false h = refl
+
+pub over_is : (b : BookData) → is_over b ≡ true → IsOver b
+over_is b h =
+    let w = both (is_assigned b) (not (int_eq b.ask.eps (pos 1))) h in
+    let n = not_true (int_eq b.ask.eps (pos 1)) w.1 in
+    record {
+      assigned = eqb-true (count_by is_some b.owners) (persons_of b) w.0;
+      more = λ e. let t = (signed_Decides b.ask.eps (pos 1)).1 e in cc;
+    }
 
 -- where everybody is assigned each person owns an object
 owns : (b : BookData) (i : ℕ) → IsFree b → IsComplete b → IsNumber (persons_of b) i → (j : ℕ) × (owner_of b.owners j ≡ Some i)

@@ -4,7 +4,7 @@ use Rattle.scaled_values.specs.Scaled.{greatest_of}
 use Rattle.bidder.specs.Offers.{IsAsk}
 use Rattle.auction_book.specs.declared.answers.Claim.{Claim}
 use Rattle.auction_book.specs.declared.answers.Claim.TheVariants as claim
-use Rattle.auction_book.specs.Book.{BookData, ask_of}
+use Rattle.auction_book.specs.Book.{BookData}
 use Rattle.auction_book.specs.Claims.{claim_front, claim_of}
 use Rattle.auction_book.specs.Free.{IsFree}
 use Rattle.auction_book.specs.Phases.{is_done}
@@ -17,7 +17,7 @@ cond_by P false x y f g = g refl
 
 -- what a claim answers, by cases
 pub claim_by : (P : Claim → Type 0) (b : BookData) → (is_some b.refuted ≡ true → P claim.Refuted) → (is_done b ≡ true → P claim.Done) → (b.stopped ≡ true → P claim.Stopped) → (b.stopped ≡ false → b.queue ≡ [] → P claim.Wait) →
-    ((person : ℕ) (rest : List ℕ) → b.stopped ≡ false → b.queue ≡ person ∷ rest → P (claim.Person person (ask_of b))) → P (claim_of b)
+    ((person : ℕ) (rest : List ℕ) → b.stopped ≡ false → b.queue ≡ person ∷ rest → P (claim.Person person b.ask)) → P (claim_of b)
 claim_by P b refuted done stopped wait person =
     cond_by P (is_some b.refuted) claim.Refuted (cond (is_done b) claim.Done (cond b.stopped claim.Stopped (claim_front b b.queue))) refuted
     (λ h. cond_by P (is_done b) claim.Done (cond b.stopped claim.Stopped (claim_front b b.queue)) done
@@ -28,5 +28,5 @@ claim_by P b refuted done stopped wait person =
     front (i ∷ rest) going e = person i rest going e
 
 -- what the book asks is of a phase
-pub ask_is : (b : BookData) → IsFree b → IsAsk b.base (ask_of b)
-ask_is b free = let i = free.in_phase in record { slackness = is_eps b.base b.phase b.eps b.floor b.start i; start = greatest_of b.start; price = greatest_is_price b.start i.start_prices; floor = i.floor_is }
+pub ask_is : (b : BookData) → IsFree b → IsAsk b.base b.ask
+ask_is b free = let i = free.in_phase in record { slackness = is_eps b.base b.ask b.start i; start = greatest_of b.start; price = greatest_is_price b.start i.start_prices; floor = i.floor_is }

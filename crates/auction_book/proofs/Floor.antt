@@ -30,7 +30,7 @@ use Rattle.auction_book.proofs.Gap.{empty_step, rung, rung_first, rung_more, run
 
 -- what the price of a next object may be below that of the object before it, along a walk
 abbrev step_in : BookData → ℤ
-step_in b = spread b.base +ℤ b.eps
+step_in b = spread b.base +ℤ b.ask.eps
 
 abbrev start_top : BookData → ℤ
 start_top b = greatest_of b.start
@@ -44,12 +44,12 @@ lists_one rows owners i [] x j w l = (j, subst (λ u. IsListed rows u j) (sym w)
 lists_one rows owners i (k ∷ js) x j w l = (k, w.0)
 
 -- an object of a person whose offer is below the floor costs much
-first_high : (b : BookData) (q : List ℤ) (i k : ℕ) → IsFree b → IsBelow q (prices_of b) → IsUnder (benefits_at b.base i) q b.floor → IsListed b.base.problem i k →
+first_high : (b : BookData) (q : List ℤ) (i k : ℕ) → IsFree b → IsBelow q (prices_of b) → IsUnder (benefits_at b.base i) q b.ask.floor → IsListed b.base.problem i k →
     rung (start_top b) (step_in b) (persons_of b - 1) <ℤ price_of (prices_of b) k
 first_high b q i k free below under l =
-    let floor : b.floor ≡ floor_of b.base (greatest_of b.start) b.eps = free.in_phase.floor_is in
+    let floor : b.ask.floor ≡ floor_of b.base (greatest_of b.start) b.ask.eps = free.in_phase.floor_is in
     let a = bounds_listed b i k l in
-    let u : listed_or_zero (benefits_at b.base i) k <ℤ (b.floor +ℤ price_of q k) = all_listed (λ e. e.1 <ℤ (b.floor +ℤ price_of q e.0)) (benefits_at b.base i) k under (listed_benefits b.base i k l) in
+    let u : listed_or_zero (benefits_at b.base i) k <ℤ (b.ask.floor +ℤ price_of q k) = all_listed (λ e. e.1 <ℤ (b.ask.floor +ℤ price_of q e.0)) (benefits_at b.base i) k under (listed_benefits b.base i k l) in
     let c : price_of q k ≤ℤ price_of (prices_of b) k = below.each k in
     omega (arith, ints)
 
@@ -60,14 +60,14 @@ next_high b v j k free o lk =
     let p = prices_of b in
     let a = bounds_listed b v j (free.owners_match.listed v j o) in
     let c = bounds_listed b v k lk in
-    let s : (listed_or_zero row k +ℤ price_of p j) ≤ℤ (listed_or_zero row j +ℤ price_of p k +ℤ b.eps) = all_listed (IsWorth b.eps p row j) row k (free.owners_slack v j o) (listed_benefits b.base v k lk) in
+    let s : (listed_or_zero row k +ℤ price_of p j) ≤ℤ (listed_or_zero row j +ℤ price_of p k +ℤ b.ask.eps) = all_listed (IsWorth b.ask.eps p row j) row k (free.owners_slack v j o) (listed_benefits b.base v k lk) in
     omega (arith, ints)
 
 some_or_none : (o : Option ℕ) → (IsSome o) ⊎ (o ≡ None)
 some_or_none None = inr refl
 some_or_none (Some i) = inl refl
 
-pub blocked : (b : BookData) (q : List ℤ) (i : ℕ) → IsFree b → IsBelow q (prices_of b) → IsUnder (benefits_at b.base i) q b.floor → IsBlocked b.base.problem b.owners i
+pub blocked : (b : BookData) (q : List ℤ) (i : ℕ) → IsFree b → IsBelow q (prices_of b) → IsUnder (benefits_at b.base i) q b.ask.floor → IsBlocked b.base.problem b.owners i
 blocked b q i free below under = λ x j reach l. elim (some_or_none (owner_of b.owners j)) [
   | inl s ↦ s
   | inr free_one ↦ absurd (broken x j reach l free_one)
@@ -77,10 +77,10 @@ blocked b q i free below under = λ x j reach l. elim (some_or_none (owner_of b.
       let m : ℕ = persons_of b - 1 in
       let some = free.problem.size.some in
       let range = listed_range b.base.problem x j free.problem l in
-      let step = IsStep-spread b.base b.eps (IsSpread-spread b.base free.problem) (is_eps b.base b.phase b.eps b.floor b.start free.in_phase) in
+      let step = IsStep-spread b.base b.ask.eps (IsSpread-spread b.base free.problem) (is_eps b.base b.ask b.start free.in_phase) in
       let positive = step.least in
       let least = start_least b free in
-      let first : price_of (prices_of b) j ≡ price_of b.start j = subst (λ o. IsPriced b.eps (price_of b.start j) (price_of (prices_of b) j) o) free_one (free.priced j) in
+      let first : price_of (prices_of b) j ≡ price_of b.start j = subst (λ o. IsPriced b.ask.eps (price_of b.start j) (price_of (prices_of b) j) o) free_one (free.priced j) in
       let most : price_of b.start j ≤ℤ start_top b = price_greatest b.start j least in
       let one = lists_one b.base.problem b.owners i reach.0 x j reach.1 l in
       let s = empty_step (start_top b) (step_in b) (prices_of b) m j one.0 least positive (let e = free.sizes.priced in omega arith) range.object.first (subst (λ k. j ≤ k) (sym free.sizes.priced) range.object.last) (omega (arith, ints))
@@ -98,7 +98,7 @@ blocked b q i free below under = λ x j reach l. elim (some_or_none (owner_of b.
       omega (arith, ints)
 
 -- no path to an unowned object follows an offer below the floor
-pub no_path : (b : BookData) (q : List ℤ) (i : ℕ) (js : List ℕ) → IsFree b → IsBelow q (prices_of b) → IsUnder (benefits_at b.base i) q b.floor → IsPath b.base.problem b.owners i js → ⊥
+pub no_path : (b : BookData) (q : List ℤ) (i : ℕ) (js : List ℕ) → IsFree b → IsBelow q (prices_of b) → IsUnder (benefits_at b.base i) q b.ask.floor → IsPath b.base.problem b.owners i js → ⊥
 no_path b q i js free below under path = path_open b.base.problem b.owners i js path (blocked b q i free below under)
 
 sum_most : (p : List ℤ) (top : ℤ) → ((k : ℕ) → get_or p k (pos 0) ≤ℤ top) → sum_of p ≤ℤ (pos (length p) *ℤ top)
@@ -110,9 +110,9 @@ sum_most (x ∷ p) top h =
     omega (arith, ints)
 
 -- the bids accepted in a phase, times eps, are at most the sum of top less first price
-raised_bound : (b : BookData) → IsFree b → (pos (phase_accepted b) *ℤ b.eps) ≤ℤ ((pos (persons_of b) *ℤ top_of b.base (greatest_of b.start) b.eps) -ℤ sum_of b.start)
+raised_bound : (b : BookData) → IsFree b → (pos (phase_accepted b) *ℤ b.ask.eps) ≤ℤ ((pos (persons_of b) *ℤ top_of b.base (greatest_of b.start) b.ask.eps) -ℤ sum_of b.start)
 raised_bound b free =
-    let top = top_of b.base (greatest_of b.start) b.eps in
+    let top = top_of b.base (greatest_of b.start) b.ask.eps in
     let t = sum_most (prices_of b) top (λ k. free.topped (suc k)) in
     let r = free.progress.risen in
     let u = subst (λ m. sum_of (prices_of b) ≤ℤ (pos m *ℤ top)) free.sizes.priced t in
@@ -137,17 +137,17 @@ bound_div x r (negsuc e) some h = absurd (omega (arith, ints))
 -- the bids accepted in a phase are at most the steps of eps under its top
 pub accepted_bound : (b : BookData) → IsFree b → pos (phase_accepted b) ≤ℤ phase_bound b
 accepted_bound b free =
-    let top = top_of b.base (greatest_of b.start) b.eps in
+    let top = top_of b.base (greatest_of b.start) b.ask.eps in
     let r = raised_bound b free in
     let long : length b.start ≡ persons_of b = free.sizes.started in
     let room : room_under top b.start ≡ (pos (persons_of b) *ℤ top) -ℤ sum_of b.start = room_is top b.start ∙ ap (λ m. (pos m *ℤ top) -ℤ sum_of b.start) long in
-    bound_div (phase_accepted b) (room_under top b.start) b.eps (eps_least b free) (rw room r)
+    bound_div (phase_accepted b) (room_under top b.start) b.ask.eps (eps_least b free) (rw room r)
 
 -- no first price of the phase is above its top
-pub start_under : (b : BookData) → IsFree b → All (λ p. p ≤ℤ top_of b.base (greatest_of b.start) b.eps) b.start
+pub start_under : (b : BookData) → IsFree b → All (λ p. p ≤ℤ top_of b.base (greatest_of b.start) b.ask.eps) b.start
 start_under b free =
-    let room = (span b.base b.eps free.problem (is_eps b.base b.phase b.eps b.floor b.start free.in_phase)).least in
-    All-weaker (λ p. p ≤ℤ greatest_of b.start) (λ p. p ≤ℤ top_of b.base (greatest_of b.start) b.eps) (λ p h. omega (arith, ints)) b.start (greatest_bounds b.start)
+    let room = (span b.base b.ask.eps free.problem (is_eps b.base b.ask b.start free.in_phase)).least in
+    All-weaker (λ p. p ≤ℤ greatest_of b.start) (λ p. p ≤ℤ top_of b.base (greatest_of b.start) b.ask.eps) (λ p h. omega (arith, ints)) b.start (greatest_bounds b.start)
 
 -- the room under the top with one price more
 pub room_more : (top : ℤ) (ps : List ℤ) (i room gap : ℕ) (whole : ℤ) → i < length ps → pos gap ≡ top -ℤ get_or ps i (pos 0) → (pos room +ℤ room_under top (drop i ps)) ≡ whole →

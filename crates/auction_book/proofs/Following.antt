@@ -1,9 +1,6 @@
 -- What other workers rely on stays through each change.
 use Rattle.std.proofs.Common.{◌≡◌, ℕ, get_or, Bool, true, false, not, refl, arith, sym, ◌∙◌, subst, Option, None, Some, pos, is_some}
 use Rattle.std.specs.List.{count_by}
-use Rattle.std.specs.Ordering.{int_eq}
-use Rattle.std.specs.Cmp.{signed_Decides}
-use Rattle.std.proofs.lemmas.Bool.{eqb-true}
 use Rattle.assign_core.specs.Hall.{HallLists}
 use Rattle.assign_core.specs.Numbered.{numbered}
 use Rattle.assign_core.specs.Prices.{IsBelow}
@@ -11,12 +8,12 @@ use Rattle.assign_core.proofs.Matchings.{below_itself, below_through}
 use Rattle.assign_core.proofs.NumberedLemmas.{length-renumbered, numbered-other, numbered_in}
 use Rattle.price_log.proofs.Histories.{continues-refl, continues-trans}
 use Rattle.auction_book.specs.Book.{BookData, Holds, persons_of, prices_of}
-use Rattle.auction_book.specs.Phases.{IsOver, is_assigned, is_over}
+use Rattle.auction_book.specs.Phases.{is_over}
 use Rattle.auction_book.specs.Changes.{caught_up, claimed, given_up, phased, recorded}
 use Rattle.auction_book.specs.Follows.{Follows, GoesOn}
 use Rattle.auction_book.specs.Free.{IsFree}
 use Rattle.auction_book.proofs.Accepting.{released_follows}
-use Rattle.auction_book.proofs.Answering.{both}
+use Rattle.auction_book.proofs.Answering.{over_is}
 use Rattle.auction_book.proofs.OtherChanges.{caught_up_trimmed}
 use Rattle.auction_book.proofs.Places.{everyone, some_there as some_claim}
 
@@ -90,15 +87,15 @@ caught_up_follows b w free =
     }
 
 -- where everybody is assigned nobody is claimed
-pub no_claims : (b : BookData) (k person : ℕ) → IsFree b → IsOver b → Holds b k person → ⊥
+pub no_claims : (b : BookData) (k person : ℕ) → IsFree b → is_over b ≡ true → Holds b k person → ⊥
 no_claims b k person free over held =
     let whole = everyone (persons_of b) b.owners b.queue b.claims free.placed_once in
-    let all = over.assigned in
+    let all = (over_is b over).assigned in
     let r = numbered_in b.claims k person held in
     let s = some_claim b.claims k person held r.0 r.1 in
     absurd (omega arith)
 
-pub phased_follows : (b : BookData) (w : ℕ) → IsFree b → IsOver b → Follows w b (phased b)
+pub phased_follows : (b : BookData) (w : ℕ) → IsFree b → is_over b ≡ true → Follows w b (phased b)
 phased_follows b w free over = record {
   goes_on = record { base = refl; workers = refl; below = below_itself (prices_of b); log = continues-refl b.log; refuted = λ h. h };
   counts = λ k ne. refl;
@@ -113,16 +110,3 @@ stop_follows b w s = record {
   claims = λ k ne. refl;
   asked = λ k person ne h. refl;
 }
-
-not_true : (x : Bool) → not x ≡ true → x ≡ false
-not_true true h = cc
-not_true false h = refl
-
-pub over_is : (b : BookData) → is_over b ≡ true → IsOver b
-over_is b h =
-    let w = both (is_assigned b) (not (int_eq b.eps (pos 1))) h in
-    let n = not_true (int_eq b.eps (pos 1)) w.1 in
-    record {
-      assigned = eqb-true (count_by is_some b.owners) (persons_of b) w.0;
-      more = λ e. let t = (signed_Decides b.eps (pos 1)).1 e in cc;
-    }

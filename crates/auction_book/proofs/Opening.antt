@@ -1,5 +1,5 @@
 -- A book at the start of a run, and at the start of a phase.
-use Rattle.std.proofs.Common.{◌≡◌, ℕ, ℤ, pos, zero, suc, ◌+ℤ◌, ◌*ℤ◌, ◌≤ℤ◌, ◌+◌, ◌-◌, ◌<◌, ◌≤◌, List, [], ◌∷◌, ◌++◌, length, take, drop, replicate, nat_eq, sum, Bool, false, cond, refl, ap, arith, sym, ◌∙◌, subst, Option, None, Some, is_some}
+use Rattle.std.proofs.Common.{◌≡◌, ℕ, ℤ, pos, zero, suc, ◌+ℤ◌, ◌*ℤ◌, ◌≤ℤ◌, ◌+◌, ◌-◌, ◌<◌, ◌≤◌, List, [], ◌∷◌, ◌++◌, length, take, drop, replicate, nat_eq, sum, Bool, true, false, cond, refl, ap, arith, sym, ◌∙◌, subst, Option, None, Some, is_some}
 use Rattle.std.specs.List.{All, count_by}
 use Rattle.std.specs.Option.{option_and_then}
 use Rattle.std.proofs.lemmas.Int.{ints}
@@ -21,9 +21,10 @@ use Rattle.assign_core.specs.declared.numbers.TheConstants.{GREATEST_FIRST_PRICE
 use Rattle.auction_book.specs.Book.{BookData, is_person, one_if_person, persons_of, prices_of, version_of}
 use Rattle.auction_book.specs.Changes.{phased}
 use Rattle.auction_book.specs.Free.{IsFree, IsPriced}
-use Rattle.auction_book.specs.Phases.{IsOver, opened, persons}
+use Rattle.auction_book.specs.Phases.{is_over, opened, persons}
 use Rattle.price_log.specs.History.{sum_of}
 use Rattle.price_log.proofs.Histories.{started_is, today_is_table}
+use Rattle.auction_book.proofs.Answering.{over_is}
 use Rattle.auction_book.proofs.Places.{everyone, person_is_some}
 use Rattle.auction_book.proofs.PhaseBounds.{greatest_most, is_eps, price_greatest, span}
 
@@ -108,28 +109,28 @@ opened_free s prices workers problem table long low =
       recorded = tt;
     }
 
-pub phased_free : (b : BookData) → IsFree b → IsOver b → IsFree (phased b)
+pub phased_free : (b : BookData) → IsFree b → is_over b ≡ true → IsFree (phased b)
 phased_free b free over =
     let s = b.base in
     let n = persons_of b in
-    let eps = fifth b.eps in
-    let next = next_is b.eps over.more in
-    let begins : 0 < b.phase = free.in_phase.begins in
-    let which : b.phase + 1 - 1 ≡ suc (b.phase - 1) = omega arith in
-    let slackness : eps_after s (b.phase + 1 - 1) ≡ Some eps = ap (eps_after s) which ∙ ap (option_and_then next_eps) free.in_phase.slackness ∙ next in
+    let eps = fifth b.ask.eps in
+    let next = next_is b.ask.eps (over_is b over).more in
+    let begins : 0 < b.ask.phase = free.in_phase.begins in
+    let which : b.ask.phase + 1 - 1 ≡ suc (b.ask.phase - 1) = omega arith in
+    let slackness : eps_after s (b.ask.phase + 1 - 1) ≡ Some eps = ap (eps_after s) which ∙ ap (option_and_then next_eps) free.in_phase.slackness ∙ next in
     let rise = pos n *ℤ (spread s +ℤ first_eps s) in
-    let old = span s b.eps free.problem (is_eps s b.phase b.eps b.floor b.start free.in_phase) in
-    let new = span s eps free.problem (record { phases = b.phase + 1 - 1; at = slackness }) in
+    let old = span s b.ask.eps free.problem (is_eps s b.ask b.start free.in_phase) in
+    let new = span s eps free.problem (record { phases = b.ask.phase + 1 - 1; at = slackness }) in
     let first = old.first in
     let room = new.least in
     let table = today_is_table b.log free.log_ascends in
     let least = least_price (prices_of b) table.each in
     let low = free.in_phase.start_low in
     let bottom = free.topped 0 in
-    let top : greatest_of (prices_of b) ≤ℤ top_of s (greatest_of b.start) b.eps = greatest_most (prices_of b) (top_of s (greatest_of b.start) b.eps) bottom free.topped in
-    let more : pos (suc (b.phase - 1)) *ℤ rise ≡ (pos (b.phase - 1) *ℤ rise) +ℤ rise = suc_ℤ-*ℤ (pos (b.phase - 1)) rise in
+    let top : greatest_of (prices_of b) ≤ℤ top_of s (greatest_of b.start) b.ask.eps = greatest_most (prices_of b) (top_of s (greatest_of b.start) b.ask.eps) bottom free.topped in
+    let more : pos (suc (b.ask.phase - 1)) *ℤ rise ≡ (pos (b.ask.phase - 1) *ℤ rise) +ℤ rise = suc_ℤ-*ℤ (pos (b.ask.phase - 1)) rise in
     let whole = everyone n b.owners b.queue b.claims free.placed_once in
-    let all = over.assigned in
+    let all = (over_is b over).assigned in
     let z = zero-*ℤ eps in
     let d : version_of b - version_of b ≡ 0 = omega arith in
     record {
@@ -177,10 +178,10 @@ greatest_is_price p table = greatest_holds IsPrice p (record { least = omega (ar
 pub greatest_read : (p slice : List ℤ) (g : ℤ) → g ≡ greatest_of slice → slice ≡ p → IsTable p → IsPrice g
 greatest_read p slice g e same table = subst IsPrice (sym (e ∙ ap greatest_of same)) (greatest_is_price p table)
 
-pub phase_few : (b : BookData) → IsFree b → b.phase ≤ 23
-phase_few b free = let f = few b.base (b.phase - 1) b.eps free.problem free.in_phase.slackness in let g = free.in_phase.begins in omega arith
+pub phase_few : (b : BookData) → IsFree b → b.ask.phase ≤ 23
+phase_few b free = let f = few b.base (b.ask.phase - 1) b.ask.eps free.problem free.in_phase.slackness in let g = free.in_phase.begins in omega arith
 
-empty_list : (xs : List ℕ) → length xs ≡ 0 → xs ≡ []
+pub empty_list : (xs : List ℕ) → length xs ≡ 0 → xs ≡ []
 empty_list [] e = refl
 empty_list (x ∷ xs) e = absurd (omega arith)
 
@@ -188,8 +189,8 @@ empty_list (x ∷ xs) e = absurd (omega arith)
 pub none_wait : (b : BookData) → IsFree b → count_by is_some b.owners ≡ persons_of b → b.queue ≡ []
 none_wait b free all = let e = everyone (persons_of b) b.owners b.queue b.claims free.placed_once in empty_list b.queue (omega arith)
 
-pub queue_empty : (b : BookData) → IsFree b → IsOver b → b.queue ≡ []
-queue_empty b free over = none_wait b free over.assigned
+pub queue_empty : (b : BookData) → IsFree b → is_over b ≡ true → b.queue ≡ []
+queue_empty b free over = none_wait b free (over_is b over).assigned
 
 -- a slice that was written whole
 pub written_whole : (xs ys : List (Option ℕ)) (n : ℕ) → length xs ≡ n → take n (xs ++ drop (length xs) ys) ≡ xs

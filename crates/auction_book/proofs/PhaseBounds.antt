@@ -11,6 +11,7 @@ use Rattle.scaled_values.specs.Limits.{most_step}
 use Rattle.scaled_values.specs.Scaled.{ScaledProblem, IsEps, first_eps, greatest_of, spread, top_of}
 use Rattle.scaled_values.proofs.BenefitRange.{IsSpread-spread, greatest_bounds, greatest_holds}
 use Rattle.scaled_values.proofs.EpsList.{IsStep-spread, IsEps-first, few, range_of_eps}
+use Rattle.bidder.specs.declared.offers.Ask.{Ask}
 use Rattle.auction_book.specs.Free.{IsPhase}
 
 pub times_more : (n : ℕ) (x y : ℤ) → x ≤ℤ y → (pos n *ℤ x) ≤ℤ (pos n *ℤ y)
@@ -28,8 +29,8 @@ times_positive (suc n) x h =
     let i = times_positive n x h in
     omega (arith, ints)
 
-pub is_eps : (s : ScaledProblem) (phase : ℕ) (eps floor : ℤ) (start : List ℤ) → IsPhase s phase eps floor start → IsEps s eps
-is_eps s phase eps floor start h = record { phases = phase - 1; at = h.slackness }
+pub is_eps : (s : ScaledProblem) (ask : Ask) (start : List ℤ) → IsPhase s ask start → IsEps s ask.eps
+is_eps s ask start h = record { phases = ask.phase - 1; at = h.slackness }
 
 -- a step is at most this
 abbrev pub span_step : ℕ
@@ -61,11 +62,11 @@ span s eps h e =
     }
 
 -- the top of a phase is a price
-pub top_fits : (s : ScaledProblem) (phase : ℕ) (eps floor : ℤ) (start : List ℤ) → IsProblem s.problem → IsPhase s phase eps floor start → top_of s (greatest_of start) eps <ℤ PRICE_END
-top_fits s phase eps floor start h is =
-    let k = phase - 1 in
-    let f = few s k eps h is.slackness in
-    let w = span s eps h (is_eps s phase eps floor start is) in
+pub top_fits : (s : ScaledProblem) (ask : Ask) (start : List ℤ) → IsProblem s.problem → IsPhase s ask start → top_of s (greatest_of start) ask.eps <ℤ PRICE_END
+top_fits s ask start h is =
+    let k = ask.phase - 1 in
+    let f = few s k ask.eps h is.slackness in
+    let w = span s ask.eps h (is_eps s ask start is) in
     let first = w.first in
     let most = w.most in
     let rise = pos (length s.problem) *ℤ (spread s +ℤ first_eps s) in

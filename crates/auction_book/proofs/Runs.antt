@@ -25,7 +25,7 @@ use Rattle.auction_book.specs.declared.answers.Claim.{Claim}
 use Rattle.auction_book.specs.declared.answers.Claim.TheVariants as claim
 use Rattle.auction_book.specs.declared.schedule.Event.{Event}
 use Rattle.auction_book.specs.declared.schedule.Seat.{Seat}
-use Rattle.auction_book.specs.Book.{BookData, Holds, ask_of, persons_of, prices_of, version_of}
+use Rattle.auction_book.specs.Book.{BookData, Holds, persons_of, prices_of, version_of}
 use Rattle.auction_book.specs.Changes.{caught_up, claimed, phased, released}
 use Rattle.auction_book.specs.Claims.{after_claim, claim_of}
 use Rattle.auction_book.specs.Follows.{Follows, GoesOn}
@@ -36,7 +36,7 @@ use Rattle.auction_book.specs.Session.{EndsClaim, IsHandedIn, IsNoted, IsPrepare
 use Rattle.auction_book.specs.Submissions.{IsSubmitted}
 use Rattle.auction_book.proofs.Accepting.{accepted_follows, accepted_free, released_follows, released_free}
 use Rattle.auction_book.proofs.Claiming.{claim_by, cond_by}
-use Rattle.auction_book.proofs.Following.{caught_up_follows, claimed_follows, follows_itself, goes_on_itself, goes_on_through, over_is, phased_follows, recorded_follows}
+use Rattle.auction_book.proofs.Following.{caught_up_follows, claimed_follows, follows_itself, goes_on_itself, goes_on_through, phased_follows, recorded_follows}
 use Rattle.auction_book.proofs.Opening.{no_owner, no_version, opened_free, phased_free}
 use Rattle.auction_book.proofs.OtherChanges.{caught_up_free, caught_up_trimmed, claimed_free, recorded_free}
 use Rattle.auction_book.proofs.Places.{claimed_person}
@@ -57,7 +57,7 @@ prepared_kept w k b new table version None f ne h = f.claims k ne ∙ h
 prepared_kept w k b new table version (Some offer) f ne h = (
   h.0,
   f.claims k ne ∙ h.1,
-  subst (λ (s : ScaledProblem). IsOffer s table version (ask_of new) h.0 offer) (sym f.goes_on.base)
+  subst (λ (s : ScaledProblem). IsOffer s table version new.ask h.0 offer) (sym f.goes_on.base)
       (subst (λ ask. IsOffer b.base table version ask h.0 offer) (sym (f.asked k h.0 ne h.1)) h.2),
 )
 
@@ -91,12 +91,12 @@ left_released w person b new free held e =
     subst (IsLeft w b) (sym e) (record { free = released_free b w person free held; ends = record { follows = released_follows b w person; none = over_claim b w person held; stopped = refl } })
 
 -- after a prepared bid was judged
-judged_left : (w person : ℕ) (b new : BookData) (table : List ℤ) (bid : Bid) (answer : Result Accepted Refused) → IsFree b → IsBelow table (prices_of b) → Holds b w person → bid.person ≡ person → bid.phase ≡ b.phase → IsBid b.base table (ask_of b) bid →
+judged_left : (w person : ℕ) (b new : BookData) (table : List ℤ) (bid : Bid) (answer : Result Accepted Refused) → IsFree b → IsBelow table (prices_of b) → Holds b w person → bid.person ≡ person → bid.phase ≡ b.ask.phase → IsBid b.base table b.ask bid →
     IsSubmitted b w bid answer new → IsLeft w b new
 judged_left w person b new table bid (Ok a) free below held who phase is s =
-    let sound = bid_sound b.base table (ask_of b) bid is in
+    let sound = bid_sound b.base table b.ask bid is in
     subst (IsLeft w b) (sym s.4) (record {
-      free = accepted_free b w bid free (sound_above b.base (ask_of b) table (prices_of b) bid below sound) s.2 s.0;
+      free = accepted_free b w bid free (sound_above b.base b.ask table (prices_of b) bid below sound) s.2 s.0;
       ends = record { follows = accepted_follows b w bid table free below sound s.2; none = over_claim b w bid.person s.0; stopped = refl };
     })
 judged_left w person b new table bid (Err NotClaimed) free below held who phase is s = absurd (s.0 (held ∙ ap Some (sym who)))
@@ -159,7 +159,7 @@ taken_same false w b = (refl, refl)
 taken_same true w b = (refl, refl)
 
 step_next : (w : ℕ) (b : BookData) → IsFree b → IsStep w b (next_if_over b)
-step_next w b free = cond_by (IsStep w b) (is_over b) (phased b) b (λ h. let over = over_is b h in record { free = phased_free b free over; follows = phased_follows b w free over })
+step_next w b free = cond_by (IsStep w b) (is_over b) (phased b) b (λ h. record { free = phased_free b free h; follows = phased_follows b w free h })
     (λ h. record { free = free; follows = follows_itself b w })
 
 next_same : (b : BookData) → ((next_if_over b).claims ≡ b.claims) × ((next_if_over b).counts ≡ b.counts)
@@ -184,7 +184,7 @@ claimed_none w b table version free none = (
 
 -- the front of the queue is claimed, and its offer is prepared
 claimed_some : (w : ℕ) (b : BookData) (table : List ℤ) (version person : ℕ) (rest : List ℕ) → IsFree b → numbered b.claims w None ≡ None → IsNumber (length b.claims) w → b.queue ≡ person ∷ rest →
-    IsClaimed w b table version (claim.Person person (ask_of b))
+    IsClaimed w b table version (claim.Person person b.ask)
 claimed_some w b table version person rest free none number e =
     let p = claimed_person (persons_of b) b.owners b.queue b.claims person rest free.placed_once e in
     let long : length b.queue ≡ length rest + 1 = ap length e ∙ omega arith in
@@ -193,7 +193,7 @@ claimed_some w b table version person rest free none number e =
     let row = benefit_row_is b.base person free.problem p in
     record {
       step = record { free = claimed_free b w free number.first number.last none some; follows = claimed_follows b w };
-      prepared = (person, numbered-same b.claims w (Some (get_or b.queue 0 0)) None number.first number.last ∙ ap Some front, offer_is b.base table version (ask_of b) person row.rising);
+      prepared = (person, numbered-same b.claims w (Some (get_or b.queue 0 0)) None number.first number.last ∙ ap Some front, offer_is b.base table version b.ask person row.rising);
       own = λ o. own_kept b (claimed b w) table version free (claimed_follows b w).goes_on o;
       counts = refl;
     }

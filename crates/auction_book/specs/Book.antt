@@ -6,13 +6,11 @@ use Rattle.scaled_values.specs.Scaled.{ScaledProblem, greatest_of, top_of}
 use Rattle.bidder.specs.declared.offers.Ask.{Ask}
 use Rattle.price_log.specs.History.{History, last_version, today}
 
--- the problem, the phase with the prices and the version at its start, the owner of each object, who waits,
--- and for each worker the person claimed, the bids accepted and the version last taken
+-- the problem, what the phase asks of a bid, the prices and the version at its start, the owner of each object, who
+-- waits, and for each worker the person claimed, the bids accepted and the version last taken
 pub record BookData : Type 0 where
   pub base : ScaledProblem
-  pub phase : ℕ
-  pub eps : ℤ
-  pub floor : ℤ
+  pub ask : Ask
   pub start : List ℤ
   pub start_version : ℕ
   pub owners : List (Option ℕ)
@@ -33,10 +31,6 @@ prices_of b = today b.log
 abbrev pub version_of : BookData → ℕ
 version_of b = last_version b.log
 
--- what the phase asks of a bid
-abbrev pub ask_of : BookData → Ask
-ask_of b = record { phase = b.phase; eps = b.eps; floor = b.floor }
-
 -- the worker holds that person's claim
 abbrev pub Holds : BookData → ℕ → ℕ → Type 0
 Holds b worker person = numbered b.claims worker None ≡ Some person
@@ -52,7 +46,7 @@ room_under top (p ∷ prices) = (top -ℤ p) +ℤ room_under top prices
 
 -- at most how many bids a phase accepts, since each raises a price by eps or more
 abbrev pub phase_bound : BookData → ℤ
-phase_bound b = int_div (room_under (top_of b.base (greatest_of b.start) b.eps) b.start) b.eps
+phase_bound b = int_div (room_under (top_of b.base (greatest_of b.start) b.ask.eps) b.start) b.ask.eps
 
 -- the entry is person i
 abbrev pub is_person : ℕ → Option ℕ → Bool

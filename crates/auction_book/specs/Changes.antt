@@ -70,9 +70,11 @@ caught_up b worker = record b {
 -- the next phase: nobody is assigned, all wait, and each price stays
 abbrev pub phased : BookData → BookData
 phased b = record b {
-  phase = b.phase + 1;
-  eps = fifth b.eps;
-  floor = floor_of b.base (greatest_of (prices_of b)) (fifth b.eps);
+  ask = record {
+    phase = b.ask.phase + 1;
+    eps = fifth b.ask.eps;
+    floor = floor_of b.base (greatest_of (prices_of b)) (fifth b.ask.eps);
+  };
   start = prices_of b;
   start_version = version_of b;
   owners = replicate (persons_of b) None;

@@ -5,14 +5,14 @@ use Rattle.scaled_values.specs.Scaled.{ScaledProblem}
 use Rattle.bidder.specs.Offers.{IsAsk}
 use Rattle.auction_book.specs.declared.answers.Claim.{Claim}
 use Rattle.auction_book.specs.declared.answers.Claim.TheVariants as claim
-use Rattle.auction_book.specs.Book.{BookData, Holds, ask_of}
+use Rattle.auction_book.specs.Book.{BookData, Holds}
 use Rattle.auction_book.specs.Phases.{is_done}
 use Rattle.auction_book.specs.Changes.{claimed}
 
 -- the front of the queue, if it isn't empty
 abbrev pub claim_front : BookData → List ℕ → Claim
 claim_front b [] = claim.Wait
-claim_front b (person ∷ queue) = claim.Person person (ask_of b)
+claim_front b (person ∷ queue) = claim.Person person b.ask
 
 -- the first of the answers that applies
 abbrev pub claim_of : BookData → Claim
@@ -28,7 +28,7 @@ after_claim b worker claim.Wait = b
 
 -- where a person was claimed: what is asked of its bid is what the book asks, and the worker holds its claim
 abbrev pub IsHeld : BookData → ℕ → Claim → Type 0
-IsHeld new worker (claim.Person person ask) = (ask ≡ ask_of new) × Holds new worker person
+IsHeld new worker (claim.Person person ask) = (ask ≡ new.ask) × Holds new worker person
 IsHeld new worker answer = Unit {0}
 
 -- who was claimed is a person of the problem, and what is asked is slackness and floor of some phase

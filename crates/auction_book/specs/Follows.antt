@@ -3,7 +3,7 @@ use Rattle.std.specs.Prelude.{◌≡◌, ◌≢◌, ℕ, None, IsTrue, length, i
 use Rattle.assign_core.specs.Numbered.{numbered}
 use Rattle.assign_core.specs.Prices.{IsBelow}
 use Rattle.price_log.specs.History.{Continues}
-use Rattle.auction_book.specs.Book.{BookData, Holds, ask_of, prices_of}
+use Rattle.auction_book.specs.Book.{BookData, Holds, prices_of}
 
 -- the later book is of the same problem and number of workers, no price is lower, its log continues, and a Hall set
 -- is recorded where one was
@@ -20,4 +20,4 @@ pub record Follows (worker : ℕ) (old new : BookData) : Type 0 where
   pub goes_on : GoesOn old new
   pub counts : (k : ℕ) → k ≢ worker → numbered new.counts k 0 ≡ numbered old.counts k 0
   pub claims : (k : ℕ) → k ≢ worker → numbered new.claims k None ≡ numbered old.claims k None
-  pub asked : (k person : ℕ) → k ≢ worker → Holds old k person → ask_of new ≡ ask_of old
+  pub asked : (k person : ℕ) → k ≢ worker → Holds old k person → new.ask ≡ old.ask

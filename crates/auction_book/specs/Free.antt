@@ -6,6 +6,7 @@ use Rattle.assign_core.specs.Matching.{IsMatching, owner_of}
 use Rattle.assign_core.specs.Slackness.{HasSlack}
 use Rattle.assign_core.specs.Hall.{IsHallSet}
 use Rattle.scaled_values.specs.Scaled.{ScaledProblem, eps_after, first_eps, floor_of, greatest_of, spread, top_of}
+use Rattle.bidder.specs.declared.offers.Ask.{Ask}
 use Rattle.bidder.specs.Offers.{benefits_at}
 use Rattle.price_log.specs.History.{IsHistory, sum_of}
 use Rattle.assign_core.specs.declared.numbers.TheConstants.{GREATEST_FIRST_PRICE}
@@ -19,12 +20,12 @@ pub record HasSizes (n : ℕ) (prices start : List ℤ) (claims : List (Option �
   pub noted : length taken ≡ length claims
 
 -- the phase's slackness and floor; the greatest price at its start has risen by one phase's span a phase at most
-pub record IsPhase (base : ScaledProblem) (phase : ℕ) (eps floor : ℤ) (start : List ℤ) : Type 0 where
-  pub begins : 0 < phase
+pub record IsPhase (base : ScaledProblem) (ask : Ask) (start : List ℤ) : Type 0 where
+  pub begins : 0 < ask.phase
   pub start_prices : IsTable start
-  pub slackness : eps_after base (phase - 1) ≡ Some eps
-  pub floor_is : floor ≡ floor_of base (greatest_of start) eps
-  pub start_low : greatest_of start ≤ℤ (GREATEST_FIRST_PRICE +ℤ (pos (phase - 1) *ℤ (pos (length base.problem) *ℤ (spread base +ℤ first_eps base))))
+  pub slackness : eps_after base (ask.phase - 1) ≡ Some ask.eps
+  pub floor_is : ask.floor ≡ floor_of base (greatest_of start) ask.eps
+  pub start_low : greatest_of start ≤ℤ (GREATEST_FIRST_PRICE +ℤ (pos (ask.phase - 1) *ℤ (pos (length base.problem) *ℤ (spread base +ℤ first_eps base))))
 
 -- an unowned object has its first price of the phase, an owned one at least eps more
 abbrev pub IsPriced : ℤ → ℤ → ℤ → Option ℕ → Type 0
@@ -44,12 +45,12 @@ pub record IsFree (b : BookData) : Type 0 where
   pub problem : IsProblem b.base.problem
   pub sizes : HasSizes (persons_of b) (prices_of b) b.start b.claims b.counts b.taken
   pub owners_match : IsMatching b.base.problem b.owners
-  pub owners_slack : (i j : ℕ) → owner_of b.owners j ≡ Some i → HasSlack b.eps (prices_of b) (benefits_at b.base i) j
+  pub owners_slack : (i j : ℕ) → owner_of b.owners j ≡ Some i → HasSlack b.ask.eps (prices_of b) (benefits_at b.base i) j
   pub placed_once : (i : ℕ) → places b.owners b.queue b.claims i ≡ one_if_person (persons_of b) i
   pub log_ascends : IsHistory b.log
-  pub priced : (j : ℕ) → IsPriced b.eps (price_of b.start j) (price_of (prices_of b) j) (owner_of b.owners j)
-  pub topped : (j : ℕ) → price_of (prices_of b) j ≤ℤ top_of b.base (greatest_of b.start) b.eps
-  pub in_phase : IsPhase b.base b.phase b.eps b.floor b.start
+  pub priced : (j : ℕ) → IsPriced b.ask.eps (price_of b.start j) (price_of (prices_of b) j) (owner_of b.owners j)
+  pub topped : (j : ℕ) → price_of (prices_of b) j ≤ℤ top_of b.base (greatest_of b.start) b.ask.eps
+  pub in_phase : IsPhase b.base b.ask b.start
   pub counts_total : sum b.counts ≡ version_of b
-  pub progress : IsProgress b.eps b.start (prices_of b) b.start_version (version_of b) b.owners
+  pub progress : IsProgress b.ask.eps b.start (prices_of b) b.start_version (version_of b) b.owners
   pub recorded : MatchOption b.refuted (Unit {0}) (λ h. IsHallSet b.base.problem h.persons h.objects)

@@ -1,5 +1,5 @@
 -- The opening of a book, and when a phase is over.
-use Rattle.std.specs.Prelude.{◌≡◌, ◌≢◌, ℕ, ℤ, zero, suc, pos, List, [], ◌∷◌, ◌++◌, None, Bool, false, not, nat_eq, ◌&&◌, length, replicate, count_by, is_some}
+use Rattle.std.specs.Prelude.{ℕ, ℤ, zero, suc, pos, List, [], ◌∷◌, ◌++◌, None, Bool, false, not, nat_eq, ◌&&◌, length, replicate, count_by, is_some}
 use Rattle.std.specs.Ordering.{int_eq}
 use Rattle.scaled_values.specs.Scaled.{ScaledProblem, first_eps, floor_of, greatest_of}
 use Rattle.price_log.specs.History.{started}
@@ -14,9 +14,11 @@ persons (suc n) = persons n ++ suc n ∷ []
 abbrev pub opened : ScaledProblem → List ℤ → ℕ → BookData
 opened s prices workers = record {
   base = s;
-  phase = 1;
-  eps = first_eps s;
-  floor = floor_of s (greatest_of prices) (first_eps s);
+  ask = record {
+    phase = 1;
+    eps = first_eps s;
+    floor = floor_of s (greatest_of prices) (first_eps s);
+  };
   start = prices;
   start_version = 0;
   owners = replicate (length s.problem) None;
@@ -35,13 +37,8 @@ is_assigned b = nat_eq (count_by is_some b.owners) (persons_of b)
 
 -- everybody is assigned, and a phase follows
 abbrev pub is_over : BookData → Bool
-is_over b = is_assigned b && not (int_eq b.eps (pos 1))
+is_over b = is_assigned b && not (int_eq b.ask.eps (pos 1))
 
 -- everybody is assigned in the last phase
 abbrev pub is_done : BookData → Bool
-is_done b = is_assigned b && int_eq b.eps (pos 1)
-
--- the facts that the test of the same name decides
-pub record IsOver (b : BookData) : Type 0 where
-  pub assigned : count_by is_some b.owners ≡ persons_of b
-  pub more : b.eps ≢ pos 1
+is_done b = is_assigned b && int_eq b.ask.eps (pos 1)

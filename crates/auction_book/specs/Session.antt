@@ -14,7 +14,7 @@ use Rattle.auction_book.specs.declared.answers.Note.{Note}
 use Rattle.auction_book.specs.declared.answers.Note.TheVariants as note
 use Rattle.auction_book.specs.declared.answers.Refused.{Refused}
 use Rattle.auction_book.specs.declared.answers.Refused.TheVariants.{Memory}
-use Rattle.auction_book.specs.Book.{BookData, Holds, ask_of, prices_of, version_of}
+use Rattle.auction_book.specs.Book.{BookData, Holds, prices_of, version_of}
 use Rattle.auction_book.specs.Changes.{caught_up, phased, recorded, released}
 use Rattle.auction_book.specs.Claims.{after_claim, claim_of}
 use Rattle.auction_book.specs.Follows.{Follows}
@@ -24,7 +24,7 @@ use Rattle.auction_book.specs.Submissions.{IsSubmitted}
 -- a prepared offer is the offer of the claimed person in this phase, from the worker's table
 abbrev pub IsPrepared : BookData → ℕ → List ℤ → ℕ → Option Offer → Type 0
 IsPrepared b worker table version None = numbered b.claims worker None ≡ None
-IsPrepared b worker table version (Some offer) = (person : ℕ) × Holds b worker person × IsOffer b.base table version (ask_of b) person offer
+IsPrepared b worker table version (Some offer) = (person : ℕ) × Holds b worker person × IsOffer b.base table version b.ask person offer
 
 -- the Hall set of all that a person reaches was recorded, and the claim is over
 abbrev pub IsReachRecorded : BookData → ℕ → ℕ → BookData → Type 0

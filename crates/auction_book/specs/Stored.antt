@@ -10,9 +10,7 @@ use Rattle.auction_book.specs.Free.{IsFree}
 abbrev pub book_of : Inside → BookData
 book_of b = record {
   base = arc_value b.scaled;
-  phase = b.phase;
-  eps = b.eps;
-  floor = b.floor;
+  ask = b.ask;
   start = b.start;
   start_version = b.start_version;
   owners = b.owners.items;

@@ -18,7 +18,8 @@ mod phases;
 mod reading;
 mod submitting;
 
-use assign_core::{HallSet, Person, Price, Prices};
+use assign_core::{HallSet, Person, Prices};
+use bidder::Ask;
 use price_log::PriceLog;
 use scaled_values::Scaled;
 use std::collections::VecDeque;
@@ -34,10 +35,8 @@ use std::sync::Arc;
 pub struct Book {
     // The problem with its benefits.
     scaled: Arc<Scaled>,
-    // The phase's number, its slackness, and the value below which nobody bids in it.
-    phase: u16,
-    eps: i64,
-    floor: Price,
+    // What the phase asks of a bid.
+    ask: Ask,
     // The prices at the phase's start, and which version these were.
     start: Prices,
     start_version: u128,
@@ -85,18 +84,6 @@ fn requeue(queue: &mut VecDeque<Person>, person: Option<Person>)
 }
 
 impl Book {
-    fn phase(&self) -> u16
-        ensures { result ≡ self.now.phase }
-    {
-        self.phase
-    }
-
-    fn eps(&self) -> i64
-        ensures { result ≡ self.now.eps }
-    {
-        self.eps
-    }
-
     // Whether the worker holds the person's claim.
     fn holds(&self, worker: u16, person: Person) -> bool
         requires { IsNumber (length self.now.claims) worker }
@@ -130,6 +117,6 @@ impl Book {
     fn is_done(&self) -> bool
         ensures done { result ≡ is_done self.now }
     {
-        self.is_assigned() && self.eps == 1
+        self.is_assigned() && self.ask.eps == 1
     }
 }

@@ -14,9 +14,9 @@ ghost use Rattle.auction_book.specs.declared.answers.Accepted.{Accepted};
 ghost use Rattle.auction_book.specs.declared.answers.Claim.{Claim};
 ghost use Rattle.auction_book.specs.declared.answers.Note.{Note};
 ghost use Rattle.auction_book.specs.declared.answers.Refused.{Refused};
-ghost use Rattle.auction_book.specs.Book.{BookData, Holds, ask_of, persons_of, phase_accepted, phase_bound, prices_of};
+ghost use Rattle.auction_book.specs.Book.{BookData, Holds, persons_of, phase_accepted, phase_bound, prices_of};
 ghost use Rattle.auction_book.specs.Claims.{after_claim};
-ghost use Rattle.auction_book.specs.Phases.{IsOver};
+ghost use Rattle.auction_book.specs.Phases.{is_over};
 ghost use Rattle.auction_book.specs.Changes.{accepted, caught_up, claimed, given_up, phased, released, recorded};
 ghost use Rattle.auction_book.specs.Session.{EndsClaim, IsNoted, IsPrepared, IsUndone};
 ghost use Rattle.auction_book.specs.Submissions.{IsFitting, IsHigh, IsRecorded, IsSubmitted};
@@ -32,7 +32,7 @@ pub fn changes_follow()
         → Follows worker second third → Follows worker first third }
     ensures claimed { (b : BookData) (worker : ℕ) → Follows worker b (claimed b worker) }
     ensures accepted { (b : BookData) (worker : ℕ) (bid : Bid) (q : List ℤ) → IsFree b → IsBelow q (prices_of b)
-        → IsSound b.base (ask_of b) q bid → IsHigh b bid
+        → IsSound b.base b.ask q bid → IsHigh b bid
         → Follows worker b (accepted b worker bid) }
     ensures released { (b : BookData) (worker person : ℕ) → Follows worker b (released b worker person) }
     ensures given_up { (b : BookData) (worker : ℕ)
@@ -40,7 +40,7 @@ pub fn changes_follow()
     ensures recorded { (b : BookData) (worker person : ℕ) (lists : HallLists)
         → Follows worker b (recorded b worker person lists) }
     ensures caught_up { (b : BookData) (worker : ℕ) → IsFree b → Follows worker b (caught_up b worker) }
-    ensures phased { (b : BookData) (worker : ℕ) → IsFree b → IsOver b → Follows worker b (phased b) }
+    ensures phased { (b : BookData) (worker : ℕ) → IsFree b → is_over b ≡ true → Follows worker b (phased b) }
     ensures stopped { (b : BookData) (worker : ℕ) → Follows worker b (record b { stopped = true }) }
     ensures resumed { (b : BookData) (worker : ℕ) → Follows worker b (record b { stopped = false }) }
 {}
@@ -76,7 +76,7 @@ pub fn claimed_persons_own_nothing()
 
 /// A bid made from today's prices and phase is never too low.
 pub fn fresh_bids_are_high()
-    ensures { (b : BookData) (bid : Bid) → IsBid b.base (prices_of b) (ask_of b) bid → IsHigh b bid }
+    ensures { (b : BookData) (bid : Bid) → IsBid b.base (prices_of b) b.ask bid → IsHigh b bid }
 {}
 
 /// The floor is exact: where a person lists nothing, or all that it lists is worth less than the
@@ -85,9 +85,9 @@ pub fn fresh_bids_are_high()
 /// section 7.1.5).
 pub fn floor_is_exact()
     ensures blocked { (b : BookData) (q : List ℤ) (i : ℕ) → IsFree b → IsBelow q (prices_of b)
-        → IsUnder (benefits_at b.base i) q b.floor → IsBlocked b.base.problem b.owners i }
+        → IsUnder (benefits_at b.base i) q b.ask.floor → IsBlocked b.base.problem b.owners i }
     ensures no_path { (b : BookData) (q : List ℤ) (i : ℕ) (js : List ℕ) → IsFree b → IsBelow q (prices_of b)
-        → IsUnder (benefits_at b.base i) q b.floor → IsPath b.base.problem b.owners i js → ⊥ }
+        → IsUnder (benefits_at b.base i) q b.ask.floor → IsPath b.base.problem b.owners i js → ⊥ }
 {}
 
 /// A phase accepts no more bids than the room under its top has steps of eps.

@@ -34,9 +34,9 @@ pub fn record_below(
 ) -> Result<(), AllocError>
     requires worker { IsNumber (length book.old.claims) worker }
     requires held { Holds book.old worker below.person }
-    requires phase { below.phase ≡ book.old.phase }
+    requires phase { below.phase ≡ book.old.ask.phase }
     requires under { (q : List ℤ) × IsBelow q (prices_of book.old)
-        × IsUnder (benefits_at book.old.base below.person) q book.old.floor }
+        × IsUnder (benefits_at book.old.base below.person) q book.old.ask.floor }
     ensures ok { OnOk result (IsReachRecorded book.old worker below.person book.new) }
     ensures err { OnErr result (book.new ≡ book.old) }
     ensures free { IsFree book.new }
@@ -79,9 +79,9 @@ fn submit_bid(book: &mut Book, worker: u16, bid: Bid) -> Submission
 fn submit_below(alloc: Global, book: &mut Book, worker: u16, below: BelowFloor) -> Submission
     requires worker { IsNumber (length book.old.claims) worker }
     requires held { Holds book.old worker below.person }
-    requires phase { below.phase ≡ book.old.phase }
+    requires phase { below.phase ≡ book.old.ask.phase }
     requires under { (q : List ℤ) × IsBelow q (prices_of book.old)
-        × IsUnder (benefits_at book.old.base below.person) q book.old.floor }
+        × IsUnder (benefits_at book.old.base below.person) q book.old.ask.floor }
     ensures handed_in { IsHandedIn book.old worker (Some (made.Below below)) book.new result.note result.outcome }
     ensures free { IsFree book.new }
 {
@@ -119,8 +119,8 @@ pub fn submit_offer(alloc: Global, book: &mut Book, worker: u16, offer: Option<O
     }
 }
 
-/// Makes a worker's table today's if `catch_up` says so.
-pub fn take_prices(
+// Makes a worker's table today's if `catch_up` says so.
+pub(super) fn take_prices(
     book: &mut Book,
     worker: u16,
     table: &mut Prices,

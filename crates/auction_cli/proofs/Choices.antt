@@ -3,6 +3,7 @@ use Rattle.std.proofs.Common.{◌≡◌, ◌∙◌, ◌↔◌, refl, sym, ap, su
 use Rattle.std.specs.Prelude.{Result, Ok, Err, IfOk, IfErr, IfSome}
 use Rattle.std.specs.Option.{ok_or}
 use Rattle.std.specs.Str.Parse.{ParsesUnsigned, digits_value, without_leading_plus}
+use Rattle.std.proofs.lemmas.Option.{same_Some}
 use Rattle.clap.specs.Words.{IsUnsignedIn, ReadsOne, Row, Text, fault_of, first_of, subcommand_of}
 use Rattle.assign_core.specs.declared.sense.Sense.{Sense}
 use Rattle.auction_cli.specs.Words.{Chooses, IsTaken, NamesMethod, NamesMode, NamesNoMode, NamesNoSense, NamesSense, Places, SolvesFrom, VerifiesFrom, WordsOutcome, mode_name, program, sense_name}
@@ -15,7 +16,7 @@ use Rattle.auction_cli.specs.declared.words.Words.{Words}
 use Rattle.auction_cli.specs.declared.words.WordsFault.{WordsFault}
 use Rattle.auction_cli.specs.declared.words.WordsFault.TheVariants as wrong
 use Rattle.auction_cli.specs.declared.words.WordsFault.TheVariants.{Clap, Memory}
-use Rattle.auction_cli.proofs.CommandLines.{file_of, flags_of, mode_is_named, no_file_mode, no_solve_sense, sense_is_named, solve_flags, solves, some_is, verifies, verify_file}
+use Rattle.auction_cli.proofs.CommandLines.{file_of, flags_of, mode_is_named, no_file_mode, no_solve_sense, sense_is_named, solve_flags, solves, verifies, verify_file}
 
 -- a text of a number in range is read as that number
 pub number_read : (E : Type 0) (G : List ℕ → Result ℕ E → Type 0) (digits : Text) (o : Option ℕ) (least most : ℕ) → ReadsOne G digits o → ((u : List ℕ) (x : Result ℕ E) → G u x → ParsesUnsigned 64 10 u x) →
@@ -33,7 +34,7 @@ mode_told rows name (Some mode) r f s e = rw e (sym f ∙ ap Some s)
 
 pub mode_untold : (rows : List Row) (name : Text) (o : Option Mode) (r : Result Mode WordsFault) → Some name ≡ first_of (codes "mode") rows → (o ≡ None → (mode : Mode) → name ≡ mode_name mode → ⊥) → r ≡ ok_or o wrong.Mode →
     IfErr r (λ fault. (fault ≡ wrong.Mode) × ((mode : Mode) → NamesMode rows mode → ⊥))
-mode_untold rows name None r f n e = rw e (refl, λ mode is. n refl mode (some_is _ _ (f ∙ is)))
+mode_untold rows name None r f n e = rw e (refl, λ mode is. n refl mode (same_Some _ _ (f ∙ is)))
 mode_untold rows name (Some mode) r f n e = rw e tt
 
 -- the sense that is named, where one is
@@ -42,13 +43,13 @@ sense_told rows name sense f s = sym f ∙ ap Some s
 
 pub sense_untold : (rows : List Row) (name : Text) → Some name ≡ first_of (codes "sense") rows → ((sense : Sense) → name ≡ sense_name sense → ⊥) → (sense : Option Sense) → NamesSense rows sense → ⊥
 sense_untold rows name f n None is = none_is_some name (sym (f ∙ is))
-sense_untold rows name f n (Some sense) is = n sense (some_is _ _ (f ∙ is))
+sense_untold rows name f n (Some sense) is = n sense (same_Some _ _ (f ∙ is))
 
 pub no_mode : (rows : List Row) → None ≡ first_of (codes "mode") rows → (wrong.Mode ≡ wrong.Mode) × ((mode : Mode) → NamesMode rows mode → ⊥)
 no_mode rows f = (refl, λ mode is. none_is_some _ (f ∙ is))
 
 pub method_told : (rows : List Row) (name : Text) (method : Method) → Some name ≡ first_of (codes "method") rows → (method ≡ Paths) ↔ (name ≡ codes "paths") → NamesMethod rows method
-method_told rows name method f is = ((λ p. sym f ∙ ap Some (is.0 p)), (λ p. is.1 (some_is _ _ (f ∙ p))))
+method_told rows name method f is = ((λ p. sym f ∙ ap Some (is.0 p)), (λ p. is.1 (same_Some _ _ (f ∙ p))))
 
 pub method_untold : (rows : List Row) → None ≡ first_of (codes "method") rows → NamesMethod rows Auction
 method_untold rows f = ((λ p. cc), (λ p. absurd (none_is_some _ (f ∙ p))))

@@ -9,6 +9,7 @@ use Rattle.clap.specs.declared.error.Error.{Error}
 use Rattle.clap.specs.declared.error.kind.ErrorKind.TheVariants.{DisplayVersion, OutOfMemory}
 use Rattle.clap.proofs.OnLiterals.{clap_on_literals}
 use Rattle.std.specs.Str.Parse.{digits_value, without_leading_plus}
+use Rattle.std.proofs.lemmas.Option.{same_Some}
 use Rattle.assign_core.specs.declared.sense.Sense.{Sense}
 use Rattle.assign_core.specs.declared.sense.Sense.TheVariants.{Min, Max}
 use Rattle.auction_cli.specs.Words.{AskForNoModeAt, AskForNoSenseAt, AsksForVersion, Chooses, ChoosesSolving, IsFlag, IsInRanges, IsNumberFor, NamesMethod, NamesNoMode, NamesNoSense, Places, SolvesFrom, VerifiesFrom, WordsOutcome, full_line, full_options, full_verify_line, input_line, input_verify_line, is_max, lying, method_names, mode_name, program, sense_name, usual_options}
@@ -184,15 +185,12 @@ flag_is : (text : Option Text) (flag b : Bool) → IsFlag text flag → text ≡
 flag_is text flag true f e = f.set e
 flag_is text flag false f e = f.unset e
 
-pub some_is : {A : Type 0} (x y : A) → Some x ≡ Some y → x ≡ y
-some_is x y e = cc
-
 pub other_command : codes "verify" ≡ codes "solve" → ⊥
 other_command e = cc
 
 -- the number of a text that is known
 number_is : (text : Option Text) (least most : ℕ) {number : ℕ} (digits : Text) → IsNumberFor text least most number → text ≡ Some digits → number ≡ digits_value 10 (without_leading_plus digits)
-number_is text least most digits h e = h.value ∙ ap (λ (d : Text). digits_value 10 (without_leading_plus d)) (some_is _ _ (sym h.told ∙ e))
+number_is text least most digits h e = h.value ∙ ap (λ (d : Text). digits_value 10 (without_leading_plus d)) (same_Some _ _ (sym h.told ∙ e))
 
 same_sense : (a b : Sense) → is_max a ≡ is_max b → a ≡ b
 same_sense Min Min e = refl
@@ -217,7 +215,7 @@ same_name Max Min e =
 
 same_wanted : (a b : Option Sense) → option_map sense_name a ≡ option_map sense_name b → a ≡ b
 same_wanted None None e = refl
-same_wanted (Some a) (Some b) e = ap Some (same_name a b (some_is _ _ e))
+same_wanted (Some a) (Some b) e = ap Some (same_name a b (same_Some _ _ e))
 same_wanted None (Some b) e = cc
 same_wanted (Some a) None e = cc
 
@@ -237,7 +235,7 @@ pub in_ranges : (found : Option (Text × List Row)) (r : Result Words WordsFault
 in_ranges found (Ok (Solve options start asked)) h = record {
   some_workers = at_least _ _ _ _ h.2.workers;
   few_workers = at_most _ _ _ _ h.2.workers;
-  few_turns = at_most _ _ _ _ h.2.refresh;
+  few_sessions = at_most _ _ _ _ h.2.refresh;
 }
 in_ranges found (Ok (Verify sparse sense report input)) h = tt
 in_ranges found (Err fault) h = tt
@@ -245,9 +243,9 @@ in_ranges found (Err fault) h = tt
 -- the options that a line is told by
 pub options_are : (rows : List Row) (method : Method) (o wanted : SolveOpts) (workers refresh : Text) (start input : Option Text) → flags_of (Some (codes "solve", rows)) ≡ Some (solve_flags method wanted workers refresh start input) → ChoosesSolving rows o → wanted.workers ≡ digits_value 10 (without_leading_plus workers) → wanted.refresh ≡ digits_value 10 (without_leading_plus refresh) → o ≡ wanted
 options_are rows method o wanted workers refresh start input e h w r =
-    let all = some_is _ _ e in
+    let all = same_Some _ _ e in
     let sparse : o.sparse ≡ wanted.sparse = flag_is _ _ wanted.sparse h.sparse (ap (λ (q : Flags). q.sparse) all) in
-    let mode : o.mode ≡ wanted.mode = same_mode _ _ (some_is _ _ (sym h.mode ∙ ap (λ (q : Flags). q.mode) all)) in
+    let mode : o.mode ≡ wanted.mode = same_mode _ _ (same_Some _ _ (sym h.mode ∙ ap (λ (q : Flags). q.mode) all)) in
     let many : o.workers ≡ wanted.workers = number_is _ _ _ workers h.workers (ap (λ (q : Flags). q.workers) all) ∙ sym w in
     let often : o.refresh ≡ wanted.refresh = number_is _ _ _ refresh h.refresh (ap (λ (q : Flags). q.refresh) all) ∙ sym r in
     let prices : o.prices ≡ wanted.prices = flag_is _ _ wanted.prices h.prices (ap (λ (q : Flags). q.prices) all) in
@@ -258,7 +256,7 @@ same_method : (rows : List Row) (m method : Method) → NamesMethod rows m → f
 same_method rows m Paths h e = h.1 e
 same_method rows Auction Auction h e = refl
 same_method rows Paths Auction h e =
-    let other : codes "auction" ≡ codes "paths" = some_is _ _ (sym e ∙ h.0 refl) in
+    let other : codes "auction" ≡ codes "paths" = same_Some _ _ (sym e ∙ h.0 refl) in
     cc
 
 pub solves : (found : Option (Text × List Row)) (asked : Words) (method : Method) (wanted : SolveOpts) (workers refresh : Text) (start input : Option Text) → flags_of found ≡ Some (solve_flags method wanted workers refresh start input) →
@@ -267,28 +265,28 @@ pub solves : (found : Option (Text × List Row)) (asked : Words) (method : Metho
 solves found (Solve options file asked) method wanted workers refresh start input e w r h =
     let told : flags_of (Some (codes "solve", h.0)) ≡ Some (solve_flags method wanted workers refresh start input) = ap flags_of (sym h.1) ∙ e in (
       options_are h.0 method options wanted workers refresh start input told h.2 w r,
-      h.3 ∙ ap (λ (q : Flags). q.start) (some_is _ _ told),
-      same_method h.0 asked.method method h.4 (ap (λ (q : Flags). q.method) (some_is _ _ told)),
-      h.5 ∙ ap (λ (q : Flags). q.input) (some_is _ _ told),
+      h.3 ∙ ap (λ (q : Flags). q.start) (same_Some _ _ told),
+      same_method h.0 asked.method method h.4 (ap (λ (q : Flags). q.method) (same_Some _ _ told)),
+      h.5 ∙ ap (λ (q : Flags). q.input) (same_Some _ _ told),
     )
 solves found (Verify sparse sense report file) method wanted workers refresh start input e w r h =
-    absurd (other_command (ap (λ (q : Flags). q.name) (some_is _ _ (ap flags_of (sym h.1) ∙ e))))
+    absurd (other_command (ap (λ (q : Flags). q.name) (same_Some _ _ (ap flags_of (sym h.1) ∙ e))))
 
 -- a line that names its mode is refused for no mode
 pub mode_is_named : (found : Option (Text × List Row)) (method : Method) (wanted : SolveOpts) (workers refresh : Text) (start input : Option Text) → flags_of found ≡ Some (solve_flags method wanted workers refresh start input) → NamesNoMode found → ⊥
 mode_is_named found method wanted workers refresh start input e h =
     let told : flags_of (Some (codes "solve", h.0)) ≡ Some (solve_flags method wanted workers refresh start input) = ap flags_of (sym h.1) ∙ e in
-    h.2 wanted.mode (ap (λ (q : Flags). q.mode) (some_is _ _ told))
+    h.2 wanted.mode (ap (λ (q : Flags). q.mode) (same_Some _ _ told))
 
 -- a line of `solve` is refused for no sense
 pub no_solve_sense : (found : Option (Text × List Row)) (method : Method) (wanted : SolveOpts) (workers refresh : Text) (start input : Option Text) → flags_of found ≡ Some (solve_flags method wanted workers refresh start input) → NamesNoSense found → ⊥
-no_solve_sense found method wanted workers refresh start input e h = other_command (ap (λ (q : Flags). q.name) (some_is _ _ (ap flags_of (sym h.1) ∙ e)))
+no_solve_sense found method wanted workers refresh start input e h = other_command (ap (λ (q : Flags). q.name) (same_Some _ _ (ap flags_of (sym h.1) ∙ e)))
 
 pub verifies : (found : Option (Text × List Row)) (asked : Words) (s : Bool) (wanted : Option Sense) (name : Text) (problem : Option Text) → file_of found ≡ Some (verify_file s wanted name problem) →
     Chooses found asked → VerifiesFrom problem s wanted name asked
-verifies found (Solve options start asked) s wanted name problem e h = absurd (other_command (sym (ap (λ (q : File). q.name) (some_is _ _ (ap file_of (sym h.1) ∙ e)))))
+verifies found (Solve options start asked) s wanted name problem e h = absurd (other_command (sym (ap (λ (q : File). q.name) (same_Some _ _ (ap file_of (sym h.1) ∙ e)))))
 verifies found (Verify sparse sense report input) s wanted name problem e h =
-    let all = some_is _ _ (ap file_of (sym h.1) ∙ e) in (
+    let all = same_Some _ _ (ap file_of (sym h.1) ∙ e) in (
       flag_is _ _ s h.2.sparse (ap (λ (q : File). q.sparse) all),
       same_wanted _ _ (sym h.2.sense ∙ ap (λ (q : File). q.sense) all),
       h.2.report ∙ ap (λ (q : File). unwrap_or q.report []) all,
@@ -297,15 +295,15 @@ verifies found (Verify sparse sense report input) s wanted name problem e h =
 
 -- a line of `verify` is refused for no mode
 pub no_file_mode : (found : Option (Text × List Row)) (s : Bool) (wanted : Option Sense) (name : Text) (problem : Option Text) → file_of found ≡ Some (verify_file s wanted name problem) → NamesNoMode found → ⊥
-no_file_mode found s wanted name problem e h = other_command (sym (ap (λ (q : File). q.name) (some_is _ _ (ap file_of (sym h.1) ∙ e))))
+no_file_mode found s wanted name problem e h = other_command (sym (ap (λ (q : File). q.name) (same_Some _ _ (ap file_of (sym h.1) ∙ e))))
 
 -- one that names its sense, or none, is refused for no sense
 pub sense_is_named : (found : Option (Text × List Row)) (s : Bool) (wanted : Option Sense) (name : Text) (problem : Option Text) → file_of found ≡ Some (verify_file s wanted name problem) → NamesNoSense found → ⊥
-sense_is_named found s wanted name problem e h = h.2 wanted (ap (λ (q : File). q.sense) (some_is _ _ (ap file_of (sym h.1) ∙ e)))
+sense_is_named found s wanted name problem e h = h.2 wanted (ap (λ (q : File). q.sense) (same_Some _ _ (ap file_of (sym h.1) ∙ e)))
 
 -- words that name no mode are others than those that name no sense
 pub no_mode_or_sense : (at : Places) (words : List Text) → AskForNoModeAt at words → AskForNoSenseAt at words → ⊥
-no_mode_or_sense at words m s = other_command (ap (λ (q : Text × List Row). q.0) (some_is _ _ (sym s.1.1 ∙ m.1.1)))
+no_mode_or_sense at words m s = other_command (ap (λ (q : Text × List Row). q.0) (same_Some _ _ (sym s.1.1 ∙ m.1.1)))
 
 -- words that are taken have no fault, and the subcommand of the matches
 pub taken_words : (at : Places) (app : App) (words : List Text) (m : ArgMatches) → app ≡ program at → (is_simple_and_free app ≡ true → fault_of app words ≡ []) → HasMatchesOf app words m →

@@ -2,10 +2,11 @@
 use Rattle.std.proofs.Common.{◌≡◌, ap, sym, refl, subst, codes, Bool, true, false, true≢false, List, [], ◌∷◌, Option, None, Some}
 use Rattle.std.specs.Prelude.{find, if◌then◌else◌, option_map}
 use Rattle.std.specs.Option.{option_map_or}
+use Rattle.std.proofs.lemmas.Option.{same_Some}
 use Rattle.auction_cli.specs.Words.{Places, program, solve_app, verify_app}
 use Rattle.auction_cli.specs.inside.Words.{HasNumbers, HasNumbersIfSolving}
 use Rattle.auction_cli.specs.declared.words.TheConstants.{MOST_WORKERS, MOST_REFRESH}
-use Rattle.auction_cli.proofs.CommandLines.{other_command, some_is}
+use Rattle.auction_cli.proofs.CommandLines.{other_command}
 use Rattle.auction_cli.proofs.Rows.{AllKnown, number_there}
 use Rattle.auction_cli.proofs.Subcommands.{first_none, then_none}
 use Rattle.clap.specs.Faults.{entered_fault, fault_of, level_fault, walk_fault}
@@ -45,9 +46,9 @@ find_numbers p solve verify help numbers v h e = go (answers_to p.0 (label_of so
   where
     go : (a b c : Bool) → option_map_or (λ s. level_fault s [] nothing_held p.1 false []) (if a then Some solve else (if b then Some verify else (if c then Some help else None))) [] ≡ [] →
         HasNumbersIfSolving (option_map (λ s. rows_at s p.1) (if a then Some solve else (if b then Some verify else (if c then Some help else None))))
-    go true b c e = λ rows is. subst HasNumbers (ap (λ (q : Text × List Row). q.1) (some_is _ _ is)) (numbers p.1 e)
-    go false true c e = λ rows is. absurd (v (ap (λ (q : Text × List Row). q.0) (some_is _ _ is)))
-    go false false true e = λ rows is. absurd (h (ap (λ (q : Text × List Row). q.0) (some_is _ _ is)))
+    go true b c e = λ rows is. subst HasNumbers (ap (λ (q : Text × List Row). q.1) (same_Some _ _ is)) (numbers p.1 e)
+    go false true c e = λ rows is. absurd (v (ap (λ (q : Text × List Row). q.0) (same_Some _ _ is)))
+    go false false true e = λ rows is. absurd (h (ap (λ (q : Text × List Row). q.0) (same_Some _ _ is)))
     go false false false e = λ rows is. cc
 
 -- the words of a command line without a fault

@@ -196,11 +196,11 @@ WordsOutcome words (Err wrong.Sense) = AskForNoSense words
 WordsOutcome words (Err (Clap error)) = (at : Places) × IsAmong (kind_of error) (fault_of (program at) words) × (kind_of error ≢ OutOfMemory)
 WordsOutcome words (Err Memory) = ⊤
 
--- at least one worker, and no more workers or turns than there may be
+-- at least one worker, and no more workers or sessions than there may be
 pub record HasRanges (options : SolveOpts) : Type 0 where
   pub some_workers : 1 ≤ options.workers
   pub few_workers : options.workers ≤ MOST_WORKERS
-  pub few_turns : options.refresh ≤ MOST_REFRESH
+  pub few_sessions : options.refresh ≤ MOST_REFRESH
 
 abbrev pub IsInRanges : Words → Type 0
 IsInRanges (Solve options start asked) = HasRanges options

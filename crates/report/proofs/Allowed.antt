@@ -18,6 +18,7 @@ use Rattle.assign_core.specs.Assignment.{AreListed, IsAssignment, total}
 use Rattle.assign_core.specs.Hall.{IsHallSet}
 use Rattle.assign_core.specs.Prices as prices
 use Rattle.assign_core.proofs.Listed.{all_listed, length_zip, object_within}
+use Rattle.assign_core.proofs.Members.{contains_later}
 use Rattle.report.specs.Reports.{IsReport, IsBestReport, IsHallReport, is_entry, is_price, is_rising, is_total, ArePrices, cost_limit, price_end}
 use Rattle.report.specs.Outcomes.{pairs_of, chosen_prices, outcome_report, IsOutcome}
 
@@ -116,13 +117,10 @@ few_all n (x ∷ xs) l h = (up_to n MOST_PERSONS x l h.0, few_all n xs l h.1)
 -- what every member meets
 each_member : (P : ℕ → Type 0) (xs : List ℕ) → ((x : ℕ) → Contains xs x → P x) → AllByRecursion P xs
 each_member P [] f = tt
-each_member P (x ∷ xs) f = (f x (here x xs), each_member P xs (λ y m. f y (there x y xs m)))
+each_member P (x ∷ xs) f = (f x (here x xs), each_member P xs (λ y m. f y (contains_later x xs y m)))
   where
     here : (x : ℕ) (xs : List ℕ) → Contains (x ∷ xs) x
     here x xs = (0, omega arith, refl)
-
-    there : (x y : ℕ) (xs : List ℕ) → Contains xs y → Contains (x ∷ xs) y
-    there x y xs m = (suc m.0, omega (arith, m.1), m.2)
 
 listed_range : (n : ℕ) (rows : List Listing) (k j : ℕ) → All (IsRow n) rows → IsSome (listed_in (get_or rows k []) j) → IsNumber n j
 listed_range n [] k j a h = absurd (search rules)

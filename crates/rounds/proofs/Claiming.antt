@@ -1,9 +1,10 @@
--- Workers claim the queue in turn.
+-- Workers claim the queue.
 use Rattle.std.proofs.Common.{◌≡◌, ℕ, zero, suc, ◌+◌, ◌<◌, ◌≤◌, ◌⊎◌, inl, inr, List, [], ◌∷◌, ◌++◌, Option, None, Some, length, get_or, drop, set, refl, ap, sym, ◌∙◌, subst, arith, append_assoc, append-nil, length-append, get_or-set_same, get_or-set_other}
 use Rattle.std.proofs.lemmas.List.{length_push, get_or_push, get_or_append_left}
 use Rattle.assign_core.specs.Numbered.{numbered, renumbered}
 use Rattle.auction_book.specs.Book.{BookData, persons_of}
 use Rattle.auction_book.specs.Changes.{claimed}
+use Rattle.auction_book.proofs.Opening.{empty_list}
 use Rattle.rounds.specs.inside.Books.{AreClaimed, IsAtRest, IsClaimed, IsGoing}
 use Rattle.rounds.proofs.Waiting.{queue_few}
 
@@ -106,10 +107,7 @@ claiming_full old now persons i rest is full =
     let count = is.count in
     let all = ap length is.all in
     let parts = length-append persons now.queue in
-    none now.queue (omega arith) where
-      none : (xs : List ℕ) → length xs ≡ 0 → xs ≡ []
-      none [] e = refl
-      none (x ∷ xs) e = absurd (omega arith)
+    empty_list now.queue (omega arith)
 
 -- a worker is left for who waits
 pub claiming_room : (old now : BookData) (persons : List ℕ) (i : ℕ) → IsClaiming old now persons i → i < persons_of old → i + 1 ≤ length now.claims

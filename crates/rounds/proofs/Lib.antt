@@ -3,7 +3,7 @@ pub mod Runs
 pub mod Waiting
 pub mod Claiming
 pub mod Rooms
-pub mod Turning
+pub mod Submitting
 pub mod Phasing
 pub mod Running
 pub mod Ending

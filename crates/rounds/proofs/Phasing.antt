@@ -5,17 +5,17 @@ use Rattle.std.specs.Cmp.Derive.{both_true}
 use Rattle.scaled_values.specs.Scaled.{ScaledProblem, fifth, next_eps}
 use Rattle.scaled_values.proofs.EpsList.{next_is}
 use Rattle.bidder.specs.declared.offers.Offer.{Offer}
-use Rattle.auction_book.specs.Book.{BookData, ask_of, persons_of, prices_of}
+use Rattle.auction_book.specs.Book.{BookData, persons_of, prices_of}
 use Rattle.auction_book.specs.Changes.{phased}
 use Rattle.auction_book.specs.Free.{IsFree}
 use Rattle.auction_book.specs.Phases.{is_assigned, is_done, is_over, persons}
 use Rattle.auction_book.specs.Session.{next_if_over}
 use Rattle.auction_book.proofs.Answering.{both}
 use Rattle.auction_book.proofs.Opening.{length-persons}
-use Rattle.auction_book.proofs.Following.{over_is}
+use Rattle.auction_book.proofs.Answering.{over_is}
 use Rattle.rounds.specs.inside.Books.{HaveOffered, IsAtRest, IsClaimed, plain_of}
 use Rattle.rounds.specs.Offers.{offers_of}
-use Rattle.rounds.specs.Plain.{Plain, all_turned, begun, ready, ready_by, round}
+use Rattle.rounds.specs.Plain.{Plain, after_offers, begun, ready, ready_by, round}
 use Rattle.rounds.proofs.Waiting.{assigned_empty, empty_assigned}
 
 not_false : (x : Bool) → not x ≡ false → x ≡ true
@@ -27,8 +27,8 @@ and_true true y h k = k
 and_true false y h k = absurd cc
 
 -- where nobody waits or is claimed and no phase follows, it is the last phase
-last_phase : (b : BookData) → IsAtRest b → b.queue ≡ [] → is_over b ≡ false → int_eq b.eps (pos 1) ≡ true
-last_phase b rest none last = not_false (int_eq b.eps (pos 1)) (and_true (is_assigned b) (not (int_eq b.eps (pos 1))) (empty_assigned b rest none) last)
+last_phase : (b : BookData) → IsAtRest b → b.queue ≡ [] → is_over b ≡ false → int_eq b.ask.eps (pos 1) ≡ true
+last_phase b rest none last = not_false (int_eq b.ask.eps (pos 1)) (and_true (is_assigned b) (not (int_eq b.ask.eps (pos 1))) (empty_assigned b rest none) last)
 
 -- so everything is done
 pub all_done : (b : BookData) → IsAtRest b → b.queue ≡ [] → is_over b ≡ false → is_done b ≡ true
@@ -41,8 +41,8 @@ ready_as s b queue e = ap (ready_by s b) e
 pub none_ready : (b : BookData) → IsAtRest b → b.queue ≡ [] → is_over b ≡ false → ready b.base (plain_of b) ≡ None
 none_ready b rest none last =
     let one = last_phase b rest none last in
-    let no : next_eps b.eps ≡ None = ap (λ t. cond t None (Some (fifth b.eps))) one in
-    ready_as b.base (plain_of b) [] none ∙ ap (option_map (begun b.base (prices_of b) (b.phase + 1))) no
+    let no : next_eps b.ask.eps ≡ None = ap (λ t. cond t None (Some (fifth b.ask.eps))) one in
+    ready_as b.base (plain_of b) [] none ∙ ap (option_map (begun b.base (prices_of b) (b.ask.phase + 1))) no
 
 -- somebody waits: a round follows
 pub some_ready : (s : ScaledProblem) (b : Plain) → 0 < length b.queue → ready s b ≡ Some b
@@ -55,8 +55,8 @@ some_ready s b some = by_queue s b b.queue refl some where
 pub phase_ready : (b : BookData) → IsFree b → is_over b ≡ true → ready b.base (plain_of b) ≡ Some (plain_of (phased b))
 phase_ready b free over =
     let is = over_is b over in
-    let none = assigned_empty b free (both (is_assigned b) (not (int_eq b.eps (pos 1))) over).0 in
-    ready_as b.base (plain_of b) [] none ∙ ap (option_map (begun b.base (prices_of b) (b.phase + 1))) (next_is b.eps is.more)
+    let none = assigned_empty b free (both (is_assigned b) (not (int_eq b.ask.eps (pos 1))) over).0 in
+    ready_as b.base (plain_of b) [] none ∙ ap (option_map (begun b.base (prices_of b) (b.ask.phase + 1))) (next_is b.ask.eps is.more)
 
 -- a phase begins with nobody claimed where nobody was
 rest_next : (b : BookData) (t : Bool) → IsAtRest b → IsFree (cond t (phased b) b) → IsAtRest (cond t (phased b) b)
@@ -85,8 +85,8 @@ not_begun b false rest none = refl
 
 -- ---- a round
 -- the offers of all who waited, submitted over the book whose queue was claimed
-pub round_is : (old mid : BookData) (persons : List ℕ) (offers : List Offer) → IsClaimed old persons mid → HaveOffered mid persons offers → round old.base (plain_of old) ≡ all_turned offers (plain_of mid)
+pub round_is : (old mid : BookData) (persons : List ℕ) (offers : List Offer) → IsClaimed old persons mid → HaveOffered mid persons offers → round old.base (plain_of old) ≡ after_offers offers (plain_of mid)
 round_is old mid persons offers claimed have =
-    let made = have.made ∙ ap (offers_of mid.base (prices_of mid) (ask_of mid)) claimed.all ∙ ap (λ (b : BookData). offers_of b.base (prices_of b) (ask_of b) old.queue) claimed.rest in
+    let made = have.made ∙ ap (offers_of mid.base (prices_of mid) mid.ask) claimed.all ∙ ap (λ (b : BookData). offers_of b.base (prices_of b) b.ask old.queue) claimed.rest in
     let plain : plain_of mid ≡ record (plain_of old) { queue = [] } = ap plain_of claimed.rest in
-    sym (ap (λ xs. all_turned xs (plain_of mid)) made ∙ ap (all_turned (offers_of old.base (prices_of old) (ask_of old) old.queue)) plain)
+    sym (ap (λ xs. after_offers xs (plain_of mid)) made ∙ ap (after_offers (offers_of old.base (prices_of old) old.ask old.queue)) plain)

@@ -1,5 +1,5 @@
 -- A run of rounds over a book, up to its end.
-use Rattle.std.proofs.Common.{◌≡◌, ℕ, ℤ, pos, suc, ◌<◌, ◌&&◌, List, [], None, Some, Bool, true, false, not, cond, nat_eq, length, refl, ap, sym, ◌∙◌, subst, arith, Result, Ok, Err, IfOk, is_some}
+use Rattle.std.proofs.Common.{◌≡◌, ℕ, ℤ, pos, suc, ◌<◌, ◌&&◌, List, [], None, Some, Bool, true, false, not, cond, nat_eq, length, refl, ap, sym, ◌∙◌, subst, arith, is_some}
 use Rattle.std.specs.List.{count_by}
 use Rattle.std.specs.Ordering.{int_eq}
 use Rattle.std.proofs.lemmas.List.{length-replicate}
@@ -23,10 +23,6 @@ pub record IsRunning (s : ScaledProblem) (prices : List ℤ) (b : BookData) : Ty
   pub rest : IsAtRest b
   pub base : b.base ≡ s
   pub ran : (m : ℕ) × (run s m (opening s prices) ≡ Goes (plain_of b))
-
-pub if_ok : {T E : Type 0} (r : Result T E) (P Q : T → Type 0) → IfOk r P → ((v : T) → P v → Q v) → IfOk r Q
-if_ok (Ok v) P Q h f = f v h
-if_ok (Err e) P Q h f = tt
 
 pub running_first : (s : ScaledProblem) (prices : List ℤ) (workers : ℕ) (b : BookData) → b ≡ opened s prices workers → IsFree b → workers ≡ length s.problem → IsRunning s prices b
 running_first s prices workers b e free n = subst (IsRunning s prices) (sym e) (record {
@@ -83,7 +79,7 @@ running_halted s prices b mid new person outcome is e round_is same told =
     (suc is.ran.0, Halted person (plain_of new), run-goes s is.ran.0 (opening s prices) (plain_of b) is.ran.1 ∙ next_is s b mid is.rest is.base e round_is.0 ∙ made, subst (λ x. IsOutcome x (Halted person (plain_of new)) outcome) (same ∙ base) told)
 
 abbrev over_of : Plain → ScaledProblem → Bool
-over_of p s = nat_eq (count_by is_some p.owners) (length s.problem) && not (int_eq p.eps (pos 1))
+over_of p s = nat_eq (count_by is_some p.owners) (length s.problem) && not (int_eq p.ask.eps (pos 1))
 
 over_is_of : (b : BookData) → is_over b ≡ over_of (plain_of b) b.base
 over_is_of b = refl

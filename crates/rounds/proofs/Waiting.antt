@@ -9,7 +9,7 @@ use Rattle.assign_core.specs.Numbered.{IsNumber, numbered}
 use Rattle.assign_core.proofs.NumberedLemmas.{length-renumbered}
 use Rattle.auction_book.specs.declared.answers.Claim.{Claim}
 use Rattle.auction_book.specs.declared.answers.Claim.TheVariants as claim
-use Rattle.auction_book.specs.Book.{BookData, ask_of, persons_of}
+use Rattle.auction_book.specs.Book.{BookData, persons_of}
 use Rattle.auction_book.specs.Changes.{claimed}
 use Rattle.bidder.specs.declared.offers.Ask.{Ask}
 use Rattle.auction_book.specs.Claims.{after_claim, claim_of}
@@ -64,10 +64,10 @@ nobody_claimed b new worker answer going e f h =
     let IsNobody : Claim → Type 0 = λ c. ((p : ℕ) (a : Ask) → c ≡ claim.Person p a → ⊥) → (b.queue ≡ []) × (after_claim b worker c ≡ b) in
     let claimed : IsNobody (claim_of b) = claim_by IsNobody b
     (λ refuted none. absurd (true≢false (sym refuted ∙ ap is_some going.unrefuted)))
-    (λ done none. (assigned_empty b going.free (both (is_assigned b) (int_eq b.eps (pos 1)) done).0, refl))
+    (λ done none. (assigned_empty b going.free (both (is_assigned b) (int_eq b.ask.eps (pos 1)) done).0, refl))
     (λ stopped none. absurd (true≢false (sym stopped ∙ going.unstopped)))
     (λ on empty none. (empty, refl))
-    (λ person rest on front none. absurd (none person (ask_of b) refl)) in
+    (λ person rest on front none. absurd (none person b.ask refl)) in
     let r = subst IsNobody (sym e) claimed h in
     (r.0, f ∙ r.1)
 

@@ -14,14 +14,12 @@ use Rattle.auction_book.specs.Changes.{requeued}
 use Rattle.auction_book.specs.Phases.{persons}
 use Rattle.rounds.specs.Offers.{offers_of}
 
--- prices, the owner of each object, who waits, and the phase
+-- prices, the owner of each object, who waits, and what the phase asks of a bid
 pub record Plain : Type 0 where
   pub prices : List ℤ
   pub owners : List (Option ℕ)
   pub queue : List ℕ
-  pub phase : ℕ
-  pub eps : ℤ
-  pub floor : ℤ
+  pub ask : Ask
 
 -- how a run ends: nobody waits in the last phase, or a person finds nothing worth the floor
 pub data End : Type 0 where
@@ -32,10 +30,6 @@ pub data End : Type 0 where
 pub data Progress : Type 0 where
   Goes : Plain → Progress
   Ends : End → Progress
-
--- what the phase asks of a bid
-abbrev pub asked_of : Plain → Ask
-asked_of b = record { phase = b.phase; eps = b.eps; floor = b.floor }
 
 -- after a bid, which is too low or is accepted
 abbrev pub after_bid : Bool → Plain → Bid → Plain
@@ -48,26 +42,26 @@ after_bid false b bid = record b {
 
 -- a bid is accepted at a level of eps above the price or more
 abbrev pub submitted : Plain → Bid → Plain
-submitted b bid = after_bid (lt_z bid.level (price_of b.prices bid.object +ℤ b.eps)) b bid
+submitted b bid = after_bid (lt_z bid.level (price_of b.prices bid.object +ℤ b.ask.eps)) b bid
 
--- the next offer in turn
-abbrev pub turned : Plain → Offer → Progress
-turned b (made.Bid bid) = Goes (submitted b bid)
-turned b (made.Below below) = Ends (Halted below.person b)
+-- after an offer, which is submitted, or ends the run
+abbrev pub after_offer : Plain → Offer → Progress
+after_offer b (made.Bid bid) = Goes (submitted b bid)
+after_offer b (made.Below below) = Ends (Halted below.person b)
 
 -- what comes next, where the run goes on
 abbrev pub and_then : Progress → (Plain → Progress) → Progress
 and_then (Goes b) next = next b
 and_then (Ends e) next = Ends e
 
--- offers in turn, up to one of a person that finds nothing worth the floor
-abbrev pub all_turned : List Offer → Plain → Progress
-all_turned [] b = Goes b
-all_turned (offer ∷ offers) b = and_then (turned b offer) (all_turned offers)
+-- after offers, one by one, up to one of a person that finds nothing worth the floor
+abbrev pub after_offers : List Offer → Plain → Progress
+after_offers [] b = Goes b
+after_offers (offer ∷ offers) b = and_then (after_offer b offer) (after_offers offers)
 
--- nobody waits, each person who waited makes an offer from the same table, and these are submitted in turn
+-- nobody waits, each person who waited makes an offer from the same table, and these are submitted one by one
 abbrev pub round : ScaledProblem → Plain → Progress
-round s b = all_turned (offers_of s b.prices (asked_of b) b.queue) (record b { queue = [] })
+round s b = after_offers (offers_of s b.prices b.ask b.queue) (record b { queue = [] })
 
 -- the start of a phase: nobody owns anything, all persons wait, and prices are kept
 abbrev pub begun : ScaledProblem → List ℤ → ℕ → ℤ → Plain
@@ -75,9 +69,7 @@ begun s prices phase eps = record {
   prices = prices;
   owners = replicate (length s.problem) None;
   queue = persons (length s.problem);
-  phase = phase;
-  eps = eps;
-  floor = floor_of s (greatest_of prices) eps;
+  ask = record { phase = phase; eps = eps; floor = floor_of s (greatest_of prices) eps };
 }
 
 -- the start of a run with these prices
@@ -86,7 +78,7 @@ opening s prices = begun s prices 1 (first_eps s)
 
 -- where nobody waits the next phase begins, if there is one
 abbrev pub ready_by : ScaledProblem → Plain → List ℕ → Option Plain
-ready_by s b [] = option_map (begun s b.prices (b.phase + 1)) (next_eps b.eps)
+ready_by s b [] = option_map (begun s b.prices (b.ask.phase + 1)) (next_eps b.ask.eps)
 ready_by s b (i ∷ queue) = Some b
 
 abbrev pub ready : ScaledProblem → Plain → Option Plain

@@ -10,7 +10,7 @@ ghost use Rattle.auction_book.specs.Free.{IsFree};
 ghost use Rattle.auction_book.specs.Phases.{is_over};
 ghost use Rattle.auction_book.specs.Submissions.{IsFitting};
 ghost use Rattle.rounds.specs.Plain.{Finished, Halted};
-ghost use Rattle.rounds.specs.inside.Books.{plain_of, AreTurned, HaveOffered, IsAtRest, IsBelowFloor, IsClaimed, IsGoing, IsRound, book_turned};
+ghost use Rattle.rounds.specs.inside.Books.{plain_of, AreSubmitted, HaveOffered, IsAtRest, IsBelowFloor, IsClaimed, IsGoing, IsRound, book_after_bid};
 ghost use Rattle.rounds.specs.Outcomes.{IsDecided, IsOfRounds, IsOutcome, IsProof};
 
 use super::offers::{Alone, InPieces, LEAST_PAIRS, Offering};
@@ -68,9 +68,9 @@ fn claim_all(book: &mut Book, persons: &mut Vec<Person>) -> Result<(), AllocErro
 fn submit_bid(book: &mut Book, worker: u16, bid: Bid) -> Result<(), AllocError>
     requires worker { IsNumber (length book.old.claims) worker }
     requires held { Holds book.old worker bid.person }
-    requires phase { bid.phase ≡ book.old.phase }
+    requires phase { bid.phase ≡ book.old.ask.phase }
     requires fitting { IsFitting book.old bid }
-    ensures turned { OnOk result (book.new ≡ book_turned book.old worker bid) }
+    ensures book { OnOk result (book.new ≡ book_after_bid book.old worker bid) }
     ensures free { OnOk result (IsFree book.new) }
 {
     match book.submit(worker, bid) {
@@ -82,22 +82,22 @@ fn submit_bid(book: &mut Book, worker: u16, bid: Bid) -> Result<(), AllocError>
     }
 }
 
-// The offer whose turn it is.
-fn offer_in_turn(offers: &[Offer], turn: usize) -> Offer
-    requires { turn < length offers.now }
-    ensures { (d : _) → result ≡ slice_index_or offers.now turn d }
+// The next offer.
+fn next_offer(offers: &[Offer], place: usize) -> Offer
+    requires { place < length offers.now }
+    ensures { (d : _) → result ≡ slice_index_or offers.now place d }
 {
-    offers[turn]
+    offers[place]
 }
 
-// Offers in turn, up to a person that finds nothing worth the floor.
+// Offers one by one, up to a person that finds nothing worth the floor.
 fn submit_all(book: &mut Book, offers: &[Offer]) -> Result<Option<Person>, AllocError>
     requires { (persons : List ℕ) × HaveOffered book.old persons offers.now }
-    ensures turned { IfOk result (λ below. AreTurned book.old offers.now below book.new) }
+    ensures submitted { IfOk result (λ below. AreSubmitted book.old offers.now below book.new) }
     ensures base { OnOk result (book.new.base ≡ book.old.base) }
 {
     for i in 0..offers.len() {
-        match offer_in_turn(offers, i) {
+        match next_offer(offers, i) {
             Offer::Bid(bid) => submit_bid(book, i as u16 + 1, bid)?,
             Offer::Below(below) => return Ok(Some(below.person)),
         }
@@ -105,8 +105,8 @@ fn submit_all(book: &mut Book, offers: &[Offer]) -> Result<Option<Person>, Alloc
     Ok(None)
 }
 
-// One round: all who wait make their offers from one table, and these are submitted in turn. A
-// person that finds nothing worth the floor ends it at its turn.
+// One round: all who wait make their offers from one table, and these are submitted one by one.
+// A person that finds nothing worth the floor ends it.
 pub(super) fn run_round<O: Offering>(
     offering: &mut O,
     book: &mut Book,

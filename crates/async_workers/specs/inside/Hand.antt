@@ -1,7 +1,10 @@
 -- The book in hand, between its take and its give.
-use Rattle.std.specs.Prelude.{◌≡◌, length}
+use Rattle.std.specs.Prelude.{◌≡◌, ℕ, Bool, Option, Result, MatchResult, length}
 use Rattle.assign_core.specs.Numbered.{IsNumber}
 use Rattle.scaled_values.specs.Scaled.{ScaledProblem}
+use Rattle.bidder.specs.declared.offers.Offer.{Offer}
+use Rattle.auction_book.specs.declared.answers.Claim.{Claim}
+use Rattle.auction_book.specs.declared.answers.Note.{Note}
 use Rattle.auction_book.specs.Book.{BookData}
 use Rattle.async_workers.specs.declared.rule.Known.{Known}
 use Rattle.async_workers.specs.declared.rule.Told.{Told}
@@ -9,6 +12,7 @@ use Rattle.async_workers.specs.declared.rule.View.{View}
 use Rattle.async_workers.specs.declared.rule.View.TheVariants.{Holding}
 use Rattle.async_workers.specs.PlaceRule.{MayFollow}
 use Rattle.async_workers.specs.Desk.{DeskData}
+use Rattle.async_workers.specs.Session.{EndsUndone, EndsWell}
 
 -- the book b stands where the book `taken` was taken, and may be put back by a desk with this view that knows this
 pub record HasInHand (base : ScaledProblem) (view : View) (k : Known) (taken b : BookData) : Type 0 where
@@ -21,3 +25,7 @@ pub record HasInHand (base : ScaledProblem) (view : View) (k : Known) (taken b :
 
 abbrev pub IsInHand : DeskData → BookData → BookData → Type 0
 IsInHand d taken b = HasInHand d.base d.view d.known taken b
+
+-- how a session ended: well, or with a growth refused
+abbrev pub Ends : {E : Type 0} → ℕ → ℕ → Known → Option Offer → Note → Result Claim E → BookData → Known → BookData → Bool → Type 0
+Ends refresh since k offer told outcome b left new caught = MatchResult outcome (λ answer. EndsWell refresh since k offer told answer b left new caught) (λ refused. EndsUndone refresh since k offer b left new caught)

@@ -7,8 +7,8 @@ ghost use Rattle.auction_book.specs.Claims.{IsAsked, after_claim, claim_of};
 ghost use Rattle.auction_book.specs.Free.{IsFree};
 ghost use Rattle.auction_book.specs.Phases.{is_over};
 ghost use Rattle.auction_book.specs.Session.{IsHandedIn, IsPrepared, book_taken, next_if_over};
-ghost use Rattle.async_workers.specs.inside.Hand.{IsInHand};
-ghost use Rattle.async_workers.specs.Session.{Ends, catches_up, is_too_low, with_table};
+ghost use Rattle.async_workers.specs.inside.Hand.{Ends, IsInHand};
+ghost use Rattle.async_workers.specs.Session.{catches_up, is_too_low, with_table};
 
 use super::{Desk, Held};
 use crate::gate::Standing;

@@ -59,7 +59,7 @@ fn put_back<G: Giver, R: Wait>(
 }
 
 // The worker's claim, with what the phase asks of its bid.
-pub(super) fn claim_of(book: &Book, worker: u16) -> Option<Claimed>
+pub(super) fn claim_in(book: &Book, worker: u16) -> Option<Claimed>
     requires { IsNumber (length book.now.claims) worker }
     ensures { result ≡ claim_in book.now worker }
 {
@@ -142,7 +142,7 @@ impl Held {
             caught_up,
         } = self;
         desk.known.accepted = book.book().accepted_by(desk.known.number);
-        desk.known.claim = claim_of(book.book(), desk.known.number);
+        desk.known.claim = claim_in(book.book(), desk.known.number);
         desk.sessions = desk.sessions.saturating_add(1);
         desk.since = since_after(desk.since, caught_up);
         put_back::<Brand, R>(rt, &place.queue, &mut desk.pass, &desk.known, book);

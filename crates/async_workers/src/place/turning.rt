@@ -3,7 +3,7 @@ ghost use Rattle.std.specs.Prelude.{◌≡◌, true, length, IfErr, IfOk};
 ghost use Rattle.assign_core.specs.declared.outcome.SolveFault.TheVariants as turn_fault;
 ghost use Rattle.auction_book.specs.Claims.{IsAsked};
 ghost use Rattle.auction_book.specs.Session.{prepared};
-ghost use Rattle.async_workers.specs.Session.{Ends};
+ghost use Rattle.async_workers.specs.inside.Hand.{Ends};
 ghost use Rattle.async_workers.specs.Turns.{CanTurn, EndsRun, Faulted, Serves, Turned, WorksOn, turn_of};
 
 use super::session::{Ended, session};

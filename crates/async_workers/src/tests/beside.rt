@@ -251,7 +251,7 @@ fn queue_of(alloc: Global, book: &mut Book) -> Result<Vec<Person>, AllocError> {
     book.resume();
     give_all_up(book);
     for _ in 0..book.scaled().n() {
-        if let Some(person) = next_person(book) {
+        if let Some(person) = next_person(book, 1) {
             queue.push(person)?;
             give_all_up(book);
         }

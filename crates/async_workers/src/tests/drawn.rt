@@ -5,7 +5,7 @@ ghost use Rattle.std.specs.Arc.{arc_value};
 ghost use Rattle.assign_core.specs.Rows.{IsSize};
 ghost use Rattle.scaled_values.specs.Scaled.{greatest_of};
 
-use super::problems::{drawn_pairs, drawn_prices, drawn_sense, next, scaled_of, size};
+use super::problems::{draw, drawn_pairs, drawn_prices, drawn_sense, scaled_of, size};
 use super::*;
 use auction_book::{Event, Refused, Seat, World, run_schedule_from};
 use std::test::Fail;
@@ -15,7 +15,7 @@ fn drawn_step(seed: &mut u64, leaving: bool) -> u8 {
     if !leaving {
         return b't';
     }
-    match next(seed, 60) {
+    match draw(seed, 60) {
         0 => b's',
         1..=8 => b'l',
         _ => b't',
@@ -34,7 +34,7 @@ fn drawn_script(
 {
     let mut script = Vec::new(alloc);
     for _ in 0..count {
-        let worker = (next(seed, workers) % 9) as u8;
+        let worker = (draw(seed, workers) % 9) as u8;
         script.push(worker.wrapping_add(b'1'))?;
         script.push(drawn_step(seed, leaving))?;
     }
@@ -220,8 +220,8 @@ fn drawn_problem(alloc: Global, seed: &mut u64, n: u16) -> Result<Arc<Scaled>, A
     ensures { IfOk result (λ scaled. length (arc_value scaled).problem ≡ n) }
 {
     let sense = drawn_sense(seed);
-    let costs = if next(seed, 2) == 0 { 4 } else { 1000 };
-    let share = next(seed, 3) + 2;
+    let costs = if draw(seed, 2) == 0 { 4 } else { 1000 };
+    let share = draw(seed, 3) + 2;
     let pairs = drawn_pairs(alloc, seed, n, share, costs)?;
     scaled_of(alloc, n, pairs.as_slice(), sense)
 }
@@ -234,12 +234,12 @@ fn drawn_agrees<R: Wait>(
     leaving: bool,
     came: &mut Vec<u8>,
 ) -> Result<bool, AllocError> {
-    let n = size(next(seed, 5) + 1);
-    let workers = next(seed, 4) + 1;
-    let refresh = u64::from(next(seed, 4));
+    let n = size(draw(seed, 5) + 1);
+    let workers = draw(seed, 4) + 1;
+    let refresh = u64::from(draw(seed, 4));
     let scaled = drawn_problem(alloc, seed, n)?;
     let prices = drawn_prices(alloc, seed, n)?;
-    let steps = next(seed, 8) + 33;
+    let steps = draw(seed, 8) + 33;
     let script = drawn_script(alloc, seed, workers, steps, leaving)?;
     let script = script.as_slice();
     if leaving {

@@ -1,8 +1,9 @@
 // Problems, first prices and numbers that look drawn by lot.
 ghost use Rattle.std.specs.Prelude.{◌≡◌, ◌<◌, ◌≤ℤ◌, length, IfOk};
 ghost use Rattle.std.specs.Arc.{arc_value};
+ghost use Rattle.assign_core.specs.Numbered.{IsNumber};
 ghost use Rattle.assign_core.specs.Prices.{IsPrice};
-ghost use Rattle.assign_core.specs.Rows.{IsSize};
+ghost use Rattle.assign_core.specs.Rows.{IsCost, IsSize};
 ghost use Rattle.assign_core.specs.Sparse.{IsTriple};
 ghost use Rattle.scaled_values.specs.Scaled.{greatest_of};
 
@@ -24,15 +25,30 @@ pub(super) fn size(n: u16) -> u16
     n.max(1).min(MOST_PERSONS)
 }
 
-// A person and an object of n with a cost, all brought into range.
+// A number brought into the range from 1 to n.
+fn number(n: u16, i: u16) -> u16
+    requires { IsSize n }
+    ensures { IsNumber n result }
+{
+    i.max(1).min(n)
+}
+
+// A cost brought into range.
+fn cost_in_range(cost: Cost) -> Cost
+    ensures { IsCost result }
+{
+    cost.max(-GREATEST_COST).min(GREATEST_COST)
+}
+
+// A person and an object of n with a cost.
 fn triple(n: u16, pair: Pair) -> (Person, Object, Cost)
     requires { IsSize n }
     ensures { IsTriple n result }
 {
     (
-        Person(pair.0.max(1).min(n)),
-        Object(pair.1.max(1).min(n)),
-        pair.2.max(-GREATEST_COST).min(GREATEST_COST),
+        Person(number(n, pair.0)),
+        Object(number(n, pair.1)),
+        cost_in_range(pair.2),
     )
 }
 
@@ -83,19 +99,24 @@ pub(super) fn first_prices(alloc: Global, n: u16, given: &[Price]) -> Result<Pri
     Prices::new(alloc, values)
 }
 
-// The next number of a congruential generator, by its high bits, below `end`.
-pub(super) fn next(seed: &mut u64, end: u16) -> u16
+// The next number of a congruential generator, by its high bits.
+fn next_number(seed: &mut u64) -> u64 {
+    *seed = seed
+        .wrapping_mul(6364136223846793005)
+        .wrapping_add(1442695040888963407);
+    *seed >> 33
+}
+
+// A number from 0 to `end` - 1.
+pub(super) fn draw(seed: &mut u64, end: u16) -> u16
     requires { 0 < end }
     ensures { result < end }
 {
-    *seed = seed
-        .wrapping_mul(6_364_136_223_846_793_005)
-        .wrapping_add(1_442_695_040_888_963_407);
-    ((*seed >> 33) % u64::from(end)) as u16
+    (next_number(seed) % u64::from(end)) as u16
 }
 
 pub(super) fn drawn_sense(seed: &mut u64) -> Sense {
-    if next(seed, 2) == 0 {
+    if draw(seed, 2) == 0 {
         Sense::Min
     } else {
         Sense::Max
@@ -131,8 +152,8 @@ fn draw_row(
     requires { 0 < costs }
 {
     for object in 1..=n {
-        let cost = Cost::from(next(seed, costs)) - Cost::from(costs / 2);
-        if next(seed, 4) < share {
+        let cost = Cost::from(draw(seed, costs)) - Cost::from(costs / 2);
+        if draw(seed, 4) < share {
             pairs.push((person, object, cost))?;
         }
     }
@@ -145,10 +166,10 @@ pub(super) fn drawn_prices(alloc: Global, seed: &mut u64, n: u16) -> Result<Pric
     ensures long { IfOk result (λ prices. length prices ≡ n) }
     ensures low { IfOk result (λ prices. greatest_of prices ≤ℤ GREATEST_FIRST_PRICE) }
 {
-    let range = if next(seed, 2) == 0 { 1 } else { 50 };
+    let range = if draw(seed, 2) == 0 { 1 } else { 50 };
     let mut given = Vec::new(alloc);
     for _ in 0..n {
-        given.push(Price::from(next(seed, range)))?;
+        given.push(Price::from(draw(seed, range)))?;
     }
     first_prices(alloc, n, given.as_slice())
 }

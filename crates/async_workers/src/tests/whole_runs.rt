@@ -1,7 +1,7 @@
 // Worked problems under gates that hold workers back, and drawn ones beside a search of all
 // assignments.
 use super::problems::{
-    Pair, drawn_pairs, drawn_sense, next, numbers_of, problem_of, scaled_of, size,
+    Pair, draw, drawn_pairs, drawn_sense, numbers_of, problem_of, scaled_of, size,
 };
 use super::*;
 use assign_core::{Cost, Outcome, plain_best};
@@ -444,9 +444,9 @@ fn three_persons_and_no_assignment(rt: HostRuntime) -> Result<(), Fail> {
 // A problem of at most eight persons, of which each may list some objects or all. Few are the
 // greatest, since the search that they are compared with tries all assignments.
 fn drawn(alloc: Global, seed: &mut u64) -> Result<(u16, Vec<Pair>), AllocError> {
-    let n = next(seed, 8).min(next(seed, 8)) + 1;
-    let share = next(seed, 4) + 1;
-    let costs = next(seed, 30) + 1;
+    let n = draw(seed, 8).min(draw(seed, 8)) + 1;
+    let share = draw(seed, 4) + 1;
+    let costs = draw(seed, 30) + 1;
     Ok((n, drawn_pairs(alloc, seed, n, share, costs)?))
 }
 
@@ -484,8 +484,8 @@ fn agrees<R: Threads + Wait + Sync>(
 ) -> Result<bool, AllocError> {
     let (n, pairs) = drawn(alloc, seed)?;
     let sense = drawn_sense(seed);
-    let workers = next(seed, 8) + 1;
-    let refresh = u64::from(next(seed, 4));
+    let workers = draw(seed, 8) + 1;
+    let refresh = u64::from(draw(seed, 4));
     let cost = best_cost(alloc, n, pairs.as_slice(), sense)?;
     match solved(
         rt,

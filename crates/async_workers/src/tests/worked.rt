@@ -6,9 +6,11 @@ ghost use Rattle.async_workers.specs.Turns.{CanTurn};
 use super::problems::{Pair, first_prices, numbers_of, scaled_of};
 use super::*;
 use crate::alone::go_alone;
+use crate::working::take_turns;
 use assign_core::Outcome;
 use auction_book::Refused;
 use std::test::Fail;
+use std::thread::Parker;
 
 const PAIRS: [Pair; 4] = [(1, 1, 1), (1, 2, 2), (2, 1, 3), (2, 2, 5)];
 
@@ -200,7 +202,7 @@ fn claimed_anew<R: Wait>(
         return Ok(None);
     };
     give_all_up(&mut book);
-    let person = next_person(&mut book);
+    let person = next_person(&mut book, 1);
     Ok(Some((person, held_by(alloc, &book)?)))
 }
 
@@ -276,6 +278,61 @@ fn the_next_book_has_the_own_raise(rt: HostRuntime) -> Result<(), Fail> {
     Ok(())
 }
 
+// A desk's turns up to the one that ends its run: whether there was a fault, and the sessions.
+fn run_of<R: Wait>(rt: &R, alloc: Global, place: &BookPlace, desk: &mut Desk) -> (bool, u64)
+    requires { CanTurn place.now desk.old }
+    ensures { CanTurn place.now desk.new }
+{
+    let parker = Parker::new();
+    let fault = take_turns(rt, alloc, place, desk, 1, &OpenGate, &parker);
+    (fault.is_some(), desk.sessions())
+}
+
+// The run of the first of two desks after a script, and the book that it leaves.
+fn run_after<R: Wait>(
+    rt: &R,
+    alloc: Global,
+    script: &str,
+) -> Result<Option<(bool, u64, Option<Book>)>, AllocError> {
+    let book = book_of(alloc, 2)?;
+    let (place, desks) = opened(rt, alloc, book)?;
+    let (mut desks, _came) = run_script(rt, alloc, &place, desks, script.as_bytes(), 1, &OpenGate)?;
+    if desks.is_empty() {
+        return Ok(None);
+    }
+    let (fault, sessions) = run_of(rt, alloc, &place, &mut desks[0]);
+    Ok(Some((fault, sessions, closed(rt, place, desks))))
+}
+
+// Fault and sessions of such a run, and how many persons have an object and whether the book is stopped
+// in the end.
+fn run_told<R: Wait>(
+    rt: &R,
+    alloc: Global,
+    script: &str,
+) -> Result<Option<(bool, u64, u16, bool)>, AllocError> {
+    match run_after(rt, alloc, script)? {
+        Some((fault, sessions, Some(book))) => {
+            Ok(Some((fault, sessions, book.assigned(), book.stopped())))
+        }
+        _ => Ok(None),
+    }
+}
+
+#[test]
+fn a_worker_takes_turns_until_all_have_an_object(rt: HostRuntime) -> Result<(), Fail> {
+    let told = run_told(&rt, rt.alloc(), "")?;
+    assert_eq!(rt; told, Some((false, 7, 2, false)));
+    Ok(())
+}
+
+#[test]
+fn a_worker_takes_no_more_turns_after_a_stop(rt: HostRuntime) -> Result<(), Fail> {
+    let told = run_told(&rt, rt.alloc(), "1t1t2s")?;
+    assert_eq!(rt; told, Some((false, 3, 1, true)));
+    Ok(())
+}
+
 // The objects of a best assignment, and none of another outcome.
 fn objects_given(alloc: Global, outcome: &Outcome) -> Result<Vec<u16>, AllocError> {
     match outcome {
@@ -284,10 +341,11 @@ fn objects_given(alloc: Global, outcome: &Outcome) -> Result<Vec<u16>, AllocErro
     }
 }
 
-// The objects that one thread alone gives to persons 1 and 2, after a claim and a stop.
+// The objects that one thread alone gives to persons 1 and 2, after a claim of each worker and a stop.
 fn given_alone<R: Wait>(rt: &R, alloc: Global) -> Result<Vec<u16>, AllocError> {
     let mut book = book_of(alloc, 2)?;
-    let _first = next_person(&mut book);
+    let _first = next_person(&mut book, 1);
+    let _second = next_person(&mut book, 2);
     book.stop();
     if book.workers() == 0 {
         return Ok(Vec::new(alloc));
@@ -297,7 +355,7 @@ fn given_alone<R: Wait>(rt: &R, alloc: Global) -> Result<Vec<u16>, AllocError> {
 }
 
 #[test]
-fn one_thread_goes_on_after_a_claim_and_a_stop(rt: HostRuntime) -> Result<(), Fail> {
+fn one_thread_goes_on_after_claims_and_a_stop(rt: HostRuntime) -> Result<(), Fail> {
     let given = given_alone(&rt, rt.alloc())?;
     assert_eq!(rt; given.as_slice(), [2, 1].as_slice());
     Ok(())

@@ -1,4 +1,5 @@
-// What tests see of a book beside what everybody does.
+// What tests see of a book beside what everybody does. It lies here, and not with the tests, since only
+// the book's own modules see its fields.
 use super::Book;
 use assign_core::{Object, Person, Price, Prices};
 use std::alloc::{AllocError, Global};

@@ -8,6 +8,7 @@ ghost use Rattle.auction_book.specs.Phases.{opened, persons};
 
 use super::Book;
 use assign_core::{GREATEST_FIRST_PRICE, Person, Price, Prices};
+use bidder::Ask;
 use price_log::PriceLog;
 use scaled_values::Scaled;
 use std::alloc::{AllocError, Global};
@@ -86,9 +87,11 @@ impl Book {
         let log = PriceLog::start(alloc, prices)?;
         Ok(Book {
             scaled,
-            phase: 1,
-            eps,
-            floor,
+            ask: Ask {
+                phase: 1,
+                eps,
+                floor,
+            },
             start,
             start_version: 0,
             owners,

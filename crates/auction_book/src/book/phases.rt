@@ -1,13 +1,14 @@
 // Phases.
-ghost use Rattle.std.specs.Prelude.{◌≡◌, pos, ◌-ℤ◌, ◌≤ℤ◌, ◌<ℤ◌, ◌≤◌, None, length, replicate, int_div, All, OnOk, OnErr};
+ghost use Rattle.std.specs.Prelude.{◌≡◌, pos, ◌-ℤ◌, ◌≤ℤ◌, ◌<ℤ◌, ◌≤◌, None, true, length, replicate, int_div, All, OnOk, OnErr};
 ghost use Rattle.auction_book.specs.Book.{phase_accepted, phase_bound, prices_of, room_under};
 ghost use Rattle.auction_book.specs.Changes.{phased};
-ghost use Rattle.auction_book.specs.Phases.{IsOver, is_over};
+ghost use Rattle.auction_book.specs.Phases.{is_over};
 ghost use Rattle.auction_book.specs.Free.{IsFree};
 
 use super::Book;
 use super::opening::{greatest, queue_all};
 use assign_core::{MOST_PERSONS, PRICE_END, Person, Price, Prices};
+use bidder::Ask;
 use scaled_values::next_eps;
 use std::alloc::{AllocError, Global};
 
@@ -57,25 +58,27 @@ impl Book {
     pub fn phase_over(&self) -> bool
         ensures over { result ≡ is_over self.now }
     {
-        self.is_assigned() && self.eps != 1
+        self.is_assigned() && self.ask.eps != 1
     }
 
     // The next phase, with today's prices as its first.
     fn begin_phase(&mut self, start: Prices)
-        requires over { IsOver self.old }
+        requires over { is_over self.old ≡ true }
         requires start { start ≡ prices_of self.old }
         ensures book { self.new ≡ phased self.old }
         ensures free { IsFree self.new }
     {
-        let eps = next_eps(self.eps).unwrap_or(1);
+        let eps = next_eps(self.ask.eps).unwrap_or(1);
         let p0 = greatest(start.as_slice());
         let floor = self.scaled.floor(p0, eps);
         let n = self.scaled.n();
         self.start_version = self.log.version();
         self.start = start;
-        self.floor = floor;
-        self.eps = eps;
-        self.phase += 1;
+        self.ask = Ask {
+            phase: self.ask.phase + 1,
+            eps,
+            floor,
+        };
         free_all(self.owners.as_mut_slice());
         self.owned = 0;
         queue_all(&mut self.queue, n);
@@ -88,7 +91,7 @@ impl Book {
     /// # Errors
     /// Only where memory is refused, and then nothing has changed.
     pub fn next_phase(&mut self, alloc: Global) -> Result<(), AllocError>
-        requires { IsOver self.old }
+        requires { is_over self.old ≡ true }
         ensures ok { OnOk result (self.new ≡ phased self.old) }
         ensures err { OnErr result (self.new ≡ self.old) }
         ensures free { IsFree self.new }
@@ -104,8 +107,8 @@ impl Book {
         ensures bound { pos result ≡ phase_bound self.now }
     {
         let start = self.start.as_slice();
-        let top = self.scaled.top(greatest(start), self.eps);
-        steps_in(room_under(top, start), self.eps)
+        let top = self.scaled.top(greatest(start), self.ask.eps);
+        steps_in(room_under(top, start), self.ask.eps)
     }
 
     /// How many bids were accepted in this phase.

@@ -2,7 +2,7 @@
 ghost use Rattle.std.specs.Prelude.{◌≡◌, None, Some, MatchOption, count_by, length, is_some};
 ghost use Rattle.std.specs.Arc.{arc_value};
 ghost use Rattle.assign_core.specs.Numbered.{IsNumber, numbered};
-ghost use Rattle.auction_book.specs.Book.{ask_of, prices_of, version_of};
+ghost use Rattle.auction_book.specs.Book.{prices_of, version_of};
 ghost use Rattle.auction_book.specs.Free.{IsFree};
 
 use super::Book;
@@ -72,13 +72,9 @@ impl Book {
 
     /// What the phase asks of a bid.
     pub fn ask(&self) -> Ask
-        ensures { result ≡ ask_of self.now }
+        ensures { result ≡ self.now.ask }
     {
-        Ask {
-            phase: self.phase,
-            eps: self.eps,
-            floor: self.floor,
-        }
+        self.ask
     }
 
     /// How many bids of a worker were accepted since the opening.
@@ -86,8 +82,8 @@ impl Book {
         requires { IsNumber (length self.now.claims) worker }
         ensures { result ≡ numbered self.now.counts worker 0 }
     {
-        // For the proof alone: opens the model, by which there are as many counts as claims.
-        let _claim = &self.claims;
+        // There are as many counts as claims.
+        self.invariant();
         self.counts[worker as usize - 1]
     }
 

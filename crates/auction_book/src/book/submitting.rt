@@ -5,7 +5,7 @@ ghost use Rattle.assign_core.specs.Matching.{owner_of};
 ghost use Rattle.assign_core.specs.Numbered.{IsNumber};
 ghost use Rattle.assign_core.specs.Prices.{IsBelow, IsPrice, price_of};
 ghost use Rattle.bidder.specs.Offers.{IsSound};
-ghost use Rattle.auction_book.specs.Book.{Holds, ask_of, prices_of};
+ghost use Rattle.auction_book.specs.Book.{Holds, prices_of};
 ghost use Rattle.auction_book.specs.Changes.{accepted, with_set};
 ghost use Rattle.auction_book.specs.Free.{IsFree};
 ghost use Rattle.auction_book.specs.Submissions.{IsFitting, IsHigh, IsRecorded, IsSubmitted};
@@ -47,7 +47,7 @@ impl Book {
         requires object { IsNumber (length self.old.owners) bid.object }
         requires high { IsHigh self.old bid }
         requires sound { (q : List ℤ) × IsBelow q (prices_of self.old)
-            × IsSound self.old.base (ask_of self.old) q bid }
+            × IsSound self.old.base self.old.ask q bid }
         ensures ok { IfOk result (λ evicted. (evicted ≡ owner_of self.old.owners bid.object)
             × (self.new ≡ accepted self.old worker bid)) }
         ensures err { OnErr result (self.new ≡ self.old) }
@@ -90,16 +90,17 @@ impl Book {
         ensures free { IsFree self.new }
     {
         self.invariant();
+        let ask = self.ask();
         let person = bid.person;
         if !self.holds(worker, person) {
             return Err(Refused::NotClaimed);
         }
-        if bid.phase != self.phase() {
+        if bid.phase != ask.phase {
             self.release(worker, person);
             return Err(Refused::WrongPhase);
         }
         let price = self.price(bid.object);
-        if is_low(bid.level, price, self.eps()) {
+        if is_low(bid.level, price, ask.eps) {
             self.release(worker, person);
             return Err(Refused::TooLow(price));
         }
@@ -138,7 +139,7 @@ impl Book {
         if !self.holds(worker, person) {
             return Err(Refused::NotClaimed);
         }
-        if below.phase != self.phase() {
+        if below.phase != self.ask().phase {
             self.release(worker, person);
             return Err(Refused::WrongPhase);
         }

@@ -4,7 +4,7 @@ ghost use Rattle.assign_core.specs.Numbered.{IsNumber};
 ghost use Rattle.assign_core.specs.Prices.{IsBelow};
 ghost use Rattle.bidder.specs.Offers.{IsSound, IsSoundOffer};
 ghost use Rattle.price_log.specs.History.{IsEarlier};
-ghost use Rattle.auction_book.specs.Book.{ask_of, persons_of, prices_of};
+ghost use Rattle.auction_book.specs.Book.{persons_of, prices_of};
 ghost use Rattle.auction_book.specs.Follows.{GoesOn};
 
 use super::super::answers::{Accepted, Claim, Refused};
@@ -58,7 +58,7 @@ pub(crate) enum Call {
 
 // What a call answers, in plain numbers.
 #[derive(Clone, Copy, PartialEq, Eq)]
-pub(crate) enum Told {
+pub(crate) enum Reply {
     // The call's conditions aren't met, so it wasn't made.
     Unasked,
     Refuted,
@@ -83,49 +83,49 @@ pub(crate) enum Told {
     Nothing,
 }
 
-pub(crate) fn told_claim(claim: Claim) -> Told {
+pub(crate) fn told_claim(claim: Claim) -> Reply {
     match claim {
-        Claim::Refuted => Told::Refuted,
-        Claim::Done => Told::Done,
-        Claim::Stopped => Told::Stopped,
-        Claim::Wait => Told::Wait,
-        Claim::Person(person, ask) => Told::Person(person.0, ask.phase, ask.eps, ask.floor),
+        Claim::Refuted => Reply::Refuted,
+        Claim::Done => Reply::Done,
+        Claim::Stopped => Reply::Stopped,
+        Claim::Wait => Reply::Wait,
+        Claim::Person(person, ask) => Reply::Person(person.0, ask.phase, ask.eps, ask.floor),
     }
 }
 
-fn told_refusal(object: u16, level: Price, refused: Refused) -> Told {
+fn told_refusal(object: u16, level: Price, refused: Refused) -> Reply {
     match refused {
-        Refused::NotClaimed => Told::NotClaimed(object, level),
-        Refused::WrongPhase => Told::WrongPhase(object, level),
-        Refused::TooLow(price) => Told::TooLow(object, level, price),
-        Refused::Memory => Told::Memory,
+        Refused::NotClaimed => Reply::NotClaimed(object, level),
+        Refused::WrongPhase => Reply::WrongPhase(object, level),
+        Refused::TooLow(price) => Reply::TooLow(object, level, price),
+        Refused::Memory => Reply::Memory,
     }
 }
 
-pub(crate) fn told_bid(object: Object, level: Price, answer: Result<Accepted, Refused>) -> Told {
+pub(crate) fn told_bid(object: Object, level: Price, answer: Result<Accepted, Refused>) -> Reply {
     match answer {
         Ok(accepted) => {
             let evicted = accepted.evicted.unwrap_or(Person(0));
-            Told::Accepted(object.0, level, evicted.0)
+            Reply::Accepted(object.0, level, evicted.0)
         }
         Err(refused) => told_refusal(object.0, level, refused),
     }
 }
 
 // A Hall set has no object and no level: 0 stands for both.
-pub(crate) fn told_below(answer: Result<(), Refused>) -> Told {
+pub(crate) fn told_below(answer: Result<(), Refused>) -> Reply {
     match answer {
-        Ok(()) => Told::Recorded,
+        Ok(()) => Reply::Recorded,
         Err(refused) => told_refusal(0, 0, refused),
     }
 }
 
-pub(crate) fn claim(book: &mut Book, worker: u16) -> Told
+pub(crate) fn claim(book: &mut Book, worker: u16) -> Reply
     requires { IsNumber (length book.old.claims) worker }
     ensures { GoesOn book.old book.new }
 {
     if book.claimed_by(worker).is_some() {
-        return Told::Unasked;
+        return Reply::Unasked;
     }
     told_claim(book.claim(worker))
 }
@@ -164,7 +164,7 @@ pub(crate) fn named(phase: u16, mistake: Mistake) -> u16 {
 pub(crate) fn offered(book: &Book, desk: &Desk, person: Person) -> Offer
     requires person { IsNumber (persons_of book.now) person }
     requires table { length desk.now.table ≡ persons_of book.now }
-    ensures { IsSoundOffer book.now.base (ask_of book.now) desk.now.table result }
+    ensures { IsSoundOffer book.now.base book.now.ask desk.now.table result }
 {
     book.invariant();
     make_bid(book.scaled(), &desk.table, desk.version, book.ask(), person)
@@ -178,10 +178,10 @@ pub(crate) fn offer_of(trial: &Trial, worker: u16, person: u16) -> Option<Offer>
     Some(offered(&trial.book, desk, person))
 }
 
-fn submit_bid(book: &mut Book, desk: &Desk, worker: u16, bid: Bid) -> Told
+fn submit_bid(book: &mut Book, desk: &Desk, worker: u16, bid: Bid) -> Reply
     requires worker { IsNumber (length book.old.claims) worker }
     requires below { IsBelow desk.now.table (prices_of book.old) }
-    requires sound { IsSound book.old.base (ask_of book.old) desk.now.table bid }
+    requires sound { IsSound book.old.base book.old.ask desk.now.table bid }
     ensures { GoesOn book.old book.new }
 {
     book.invariant();
@@ -198,7 +198,7 @@ fn in_phase(bid: Bid, phase: u16) -> Bid
     Bid { phase, ..bid }
 }
 
-pub(crate) fn submit(book: &mut Book, desk: &Desk, worker: u16, mistake: Mistake) -> Told
+pub(crate) fn submit(book: &mut Book, desk: &Desk, worker: u16, mistake: Mistake) -> Reply
     requires worker { IsNumber (length book.old.claims) worker }
     requires below { IsBelow desk.now.table (prices_of book.old) }
     ensures { GoesOn book.old book.new }
@@ -206,18 +206,18 @@ pub(crate) fn submit(book: &mut Book, desk: &Desk, worker: u16, mistake: Mistake
     let person = spoken_for(book, worker, mistake);
     match offered(book, desk, person) {
         Offer::Bid(bid) => submit_bid(book, desk, worker, in_phase(bid, named(bid.phase, mistake))),
-        Offer::Below(_) => Told::Unasked,
+        Offer::Below(_) => Reply::Unasked,
     }
 }
 
 // A bid of an earlier phase or of a later one.
-pub(crate) fn submit_untimely(book: &mut Book, worker: u16, bid: Bid) -> Told
+pub(crate) fn submit_untimely(book: &mut Book, worker: u16, bid: Bid) -> Reply
     requires { IsNumber (length book.old.claims) worker }
     ensures { GoesOn book.old book.new }
 {
     book.invariant();
     if bid.phase == book.ask().phase {
-        return Told::Unasked;
+        return Reply::Unasked;
     }
     let Bid { object, level, .. } = bid;
     told_bid(object, level, book.submit(worker, bid))
@@ -228,13 +228,13 @@ pub(crate) fn below(
     book: &mut Book,
     worker: u16,
     mistake: Mistake,
-) -> Result<Told, AllocError>
+) -> Result<Reply, AllocError>
     requires { IsNumber (length book.old.claims) worker }
     ensures { GoesOn book.old book.new }
 {
     book.invariant();
     let Some(person) = book.claimed_by(worker) else {
-        return Ok(Told::Unasked);
+        return Ok(Reply::Unasked);
     };
     let below = BelowFloor {
         person: spoken_for(book, worker, mistake),
@@ -242,41 +242,41 @@ pub(crate) fn below(
     };
     match refute(alloc, book.scaled(), book.owners(), person)? {
         Search::Hall(hall) => Ok(told_below(book.below(worker, below, hall))),
-        Search::Path(_) => Ok(Told::Path),
+        Search::Path(_) => Ok(Reply::Path),
     }
 }
 
-fn next_phase(alloc: Global, book: &mut Book) -> Result<Told, AllocError>
+fn next_phase(alloc: Global, book: &mut Book) -> Result<Reply, AllocError>
     ensures { GoesOn book.old book.new }
 {
     book.invariant();
     if !book.phase_over() {
-        return Ok(Told::Unasked);
+        return Ok(Reply::Unasked);
     }
     book.next_phase(alloc)?;
-    Ok(Told::Nothing)
+    Ok(Reply::Nothing)
 }
 
-fn give_up(book: &mut Book, worker: u16) -> Told
+fn give_up(book: &mut Book, worker: u16) -> Reply
     requires { IsNumber (length book.old.claims) worker }
     ensures { GoesOn book.old book.new }
 {
     book.give_up(worker);
-    Told::Nothing
+    Reply::Nothing
 }
 
-fn stop(book: &mut Book) -> Told
+fn stop(book: &mut Book) -> Reply
     ensures { GoesOn book.old book.new }
 {
     book.stop();
-    Told::Nothing
+    Reply::Nothing
 }
 
-fn resume(book: &mut Book) -> Told
+fn resume(book: &mut Book) -> Reply
     ensures { GoesOn book.old book.new }
 {
     book.resume();
-    Told::Nothing
+    Reply::Nothing
 }
 
 // A call that doesn't change the worker's table.
@@ -286,7 +286,7 @@ fn call_at(
     desk: &Desk,
     worker: u16,
     call: Call,
-) -> Result<Told, AllocError>
+) -> Result<Reply, AllocError>
     requires worker { IsNumber (length book.old.claims) worker }
     requires below { IsBelow desk.now.table (prices_of book.old) }
     ensures { GoesOn book.old book.new }
@@ -299,11 +299,11 @@ fn call_at(
         Call::GiveUp => Ok(give_up(book, worker)),
         Call::Stop => Ok(stop(book)),
         Call::Resume => Ok(resume(book)),
-        Call::CatchUp => Ok(Told::Unasked),
+        Call::CatchUp => Ok(Reply::Unasked),
     }
 }
 
-fn catch_up(book: &mut Book, desk: &mut Desk, worker: u16) -> Told
+fn catch_up(book: &mut Book, desk: &mut Desk, worker: u16) -> Reply
     requires worker { IsNumber (length book.old.claims) worker }
     requires earlier { IsEarlier book.old.log desk.old.table desk.old.version }
     ensures on { GoesOn book.old book.new }
@@ -312,7 +312,7 @@ fn catch_up(book: &mut Book, desk: &mut Desk, worker: u16) -> Told
 {
     book.invariant();
     book.catch_up(worker, &mut desk.table, &mut desk.version);
-    Told::Nothing
+    Reply::Nothing
 }
 
 fn call_by(
@@ -321,7 +321,7 @@ fn call_by(
     desk: &mut Desk,
     worker: u16,
     call: Call,
-) -> Result<Told, AllocError>
+) -> Result<Reply, AllocError>
     requires worker { IsNumber (length book.old.claims) worker }
     requires below { IsBelow desk.old.table (prices_of book.old) }
     requires earlier { IsEarlier book.old.log desk.old.table desk.old.version }
@@ -342,9 +342,9 @@ pub(crate) fn call_of(
     trial: &mut Trial,
     worker: u16,
     call: Call,
-) -> Result<Told, AllocError> {
+) -> Result<Reply, AllocError> {
     if worker == 0 || worker > trial.book.workers() || worker as usize > trial.desks.len() {
-        return Ok(Told::Unasked);
+        return Ok(Reply::Unasked);
     }
     trial.book.invariant();
     let desk = &mut trial.desks[worker as usize - 1];

@@ -94,8 +94,7 @@ pub(crate) fn first_prices(alloc: Global, n: u16, given: &[Price]) -> Result<Pri
     for i in 0..n {
         values.push(first_price(given.get(i as usize).copied().unwrap_or(0)))?;
     }
-    let prices = Prices::new(alloc, values)?;
-    Ok(prices)
+    Prices::new(alloc, values)
 }
 
 // The next number of a congruential generator, by its high bits.

@@ -1,6 +1,6 @@
 // What a refused growth leaves. Where no growth is refused, these are calls of two persons to the
 // end; the refusals come from runs in which one allocation after the other fails.
-use super::calls::{Call, Mistake, Told, Trial, call_of};
+use super::calls::{Call, Mistake, Reply, Trial, call_of};
 use super::drawn::two_persons;
 use super::plain_calls;
 use super::sequences::{PlainTrial, open_both, plain_call, same, same_answer};
@@ -22,7 +22,7 @@ fn keeps(
         }
         return Ok(false);
     };
-    if told == Told::Memory {
+    if told == Reply::Memory {
         plain_calls::give_up(&mut plain.book, worker)?;
     } else if let Some(desk) = plain.desks.get_mut((worker as usize).wrapping_sub(1)) {
         if plain_call(alloc, &mut plain.book, desk, worker, call)? != told {

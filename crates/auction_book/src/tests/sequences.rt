@@ -1,7 +1,7 @@
 // Drawn sequences of calls, beside a plain book.
 use super::super::book::Book;
 use super::calls::{
-    Call, Mistake, Told, Trial, call_of, named, open_trial, told_below, told_bid, told_claim,
+    Call, Mistake, Reply, Trial, call_of, named, open_trial, told_below, told_bid, told_claim,
 };
 use super::drawn::{Case, draw, drawn_case, first_prices, scaled_of, size};
 use super::plain::{PlainBook, at, bound, offer, opened, prices, version};
@@ -44,10 +44,10 @@ fn submit(
     desk: &PlainDesk,
     worker: u16,
     mistake: Mistake,
-) -> Result<Told, AllocError> {
+) -> Result<Reply, AllocError> {
     let person = spoken_for(plain, worker, mistake);
     let Some((object, level)) = offer(plain, desk.table.as_slice(), person.0) else {
-        return Ok(Told::Unasked);
+        return Ok(Reply::Unasked);
     };
     let phase = named(plain.phase, mistake);
     let answer = plain_calls::submit(alloc, plain, worker, person, phase, object, level)?;
@@ -59,12 +59,12 @@ fn below(
     plain: &mut PlainBook,
     worker: u16,
     mistake: Mistake,
-) -> Result<Told, AllocError> {
+) -> Result<Reply, AllocError> {
     let Some(person) = at(plain.claims.as_slice(), worker).flatten() else {
-        return Ok(Told::Unasked);
+        return Ok(Reply::Unasked);
     };
     let Some(hall) = plain_calls::search(alloc, plain, person)? else {
-        return Ok(Told::Path);
+        return Ok(Reply::Path);
     };
     let person = spoken_for(plain, worker, mistake);
     let phase = named(plain.phase, mistake);
@@ -72,24 +72,24 @@ fn below(
     Ok(told_below(answer))
 }
 
-fn claim(plain: &mut PlainBook, worker: u16) -> Told {
+fn claim(plain: &mut PlainBook, worker: u16) -> Reply {
     if at(plain.claims.as_slice(), worker).flatten().is_some() {
-        return Told::Unasked;
+        return Reply::Unasked;
     }
     told_claim(plain_calls::claim(plain, worker))
 }
 
-fn next_phase(alloc: Global, plain: &mut PlainBook) -> Result<Told, AllocError> {
+fn next_phase(alloc: Global, plain: &mut PlainBook) -> Result<Reply, AllocError> {
     if !phase_over(plain) {
-        return Ok(Told::Unasked);
+        return Ok(Reply::Unasked);
     }
     plain_calls::next_phase(alloc, plain)?;
-    Ok(Told::Nothing)
+    Ok(Reply::Nothing)
 }
 
-fn give_up(plain: &mut PlainBook, worker: u16) -> Result<Told, AllocError> {
+fn give_up(plain: &mut PlainBook, worker: u16) -> Result<Reply, AllocError> {
     plain_calls::give_up(plain, worker)?;
-    Ok(Told::Nothing)
+    Ok(Reply::Nothing)
 }
 
 fn catch_up(
@@ -97,16 +97,16 @@ fn catch_up(
     plain: &mut PlainBook,
     desk: &mut PlainDesk,
     worker: u16,
-) -> Result<Told, AllocError> {
+) -> Result<Reply, AllocError> {
     plain_calls::catch_up(plain, worker);
     desk.table = prices(plain).to_vec(alloc)?;
     desk.version = version(plain);
-    Ok(Told::Nothing)
+    Ok(Reply::Nothing)
 }
 
-fn set_stopped(plain: &mut PlainBook, stopped: bool) -> Told {
+fn set_stopped(plain: &mut PlainBook, stopped: bool) -> Reply {
     plain.stopped = stopped;
-    Told::Nothing
+    Reply::Nothing
 }
 
 pub(crate) fn plain_call(
@@ -115,7 +115,7 @@ pub(crate) fn plain_call(
     desk: &mut PlainDesk,
     worker: u16,
     call: Call,
-) -> Result<Told, AllocError> {
+) -> Result<Reply, AllocError> {
     match call {
         Call::Claim => Ok(claim(plain, worker)),
         Call::Submit(mistake) => submit(alloc, plain, desk, worker, mistake),
@@ -244,25 +244,25 @@ struct Kinds {
 }
 
 // The place of an answer's count, if it's one that is counted.
-fn count_of(kinds: &mut Kinds, call: Call, told: Told) -> Option<&mut u64> {
+fn count_of(kinds: &mut Kinds, call: Call, told: Reply) -> Option<&mut u64> {
     match told {
-        Told::Refuted => Some(&mut kinds.refuted),
-        Told::Done => Some(&mut kinds.done),
-        Told::Stopped => Some(&mut kinds.stopped),
-        Told::Wait => Some(&mut kinds.waits),
-        Told::Accepted(_, _, 0) => Some(&mut kinds.accepted),
-        Told::Accepted(_, _, _) => Some(&mut kinds.evicted),
-        Told::NotClaimed(_, _) => Some(&mut kinds.not_claimed),
-        Told::WrongPhase(_, _) => Some(&mut kinds.wrong_phase),
-        Told::TooLow(_, _, _) => Some(&mut kinds.too_low),
-        Told::Recorded => Some(&mut kinds.recorded),
-        Told::Path => Some(&mut kinds.paths),
-        Told::Nothing if call == Call::NextPhase => Some(&mut kinds.phases),
+        Reply::Refuted => Some(&mut kinds.refuted),
+        Reply::Done => Some(&mut kinds.done),
+        Reply::Stopped => Some(&mut kinds.stopped),
+        Reply::Wait => Some(&mut kinds.waits),
+        Reply::Accepted(_, _, 0) => Some(&mut kinds.accepted),
+        Reply::Accepted(_, _, _) => Some(&mut kinds.evicted),
+        Reply::NotClaimed(_, _) => Some(&mut kinds.not_claimed),
+        Reply::WrongPhase(_, _) => Some(&mut kinds.wrong_phase),
+        Reply::TooLow(_, _, _) => Some(&mut kinds.too_low),
+        Reply::Recorded => Some(&mut kinds.recorded),
+        Reply::Path => Some(&mut kinds.paths),
+        Reply::Nothing if call == Call::NextPhase => Some(&mut kinds.phases),
         _ => None,
     }
 }
 
-fn note(kinds: &mut Kinds, call: Call, told: Told) {
+fn note(kinds: &mut Kinds, call: Call, told: Reply) {
     if let Some(count) = count_of(kinds, call, told) {
         *count = count.wrapping_add(1);
     }

@@ -1,6 +1,6 @@
 // Calls of a book on small problems, worked by hand.
 use super::super::book::Book;
-use super::calls::{Call, Mistake, Told, Trial, call_of, offer_of, open_trial, submit_untimely};
+use super::calls::{Call, Mistake, Reply, Trial, call_of, offer_of, open_trial, submit_untimely};
 use super::drawn::{Case, scaled_of, size, two_persons};
 use super::plain::Pair;
 use super::sequences::open_case;
@@ -18,43 +18,43 @@ fn three_persons(alloc: Global) -> Result<Trial, AllocError> {
 }
 
 // A call by a worker, what it answers, and then the first two who wait and the first two prices.
-type Step = (u16, Call, Told, [u16; 2], [Price; 2]);
+type Step = (u16, Call, Reply, [u16; 2], [Price; 2]);
 
 // What a worker is told that gets person 1, or 2: with slackness 2 and floor -29 in the first phase, and with 1 and -36
 // in the second.
-const FIRST_OF_1: Told = Told::Person(1, 1, 2, -29);
+const FIRST_OF_1: Reply = Reply::Person(1, 1, 2, -29);
 
-const FIRST_OF_2: Told = Told::Person(2, 1, 2, -29);
+const FIRST_OF_2: Reply = Reply::Person(2, 1, 2, -29);
 
-const SECOND_OF_1: Told = Told::Person(1, 2, 1, -36);
+const SECOND_OF_1: Reply = Reply::Person(1, 2, 1, -36);
 
-const SECOND_OF_2: Told = Told::Person(2, 2, 1, -36);
+const SECOND_OF_2: Reply = Reply::Person(2, 2, 1, -36);
 
 const SUBMIT: Call = Call::Submit(Mistake::Nothing);
 
 const FIRST_PHASE: [Step; 8] = [
     (1, Call::Claim, FIRST_OF_1, [2, 0], [0, 0]),
     (2, Call::Claim, FIRST_OF_2, [0, 0], [0, 0]),
-    (1, SUBMIT, Told::Accepted(1, 5, 0), [0, 0], [5, 0]),
-    (2, SUBMIT, Told::Accepted(1, 8, 1), [1, 0], [8, 0]),
+    (1, SUBMIT, Reply::Accepted(1, 5, 0), [0, 0], [5, 0]),
+    (2, SUBMIT, Reply::Accepted(1, 8, 1), [1, 0], [8, 0]),
     (1, Call::Claim, FIRST_OF_1, [0, 0], [8, 0]),
-    (1, Call::CatchUp, Told::Nothing, [0, 0], [8, 0]),
-    (1, SUBMIT, Told::Accepted(2, 7, 0), [0, 0], [8, 7]),
-    (2, Call::Claim, Told::Wait, [0, 0], [8, 7]),
+    (1, Call::CatchUp, Reply::Nothing, [0, 0], [8, 0]),
+    (1, SUBMIT, Reply::Accepted(2, 7, 0), [0, 0], [8, 7]),
+    (2, Call::Claim, Reply::Wait, [0, 0], [8, 7]),
 ];
 
 const SECOND_PHASE: [Step; 11] = [
-    (1, Call::NextPhase, Told::Nothing, [1, 2], [8, 7]),
-    (1, Call::CatchUp, Told::Nothing, [1, 2], [8, 7]),
-    (2, Call::CatchUp, Told::Nothing, [1, 2], [8, 7]),
+    (1, Call::NextPhase, Reply::Nothing, [1, 2], [8, 7]),
+    (1, Call::CatchUp, Reply::Nothing, [1, 2], [8, 7]),
+    (2, Call::CatchUp, Reply::Nothing, [1, 2], [8, 7]),
     (1, Call::Claim, SECOND_OF_1, [2, 0], [8, 7]),
     (2, Call::Claim, SECOND_OF_2, [0, 0], [8, 7]),
-    (1, SUBMIT, Told::Accepted(1, 11, 0), [0, 0], [11, 7]),
-    (2, SUBMIT, Told::Accepted(1, 14, 1), [1, 0], [14, 7]),
-    (1, Call::CatchUp, Told::Nothing, [1, 0], [14, 7]),
+    (1, SUBMIT, Reply::Accepted(1, 11, 0), [0, 0], [11, 7]),
+    (2, SUBMIT, Reply::Accepted(1, 14, 1), [1, 0], [14, 7]),
+    (1, Call::CatchUp, Reply::Nothing, [1, 0], [14, 7]),
     (1, Call::Claim, SECOND_OF_1, [0, 0], [14, 7]),
-    (1, SUBMIT, Told::Accepted(2, 12, 0), [0, 0], [14, 12]),
-    (1, Call::Claim, Told::Done, [0, 0], [14, 12]),
+    (1, SUBMIT, Reply::Accepted(2, 12, 0), [0, 0], [14, 12]),
+    (1, Call::Claim, Reply::Done, [0, 0], [14, 12]),
 ];
 
 // The first two who wait, 0 for nobody.
@@ -147,13 +147,13 @@ fn six_bids_of_two_persons(rt: HostRuntime) -> Result<(), Fail> {
 
 // The second phase begins, and worker 1 brings a bid of a person that it doesn't hold.
 const UNHELD: [Step; 4] = [
-    (1, Call::NextPhase, Told::Nothing, [1, 2], [8, 7]),
-    (1, Call::CatchUp, Told::Nothing, [1, 2], [8, 7]),
+    (1, Call::NextPhase, Reply::Nothing, [1, 2], [8, 7]),
+    (1, Call::CatchUp, Reply::Nothing, [1, 2], [8, 7]),
     (1, Call::Claim, SECOND_OF_1, [2, 0], [8, 7]),
     (
         1,
         Call::Submit(Mistake::Person),
-        Told::NotClaimed(1, 14),
+        Reply::NotClaimed(1, 14),
         [2, 0],
         [8, 7],
     ),
@@ -170,7 +170,7 @@ const LATE: Bid = Bid {
 
 // Whether worker 1 is told that the bid names another phase.
 fn is_late(book: &mut Book) -> bool {
-    book.workers() > 0 && submit_untimely(book, 1, LATE) == Told::WrongPhase(1, 5)
+    book.workers() > 0 && submit_untimely(book, 1, LATE) == Reply::WrongPhase(1, 5)
 }
 
 // Whether the late bid's person waits again, and nothing else has changed.
@@ -207,22 +207,22 @@ fn a_late_bid_and_one_of_another_person(rt: HostRuntime) -> Result<(), Fail> {
 
 // Person 1 gets object 1, and worker 2 has claimed person 2.
 const CONTESTED: [Step; 3] = [
-    (1, Call::Claim, Told::Person(1, 1, 4, -72), [2, 3], [0, 0]),
-    (2, Call::Claim, Told::Person(2, 1, 4, -72), [3, 0], [0, 0]),
-    (1, SUBMIT, Told::Accepted(1, 60, 0), [3, 0], [60, 0]),
+    (1, Call::Claim, Reply::Person(1, 1, 4, -72), [2, 3], [0, 0]),
+    (2, Call::Claim, Reply::Person(2, 1, 4, -72), [3, 0], [0, 0]),
+    (1, SUBMIT, Reply::Accepted(1, 60, 0), [3, 0], [60, 0]),
 ];
 
 // Worker 2 catches up, and records what stops person 2.
 const RECORDED: [Step; 3] = [
-    (2, SUBMIT, Told::Unasked, [3, 0], [60, 0]),
+    (2, SUBMIT, Reply::Unasked, [3, 0], [60, 0]),
     (
         2,
         Call::Below(Mistake::Nothing),
-        Told::Recorded,
+        Reply::Recorded,
         [3, 2],
         [60, 0],
     ),
-    (2, Call::Claim, Told::Refuted, [3, 2], [60, 0]),
+    (2, Call::Claim, Reply::Refuted, [3, 2], [60, 0]),
 ];
 
 // The level of what person 2 offers worker 2, if it's a bid.
@@ -263,7 +263,7 @@ fn an_old_table_hides_the_floor(rt: HostRuntime) -> Result<(), Fail> {
 fn low_bid_goes(alloc: Global) -> Result<bool, AllocError> {
     let mut trial = three_persons(alloc)?;
     let first = steps_that_go(alloc, &mut trial, &CONTESTED)?;
-    let low = (2, SUBMIT, Told::TooLow(1, 52, 60), [3, 2], [60, 0]);
+    let low = (2, SUBMIT, Reply::TooLow(1, 52, 60), [3, 2], [60, 0]);
     Ok(first == 3 && goes(alloc, &mut trial, low)?)
 }
 
@@ -277,32 +277,32 @@ fn a_low_bid_is_told_the_price(rt: HostRuntime) -> Result<(), Fail> {
 const OLD_TABLES: [Step; 11] = [
     (1, Call::Claim, FIRST_OF_1, [2, 0], [0, 0]),
     (2, Call::Claim, FIRST_OF_2, [0, 0], [0, 0]),
-    (2, SUBMIT, Told::Accepted(1, 8, 0), [0, 0], [8, 0]),
-    (2, Call::Claim, Told::Wait, [0, 0], [8, 0]),
-    (1, SUBMIT, Told::TooLow(1, 5, 8), [1, 0], [8, 0]),
-    (1, Call::CatchUp, Told::Nothing, [1, 0], [8, 0]),
+    (2, SUBMIT, Reply::Accepted(1, 8, 0), [0, 0], [8, 0]),
+    (2, Call::Claim, Reply::Wait, [0, 0], [8, 0]),
+    (1, SUBMIT, Reply::TooLow(1, 5, 8), [1, 0], [8, 0]),
+    (1, Call::CatchUp, Reply::Nothing, [1, 0], [8, 0]),
     (1, Call::Claim, FIRST_OF_1, [0, 0], [8, 0]),
-    (1, SUBMIT, Told::Accepted(2, 7, 0), [0, 0], [8, 7]),
-    (1, Call::NextPhase, Told::Nothing, [1, 2], [8, 7]),
+    (1, SUBMIT, Reply::Accepted(2, 7, 0), [0, 0], [8, 7]),
+    (1, Call::NextPhase, Reply::Nothing, [1, 2], [8, 7]),
     (1, Call::Claim, SECOND_OF_1, [2, 0], [8, 7]),
     (2, Call::Claim, SECOND_OF_2, [0, 0], [8, 7]),
 ];
 
 const OLD_TABLES_TO_THE_END: [Step; 14] = [
-    (1, SUBMIT, Told::TooLow(2, 6, 7), [1, 0], [8, 7]),
-    (1, Call::CatchUp, Told::Nothing, [1, 0], [8, 7]),
+    (1, SUBMIT, Reply::TooLow(2, 6, 7), [1, 0], [8, 7]),
+    (1, Call::CatchUp, Reply::Nothing, [1, 0], [8, 7]),
     (1, Call::Claim, SECOND_OF_1, [0, 0], [8, 7]),
-    (2, SUBMIT, Told::TooLow(1, 7, 8), [2, 0], [8, 7]),
+    (2, SUBMIT, Reply::TooLow(1, 7, 8), [2, 0], [8, 7]),
     (2, Call::Claim, SECOND_OF_2, [0, 0], [8, 7]),
-    (1, SUBMIT, Told::Accepted(1, 11, 0), [0, 0], [11, 7]),
-    (1, Call::Claim, Told::Wait, [0, 0], [11, 7]),
-    (2, SUBMIT, Told::TooLow(1, 7, 11), [2, 0], [11, 7]),
-    (2, Call::CatchUp, Told::Nothing, [2, 0], [11, 7]),
+    (1, SUBMIT, Reply::Accepted(1, 11, 0), [0, 0], [11, 7]),
+    (1, Call::Claim, Reply::Wait, [0, 0], [11, 7]),
+    (2, SUBMIT, Reply::TooLow(1, 7, 11), [2, 0], [11, 7]),
+    (2, Call::CatchUp, Reply::Nothing, [2, 0], [11, 7]),
     (2, Call::Claim, SECOND_OF_2, [0, 0], [11, 7]),
-    (2, SUBMIT, Told::Accepted(1, 14, 1), [1, 0], [14, 7]),
+    (2, SUBMIT, Reply::Accepted(1, 14, 1), [1, 0], [14, 7]),
     (2, Call::Claim, SECOND_OF_1, [0, 0], [14, 7]),
-    (2, SUBMIT, Told::Accepted(2, 9, 0), [0, 0], [14, 9]),
-    (2, Call::Claim, Told::Done, [0, 0], [14, 9]),
+    (2, SUBMIT, Reply::Accepted(2, 9, 0), [0, 0], [14, 9]),
+    (2, Call::Claim, Reply::Done, [0, 0], [14, 9]),
 ];
 
 fn old_tables_go(alloc: Global) -> Result<bool, AllocError> {
@@ -438,8 +438,8 @@ const TWO_SEARCHES: [(u16, Call); 10] = [
 ];
 
 // What the last of these calls answers.
-fn last_told(alloc: Global, trial: &mut Trial, calls: &[(u16, Call)]) -> Result<Told, AllocError> {
-    let mut told = Told::Unasked;
+fn last_told(alloc: Global, trial: &mut Trial, calls: &[(u16, Call)]) -> Result<Reply, AllocError> {
+    let mut told = Reply::Unasked;
     for pair in calls {
         told = call_of(alloc, trial, pair.0, pair.1)?;
     }
@@ -448,7 +448,7 @@ fn last_told(alloc: Global, trial: &mut Trial, calls: &[(u16, Call)]) -> Result<
 
 // Whether the last search is told as recorded.
 fn is_recorded(alloc: Global, trial: &mut Trial) -> Result<bool, AllocError> {
-    Ok(last_told(alloc, trial, &TWO_SEARCHES)? == Told::Recorded)
+    Ok(last_told(alloc, trial, &TWO_SEARCHES)? == Reply::Recorded)
 }
 
 // Whether person 2 waits at the back of the queue, and is in the recorded Hall set with person 1.

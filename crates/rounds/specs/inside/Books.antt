@@ -9,17 +9,17 @@ use Rattle.assign_core.specs.Prices.{IsBelow, price_of}
 use Rattle.bidder.specs.declared.offers.Bid.{Bid}
 use Rattle.bidder.specs.declared.offers.Offer.{Offer}
 use Rattle.bidder.specs.Offers.{IsUnder, benefits_at}
-use Rattle.auction_book.specs.Book.{BookData, Holds, ask_of, prices_of}
+use Rattle.auction_book.specs.Book.{BookData, Holds, prices_of}
 use Rattle.auction_book.specs.Changes.{accepted, released}
 use Rattle.auction_book.specs.Free.{IsFree}
 use Rattle.rounds.specs.declared.rounds.Round.{Round}
 use Rattle.rounds.specs.declared.rounds.Round.TheVariants as came
 use Rattle.rounds.specs.Offers.{offers_of}
-use Rattle.rounds.specs.Plain.{Plain, Goes, Ends, Halted, all_turned, round}
+use Rattle.rounds.specs.Plain.{Plain, Goes, Ends, Halted, after_offers, round}
 
 -- without its log, its claims and its counts
 abbrev pub plain_of : BookData → Plain
-plain_of b = record { prices = prices_of b; owners = b.owners; queue = b.queue; phase = b.phase; eps = b.eps; floor = b.floor }
+plain_of b = record { prices = prices_of b; owners = b.owners; queue = b.queue; ask = b.ask }
 
 -- how far the prices are from their end, all together
 abbrev pub room : List ℤ → ℕ
@@ -54,7 +54,7 @@ pub record IsClaimed (old : BookData) (persons : List ℕ) (new : BookData) : Ty
 pub record HaveOffered (b : BookData) (persons : List ℕ) (offers : List Offer) : Type 0 where
   pub going : IsGoing b
   pub claimed : AreClaimed persons 0 b.claims
-  pub made : offers ≡ offers_of b.base (prices_of b) (ask_of b) persons
+  pub made : offers ≡ offers_of b.base (prices_of b) b.ask persons
 
 -- after a bid, which is too low or is accepted
 abbrev pub book_after : Bool → BookData → ℕ → Bid → BookData
@@ -62,8 +62,8 @@ book_after true b worker bid = released b worker bid.person
 book_after false b worker bid = accepted b worker bid
 
 -- a bid is accepted at a level of eps above the price or more
-abbrev pub book_turned : BookData → ℕ → Bid → BookData
-book_turned b worker bid = book_after (lt_z bid.level (price_of (prices_of b) bid.object +ℤ b.eps)) b worker bid
+abbrev pub book_after_bid : BookData → ℕ → Bid → BookData
+book_after_bid b worker bid = book_after (lt_z bid.level (price_of (prices_of b) bid.object +ℤ b.ask.eps)) b worker bid
 
 -- a claimed person lists nothing, or nothing that was worth the floor under some table below the book's prices
 pub record IsBelowFloor (b : BookData) (person : ℕ) : Type 0 where
@@ -72,12 +72,12 @@ pub record IsBelowFloor (b : BookData) (person : ℕ) : Type 0 where
   pub held : Holds b worker person
   pub table : List ℤ
   pub below : IsBelow table (prices_of b)
-  pub under : IsUnder (benefits_at b.base person) table b.floor
+  pub under : IsUnder (benefits_at b.base person) table b.ask.floor
 
--- offers in turn, up to one of a person that finds nothing worth the floor
-abbrev pub AreTurned : BookData → List Offer → Option ℕ → BookData → Type 0
-AreTurned old offers None new = (all_turned offers (plain_of old) ≡ Goes (plain_of new)) × IsAtRest new × (0 < length offers → room (prices_of new) < room (prices_of old))
-AreTurned old offers (Some person) new = (all_turned offers (plain_of old) ≡ Ends (Halted person (plain_of new))) × IsBelowFloor new person
+-- offers are submitted one by one, up to one of a person that finds nothing worth the floor
+abbrev pub AreSubmitted : BookData → List Offer → Option ℕ → BookData → Type 0
+AreSubmitted old offers None new = (after_offers offers (plain_of old) ≡ Goes (plain_of new)) × IsAtRest new × (0 < length offers → room (prices_of new) < room (prices_of old))
+AreSubmitted old offers (Some person) new = (after_offers offers (plain_of old) ≡ Ends (Halted person (plain_of new))) × IsBelowFloor new person
 
 -- one round: nobody waited, or a person finds nothing worth the floor, or prices rose
 abbrev pub IsRound : BookData → Round → BookData → Type 0

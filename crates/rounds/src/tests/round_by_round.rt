@@ -45,7 +45,7 @@ fn offer_line(alloc: Global, offer: Offer, accepted: bool) -> Result<String, All
     }
 }
 
-// The offers of a round in turn, each with its answer: the worker of an accepted bid counts one more.
+// The offers of a round, one by one, each with its answer: the worker of an accepted bid counts one more.
 fn tell_offers(
     alloc: Global,
     offers: &[Offer],
@@ -63,7 +63,7 @@ fn tell_offers(
     Ok(())
 }
 
-// A round told: what its phase asks, its table, and its offers in turn. Whether the run goes on.
+// A round told: what its phase asks, its table, and its offers one by one. Whether the run goes on.
 fn round_told(alloc: Global, book: &mut Book, lines: &mut Vec<String>) -> Result<bool, AllocError>
     requires { IsAtRest book.old }
     ensures { IfOk result (λ more. more ≡ true → IsAtRest book.new) }

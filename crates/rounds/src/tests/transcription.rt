@@ -46,7 +46,7 @@ fn offer_of(auction: &Auction, person: usize) -> Option<(usize, i128)> {
     Some((object, level))
 }
 
-// A bid in turn.
+// A bid that is submitted.
 fn submit(
     auction: &mut Auction,
     person: usize,

@@ -12,7 +12,7 @@ loop-init g c =
     record {
       goes_on = alone_resumed c.args.book.now c.give_up_all.new.book c.resume.new.self up.goes_on on.book;
       free = on.free;
-      none = ap (λ (b : BookData). numbered b.claims 1 None) on.book ∙ up.none c.requires;
+      none = ap (λ (b : BookData). numbered b.claims 1 None) on.book ∙ up.none 1;
     }
 
 pub step_alone-requires-clause-worker : goal.step_alone-requires-clause-worker

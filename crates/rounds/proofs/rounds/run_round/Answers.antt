@@ -1,5 +1,5 @@
 use Rattle.std.proofs.Common.{◌∙◌}
-use Rattle.rounds.proofs.Turning.{can_offer_as}
+use Rattle.rounds.proofs.Submitting.{can_offer_as}
 use Rattle.rounds.proofs.rounds.run_round.Goals as goal
 
 pub make-requires-clause-can : goal.make-requires-clause-can

@@ -1,11 +1,12 @@
 use Rattle.std.proofs.Common.{length, ap, ◌∙◌, subst}
 use Rattle.std.specs.Arc.{arc_value}
+use Rattle.std.proofs.lemmas.Result.{IfOk-weaker}
 use Rattle.scaled_values.specs.Scaled.{ScaledProblem}
 use Rattle.rounds.specs.inside.Books.{IsRound, plain_of}
 use Rattle.rounds.specs.Outcomes.{IsOfRounds, IsOutcome, IsProof}
 use Rattle.rounds.specs.Plain.{Finished, Halted}
 use Rattle.rounds.proofs.Phasing.{next_rests}
-use Rattle.rounds.proofs.Running.{if_ok, proof_of, running_first, running_halted, running_last, running_more, running_over, running_smaller}
+use Rattle.rounds.proofs.Running.{proof_of, running_first, running_halted, running_last, running_more, running_over, running_smaller}
 use Rattle.rounds.proofs.rounds.run_rounds.Goals as goal
 
 pub rounds-init : goal.rounds-init
@@ -24,13 +25,13 @@ returns-in-Over-clause-rounds g c =
     let s = arc_value c.args.scaled in
     let new = c.run_round.new.book in
     let round = subst (λ r. IsRound c.begin_next_if_over.new.book r new) c.in-Over.is c.in_ok-run_round.ensures.round in
-    if_ok c.finish.result (IsOutcome new.base (Finished (plain_of new))) (IsOfRounds s c.args.prices) c.finish.ensures.outcome (λ o h. running_over s c.args.prices c.rounds.book c.begin_next_if_over.new.book new o c.rounds.invariant c.in_ok-begin_next_if_over.ensures.ok round c.in_ok-run_round.ensures.base h)
+    IfOk-weaker c.finish.result (IsOutcome new.base (Finished (plain_of new))) (IsOfRounds s c.args.prices) (λ o h. running_over s c.args.prices c.rounds.book c.begin_next_if_over.new.book new o c.rounds.invariant c.in_ok-begin_next_if_over.ensures.ok round c.in_ok-run_round.ensures.base h) c.finish.ensures.outcome
 
 pub returns-in-Over-clause-proof : goal.returns-in-Over-clause-proof
 returns-in-Over-clause-proof g c =
     let s = arc_value c.args.scaled in
     let new = c.run_round.new.book in
-    if_ok c.finish.result (IsProof new.base) (IsProof s) c.finish.ensures.proof (λ o h. proof_of s c.args.prices c.rounds.book c.begin_next_if_over.new.book new o c.rounds.invariant c.in_ok-begin_next_if_over.ensures.ok c.in_ok-run_round.ensures.base h)
+    IfOk-weaker c.finish.result (IsProof new.base) (IsProof s) (λ o h. proof_of s c.args.prices c.rounds.book c.begin_next_if_over.new.book new o c.rounds.invariant c.in_ok-begin_next_if_over.ensures.ok c.in_ok-run_round.ensures.base h) c.finish.ensures.proof
 
 pub returns-in-Halted-clause-rounds : goal.returns-in-Halted-clause-rounds
 returns-in-Halted-clause-rounds g c =
@@ -38,13 +39,13 @@ returns-in-Halted-clause-rounds g c =
     let new = c.run_round.new.book in
     let person = c.in-Halted.person in
     let round = subst (λ r. IsRound c.begin_next_if_over.new.book r new) c.in-Halted.is c.in_ok-run_round.ensures.round in
-    if_ok c.halt.result (IsOutcome new.base (Halted person (plain_of new))) (IsOfRounds s c.args.prices) c.halt.ensures.outcome (λ o h. running_halted s c.args.prices c.rounds.book c.begin_next_if_over.new.book new person o c.rounds.invariant c.in_ok-begin_next_if_over.ensures.ok round c.in_ok-run_round.ensures.base h)
+    IfOk-weaker c.halt.result (IsOutcome new.base (Halted person (plain_of new))) (IsOfRounds s c.args.prices) (λ o h. running_halted s c.args.prices c.rounds.book c.begin_next_if_over.new.book new person o c.rounds.invariant c.in_ok-begin_next_if_over.ensures.ok round c.in_ok-run_round.ensures.base h) c.halt.ensures.outcome
 
 pub returns-in-Halted-clause-proof : goal.returns-in-Halted-clause-proof
 returns-in-Halted-clause-proof g c =
     let s = arc_value c.args.scaled in
     let new = c.run_round.new.book in
-    if_ok c.halt.result (IsProof new.base) (IsProof s) c.halt.ensures.proof (λ o h. proof_of s c.args.prices c.rounds.book c.begin_next_if_over.new.book new o c.rounds.invariant c.in_ok-begin_next_if_over.ensures.ok c.in_ok-run_round.ensures.base h)
+    IfOk-weaker c.halt.result (IsProof new.base) (IsProof s) (λ o h. proof_of s c.args.prices c.rounds.book c.begin_next_if_over.new.book new o c.rounds.invariant c.in_ok-begin_next_if_over.ensures.ok c.in_ok-run_round.ensures.base h) c.halt.ensures.proof
 
 pub rounds-smaller : goal.rounds-smaller
 rounds-smaller g c =

@@ -1,7 +1,7 @@
 use Rattle.std.proofs.Common.{ap, subst, Option}
 use Rattle.bidder.specs.declared.offers.Offer.{Offer}
 use Rattle.async_workers.specs.Desk.{DeskData, HeldData}
-use Rattle.async_workers.specs.Session.{Ends}
+use Rattle.async_workers.specs.inside.Hand.{Ends}
 use Rattle.async_workers.proofs.Hands.{hand_taken, serves, table_long}
 use Rattle.async_workers.proofs.Turning.{prepared_taken}
 use Rattle.async_workers.proofs.place.turning.one_session.Goals as goal

@@ -1,7 +1,7 @@
 use Rattle.std.proofs.Common.{subst, refl, Result}
 use Rattle.std.specs.declared.alloc.AllocError.{AllocError}
 use Rattle.auction_book.specs.declared.answers.Claim.{Claim}
-use Rattle.async_workers.specs.Session.{Ends}
+use Rattle.async_workers.specs.inside.Hand.{Ends}
 use Rattle.async_workers.specs.Turns.{Serves}
 use Rattle.async_workers.proofs.Hands.{serves_on}
 use Rattle.async_workers.proofs.Turning.{can_turn_again, can_turn_without, faulted, stops_run, turned, works_with_offer}

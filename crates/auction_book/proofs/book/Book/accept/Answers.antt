@@ -6,7 +6,7 @@ use Rattle.assign_core.specs.Matching.{owner_of}
 use Rattle.assign_core.specs.Numbered.{IsNumber, numbered}
 use Rattle.assign_core.proofs.NumberedLemmas.{numbered_read, renumber-set}
 use Rattle.bidder.proofs.Sound.{sound_above}
-use Rattle.auction_book.specs.Book.{BookData, ask_of, prices_of}
+use Rattle.auction_book.specs.Book.{BookData, prices_of}
 use Rattle.auction_book.specs.Changes.{accepted}
 use Rattle.auction_book.specs.Free.{IsFree}
 use Rattle.price_log.specs.Changes.{after_raise}
@@ -78,7 +78,7 @@ invariant_of-self-2 c =
     let out = numbered_read s.owners.items bid.object c.index.result.now None ho lo (subst (λ m. c.index.result.now ≡ get_or s.owners.items m c.index.result.now) at c.index.ensures) in
     let q = c.requires.sound in
     let free = subst IsFree c.self.view_is c.self.invariant.3 in
-    let now = accepted_free b w bid free (sound_above b.base (ask_of b) q.0 (prices_of b) bid q.1 q.2) c.requires.high c.requires.held in (
+    let now = accepted_free b w bid free (sound_above b.base b.ask q.0 (prices_of b) bid q.1 q.2) c.requires.high c.requires.held in (
       rw (length-set, c.requeue.ensures.capacity) c.self.invariant.0,
       owned_more s.owners.items bid.object bid.person c.place-place.result s.owned c.newly_owned.result c.index.result.now at ho lo c.self.invariant.1 out c.newly_owned.ensures,
       rw length-set c.self.invariant.2,

@@ -15,13 +15,13 @@ top-top-requires-clause-price c =
     let f : SFits w128 c.greatest.result = search rules in
     simp to_z-of_z (greatest_read c.self.inside.start _ _ c.greatest.ensures c.as_slice-start.ensures.prices c.as_slice-start.ensures.table)
 
-top_is : (c : goal.After-top-top) → c.top-top.result ≡ top_of (arc_value c.self.inside.scaled) (greatest_of c.self.inside.start) c.self.inside.eps
+top_is : (c : goal.After-top-top) → c.top-top.result ≡ top_of (arc_value c.self.inside.scaled) (greatest_of c.self.inside.start) c.self.inside.ask.eps
 top_is c =
     let s = c.self.inside in
     let f : SFits w128 c.greatest.result = search rules in
-    let g : SFits w64 s.eps = search rules in
+    let g : SFits w64 s.ask.eps = search rules in
     let e : c.greatest.result ≡ greatest_of s.start = c.greatest.ensures ∙ ap greatest_of c.as_slice-start.ensures.prices in
-    simp to_z-of_z at c.top-top.ensures ∙ ap (λ b. top_of b c.greatest.result s.eps) c.deref.ensures ∙ ap (λ p. top_of (arc_value s.scaled) p s.eps) e
+    simp to_z-of_z at c.top-top.ensures ∙ ap (λ b. top_of b c.greatest.result s.ask.eps) c.deref.ensures ∙ ap (λ p. top_of (arc_value s.scaled) p s.ask.eps) e
 
 pub room_under-requires-clause-top : goal.room_under-requires-clause-top
 room_under-requires-clause-top c =
@@ -36,5 +36,5 @@ room_under-requires-clause-under c =
 
 pub steps_in-requires : goal.steps_in-requires
 steps_in-requires c =
-    let g : SFits w64 c.self.inside.eps = search rules in
+    let g : SFits w64 c.self.inside.ask.eps = search rules in
     simp to_z-of_z (eps_least _ c.self.invariant.3)

@@ -1,5 +1,6 @@
 use Rattle.std.proofs.Common.{arith, ◌≤ℤ◌, ℤ, List, pos, subst, sym}
 use Rattle.std.proofs.lemmas.Int.{ints}
+use Rattle.std.proofs.lemmas.Result.{IfOk-weaker}
 use Rattle.assign_core.specs.declared.numbers.TheConstants.{GREATEST_FIRST_PRICE}
 use Rattle.scaled_values.specs.Scaled.{greatest_of}
 use Rattle.scaled_values.proofs.BenefitRange.{greatest_holds}
@@ -15,4 +16,5 @@ new-requires c =
 pub returns-clause-low : goal.returns-clause-low
 returns-clause-low c =
     let some : pos 0 ≤ℤ GREATEST_FIRST_PRICE = omega (arith, ints) in
-    subst (λ (p : List ℤ). greatest_of p ≤ℤ GREATEST_FIRST_PRICE) (sym c.in_ok-prices.ensures) (greatest_holds (λ x. x ≤ℤ GREATEST_FIRST_PRICE) c.loop-i.values.items some c.loop-i.invariant.low)
+    let low = greatest_holds (λ x. x ≤ℤ GREATEST_FIRST_PRICE) c.loop-i.values.items some c.loop-i.invariant.low in
+    IfOk-weaker c.new.result _ _ (λ prices is. subst (λ (p : List ℤ). greatest_of p ≤ℤ GREATEST_FIRST_PRICE) (sym is) low) c.new.ensures

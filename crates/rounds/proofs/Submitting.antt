@@ -1,4 +1,4 @@
--- Offers are submitted in turn.
+-- Offers are submitted one by one.
 use Rattle.std.proofs.Common.{◌≡◌, ℕ, ℤ, zero, suc, ◌+◌, ◌<◌, ◌≤◌, ◌+ℤ◌, ◌≤ℤ◌, ◌<ℤ◌, ◌⊎◌, inl, inr, List, ◌∷◌, None, Some, Bool, true, false, length, get_or, drop, refl, ap, sym, ◌∙◌, subst, arith}
 use Rattle.std.proofs.lemmas.Int.{ints}
 use Rattle.std.proofs.lemmas.List.{at_drop_more, get_or-map, length-map}
@@ -9,7 +9,7 @@ use Rattle.assign_core.specs.Numbered.{IsNumber, numbered}
 use Rattle.std.specs.List.{All}
 use Rattle.assign_core.specs.Prices.{IsBelow, IsPrice, price_of}
 use Rattle.assign_core.proofs.NumberedLemmas.{length-renumbered, numbered_in}
-use Rattle.assign_core.proofs.Orders.{where_not_less}
+use Rattle.assign_core.proofs.Orders.{not_less, where_not_less}
 use Rattle.assign_core.proofs.Matchings.{below_through}
 use Rattle.scaled_values.specs.Scaled.{ScaledProblem}
 use Rattle.scaled_values.proofs.RowFacts.{benefit_row_is}
@@ -21,15 +21,15 @@ use Rattle.bidder.specs.declared.offers.Offer.TheVariants as made
 use Rattle.bidder.specs.Offers.{IsBid, IsOffer, IsSound, IsUnder, benefits_at, offer_of}
 use Rattle.bidder.proofs.Sound.{bid_high, bid_sound, offer_is}
 use Rattle.price_log.proofs.Histories.{today-after_raise, today_is_table}
-use Rattle.auction_book.specs.Book.{BookData, Holds, ask_of, prices_of}
+use Rattle.auction_book.specs.Book.{BookData, Holds, prices_of}
 use Rattle.auction_book.specs.Changes.{accepted}
 use Rattle.auction_book.specs.Submissions.{IsFitting, IsHigh}
 use Rattle.auction_book.specs.Free.{IsFree}
 use Rattle.auction_book.proofs.Claiming.{ask_is}
 use Rattle.auction_book.proofs.Accepting.{accepted_follows, bid_range, eps_least}
-use Rattle.rounds.specs.inside.Books.{AreClaimed, AreTurned, HaveOffered, IsGoing, book_after, book_turned, plain_of, room}
+use Rattle.rounds.specs.inside.Books.{AreClaimed, AreSubmitted, HaveOffered, IsGoing, book_after, book_after_bid, plain_of, room}
 use Rattle.rounds.specs.Offers.{CanOffer}
-use Rattle.rounds.specs.Plain.{after_bid, all_turned}
+use Rattle.rounds.specs.Plain.{after_bid, after_offers}
 use Rattle.rounds.proofs.Claiming.{claimed_less}
 use Rattle.rounds.proofs.Rooms.{room_falls}
 use Rattle.rounds.proofs.Waiting.{claimed_number}
@@ -48,11 +48,11 @@ pub record IsMade (b : BookData) (persons : List ℕ) (offers : List Offer) (i :
   pub person : ℕ
   pub held : numbered b.claims (suc i) None ≡ Some person
   pub at : (d : ℕ) → get_or persons i d ≡ person
-  pub is : IsOffer b.base (prices_of b) 0 (ask_of b) person offer
+  pub is : IsOffer b.base (prices_of b) 0 b.ask person offer
 
 pub made_at : (b : BookData) (persons : List ℕ) (offers : List Offer) (i : ℕ) (offer : Offer) → HaveOffered b persons offers → i < length offers → get_or offers i offer ≡ offer → IsMade b persons offers i offer
 made_at b persons offers i offer have within here =
-    let f = offer_of b.base (prices_of b) 0 (ask_of b) in
+    let f = offer_of b.base (prices_of b) 0 b.ask in
     let long : length offers ≡ length persons = ap length have.made ∙ length-map persons f in
     let many : i < length persons = omega arith in
     let person = get_or persons i 0 in
@@ -66,11 +66,11 @@ made_at b persons offers i offer have within here =
       person = person;
       held = held;
       at = λ d. same_Some (get_or persons i d) person (sym (have.claimed.held i d (omega arith) many) ∙ held);
-      is = subst (IsOffer b.base (prices_of b) 0 (ask_of b) person) (sym made_is ∙ here) (offer_is b.base (prices_of b) 0 (ask_of b) person (benefit_row_is b.base person have.going.free.problem number).rising);
+      is = subst (IsOffer b.base (prices_of b) 0 b.ask person) (sym made_is ∙ here) (offer_is b.base (prices_of b) 0 b.ask person (benefit_row_is b.base person have.going.free.problem number).rising);
     }
 
 -- claimed persons can make offers from the book's prices
-pub can_offer : (b : BookData) (persons : List ℕ) → IsGoing b → AreClaimed persons 0 b.claims → CanOffer b.base (prices_of b) (ask_of b) persons
+pub can_offer : (b : BookData) (persons : List ℕ) → IsGoing b → AreClaimed persons 0 b.claims → CanOffer b.base (prices_of b) b.ask persons
 can_offer b persons going claimed =
     record {
       numbers = λ k d lt. claimed_number b (suc k) (get_or persons k d) going.free (claimed.held k d (omega arith) lt);
@@ -78,35 +78,35 @@ can_offer b persons going claimed =
       asked = ask_is b going.free;
     }
 
-pub can_offer_as : (b : BookData) (persons waiting : List ℕ) (s : ScaledProblem) (prices : List ℤ) (ask : Ask) → IsGoing b → AreClaimed persons 0 b.claims → s ≡ b.base → prices ≡ prices_of b → ask ≡ ask_of b → waiting ≡ persons → CanOffer s prices ask waiting
+pub can_offer_as : (b : BookData) (persons waiting : List ℕ) (s : ScaledProblem) (prices : List ℤ) (ask : Ask) → IsGoing b → AreClaimed persons 0 b.claims → s ≡ b.base → prices ≡ prices_of b → ask ≡ b.ask → waiting ≡ persons → CanOffer s prices ask waiting
 can_offer_as b persons waiting s prices ask going claimed e f g h =
-    subst (λ x. CanOffer x prices ask waiting) (sym e) (subst (λ x. CanOffer b.base x ask waiting) (sym f) (subst (λ x. CanOffer b.base (prices_of b) x waiting) (sym g) (subst (CanOffer b.base (prices_of b) (ask_of b)) (sym h) (can_offer b persons going claimed))))
+    subst (λ x. CanOffer x prices ask waiting) (sym e) (subst (λ x. CanOffer b.base x ask waiting) (sym f) (subst (λ x. CanOffer b.base (prices_of b) x waiting) (sym g) (subst (CanOffer b.base (prices_of b) b.ask) (sym h) (can_offer b persons going claimed))))
 
 -- ---- turns
 -- the first i offers have been submitted
-pub record IsTurning (old now : BookData) (persons : List ℕ) (offers : List Offer) (i : ℕ) : Type 0 where
+pub record IsSubmitting (old now : BookData) (persons : List ℕ) (offers : List Offer) (i : ℕ) : Type 0 where
   pub going : IsGoing now
-  pub left : all_turned (drop i offers) (plain_of now) ≡ all_turned offers (plain_of old)
+  pub left : after_offers (drop i offers) (plain_of now) ≡ after_offers offers (plain_of old)
   pub claimed : AreClaimed persons i now.claims
   pub base : now.base ≡ old.base
-  pub asked : ask_of now ≡ ask_of old
+  pub asked : now.ask ≡ old.ask
   pub below : IsBelow (prices_of old) (prices_of now)
   pub first : i ≡ 0 → now ≡ old
   pub fell : 0 < i → room (prices_of now) < room (prices_of old)
 
 -- these offers are some claimed persons', and the first i have been submitted
-pub record IsAtTurn (old now : BookData) (offers : List Offer) (i : ℕ) : Type 0 where
+pub record IsAtOffer (old now : BookData) (offers : List Offer) (i : ℕ) : Type 0 where
   pub persons : List ℕ
   pub offered : HaveOffered old persons offers
-  pub turning : IsTurning old now persons offers i
+  pub submitting : IsSubmitting old now persons offers i
 
 -- what holds of the bid at place i, when it is submitted by worker i + 1, whose number has 16 bits
 pub record IsNext (old now : BookData) (i : ℕ) (bid : Bid) : Type 0 where
   pub worker : IsNumber (length now.claims) (i + 1)
   pub few : i + 1 ≤ MOST_PERSONS
   pub held : Holds now (i + 1) bid.person
-  pub phase : bid.phase ≡ now.phase
-  pub made : IsBid old.base (prices_of old) (ask_of old) bid
+  pub phase : bid.phase ≡ now.ask.phase
+  pub made : IsBid old.base (prices_of old) old.ask bid
   pub fitting : IsFitting now bid
 
 -- the offer that was read is the one at its place
@@ -114,25 +114,25 @@ read_here : (offers : List Offer) (i : ℕ) (read offer : Offer) → ((d : Offer
 read_here offers i read offer h e = sym (h offer) ∙ e
 
 -- the bid that was read at place i
-pub next_bid : {old now : BookData} {offers : List Offer} {i : ℕ} {bid : Bid} (read : Offer) → IsAtTurn old now offers i → i < length offers → ((d : Offer) → read ≡ get_or offers i d) → read ≡ made.Bid bid → IsNext old now i bid
+pub next_bid : {old now : BookData} {offers : List Offer} {i : ℕ} {bid : Bid} (read : Offer) → IsAtOffer old now offers i → i < length offers → ((d : Offer) → read ≡ get_or offers i d) → read ≡ made.Bid bid → IsNext old now i bid
 next_bid {old} {now} {offers} {i} {bid} read is within at e =
-    let turning = is.turning in
+    let submitting = is.submitting in
     let m = made_at old is.persons offers i (made.Bid bid) is.offered within (read_here offers i read (made.Bid bid) at e) in
-    let held = turning.claimed.held i 0 (omega arith) m.many ∙ ap Some (m.at 0 ∙ sym m.is.0) in
+    let held = submitting.claimed.held i 0 (omega arith) m.many ∙ ap Some (m.at 0 ∙ sym m.is.0) in
     let place = (numbered_in now.claims (suc i) bid.person held).1 in
-    let workers = turning.going.workers in
-    let few = turning.going.free.problem.size.few in
+    let workers = submitting.going.workers in
+    let few = submitting.going.free.problem.size.few in
     let b = m.is.3 in
-    let sound = bid_sound old.base (prices_of old) (ask_of old) bid b in
-    let asked = subst (λ s. IsSound s (ask_of old) (prices_of old) bid) (sym turning.base) sound in
+    let sound = bid_sound old.base (prices_of old) old.ask bid b in
+    let asked = subst (λ s. IsSound s old.ask (prices_of old) bid) (sym submitting.base) sound in
     let worker : i + 1 ≡ suc i = omega arith in
     record {
       worker = record { first = omega arith; last = omega arith };
       few = omega arith;
       held = rw worker held;
-      phase = m.is.1 ∙ ap (λ a. a.phase) (sym turning.asked);
+      phase = m.is.1 ∙ ap (λ a. a.phase) (sym submitting.asked);
       made = b;
-      fitting = λ same. (prices_of old, turning.below, subst (λ a. IsSound now.base a (prices_of old) bid) (sym turning.asked) asked);
+      fitting = λ same. (prices_of old, submitting.below, subst (λ a. IsSound now.base a (prices_of old) bid) (sym submitting.asked) asked);
     }
 
 is_less : (v w : ℤ) → lt_z v w ≡ true → v <ℤ w
@@ -144,12 +144,12 @@ zero_or_more (suc k) = inr (omega arith)
 
 -- the first bid of a round is made from today's prices, so it is high
 first_high : (old now : BookData) (i : ℕ) (bid : Bid) → now ≡ old → IsNext old now i bid → IsHigh now bid
-first_high old now i bid same next = subst (λ b. IsHigh b bid) (sym same) (bid_high old.base (prices_of old) (ask_of old) bid next.made)
+first_high old now i bid same next = subst (λ b. IsHigh b bid) (sym same) (bid_high old.base (prices_of old) old.ask bid next.made)
 
-turned_by : (low : Bool) (old now : BookData) (persons : List ℕ) (offers : List Offer) (i : ℕ) (bid : Bid) → lt_z bid.level (price_of (prices_of now) bid.object +ℤ now.eps) ≡ low → IsNext old now i bid → IsFree (book_after low now (suc i) bid) → IsTurning old now persons offers i
-    → all_turned (drop (i + 1) offers) (plain_of (book_after low now (suc i) bid)) ≡ all_turned offers (plain_of old) → IsTurning old (book_after low now (suc i) bid) persons offers (i + 1)
-turned_by true old now persons offers i bid t next free is left =
-    let low = is_less bid.level (price_of (prices_of now) bid.object +ℤ now.eps) t in
+submitted_by : (low : Bool) (old now : BookData) (persons : List ℕ) (offers : List Offer) (i : ℕ) (bid : Bid) → lt_z bid.level (price_of (prices_of now) bid.object +ℤ now.ask.eps) ≡ low → IsNext old now i bid → IsFree (book_after low now (suc i) bid) → IsSubmitting old now persons offers i
+    → after_offers (drop (i + 1) offers) (plain_of (book_after low now (suc i) bid)) ≡ after_offers offers (plain_of old) → IsSubmitting old (book_after low now (suc i) bid) persons offers (i + 1)
+submitted_by true old now persons offers i bid t next free is left =
+    let low = is_less bid.level (price_of (prices_of now) bid.object +ℤ now.ask.eps) t in
     let place = next.worker.last in
     record {
       going = record { free = free; unrefuted = is.going.unrefuted; unstopped = is.going.unstopped; workers = length-renumbered now.claims (suc i) None ∙ is.going.workers };
@@ -164,8 +164,8 @@ turned_by true old now persons offers i bid t next free is left =
         | inr more ↦ is.fell more
       ];
     }
-turned_by false old now persons offers i bid t next free is left =
-    let high = where_not_less bid.level (price_of (prices_of now) bid.object +ℤ now.eps) t in
+submitted_by false old now persons offers i bid t next free is left =
+    let high = where_not_less bid.level (price_of (prices_of now) bid.object +ℤ now.ask.eps) t in
     let place = next.worker.last in
     let fit = next.fitting next.phase in
     let follows = accepted_follows now (suc i) bid fit.0 is.going.free fit.1 fit.2 high in
@@ -194,34 +194,34 @@ turned_by false old now persons offers i bid t next free is left =
     }
 
 -- one offer more
-pub turning_more : {old now : BookData} {offers : List Offer} {i : ℕ} {bid : Bid} (new : BookData) (read : Offer) → IsAtTurn old now offers i → i < length offers → ((d : Offer) → read ≡ get_or offers i d) → read ≡ made.Bid bid
-    → new ≡ book_turned now (i + 1) bid → IsFree new → IsAtTurn old new offers (i + 1)
-turning_more {old} {now} {offers} {i} {bid} new read is within at was e free =
+pub offer_more : {old now : BookData} {offers : List Offer} {i : ℕ} {bid : Bid} (new : BookData) (read : Offer) → IsAtOffer old now offers i → i < length offers → ((d : Offer) → read ≡ get_or offers i d) → read ≡ made.Bid bid
+    → new ≡ book_after_bid now (i + 1) bid → IsFree new → IsAtOffer old new offers (i + 1)
+offer_more {old} {now} {offers} {i} {bid} new read is within at was e free =
     let here = read_here offers i read (made.Bid bid) at was in
     let next = next_bid read is within at was in
-    let low = lt_z bid.level (price_of (prices_of now) bid.object +ℤ now.eps) in
+    let low = lt_z bid.level (price_of (prices_of now) bid.object +ℤ now.ask.eps) in
     let worker : i + 1 ≡ suc i = omega arith in
-    let after : new ≡ book_after low now (suc i) bid = e ∙ ap (λ k. book_turned now k bid) worker in
-    let turn = at_drop_more (λ l. all_turned l (plain_of now)) offers i (made.Bid bid) within ∙ ap (λ o. all_turned (o ∷ drop (i + 1) offers) (plain_of now)) here in
-    let left = ap (all_turned (drop (i + 1) offers)) (plain-after low now (suc i) bid) ∙ sym turn ∙ is.turning.left in
-    let turned = turned_by low old now is.persons offers i bid refl next (subst IsFree after free) is.turning left in
+    let after : new ≡ book_after low now (suc i) bid = e ∙ ap (λ k. book_after_bid now k bid) worker in
+    let step = at_drop_more (λ l. after_offers l (plain_of now)) offers i (made.Bid bid) within ∙ ap (λ o. after_offers (o ∷ drop (i + 1) offers) (plain_of now)) here in
+    let left = ap (after_offers (drop (i + 1) offers)) (plain-after low now (suc i) bid) ∙ sym step ∙ is.submitting.left in
+    let submitted = submitted_by low old now is.persons offers i bid refl next (subst IsFree after free) is.submitting left in
     record {
       persons = is.persons;
       offered = is.offered;
-      turning = subst (λ x. IsTurning old x is.persons offers (i + 1)) (sym after) turned;
+      submitting = subst (λ x. IsSubmitting old x is.persons offers (i + 1)) (sym after) submitted;
     }
 
 -- a person finds nothing worth the floor
-pub turning_below : {old now : BookData} {offers : List Offer} {i : ℕ} {below : BelowFloor} (read : Offer) → IsAtTurn old now offers i → i < length offers → ((d : Offer) → read ≡ get_or offers i d) → read ≡ made.Below below → AreTurned old offers (Some below.person) now
-turning_below {old} {now} {offers} {i} {below} read at_turn within at e =
+pub below_offer : {old now : BookData} {offers : List Offer} {i : ℕ} {below : BelowFloor} (read : Offer) → IsAtOffer old now offers i → i < length offers → ((d : Offer) → read ≡ get_or offers i d) → read ≡ made.Below below → AreSubmitted old offers (Some below.person) now
+below_offer {old} {now} {offers} {i} {below} read at_offer within at e =
     let here = read_here offers i read (made.Below below) at e in
-    let is = at_turn.turning in
-    let m = made_at old at_turn.persons offers i (made.Below below) at_turn.offered within here in
+    let is = at_offer.submitting in
+    let m = made_at old at_offer.persons offers i (made.Below below) at_offer.offered within here in
     let held = is.claimed.held i 0 (omega arith) m.many ∙ ap Some (m.at 0 ∙ sym m.is.0) in
-    let turn = at_drop_more (λ l. all_turned l (plain_of now)) offers i (made.Below below) within ∙ ap (λ o. all_turned (o ∷ drop (i + 1) offers) (plain_of now)) here in
-    let under = subst (λ p. IsUnder (benefits_at old.base p) (prices_of old) old.floor) (sym m.is.0) m.is.2 in
-    let based = subst (λ s. IsUnder (benefits_at s below.person) (prices_of old) old.floor) (sym is.base) under in (
-      sym is.left ∙ turn,
+    let step = at_drop_more (λ l. after_offers l (plain_of now)) offers i (made.Below below) within ∙ ap (λ o. after_offers (o ∷ drop (i + 1) offers) (plain_of now)) here in
+    let under = subst (λ p. IsUnder (benefits_at old.base p) (prices_of old) old.ask.floor) (sym m.is.0) m.is.2 in
+    let based = subst (λ s. IsUnder (benefits_at s below.person) (prices_of old) old.ask.floor) (sym is.base) under in (
+      sym is.left ∙ step,
       record {
         free = is.going.free;
         worker = suc i;
@@ -233,7 +233,5 @@ turning_below {old} {now} {offers} {i} {below} read at_turn within at e =
     )
 
 -- a bid that is high is accepted
-pub turned_high : (b : BookData) (worker : ℕ) (bid : Bid) → IsHigh b bid → accepted b worker bid ≡ book_turned b worker bid
-turned_high b worker bid high = ap (λ t. book_after t b worker bid) (sym (low_false bid.level (price_of (prices_of b) bid.object +ℤ b.eps) high)) where
-  low_false : (v w : ℤ) → w ≤ℤ v → lt_z v w ≡ false
-  low_false v w h = grind (arith, ints)
+pub high_is_accepted : (b : BookData) (worker : ℕ) (bid : Bid) → IsHigh b bid → accepted b worker bid ≡ book_after_bid b worker bid
+high_is_accepted b worker bid high = ap (λ t. book_after t b worker bid) (sym (not_less bid.level (price_of (prices_of b) bid.object +ℤ b.ask.eps) high))
