@@ -1,7 +1,7 @@
 -- The desks before and after the workers' runs.
-use Rattle.std.proofs.Common.{◌≡◌, ℕ, zero, suc, ◌+◌, ◌<◌, List, [], ◌∷◌, ◌++◌, map, reverse, length, get_or, sym, ap, ◌∙◌, subst, refl, arith, append_assoc, add-one}
+use Rattle.std.proofs.Common.{◌≡◌, ℕ, zero, suc, ◌+◌, ◌<◌, List, [], ◌∷◌, ◌++◌, map, length, get_or, sym, ap, ◌∙◌, subst, refl, arith, append_assoc, add-one}
 use Rattle.std.specs.List.{All}
-use Rattle.std.proofs.lemmas.List.{reverse-append, map-append, length_push, length-map, length-reverse}
+use Rattle.std.proofs.lemmas.List.{map-append, length_push, length-map}
 use Rattle.atomic_table.specs.Seated.{TableId}
 use Rattle.crossbeam_utils.specs.declared.cache_padded.CachePadded.{CachePadded}
 use Rattle.auction_book.specs.Book.{BookData}
@@ -12,12 +12,12 @@ use Rattle.async_workers.specs.inside.Working.{HasWorked, IsMemory, desk_in, fau
 use Rattle.async_workers.specs.Turns.{CanTurn, WorksOn}
 use Rattle.async_workers.proofs.Extending.{extends_itself, extends_through}
 
--- ---- moving from the end of one list to the end of another
-pub moved : {A B : Type 0} (f : A → B) (done : List A) (left old : List B) (x : A) → old ≡ left ++ f x ∷ [] → map f (done ++ x ∷ []) ++ reverse left ≡ map f done ++ reverse old
-moved f done left old x is = ap (λ l. l ++ reverse left) (map-append f done (x ∷ [])) ∙ append_assoc (map f done) (f x ∷ []) (reverse left) ∙ ap (λ l. map f done ++ l) (sym (ap reverse is ∙ reverse-append left (f x ∷ [])))
+-- ---- moving from the front of one list to the end of another
+pub moved : {A B : Type 0} (f : A → B) (done : List A) (left old : List B) (x : A) → old ≡ f x ∷ left → map f (done ++ x ∷ []) ++ left ≡ map f done ++ old
+moved f done left old x is = ap (λ l. l ++ left) (map-append f done (x ∷ [])) ∙ append_assoc (map f done) (f x ∷ []) left ∙ ap (λ l. map f done ++ l) (sym is)
 
-pub moved_out : {A B : Type 0} (f : A → B) (done : List B) (left old : List A) (x : A) → old ≡ left ++ x ∷ [] → (done ++ f x ∷ []) ++ reverse (map f left) ≡ done ++ reverse (map f old)
-moved_out f done left old x is = append_assoc done (f x ∷ []) (reverse (map f left)) ∙ ap (λ l. done ++ l) (sym (ap (λ l. reverse (map f l)) is ∙ ap reverse (map-append f left (x ∷ [])) ∙ reverse-append (map f left) (f x ∷ [])))
+pub moved_out : {A B : Type 0} (f : A → B) (done : List B) (left old : List A) (x : A) → old ≡ x ∷ left → (done ++ f x ∷ []) ++ map f left ≡ done ++ map f old
+moved_out f done left old x is = append_assoc done (f x ∷ []) (map f left) ∙ ap (λ l. done ++ map f l) (sym is)
 
 -- ---- a fact of each element, as a recursion
 abbrev Each : {A : Type 0} → (A → Type 0) → List A → Type 0
@@ -27,10 +27,6 @@ Each P (x ∷ xs) = P x × Each P xs
 each_append : {A : Type 0} (P : A → Type 0) (xs ys : List A) → Each P xs → Each P ys → Each P (xs ++ ys)
 each_append P [] ys a b = b
 each_append P (x ∷ xs) ys a b = (a.0, each_append P xs ys a.1 b)
-
-each_reverse : {A : Type 0} (P : A → Type 0) (xs : List A) → Each P xs → Each P (reverse xs)
-each_reverse P [] a = tt
-each_reverse P (x ∷ xs) a = subst (Each P) (sym (reverse-append (x ∷ []) xs)) (each_append P (reverse xs) (x ∷ []) (each_reverse P xs a.1) (a.0, tt))
 
 each_at : {A : Type 0} (P : A → Type 0) (xs : List A) → Each P xs → (k : ℕ) (d : A) → k < length xs → P (get_or xs k d)
 each_at P [] a k d lt = absurd (omega arith)
@@ -101,26 +97,23 @@ length-new_desks place b zero = refl
 length-new_desks place b (suc n) = length_push (new_desks place b n) (new_desk place b (n + 1)) ∙ ap (λ k. k + 1) (length-new_desks place b n) ∙ add-one n
 
 -- the workers may start
-pub workers_can : (place : TableId) (b : BookData) (n : ℕ) (xs : List (CachePadded Worker)) → map desk_in xs ≡ reverse (new_desks place b n) → All (λ w. CanTurn place (desk_in w)) xs
-workers_can place b n xs is = each_all (λ w. CanTurn place (desk_in w)) xs (each_of_map (CanTurn place) desk_in xs (subst (Each (CanTurn place)) (sym is) (each_reverse (CanTurn place) (new_desks place b n) (each_can place b n))))
+pub workers_can : (place : TableId) (b : BookData) (n : ℕ) (xs : List (CachePadded Worker)) → map desk_in xs ≡ new_desks place b n → All (λ w. CanTurn place (desk_in w)) xs
+workers_can place b n xs is = each_all (λ w. CanTurn place (desk_in w)) xs (each_of_map (CanTurn place) desk_in xs (subst (Each (CanTurn place)) (sym is) (each_can place b n)))
 
-pub length_workers : (place : TableId) (b : BookData) (n : ℕ) (xs : List (CachePadded Worker)) → map desk_in xs ≡ reverse (new_desks place b n) → length xs ≡ n
-length_workers place b n xs is = sym (length-map xs desk_in) ∙ ap length is ∙ length-reverse (new_desks place b n) ∙ length-new_desks place b n
+pub length_workers : (place : TableId) (b : BookData) (n : ℕ) (xs : List (CachePadded Worker)) → map desk_in xs ≡ new_desks place b n → length xs ≡ n
+length_workers place b n xs is = sym (length-map xs desk_in) ∙ ap length is ∙ length-new_desks place b n
 
 -- ---- the desks that come back
-pub length_back : (xs : List (CachePadded Worker)) → length (reverse (map desk_in xs)) ≡ length xs
-length_back xs = length-reverse (map desk_in xs) ∙ length-map xs desk_in
-
-each_back : (place : TableId) (b : BookData) (n : ℕ) (xs ys : List (CachePadded Worker)) (ds : List DeskData) → map desk_in xs ≡ reverse (new_desks place b n) → AreWorked xs ys → ds ≡ reverse (map desk_in ys) → Each (IsFrom place b) ds
+each_back : (place : TableId) (b : BookData) (n : ℕ) (xs ys : List (CachePadded Worker)) (ds : List DeskData) → map desk_in xs ≡ new_desks place b n → AreWorked xs ys → ds ≡ map desk_in ys → Each (IsFrom place b) ds
 each_back place b n xs ys ds is w back =
-    let from = each_of_map (IsFrom place b) desk_in xs (subst (Each (IsFrom place b)) (sym is) (each_reverse (IsFrom place b) (new_desks place b n) (each_new place b n))) in
-    subst (Each (IsFrom place b)) (sym back) (each_reverse (IsFrom place b) (map desk_in ys) (each_to_map (IsFrom place b) desk_in ys (each_worked place b xs ys w from)))
+    let from = each_of_map (IsFrom place b) desk_in xs (subst (Each (IsFrom place b)) (sym is) (each_new place b n)) in
+    subst (Each (IsFrom place b)) (sym back) (each_to_map (IsFrom place b) desk_in ys (each_worked place b xs ys w from))
 
-pub back_ready : (place : TableId) (b : BookData) (n : ℕ) (xs ys : List (CachePadded Worker)) (ds : List DeskData) → map desk_in xs ≡ reverse (new_desks place b n) → AreWorked xs ys → ds ≡ reverse (map desk_in ys) → All (IsReady place) ds
+pub back_ready : (place : TableId) (b : BookData) (n : ℕ) (xs ys : List (CachePadded Worker)) (ds : List DeskData) → map desk_in xs ≡ new_desks place b n → AreWorked xs ys → ds ≡ map desk_in ys → All (IsReady place) ds
 back_ready place b n xs ys ds is w back = λ k d lt. let f = each_at (IsFrom place b) ds (each_back place b n xs ys ds is w back) k d lt in (f.at, (f.extends.0, f.extends.1, f.extends.2))
 
 -- the book of which all that a desk was told is true extends the opening one
-pub back_extends : (place : TableId) (b c : BookData) (n : ℕ) (xs ys : List (CachePadded Worker)) (ds : List DeskData) → map desk_in xs ≡ reverse (new_desks place b n) → AreWorked xs ys → ds ≡ reverse (map desk_in ys) → 0 < length ds → All (IsTrueOf c) ds → Extends b c
+pub back_extends : (place : TableId) (b c : BookData) (n : ℕ) (xs ys : List (CachePadded Worker)) (ds : List DeskData) → map desk_in xs ≡ new_desks place b n → AreWorked xs ys → ds ≡ map desk_in ys → 0 < length ds → All (IsTrueOf c) ds → Extends b c
 back_extends place b c n xs ys ds is w back some told =
     let d = new_desk place b 0 in
     let g = (each_at (IsFrom place b) ds (each_back place b n xs ys ds is w back) 0 d some).extends in

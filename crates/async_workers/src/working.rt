@@ -1,5 +1,5 @@
 // Each worker's run, in a thread of its own where one can be started.
-ghost use Rattle.std.specs.Prelude.{◌≡◌, ◌<◌, ◌≤◌, [], All, IfOk, OnSome, length, map, reverse, slice_index_or, true, vec_capacity, vec_len, ℕ};
+ghost use Rattle.std.specs.Prelude.{◌≡◌, ◌<◌, ◌≤◌, [], All, IfOk, OnSome, length, map, slice_index_or, true, vec_capacity, vec_len, ℕ};
 ghost use Rattle.async_workers.specs.Desk.{DeskData};
 ghost use Rattle.async_workers.specs.inside.Working.{HasWorked, IsLastTurn, IsMemory, desk_in, fault_in};
 ghost use Rattle.async_workers.specs.Turns.{CanTurn, WorksOn};
@@ -129,18 +129,18 @@ pub fn run_all<G: Gate + Sync, R: Threads + Wait + Sync>(
     workers
 }
 
-/// A worker for each desk, the last one first.
+/// A worker for each desk.
 ///
 /// # Errors
 /// Only where memory is refused.
 pub fn seat_workers(
     alloc: Global,
-    mut desks: Vec<Desk>,
+    desks: Vec<Desk>,
 ) -> Result<Vec<CachePadded<Worker>>, AllocError>
-    ensures { IfOk result (λ workers. map desk_in workers.items ≡ reverse desks.items) }
+    ensures { IfOk result (λ workers. map desk_in workers.items ≡ desks.items) }
 {
     let mut workers = Vec::with_capacity(alloc, desks.len())?;
-    while let Some(desk) = desks.pop() {
+    for desk in desks {
         workers.push(CachePadded::new(Worker { desk, fault: None }))?;
     }
     Ok(workers)
@@ -158,20 +158,20 @@ fn earlier_fault(lower: Option<TurnFault>, higher: Option<TurnFault>) -> Option<
     }
 }
 
-/// The desks that come back, the first one first, into a list with room for them, and the fault of
-/// the lowest worker that met one. The workers stand with the last one first. Takes no memory.
+/// The workers' desks, into a list with room for them, and the fault of the first worker that met
+/// one. Takes no memory.
 pub fn unseat_workers(
     mut desks: Vec<Desk>,
-    mut workers: Vec<CachePadded<Worker>>,
+    workers: Vec<CachePadded<Worker>>,
 ) -> (Vec<Desk>, Option<TurnFault>)
     requires empty { desks.items ≡ [] }
     requires room { vec_len workers ≤ vec_capacity desks }
     requires faults { All (λ w. IsMemory (fault_in w)) workers.items }
-    ensures desks { result.0.items ≡ reverse (map desk_in workers.items) }
+    ensures desks { result.0.items ≡ map desk_in workers.items }
     ensures fault { IsMemory result.1 }
 {
     let mut first = None;
-    while let Some(worker) = workers.pop() {
+    for worker in workers {
         let Worker { desk, fault } = worker.into_inner();
         first = earlier_fault(first, fault);
         desks.push_reserved(desk);

@@ -3,7 +3,7 @@ use Rattle.std.proofs.Common.{◌≡◌, ℕ, ℤ, pos, zero, suc, ◌+ℤ◌, �
 use Rattle.std.specs.List.{All, count_by}
 use Rattle.std.specs.Option.{option_and_then}
 use Rattle.std.proofs.lemmas.Int.{ints}
-use Rattle.std.proofs.lemmas.List.{length-replicate, length_push}
+use Rattle.std.proofs.lemmas.List.{length-replicate, length_push, nil_from_length}
 use Rattle.std.proofs.lemmas.List.Sums.{sum_by_push, sum_by-cons, sum_by-le-sum_by}
 use Rattle.std.proofs.lemmas.Bool.{cond-false}
 use Rattle.std.proofs.lemmas.Bool.Decides.{nat_tests}
@@ -181,13 +181,9 @@ greatest_read p slice g e same table = subst IsPrice (sym (e ∙ ap greatest_of 
 pub phase_few : (b : BookData) → IsFree b → b.ask.phase ≤ 23
 phase_few b free = let f = few b.base (b.ask.phase - 1) b.ask.eps free.problem free.in_phase.slackness in let g = free.in_phase.begins in omega arith
 
-pub empty_list : (xs : List ℕ) → length xs ≡ 0 → xs ≡ []
-empty_list [] e = refl
-empty_list (x ∷ xs) e = absurd (omega arith)
-
 -- where everybody is assigned nobody waits
 pub none_wait : (b : BookData) → IsFree b → count_by is_some b.owners ≡ persons_of b → b.queue ≡ []
-none_wait b free all = let e = everyone (persons_of b) b.owners b.queue b.claims free.placed_once in empty_list b.queue (omega arith)
+none_wait b free all = let e = everyone (persons_of b) b.owners b.queue b.claims free.placed_once in nil_from_length b.queue (omega arith)
 
 pub queue_empty : (b : BookData) → IsFree b → is_over b ≡ true → b.queue ≡ []
 queue_empty b free over = none_wait b free (over_is b over).assigned

@@ -1,10 +1,9 @@
 -- Workers claim the queue.
 use Rattle.std.proofs.Common.{◌≡◌, ℕ, zero, suc, ◌+◌, ◌<◌, ◌≤◌, ◌⊎◌, inl, inr, List, [], ◌∷◌, ◌++◌, Option, None, Some, length, get_or, drop, set, refl, ap, sym, ◌∙◌, subst, arith, append_assoc, append-nil, length-append, get_or-set_same, get_or-set_other}
-use Rattle.std.proofs.lemmas.List.{length_push, get_or_push, get_or_append_left}
+use Rattle.std.proofs.lemmas.List.{length_push, get_or_push, get_or_append_left, nil_from_length}
 use Rattle.assign_core.specs.Numbered.{numbered, renumbered}
 use Rattle.auction_book.specs.Book.{BookData, persons_of}
 use Rattle.auction_book.specs.Changes.{claimed}
-use Rattle.auction_book.proofs.Opening.{empty_list}
 use Rattle.rounds.specs.inside.Books.{AreClaimed, IsAtRest, IsClaimed, IsGoing}
 use Rattle.rounds.proofs.Waiting.{queue_few}
 
@@ -107,7 +106,7 @@ claiming_full old now persons i rest is full =
     let count = is.count in
     let all = ap length is.all in
     let parts = length-append persons now.queue in
-    empty_list now.queue (omega arith)
+    nil_from_length now.queue (omega arith)
 
 -- a worker is left for who waits
 pub claiming_room : (old now : BookData) (persons : List ℕ) (i : ℕ) → IsClaiming old now persons i → i < persons_of old → i + 1 ≤ length now.claims

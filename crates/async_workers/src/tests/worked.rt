@@ -278,58 +278,69 @@ fn the_next_book_has_the_own_raise(rt: HostRuntime) -> Result<(), Fail> {
     Ok(())
 }
 
-// A desk's turns up to the one that ends its run: whether there was a fault, and the sessions.
-fn run_of<R: Wait>(rt: &R, alloc: Global, place: &BookPlace, desk: &mut Desk) -> (bool, u64)
+// How many persons have an object in the book that a desk finds in the place, and whether it is
+// stopped.
+fn book_found<R: Wait>(rt: &R, place: &BookPlace, desk: &mut Desk) -> (u16, bool)
     requires { CanTurn place.now desk.old }
-    ensures { CanTurn place.now desk.new }
+{
+    let held = desk.take(rt, place);
+    let found = (held.book().assigned(), held.book().stopped());
+    held.give(rt, place, desk);
+    found
+}
+
+// A desk's turns up to the one that ends its run: whether there was a fault, the sessions, and the
+// book found then.
+fn run_of<R: Wait>(
+    rt: &R,
+    alloc: Global,
+    place: &BookPlace,
+    desk: &mut Desk,
+) -> (bool, u64, (u16, bool))
+    requires { CanTurn place.now desk.old }
 {
     let parker = Parker::new();
     let fault = take_turns(rt, alloc, place, desk, 1, &OpenGate, &parker);
-    (fault.is_some(), desk.sessions())
+    (fault.is_some(), desk.sessions(), book_found(rt, place, desk))
 }
 
-// The run of the first of two desks after a script, and the book that it leaves.
+fn run_first<R: Wait>(
+    rt: &R,
+    alloc: Global,
+    place: &BookPlace,
+    mut desks: Vec<Desk>,
+) -> Option<(bool, u64, (u16, bool))>
+    requires { All (CanTurn place.now) desks.items }
+{
+    if desks.is_empty() {
+        return None;
+    }
+    Some(run_of(rt, alloc, place, &mut desks[0]))
+}
+
+// The run of the first of two desks after a script.
 fn run_after<R: Wait>(
     rt: &R,
     alloc: Global,
     script: &str,
-) -> Result<Option<(bool, u64, Option<Book>)>, AllocError> {
+) -> Result<Option<(bool, u64, (u16, bool))>, AllocError> {
     let book = book_of(alloc, 2)?;
     let (place, desks) = opened(rt, alloc, book)?;
-    let (mut desks, _came) = run_script(rt, alloc, &place, desks, script.as_bytes(), 1, &OpenGate)?;
-    if desks.is_empty() {
-        return Ok(None);
-    }
-    let (fault, sessions) = run_of(rt, alloc, &place, &mut desks[0]);
-    Ok(Some((fault, sessions, closed(rt, place, desks))))
-}
-
-// Fault and sessions of such a run, and how many persons have an object and whether the book is stopped
-// in the end.
-fn run_told<R: Wait>(
-    rt: &R,
-    alloc: Global,
-    script: &str,
-) -> Result<Option<(bool, u64, u16, bool)>, AllocError> {
-    match run_after(rt, alloc, script)? {
-        Some((fault, sessions, Some(book))) => {
-            Ok(Some((fault, sessions, book.assigned(), book.stopped())))
-        }
-        _ => Ok(None),
-    }
+    let (desks, _came) = run_script(rt, alloc, &place, desks, script.as_bytes(), 1, &OpenGate)?;
+    Ok(run_first(rt, alloc, &place, desks))
 }
 
 #[test]
 fn a_worker_takes_turns_until_all_have_an_object(rt: HostRuntime) -> Result<(), Fail> {
-    let told = run_told(&rt, rt.alloc(), "")?;
-    assert_eq!(rt; told, Some((false, 7, 2, false)));
+    let told = run_after(&rt, rt.alloc(), "")?;
+    assert_eq!(rt; told, Some((false, 7, (2, false))));
     Ok(())
 }
 
 #[test]
 fn a_worker_takes_no_more_turns_after_a_stop(rt: HostRuntime) -> Result<(), Fail> {
-    let told = run_told(&rt, rt.alloc(), "1t1t2s")?;
-    assert_eq!(rt; told, Some((false, 3, 1, true)));
+    let told = run_after(&rt, rt.alloc(), "1t1t2s")?;
+    assert_eq!(rt; told, Some((false, 3, (1, true))));
     Ok(())
 }
 

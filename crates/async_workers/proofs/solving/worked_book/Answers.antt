@@ -1,20 +1,21 @@
-use Rattle.std.proofs.Common.{◌≡◌, ◌∙◌, ap, map, reverse, length, arith}
+use Rattle.std.proofs.Common.{◌≡◌, ◌∙◌, ap, map, length, arith}
+use Rattle.std.proofs.lemmas.List.{length-map}
 use Rattle.async_workers.specs.Desk.{new_desks}
 use Rattle.async_workers.specs.inside.Working.{desk_in}
-use Rattle.async_workers.proofs.Runs.{back_extends, back_ready, faults_in, length_back, length_workers, workers_can}
+use Rattle.async_workers.proofs.Runs.{back_extends, back_ready, faults_in, length_workers, workers_can}
 use Rattle.async_workers.proofs.solving.worked_book.Goals as goal
 
 pub run_all-workers-requires-clause-some : goal.run_all-workers-requires-clause-some
 run_all-workers-requires-clause-some g c κs within =
     let b = c.args.book in
-    let l = length_workers c.in_ok-place.place b (length b.claims) c.in_ok-workers.workers.items (c.in_ok-workers.ensures ∙ ap reverse c.in_ok-place.ensures) in
+    let l = length_workers c.in_ok-place.place b (length b.claims) c.in_ok-workers.workers.items (c.in_ok-workers.ensures ∙ c.in_ok-place.ensures) in
     let some = c.requires.some in
     omega (arith, l, some, c.in_ok-workers.workers.ok)
 
 pub run_all-workers-requires-clause-ready : goal.run_all-workers-requires-clause-ready
 run_all-workers-requires-clause-ready g c κs within =
     let b = c.args.book in
-    workers_can c.in_ok-place.place b (length b.claims) c.in_ok-workers.workers.items (c.in_ok-workers.ensures ∙ ap reverse c.in_ok-place.ensures)
+    workers_can c.in_ok-place.place b (length b.claims) c.in_ok-workers.workers.items (c.in_ok-workers.ensures ∙ c.in_ok-place.ensures)
 
 pub unseat_workers-desks-requires-clause-faults : goal.unseat_workers-desks-requires-clause-faults
 unseat_workers-desks-requires-clause-faults g c =
@@ -27,9 +28,9 @@ unseat_workers-desks-requires-clause-faults g c =
 pub close_place-requires-clause-some_desk : goal.close_place-requires-clause-some_desk
 close_place-requires-clause-some_desk g c =
     let b = c.args.book in
-    let l = length_workers c.in_ok-place.place b (length b.claims) c.in_ok-workers.workers.items (c.in_ok-workers.ensures ∙ ap reverse c.in_ok-place.ensures) in
+    let l = length_workers c.in_ok-place.place b (length b.claims) c.in_ok-workers.workers.items (c.in_ok-workers.ensures ∙ c.in_ok-place.ensures) in
     let some = c.requires.some in
-    let back = ap length c.unseat_workers-desks.ensures.desks ∙ length_back c.run_all-workers.result.items in
+    let back = ap length c.unseat_workers-desks.ensures.desks ∙ length-map c.run_all-workers.result.items desk_in in
     let same = c.run_all-workers.ensures.long in
     omega (arith, l, some, c.in_ok-workers.workers.ok, back, same, c.run_all-workers.result.ok, c.unseat_workers-desks.result.0.ok)
 
@@ -40,7 +41,7 @@ close_place-requires-clause-ready g c =
     let ys = c.run_all-workers.result in
     let r = c.run_all-workers.ensures in
     let long = r.long in
-    back_ready c.in_ok-place.place b (length b.claims) xs.items ys.items c.unseat_workers-desks.result.0.items (c.in_ok-workers.ensures ∙ ap reverse c.in_ok-place.ensures)
+    back_ready c.in_ok-place.place b (length b.claims) xs.items ys.items c.unseat_workers-desks.result.0.items (c.in_ok-workers.ensures ∙ c.in_ok-place.ensures)
     (omega (arith, long, xs.ok, ys.ok), λ k d lt. r.worked k d (omega (arith, lt, xs.ok))) c.unseat_workers-desks.ensures.desks
 
 pub returns-clause-extends : goal.returns-clause-extends
@@ -49,10 +50,10 @@ returns-clause-extends g c =
     let xs = c.in_ok-workers.workers in
     let ys = c.run_all-workers.result in
     let r = c.run_all-workers.ensures in
-    let is : map desk_in xs.items ≡ reverse (new_desks c.in_ok-place.place b (length b.claims)) = c.in_ok-workers.ensures ∙ ap reverse c.in_ok-place.ensures in
+    let is : map desk_in xs.items ≡ new_desks c.in_ok-place.place b (length b.claims) = c.in_ok-workers.ensures ∙ c.in_ok-place.ensures in
     let l = length_workers c.in_ok-place.place b (length b.claims) xs.items is in
     let some = c.requires.some in
-    let back = ap length c.unseat_workers-desks.ensures.desks ∙ length_back ys.items in
+    let back = ap length c.unseat_workers-desks.ensures.desks ∙ length-map ys.items desk_in in
     let len = r.long in
     let same : length ys.items ≡ length xs.items = omega (arith, len, xs.ok, ys.ok) in
     back_extends c.in_ok-place.place b c.close_place.result (length b.claims) xs.items ys.items c.unseat_workers-desks.result.0.items is
