@@ -1,6 +1,5 @@
 -- What other workers rely on stays through each change.
-use Rattle.std.proofs.Common.{◌≡◌, ℕ, get_or, Bool, true, false, not, refl, arith, sym, ◌∙◌, subst, Option, None, Some, pos, is_some}
-use Rattle.std.specs.List.{count_by}
+use Rattle.std.proofs.Common.{◌≡◌, ℕ, get_or, Bool, true, refl, arith, sym, ◌∙◌, subst, Option, None, Some}
 use Rattle.assign_core.specs.Hall.{HallLists}
 use Rattle.assign_core.specs.Numbered.{numbered}
 use Rattle.assign_core.specs.Prices.{IsBelow}

@@ -224,19 +224,33 @@ fn a_claim_outlives_its_place(rt: HostRuntime) -> Result<(), Fail> {
     Ok(())
 }
 
-// The prices of the book that a desk finds in the place.
+// What is seen of a book.
+#[derive(Drop)]
+struct Found {
+    prices: Vec<Price>,
+    assigned: u16,
+    stopped: bool,
+}
+
+// The book that a desk finds in the place.
 fn look<R: Wait>(
     rt: &R,
     alloc: Global,
     place: &BookPlace,
     desk: &mut Desk,
-) -> Result<Vec<Price>, AllocError>
+) -> Result<Found, AllocError>
     requires { CanTurn place.now desk.old }
 {
     let held = desk.take(rt, place);
-    let prices = held.book().prices().as_slice().to_vec(alloc);
+    let book = held.book();
+    let (assigned, stopped) = (book.assigned(), book.stopped());
+    let prices = book.prices().as_slice().to_vec(alloc);
     held.give(rt, place, desk);
-    prices
+    Ok(Found {
+        prices: prices?,
+        assigned,
+        stopped,
+    })
 }
 
 // The table of the first desk, and the prices of the book that it finds in the place.
@@ -253,7 +267,7 @@ fn prices_found<R: Wait>(
     }
     let own = desks[0].table().as_slice().to_vec(alloc)?;
     let found = look(rt, alloc, place, &mut desks[0])?;
-    Ok(Some((own, found)))
+    Ok(Some((own, found.prices)))
 }
 
 // The same after a script of one desk.
@@ -278,17 +292,6 @@ fn the_next_book_has_the_own_raise(rt: HostRuntime) -> Result<(), Fail> {
     Ok(())
 }
 
-// How many persons have an object in the book that a desk finds in the place, and whether it is
-// stopped.
-fn book_found<R: Wait>(rt: &R, place: &BookPlace, desk: &mut Desk) -> (u16, bool)
-    requires { CanTurn place.now desk.old }
-{
-    let held = desk.take(rt, place);
-    let found = (held.book().assigned(), held.book().stopped());
-    held.give(rt, place, desk);
-    found
-}
-
 // A desk's turns up to the one that ends its run: whether there was a fault, the sessions, and the
 // book found then.
 fn run_of<R: Wait>(
@@ -296,12 +299,13 @@ fn run_of<R: Wait>(
     alloc: Global,
     place: &BookPlace,
     desk: &mut Desk,
-) -> (bool, u64, (u16, bool))
+) -> Result<(bool, u64, Found), AllocError>
     requires { CanTurn place.now desk.old }
 {
     let parker = Parker::new();
     let fault = take_turns(rt, alloc, place, desk, 1, &OpenGate, &parker);
-    (fault.is_some(), desk.sessions(), book_found(rt, place, desk))
+    let sessions = desk.sessions();
+    Ok((fault.is_some(), sessions, look(rt, alloc, place, desk)?))
 }
 
 fn run_first<R: Wait>(
@@ -309,13 +313,13 @@ fn run_first<R: Wait>(
     alloc: Global,
     place: &BookPlace,
     mut desks: Vec<Desk>,
-) -> Option<(bool, u64, (u16, bool))>
+) -> Result<Option<(bool, u64, Found)>, AllocError>
     requires { All (CanTurn place.now) desks.items }
 {
     if desks.is_empty() {
-        return None;
+        return Ok(None);
     }
-    Some(run_of(rt, alloc, place, &mut desks[0]))
+    Ok(Some(run_of(rt, alloc, place, &mut desks[0])?))
 }
 
 // The run of the first of two desks after a script.
@@ -323,24 +327,32 @@ fn run_after<R: Wait>(
     rt: &R,
     alloc: Global,
     script: &str,
-) -> Result<Option<(bool, u64, (u16, bool))>, AllocError> {
+) -> Result<Option<(bool, u64, Found)>, AllocError> {
     let book = book_of(alloc, 2)?;
     let (place, desks) = opened(rt, alloc, book)?;
     let (desks, _came) = run_script(rt, alloc, &place, desks, script.as_bytes(), 1, &OpenGate)?;
-    Ok(run_first(rt, alloc, &place, desks))
+    run_first(rt, alloc, &place, desks)
 }
 
 #[test]
 fn a_worker_takes_turns_until_all_have_an_object(rt: HostRuntime) -> Result<(), Fail> {
-    let told = run_after(&rt, rt.alloc(), "")?;
-    assert_eq!(rt; told, Some((false, 7, (2, false))));
+    let Some((fault, sessions, found)) = run_after(&rt, rt.alloc(), "")? else {
+        panic!(rt; "no desk");
+    };
+    assert_eq!(rt; (fault, sessions), (false, 7));
+    assert_eq!(rt; (found.assigned, found.stopped), (2, false));
+    assert_eq!(rt; found.prices.as_slice(), [14, 12].as_slice());
     Ok(())
 }
 
 #[test]
 fn a_worker_takes_no_more_turns_after_a_stop(rt: HostRuntime) -> Result<(), Fail> {
-    let told = run_after(&rt, rt.alloc(), "1t1t2s")?;
-    assert_eq!(rt; told, Some((false, 3, (1, true))));
+    let Some((fault, sessions, found)) = run_after(&rt, rt.alloc(), "1t1t2s")? else {
+        panic!(rt; "no desk");
+    };
+    assert_eq!(rt; (fault, sessions), (false, 3));
+    assert_eq!(rt; (found.assigned, found.stopped), (1, true));
+    assert_eq!(rt; found.prices.as_slice(), [8, 0].as_slice());
     Ok(())
 }
 

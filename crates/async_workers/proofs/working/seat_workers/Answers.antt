@@ -1,4 +1,4 @@
-use Rattle.std.proofs.Common.{◌≡◌, ◌∙◌, ◌++◌, ◌∷◌, map, length, sym, ap, append-nil, arith}
+use Rattle.std.proofs.Common.{◌≡◌, ◌∙◌, ◌++◌, ◌∷◌, map, sym, ap, append-nil, arith}
 use Rattle.std.proofs.lemmas.List.{nil_from_length}
 use Rattle.async_workers.specs.declared.working.Worker.{Worker}
 use Rattle.async_workers.specs.inside.Working.{desk_in}
