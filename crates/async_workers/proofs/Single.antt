@@ -1,8 +1,8 @@
 -- One thread goes on with a book as worker 1.
-use Rattle.std.proofs.Common.{◌≡◌, ℕ, ℤ, zero, suc, ◌+◌, ◌<◌, ◌≤◌, ◌⊎◌, inl, inr, ⊎_elim, List, ◌∷◌, Option, None, Some, length, get_or, refl, sym, ap, ◌∙◌, subst, arith, false}
+use Rattle.std.proofs.Common.{◌≡◌, ℕ, ℤ, zero, suc, ◌+◌, ◌<◌, ◌≤◌, inl, inr, List, ◌∷◌, Option, None, Some, length, get_or, refl, sym, ap, ◌∙◌, subst, arith, false}
 use Rattle.std.proofs.lemmas.Bool.Decides.{eqb_tells}
 use Rattle.assign_core.specs.Numbered.{IsNumber, numbered}
-use Rattle.assign_core.proofs.NumberedLemmas.{numbered-past, numbered-same}
+use Rattle.assign_core.proofs.NumberedLemmas.{numbered-same}
 use Rattle.scaled_values.specs.Scaled.{ScaledProblem}
 use Rattle.scaled_values.proofs.RowFacts.{benefit_row_is}
 use Rattle.bidder.specs.declared.offers.Offer.{Offer}
@@ -37,12 +37,6 @@ one_given_up b before h worker le = elim (eqb_tells worker (before + 1)) [
       ap (λ w. numbered claims w None) t.1 ∙ given_up_none b (before + 1) (numbered b.claims (before + 1) None) refl
   | inr t ↦ let other = t.1 in (given_up_follows b (before + 1)).claims worker other ∙ h worker (omega arith)
 ]
-
--- so nobody has one, when all have given theirs up
-pub all_none : (claims : List (Option ℕ)) (before : ℕ) → length claims ≤ before → HaveNone claims before → (worker : ℕ) → numbered claims worker None ≡ None
-all_none claims before long h worker = ⊎_elim (h worker) (λ past. numbered-past claims worker None (omega arith)) (within worker before) where
-  within : (a b : ℕ) → (a ≤ b) ⊎ (b < a)
-  within a b = grind arith
 
 -- what worker 1 has after a claim: an offer from today's prices, where it has a person
 record IsClaimed (b : BookData) (version : ℕ) (answer : Claim) : Type 0 where
