@@ -133,10 +133,7 @@ pub fn run_all<G: Gate + Sync, R: Threads + Wait + Sync>(
 ///
 /// # Errors
 /// Only where memory is refused.
-pub fn seat_workers(
-    alloc: Global,
-    desks: Vec<Desk>,
-) -> Result<Vec<CachePadded<Worker>>, AllocError>
+pub fn seat_workers(alloc: Global, desks: Vec<Desk>) -> Result<Vec<CachePadded<Worker>>, AllocError>
     ensures { IfOk result (λ workers. map desk_in workers.items ≡ desks.items) }
 {
     let mut workers = Vec::with_capacity(alloc, desks.len())?;
