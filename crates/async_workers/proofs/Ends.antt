@@ -8,7 +8,6 @@ use Rattle.assign_core.specs.declared.outcome.Outcome.{Outcome}
 use Rattle.assign_core.specs.declared.outcome.Outcome.TheVariants.{Best, Hall}
 use Rattle.scaled_values.specs.Scaled.{ScaledProblem}
 use Rattle.auction_book.specs.Book.{BookData, persons_of}
-use Rattle.auction_book.specs.Follows.{GoesOn}
 use Rattle.auction_book.specs.Free.{IsFree}
 use Rattle.auction_book.specs.Phases.{opened}
 use Rattle.auction_book.proofs.Answering.{done_is}
@@ -85,6 +84,3 @@ solved s prices workers opening worked outcome told is extends end =
       answers = end.answers;
       tallied = end.tallied ∙ ap (tallies end.book) same;
     }
-
-pub has_end : (from book : BookData) (outcome : Outcome) (told : List Tally) → GoesOn from book → IsFree book → IsAnsweredBy book outcome → told ≡ tallies book (length book.claims) → IsEndOf from (length from.claims) outcome told
-has_end from book outcome told on free answers tallied = record { book = book; free = free; goes_on = on; answers = answers; tallied = tallied ∙ ap (tallies book) on.workers }
