@@ -1,7 +1,6 @@
 -- The first prices of a run.
-use Rattle.std.proofs.Common.{ℕ, ℤ, ◌≤ℤ◌, List, Option, None, Some, Result, Ok, Err, IfSome, arith, length}
+use Rattle.std.proofs.Common.{ℕ, ℤ, ◌≤ℤ◌, List, Option, Result, Ok, Err, IfSome, arith}
 use Rattle.std.proofs.lemmas.Int.{ints}
-use Rattle.std.proofs.KnownBytes.{Keeps-refl}
 use Rattle.std.specs.List.{All}
 use Rattle.assign_core.specs.declared.numbers.TheConstants.{GREATEST_FIRST_PRICE}
 use Rattle.assign_core.specs.Rows.{Listing}
@@ -9,7 +8,7 @@ use Rattle.scaled_values.proofs.BenefitRange.{greatest_holds}
 use Rattle.scaled_values.specs.Scaled.{greatest_of}
 use Rattle.report.specs.Starts.{IsFirstPrice}
 use Rattle.auction_cli.specs.Solve.{BeginsAt, Reads, SolveOutcomeBy}
-use Rattle.auction_cli.specs.inside.Solve.{FailsToBegin, Reports}
+use Rattle.auction_cli.specs.inside.Solve.{Reports}
 use Rattle.auction_cli.specs.declared.words.Method.{Method}
 use Rattle.auction_cli.specs.declared.words.SolveOpts.{SolveOpts}
 use Rattle.auction_cli.specs.declared.run.Ended.{Ended}
@@ -29,15 +28,3 @@ reports_outcome method options input start rows prices old new (Err (Input fault
 reports_outcome method options input start rows prices old new (Err (ReportFault fault)) i b r = absurd r
 reports_outcome method options input start rows prices old new (Err (Start fault)) i b r = absurd r
 reports_outcome method options input start rows prices old new (Err (Stuck person)) i b r = absurd r
-
--- and so is that it can't begin
-pub unbegun_outcome : (method : Method) (options : SolveOpts) (input : Option (List ℕ)) (start : Option (Option (List ℕ))) (rows : List Listing) (old : Option (List ℕ)) (fault : CliFault) →
-    IfSome input (λ bytes. Reads options.sparse bytes (Ok rows)) → FailsToBegin start (length rows) fault → SolveOutcomeBy method options input start old old (Err fault)
-unbegun_outcome method options input (Some text) rows old (ReportFault fault) i f = record { rows = rows; problem = i; answer = f; kept = Keeps-refl old }
-unbegun_outcome method options input (Some text) rows old (Start fault) i f = record { rows = rows; report = f.0; problem = i; said = f.1; unfit = f.2; kept = Keeps-refl old }
-unbegun_outcome method options input None rows old (ReportFault fault) i f = absurd f
-unbegun_outcome method options input None rows old (Start fault) i f = absurd f
-unbegun_outcome method options input start rows old Memory i f = Keeps-refl old
-unbegun_outcome method options input start rows old Write i f = absurd f
-unbegun_outcome method options input start rows old (Input fault) i f = absurd f
-unbegun_outcome method options input start rows old (Stuck person) i f = absurd f
