@@ -3,7 +3,6 @@ use Rattle.std.proofs.Common.{◌≡◌, ℕ, ◌<◌, ◌≤◌, zero, suc, Lis
 use Rattle.std.specs.List.{All, Contains, IsDistinct}
 use Rattle.std.specs.List.Sorted.{IsStrictlyIncreasing}
 use Rattle.std.proofs.lemmas.Bool.{eqb-true}
-use Rattle.std.proofs.lemmas.Bool.Decides.{nat_tests}
 use Rattle.std.proofs.lemmas.Cmp.{nat_eq_equiv}
 use Rattle.std.proofs.lemmas.List.{get_or-map, length-map}
 use Rattle.std.proofs.lemmas.List.Elements.{Contains-get_or}
@@ -25,9 +24,6 @@ pub few_among : (xs ys : List ℕ) → IsDistinct nat_eq xs → ((x : ℕ) → C
 few_among xs ys d h =
     length-le_from_is_member nat_eq_equiv xs ys d
     (λ q e. list_any-from_Contains nat_eq_equiv q ys (h q (Contains-from_any (λ x y k. eqb-true x y k) q xs e)))
-
-differ : (a b : ℕ) → a < b → nat_eq a b ≡ false
-differ a b h = grind (arith, nat_tests)
 
 -- the object of each person is listed
 listed_at : (rows : List Listing) (xs : List ℕ) (i : ℕ) → AreListed rows xs → i < length rows → IsSome (listed_in (get_or rows i []) (get_or xs i 0))

@@ -4,6 +4,7 @@ pub mod DenseRows
 pub mod Products
 pub mod Distinct
 pub mod Listed
+mod Searching
 pub mod Duality
 pub mod Matchings
 pub mod DensePairs

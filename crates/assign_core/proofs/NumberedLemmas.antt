@@ -1,11 +1,11 @@
 -- Lists whose elements are numbered from 1: what is read after a write, and where.
-use Rattle.std.proofs.Common.{◌≡◌, ◌≢◌, ℕ, zero, suc, ◌+◌, ◌-◌, ◌<◌, ◌≤◌, List, length, get_or, set, Option, None, Some, Bool, cond, refl, ap, arith, sym, ◌∙◌, inl, inr, ◌⊎◌, add-one}
+use Rattle.std.proofs.Common.{◌≡◌, ◌≢◌, ℕ, zero, suc, ◌+◌, ◌-◌, ◌<◌, ◌≤◌, List, length, replicate, get_or, set, Option, None, Some, Bool, cond, refl, ap, arith, sym, ◌∙◌, inl, inr, ◌⊎◌, add-one}
 use Rattle.std.specs.List.{All, count_by}
 use Rattle.std.proofs.lemmas.Bool.{cases_lt}
 use Rattle.std.proofs.lemmas.List.{length-set, get_or-set_same, get_or-set_other, get_or_past, get_or_default}
 use Rattle.std.proofs.lemmas.List.Elements.{All-from_get_or}
 use Rattle.std.proofs.lemmas.List.Sums.{sum_by-set}
-use Rattle.assign_core.specs.Numbered.{numbered, renumbered}
+use Rattle.assign_core.specs.Numbered.{IsNumber, numbered, renumbered}
 
 pub numbered-same : {A : Type 0} (xs : List A) (j : ℕ) (y d : A) → 0 < j → j ≤ length xs → numbered (renumbered xs j y) j d ≡ y
 numbered-same xs zero y d h k = absurd (omega arith)
@@ -27,6 +27,17 @@ count-renumbered p xs (suc j) y d h k = sum_by-set (λ x. cond (p x) 1 0) xs j y
 pub numbered-past : {A : Type 0} (xs : List A) (j : ℕ) (d : A) → length xs < j → numbered xs j d ≡ d
 numbered-past xs zero d h = refl
 numbered-past xs (suc j) d h = get_or_past xs j d (omega arith)
+
+-- each number stands for the same in a list of one and the same element
+pub numbered-replicate : {A : Type 0} (n j : ℕ) (x : A) → numbered (replicate n x) j x ≡ x
+numbered-replicate n zero x = refl
+numbered-replicate zero (suc k) x = refl
+numbered-replicate (suc n) (suc zero) x = refl
+numbered-replicate (suc n) (suc (suc k)) x = numbered-replicate n (suc k) x
+
+-- a number from 1 to n is one to m
+pub number_within : (n m j : ℕ) → n ≤ m → IsNumber n j → IsNumber m j
+number_within n m j le h = record { first = h.first; last = omega (arith, le, h.last) }
 
 -- a number at which something stands is in range
 pub numbered_in : {A : Type 0} (xs : List (Option A)) (j : ℕ) (x : A) → numbered xs j None ≡ Some x → (0 < j) × (j ≤ length xs)

@@ -13,7 +13,7 @@ abbrev pub IsProof : Sense → List Listing → Outcome → Type 0
 IsProof sense rows (Best c) = IsCertificate sense rows c.assignment c.prices
 IsProof sense rows (Hall h) = IsHallSet rows h.persons h.objects
 
--- a best assignment where there is an assignment, and a Hall set where there is none
+-- an assignment only where there is one, and a Hall set only where there is none
 abbrev pub IsDecided : List Listing → Outcome → Type 0
 IsDecided rows (Best c) = (xs : List ℕ) × IsAssignment rows xs
 IsDecided rows (Hall h) = (xs : List ℕ) → IsAssignment rows xs → ⊥

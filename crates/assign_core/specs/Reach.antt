@@ -20,7 +20,7 @@ IsBlocked rows owners i =
     (x j : ℕ) → IsReached rows owners i x → IsListed rows x j → IsSome (owner_of owners j)
 
 -- the first object is listed by person i, each next one by the owner of the one before, and the
--- last is free
+-- last is unowned
 abbrev pub Alternates : List Listing → List (Option ℕ) → ℕ → List ℕ → Type 0
 Alternates rows owners i [] = ⊥
 Alternates rows owners i (j ∷ []) = IsListed rows i j × (owner_of owners j ≡ None)

@@ -2,6 +2,7 @@
 use super::certificate::Certificate;
 use super::hall::HallSet;
 use super::numbers::{Object, Person};
+use std::alloc::AllocError;
 
 /// What a run finds: an assignment with prices that prove it best, or a Hall set, which proves
 /// that there is no assignment.
@@ -18,4 +19,15 @@ pub enum SolveFault {
     Memory,
     /// A person who is stuck, with an alternating path to an unowned object.
     Stuck(Person, Vec<Object>),
+}
+
+impl From<AllocError> for SolveFault {
+    ghost use Rattle.std.specs.Prelude.{◌≡◌};
+    ghost use Rattle.assign_core.specs.declared.outcome.SolveFault.TheVariants.{Memory};
+
+    ghost from_gives = { λ _ fault. fault ≡ Memory };
+
+    fn from(_refused: AllocError) -> SolveFault {
+        SolveFault::Memory
+    }
 }

@@ -9,8 +9,8 @@ use std::marker::Model;
 
 /// The prices of objects 1, 2, .., at most `MOST_PERSONS` of them, each in `0..PRICE_END`.
 ///
-/// Beside each price stands the price in 64 bits, so that a scan that finds all prices small needs
-/// no wider sums.
+/// Beside each price stands one in 64 bits that is no greater: the price itself, or `NARROW_END`
+/// where it is above. By these a scan sees which objects change nothing, without wider sums.
 #[derive(Debug, Drop)]
 pub struct Prices {
     values: Vec<Price>,

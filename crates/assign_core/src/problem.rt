@@ -25,40 +25,15 @@ impl Model for Problem {
     ghost invariant = { λ p. IsProblem (map (λ r. r.items) p.rows.items) };
 }
 
-// What a rising row gives for an object: by one look where the pair in the object's place is the
-// object's, as in a row that lists all objects, and else by a search.
+// What a rising row gives for an object, by a binary search.
 fn find(row: &[(Object, Cost)], object: Object) -> Option<Cost>
     requires { IsRising row.now }
     ensures { result ≡ listed_in row.now object }
 {
-    match find_in_place(row, object) {
-        Some(cost) => Some(cost),
-        None => find_anywhere(row, object),
+    match row.binary_search_by_key(&object.0, |pair| pair.0.0) {
+        Ok(place) => Some(row[place].1),
+        Err(_) => None,
     }
-}
-
-// The same, if the pair in the object's place is the object's.
-fn find_in_place(row: &[(Object, Cost)], object: Object) -> Option<Cost>
-    requires { IsRising row.now }
-    ensures found { (cost : ℤ) → result ≡ Some cost → listed_in row.now object ≡ Some cost }
-    ensures here { (pair : ℕ × ℤ) → IsNumber (length row.now) object
-        → (numbered row.now object pair).0 ≡ object → IsSome result }
-{
-    let place = object.0.checked_sub(1)?;
-    let (other, cost) = row.get(place as usize)?;
-    if *other == object { Some(*cost) } else { None }
-}
-
-// The same by a search from the beginning.
-fn find_anywhere(row: &[(Object, Cost)], object: Object) -> Option<Cost>
-    ensures { result ≡ listed_in row.now object }
-{
-    for (other, cost) in row {
-        if *other == object {
-            return Some(*cost);
-        }
-    }
-    None
 }
 
 // The sum of the costs of the objects, one for each row.
@@ -141,8 +116,7 @@ impl Problem {
 
     /// What a pair costs, if it is listed; `None` too where there is no such person.
     ///
-    /// Where the person lists all objects it reads one pair, and else at most one and then the list
-    /// from its beginning up to the object.
+    /// It reads few pairs of the person's row: at most 14, also where all objects are listed.
     pub fn cost_of(&self, person: Person, object: Object) -> Option<Cost>
         ensures { result ≡ listed_in (row_of self.now person) object }
     {
@@ -153,8 +127,7 @@ impl Problem {
 
     /// The sum of the costs of an assignment's pairs.
     ///
-    /// It reads one pair of each person that lists all objects, and of any other at most one and
-    /// then the list up to its object.
+    /// Of each person it reads as few pairs as `cost_of`.
     pub fn total(&self, assignment: &Assignment) -> Cost
         requires { IsAssignment self.now assignment.now }
         ensures { result ≡ total self.now assignment.now }

@@ -70,7 +70,10 @@ fn certificate(alloc: Global) -> Result<Certificate, AllocError> {
 }
 
 fn certificate_copied(alloc: Global) -> Result<Certificate, AllocError> {
-    certificate(alloc)?.copy(alloc)
+    let certificate = certificate(alloc)?;
+    let assignment = certificate.assignment.copy(alloc)?;
+    let prices = certificate.prices.copy(alloc)?;
+    Ok(Certificate { assignment, prices })
 }
 
 fn assert_certificate(rt: &impl Abort, certificate: &Certificate) {
