@@ -16,7 +16,7 @@ use Rattle.auction_book.specs.Claims.{IsAsked, after_claim, claim_of}
 use Rattle.auction_book.specs.Follows.{Follows}
 use Rattle.auction_book.specs.Free.{IsFree}
 use Rattle.auction_book.specs.Phases.{is_over}
-use Rattle.auction_book.specs.Session.{EndsClaim, IsHandedIn, IsNoted, IsPrepared, IsUndone, book_next, book_taken, next_if_over, note_of}
+use Rattle.auction_book.specs.Session.{EndsClaim, IsHandedIn, IsNoted, IsPrepared, IsUndone, book_next, book_kept_up, next_if_over, note_of}
 use Rattle.auction_book.specs.Submissions.{IsSubmitted}
 use Rattle.auction_book.proofs.Claiming.{cond_by}
 use Rattle.auction_book.proofs.Answering.{over_is}
@@ -28,7 +28,7 @@ use Rattle.auction_book.specs.declared.answers.Note.{Note}
 use Rattle.async_workers.specs.declared.rule.Known.{Known}
 use Rattle.async_workers.specs.Desk.{DeskData}
 use Rattle.async_workers.specs.inside.Hand.{Ends, IsInHand}
-use Rattle.async_workers.specs.Session.{EndsUndone, Leaves, caught_in, with_table}
+use Rattle.async_workers.specs.Session.{EndsUndone, IsCutShort, caught_in, with_table}
 use Rattle.async_workers.proofs.Hands.{hand_follows, hand_own}
 
 -- an offer prepared from the desk's table may go in
@@ -90,16 +90,16 @@ waiting b queue person free is over =
     let long : length b.queue ≡ length queue + 1 = ap length is ∙ length-append queue (person ∷ []) in
     omega arith
 
-taken_queue : (caught : Bool) (b : BookData) (worker : ℕ) → (book_taken caught b worker).queue ≡ b.queue
+taken_queue : (caught : Bool) (b : BookData) (worker : ℕ) → (book_kept_up caught b worker).queue ≡ b.queue
 taken_queue true b worker = refl
 taken_queue false b worker = refl
 
-released_over : (b left : BookData) (worker person : ℕ) (caught : Bool) → IsFree (book_taken caught left worker) → left.queue ≡ b.queue ++ person ∷ [] → is_over (book_taken caught left worker) ≡ true → ⊥
-released_over b left worker person caught free queue over = waiting (book_taken caught left worker) b.queue person free (taken_queue caught left worker ∙ queue) over
+released_over : (b left : BookData) (worker person : ℕ) (caught : Bool) → IsFree (book_kept_up caught left worker) → left.queue ≡ b.queue ++ person ∷ [] → is_over (book_kept_up caught left worker) ≡ true → ⊥
+released_over b left worker person caught free queue over = waiting (book_kept_up caught left worker) b.queue person free (taken_queue caught left worker ∙ queue) over
 
 -- what stands where the next phase was refused memory
 judged_leaves : (refresh since w : ℕ) (b left : BookData) (bid : Bid) (answer : Result Accepted Refused) (told : Note) (caught : Bool) → Holds b w bid.person → answer ≢ Err Memory → IsSubmitted b w bid answer left → told ≡ note_of answer →
-    caught ≡ caught_in refresh since told → IsFree (book_taken caught left w) → is_over (book_taken caught left w) ≡ true → Leaves refresh since w (Some (made.Bid bid)) b left caught
+    caught ≡ caught_in refresh since told → IsFree (book_kept_up caught left w) → is_over (book_kept_up caught left w) ≡ true → IsCutShort refresh since w (Some (made.Bid bid)) b left caught
 judged_leaves refresh since w b left bid (Ok a) told caught held not_memory s noted is free over = inl (a, s, is ∙ ap (caught_in refresh since) noted)
 judged_leaves refresh since w b left bid (Err NotClaimed) told caught held not_memory s noted is free over = absurd (s.0 held)
 judged_leaves refresh since w b left bid (Err WrongPhase) told caught held not_memory s noted is free over = absurd (released_over b left w bid.person caught free (ap (λ (b : BookData). b.queue) s.2) over)
@@ -107,7 +107,7 @@ judged_leaves refresh since w b left bid (Err (TooLow price)) told caught held n
 judged_leaves refresh since w b left bid (Err Memory) told caught held not_memory s noted is free over = absurd (not_memory refl)
 
 over_leaves : (refresh since : ℕ) (k : Known) (b left : BookData) (offer : Option Offer) (told : Note) (caught : Bool) → IsPrepared b k.number k.table k.version offer → IsNoted b k.number offer left told → caught ≡ caught_in refresh since told →
-    IsFree (book_taken caught left k.number) → is_over (book_taken caught left k.number) ≡ true → Leaves refresh since k.number offer b left caught
+    IsFree (book_kept_up caught left k.number) → is_over (book_kept_up caught left k.number) ≡ true → IsCutShort refresh since k.number offer b left caught
 over_leaves refresh since k b left None told caught prepared noted is free over = (noted.0, is ∙ ap (caught_in refresh since) noted.1)
 over_leaves refresh since k b left (Some (made.Bid bid)) told caught prepared noted is free over =
     judged_leaves refresh since k.number b left bid noted.0 told caught (prepared.1 ∙ ap Some (sym prepared.2.0)) noted.1 noted.2 noted.3 is free over
@@ -115,7 +115,7 @@ over_leaves refresh since k b left (Some (made.Below below)) told caught prepare
     absurd (released_over b left k.number below.person caught free (ap (λ (b : BookData). b.queue) noted.0.2) over)
 
 -- a session whose offer was refused memory
-undone_leaves : (refresh since w : ℕ) (b left : BookData) (offer : Option Offer) (told : Note) → IsUndone b w offer left told → Leaves refresh since w offer b left false
+undone_leaves : (refresh since w : ℕ) (b left : BookData) (offer : Option Offer) (told : Note) → IsUndone b w offer left told → IsCutShort refresh since w offer b left false
 undone_leaves refresh since w b left None told undone = absurd undone
 undone_leaves refresh since w b left (Some (made.Bid bid)) told undone = inr (undone.0, refl)
 undone_leaves refresh since w b left (Some (made.Below below)) told undone = (undone.0, undone.1, refl)
@@ -131,17 +131,17 @@ ends_undone {E} refresh since k b left offer told outcome refused caught failed 
       known = refl;
     }
 
-pub taken_claims : (caught : Bool) (b : BookData) (worker : ℕ) → (book_taken caught b worker).claims ≡ b.claims
+pub taken_claims : (caught : Bool) (b : BookData) (worker : ℕ) → (book_kept_up caught b worker).claims ≡ b.claims
 taken_claims true b worker = refl
 taken_claims false b worker = refl
 
-pub taken_stopped : (caught : Bool) (b : BookData) (worker : ℕ) → (book_taken caught b worker).stopped ≡ b.stopped
+pub taken_stopped : (caught : Bool) (b : BookData) (worker : ℕ) → (book_kept_up caught b worker).stopped ≡ b.stopped
 taken_stopped true b worker = refl
 taken_stopped false b worker = refl
 
 -- a session whose offer went in
 pub ends : {E : Type 0} (refresh since : ℕ) (k left : Known) (b mid kept new : BookData) (offer : Option Offer) (told : Note) (caught : Bool) (worker : ℕ) (outcome : Result Claim E) → IsPrepared b k.number k.table k.version offer → IsNoted b k.number offer mid told → numbered mid.claims k.number None ≡ None →
-    caught ≡ caught_in refresh since told → kept ≡ book_taken caught mid k.number → left ≡ with_table caught mid k → IsFree kept → worker ≡ k.number →
+    caught ≡ caught_in refresh since told → kept ≡ book_kept_up caught mid k.number → left ≡ with_table caught mid k → IsFree kept → worker ≡ k.number →
     IfOk outcome (λ answer. (answer ≡ claim_of (next_if_over kept)) × (new ≡ after_claim (next_if_over kept) worker answer)) → OnErr outcome ((new ≡ kept) × (is_over kept ≡ true)) → Ends refresh since k offer told outcome b left new caught
 ends refresh since k left b mid kept new offer told caught worker (Ok answer) prepared noted none due kept_is known free number ok err =
     let answered : answer ≡ claim_of (book_next caught mid k.number) = ok.0 ∙ ap (λ k. claim_of (next_if_over k)) kept_is in

@@ -18,7 +18,7 @@ use Rattle.auction_book.specs.Claims.{after_claim, claim_of}
 use Rattle.auction_book.specs.Follows.{Follows}
 use Rattle.auction_book.specs.Free.{IsFree}
 use Rattle.auction_book.specs.Schedule.{IsSeat}
-use Rattle.auction_book.specs.Session.{IsPrepared, book_left, book_next, book_taken, prepared, table_taken, version_taken}
+use Rattle.auction_book.specs.Session.{IsPrepared, book_left, book_next, book_kept_up, prepared, table_kept_up, version_kept_up}
 use Rattle.auction_book.proofs.Claiming.{claim_by}
 use Rattle.auction_book.proofs.Following.{given_up_follows}
 use Rattle.auction_book.proofs.Places.{claimed_person}
@@ -144,8 +144,8 @@ turned refresh place d k e told answer t can g is turn_is =
     let a = event refresh d k told answer away.0 away.1 away.2 can.offer g in
     let base : k.base ≡ b.base = ap (λ (d : DeskData). d.base) g.desk ∙ event_base refresh d k told answer away.0 away.1 away.2 can.offer g in
     let counts : numbered (book_left c mid w).counts w 0 ≡ numbered mid.counts w 0 = ap (λ c. numbered c w 0) (claim_counts b w (claim_of b) ∙ a.ready.counts) in
-    let offer : prepared k.base k.known.table k.known.version answer ≡ prepared b.base (table_taken c mid d.known.table) (version_taken c mid d.known.version) (claim_of b) =
-    same_offers k.base b.base k.known.table (table_taken c mid d.known.table) k.known.version (version_taken c mid d.known.version) answer (claim_of b)
+    let offer : prepared k.base k.known.table k.known.version answer ≡ prepared b.base (table_kept_up c mid d.known.table) (version_kept_up c mid d.known.version) (claim_of b) =
+    same_offers k.base b.base k.known.table (table_kept_up c mid d.known.table) k.known.version (version_kept_up c mid d.known.version) answer (claim_of b)
     base (ap (λ (k : Known). k.table) known) (ap (λ (k : Known). k.version) known) g.ends.answered in
     record {
       note = told;
@@ -165,7 +165,7 @@ stops_run refresh place d k told answer t can g is asked =
     let w = d.known.number in
     let mid = g.ends.submitted in
     let b = book_next c mid w in
-    let stopped : b.stopped ≡ true = next_stopped (book_taken c mid w) ∙ taken_stopped c mid w ∙ (event refresh d k told answer away.0 away.1 away.2 can.offer g).left.ends.stopped ∙ (g.told away.0 away.1 away.2).stopped asked in
+    let stopped : b.stopped ≡ true = next_stopped (book_kept_up c mid w) ∙ taken_stopped c mid w ∙ (event refresh d k told answer away.0 away.1 away.2 can.offer g).left.ends.stopped ∙ (g.told away.0 away.1 away.2).stopped asked in
     subst EndsRun (sym (is ∙ ap turn_of g.ends.answered)) (ends_stopped b stopped)
   where
     ends_stopped : (b : BookData) → b.stopped ≡ true → EndsRun (turn_of (claim_of b))

@@ -9,7 +9,7 @@ use Rattle.auction_book.specs.declared.answers.Refused.TheVariants.{TooLow, Memo
 use Rattle.auction_book.specs.Book.{BookData, Holds}
 use Rattle.auction_book.specs.Changes.{released}
 use Rattle.auction_book.specs.Claims.{claim_of}
-use Rattle.auction_book.specs.Session.{IsNoted, book_left, book_next, book_taken, table_taken, version_taken}
+use Rattle.auction_book.specs.Session.{IsNoted, book_left, book_next, book_kept_up, table_kept_up, version_kept_up}
 use Rattle.auction_book.specs.Submissions.{IsSubmitted}
 use Rattle.auction_book.specs.declared.answers.Note.{Note}
 use Rattle.auction_book.specs.declared.answers.Note.TheVariants as note
@@ -34,7 +34,7 @@ counted caught d = record d { sessions = one_more d.sessions; since = cond caugh
 
 -- the desk's table becomes today's, or not
 abbrev pub with_table : Bool → BookData → Known → Known
-with_table caught b k = record k { table = table_taken caught b k.table; version = version_taken caught b k.version }
+with_table caught b k = record k { table = table_kept_up caught b k.table; version = version_kept_up caught b k.version }
 
 -- whether a session in which this was told catches up, where so many are over since the last one that did
 abbrev pub caught_in : ℕ → ℕ → Note → Bool
@@ -52,17 +52,17 @@ pub record EndsWell (refresh since : ℕ) (k : Known) (offer : Option Offer) (to
 
 -- the book that a refused growth leaves, but for catching up, which a refused offer leaves out: the accepted bid; the
 -- refused one, whose person waits; after a search the claim given up; without an offer the book taken
-abbrev pub Leaves : ℕ → ℕ → ℕ → Option Offer → BookData → BookData → Bool → Type 0
-Leaves refresh since worker None b new caught = (new ≡ b) × (caught ≡ caught_in refresh since note.Nothing)
-Leaves refresh since worker (Some (made.Bid bid)) b new caught =
+abbrev pub IsCutShort : ℕ → ℕ → ℕ → Option Offer → BookData → BookData → Bool → Type 0
+IsCutShort refresh since worker None b new caught = (new ≡ b) × (caught ≡ caught_in refresh since note.Nothing)
+IsCutShort refresh since worker (Some (made.Bid bid)) b new caught =
     ((a : Accepted) × IsSubmitted b worker bid (Ok a) new × (caught ≡ caught_in refresh since note.Accepted))
     ⊎ (IsSubmitted b worker bid (Err Memory) new × (caught ≡ false))
-Leaves refresh since worker (Some (made.Below below)) b new caught = Holds b worker below.person × (new ≡ released b worker below.person) × (caught ≡ false)
+IsCutShort refresh since worker (Some (made.Below below)) b new caught = Holds b worker below.person × (new ≡ released b worker below.person) × (caught ≡ false)
 
 -- the session where a growth is refused: the worker has no claim
 pub record EndsUndone (refresh since : ℕ) (k : Known) (offer : Option Offer) (b : BookData) (left : Known) (new : BookData) (caught : Bool) : Type 0 where
   pub submitted : BookData
-  pub leaves : Leaves refresh since k.number offer b submitted caught
+  pub leaves : IsCutShort refresh since k.number offer b submitted caught
   pub none : numbered new.claims k.number None ≡ None
-  pub book : new ≡ book_taken caught submitted k.number
+  pub book : new ≡ book_kept_up caught submitted k.number
   pub known : left ≡ with_table caught submitted k

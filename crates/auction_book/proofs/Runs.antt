@@ -31,8 +31,8 @@ use Rattle.auction_book.specs.Claims.{after_claim, claim_of}
 use Rattle.auction_book.specs.Follows.{Follows, GoesOn}
 use Rattle.auction_book.specs.Free.{IsFree}
 use Rattle.auction_book.specs.Phases.{is_over, opened}
-use Rattle.auction_book.specs.Schedule.{CoreData, Happens, IsFit, IsSeat, Run, core_opened, goes_on, is_worker, seat_at, seat_next, seat_of_prices}
-use Rattle.auction_book.specs.Session.{EndsClaim, IsHandedIn, IsNoted, IsPrepared, IsUndone, Submits, book_left, book_next, book_taken, next_if_over, prepared, table_taken, version_taken}
+use Rattle.auction_book.specs.Schedule.{CoreData, Happens, IsFit, IsSeat, Run, core_next, core_opened, is_worker, seat_at, seat_next, seat_of_prices}
+use Rattle.auction_book.specs.Session.{EndsClaim, IsHandedIn, IsNoted, IsPrepared, IsUndone, Submits, book_left, book_next, book_kept_up, next_if_over, prepared, table_kept_up, version_kept_up}
 use Rattle.auction_book.specs.Submissions.{IsSubmitted}
 use Rattle.auction_book.proofs.Accepting.{accepted_follows, accepted_free, released_follows, released_free}
 use Rattle.auction_book.proofs.Claiming.{claim_by, cond_by}
@@ -131,7 +131,7 @@ pub noted_of : {E : Type 0} (b new : BookData) (worker : ℕ) (offer : Option Of
 noted_of {E} b new worker offer told outcome done went handed = subst (λ (o : Result (Unit {0}) E). IsHandedIn b worker offer new told o) went handed
 
 -- catching up
-step_taken : (catch_up : Bool) (w : ℕ) (b : BookData) → IsFree b → IsStep w b (book_taken catch_up b w)
+step_taken : (catch_up : Bool) (w : ℕ) (b : BookData) → IsFree b → IsStep w b (book_kept_up catch_up b w)
 step_taken false w b free = record { free = free; follows = follows_itself b w }
 step_taken true w b free = record { free = caught_up_free b w free; follows = caught_up_follows b w free }
 
@@ -150,11 +150,11 @@ caught_up_own w b free =
       };
     }
 
-own_taken : (catch_up : Bool) (w : ℕ) (b : BookData) (table : List ℤ) (version : ℕ) → IsFree b → IsOwn b table version → IsOwn (book_taken catch_up b w) (table_taken catch_up b table) (version_taken catch_up b version)
+own_taken : (catch_up : Bool) (w : ℕ) (b : BookData) (table : List ℤ) (version : ℕ) → IsFree b → IsOwn b table version → IsOwn (book_kept_up catch_up b w) (table_kept_up catch_up b table) (version_kept_up catch_up b version)
 own_taken false w b table version free own = own
 own_taken true w b table version free own = caught_up_own w b free
 
-taken_same : (catch_up : Bool) (w : ℕ) (b : BookData) → ((book_taken catch_up b w).claims ≡ b.claims) × ((book_taken catch_up b w).counts ≡ b.counts)
+taken_same : (catch_up : Bool) (w : ℕ) (b : BookData) → ((book_kept_up catch_up b w).claims ≡ b.claims) × ((book_kept_up catch_up b w).counts ≡ b.counts)
 taken_same false w b = (refl, refl)
 taken_same true w b = (refl, refl)
 
@@ -208,15 +208,15 @@ in_range n w h = record { first = grind (arith, nat_tests); last = grind (arith,
 
 -- the rest of a session, from the book after the submission
 pub record IsReady (w : ℕ) (catch_up : Bool) (new : BookData) (table : List ℤ) (version : ℕ) : Type 0 where
-  pub taken : IsStep w new (book_taken catch_up new w)
-  pub next : IsStep w (book_taken catch_up new w) (book_next catch_up new w)
+  pub taken : IsStep w new (book_kept_up catch_up new w)
+  pub next : IsStep w (book_kept_up catch_up new w) (book_next catch_up new w)
   pub none : numbered (book_next catch_up new w).claims w None ≡ None
-  pub own : IsOwn (book_next catch_up new w) (table_taken catch_up new table) (version_taken catch_up new version)
+  pub own : IsOwn (book_next catch_up new w) (table_kept_up catch_up new table) (version_kept_up catch_up new version)
   pub counts : (book_next catch_up new w).counts ≡ new.counts
 
 pub ready : (w : ℕ) (catch_up : Bool) (new : BookData) (table : List ℤ) (version : ℕ) → IsFree new → numbered new.claims w None ≡ None → IsOwn new table version → IsReady w catch_up new table version
 ready w catch_up new table version free none own =
-    let taken = book_taken catch_up new w in
+    let taken = book_kept_up catch_up new w in
     let two = step_taken catch_up w new free in
     let same = taken_same catch_up w new in
     let three = step_next w taken two.free in
@@ -225,7 +225,7 @@ ready w catch_up new table version free none own =
       taken = two;
       next = three;
       none = ap (λ c. numbered c w None) (after.0 ∙ same.0) ∙ none;
-      own = own_kept taken (next_if_over taken) (table_taken catch_up new table) (version_taken catch_up new version) two.free three.follows.goes_on (own_taken catch_up w new table version free own);
+      own = own_kept taken (next_if_over taken) (table_kept_up catch_up new table) (version_kept_up catch_up new version) two.free three.follows.goes_on (own_taken catch_up w new table version free own);
       counts = after.1 ∙ same.1;
     }
 
@@ -234,7 +234,7 @@ pub record IsEvent (core new : CoreData) : Type 0 where
   pub fit : IsFit new
   pub on : GoesOn core.book new.book
 
-happened_fit : (core : CoreData) (e : Event) (b : BookData) → IsFit core → IsNumber (length core.seats) e.worker → Submits core.book e.worker (seat_at core e.worker).offer b → IsEvent core (goes_on core e (seat_at core e.worker) b)
+happened_fit : (core : CoreData) (e : Event) (b : BookData) → IsFit core → IsNumber (length core.seats) e.worker → Submits core.book e.worker (seat_at core e.worker).offer b → IsEvent core (core_next core e (seat_at core e.worker) b)
 happened_fit core e b fit number submits =
     let w = e.worker in
     let seat = seat_at core w in
@@ -243,14 +243,14 @@ happened_fit core e b fit number submits =
     let left = one.ends in
     let own = own_kept core.book b seat.table seat.version fit.book left.follows.goes_on (record { long = is.long; earlier = is.earlier }) in
     let r = ready w e.catch_up b seat.table seat.version one.free left.none own in
-    let taken = book_taken e.catch_up b w in
+    let taken = book_kept_up e.catch_up b w in
     let next = book_next e.catch_up b w in
     let more = left.follows.goes_on.workers in
     let more2 = r.taken.follows.goes_on.workers in
     let more3 = r.next.follows.goes_on.workers in
     let in_claims : w ≤ length next.claims = let x = fit.seats in let l = number.last in omega arith in
-    let table = table_taken e.catch_up b seat.table in
-    let version = version_taken e.catch_up b seat.version in
+    let table = table_kept_up e.catch_up b seat.table in
+    let version = version_kept_up e.catch_up b seat.version in
     let four = claim_is w next table version r.next.free r.none (record { first = number.first; last = in_claims }) in
     let own3 = four.own r.own in
     let last_book = book_left e.catch_up b w in
@@ -281,7 +281,7 @@ happened_fit core e b fit number submits =
     }
 
 event_fit : (core : CoreData) (e : Event) (new : CoreData) (t : Bool) → is_worker core e.worker ≡ t → IsFit core →
-    MatchBool t ((b : BookData) × Submits core.book e.worker (seat_at core e.worker).offer b × (new ≡ goes_on core e (seat_at core e.worker) b)) (new ≡ core) → IsEvent core new
+    MatchBool t ((b : BookData) × Submits core.book e.worker (seat_at core e.worker).offer b × (new ≡ core_next core e (seat_at core e.worker) b)) (new ≡ core) → IsEvent core new
 event_fit core e new true is fit h = subst (IsEvent core) (sym h.2) (happened_fit core e h.0 fit (in_range (length core.seats) e.worker is) h.1)
 event_fit core e new false is fit h = subst (IsEvent core) (sym h) (record { fit = fit; on = goes_on_itself core.book })
 
@@ -320,10 +320,10 @@ run_more core mid new [] e run h = (new, subst (λ c. Happens c e new) run h, re
 run_more core mid new (x ∷ events) e run h = (run.0, run.1, run_more run.0 mid new events e run.2 h)
 
 -- an event of a worker
-pub happens_at : (core : CoreData) (e : Event) (b : BookData) (new : CoreData) → IsNumber (length core.seats) e.worker → Submits core.book e.worker (seat_at core e.worker).offer b → new ≡ goes_on core e (seat_at core e.worker) b → Happens core e new
+pub happens_at : (core : CoreData) (e : Event) (b : BookData) (new : CoreData) → IsNumber (length core.seats) e.worker → Submits core.book e.worker (seat_at core e.worker).offer b → new ≡ core_next core e (seat_at core e.worker) b → Happens core e new
 happens_at core e b new number submits is =
     let t : is_worker core e.worker ≡ true = yes (length core.seats) e.worker number.first number.last in
-    subst (λ t. MatchBool t ((b : BookData) × Submits core.book e.worker (seat_at core e.worker).offer b × (new ≡ goes_on core e (seat_at core e.worker) b)) (new ≡ core)) (sym t) (b, submits, is) where
+    subst (λ t. MatchBool t ((b : BookData) × Submits core.book e.worker (seat_at core e.worker).offer b × (new ≡ core_next core e (seat_at core e.worker) b)) (new ≡ core)) (sym t) (b, submits, is) where
       yes : (n w : ℕ) → 0 < w → w ≤ n → (nat_le 1 w && nat_le w n) ≡ true
       yes n w h l = grind (arith, nat_tests)
 
@@ -355,7 +355,7 @@ next_workers w catch_up b new table version is =
     subst (λ n. IsNumber n w) (sym (is.ready.next.follows.goes_on.workers ∙ is.ready.taken.follows.goes_on.workers)) is.number
 
 -- the table is as long as the problem
-pub next_long : (w : ℕ) (catch_up : Bool) (b new : BookData) (table : List ℤ) (version : ℕ) → IsAttended w catch_up b new table version → length (table_taken catch_up new table) ≡ persons_of (book_next catch_up new w)
+pub next_long : (w : ℕ) (catch_up : Bool) (b new : BookData) (table : List ℤ) (version : ℕ) → IsAttended w catch_up b new table version → length (table_kept_up catch_up new table) ≡ persons_of (book_next catch_up new w)
 next_long w catch_up b new table version is = is.ready.own.long.long ∙ is.ready.next.free.sizes.priced
 
 pub after_claim-base : (b : BookData) (w : ℕ) (answer : Claim) → (after_claim b w answer).base ≡ b.base

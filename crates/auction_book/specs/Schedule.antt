@@ -10,7 +10,7 @@ use Rattle.auction_book.specs.Book.{BookData, prices_of}
 use Rattle.auction_book.specs.Claims.{claim_of}
 use Rattle.auction_book.specs.Free.{IsFree}
 use Rattle.auction_book.specs.Phases.{opened}
-use Rattle.auction_book.specs.Session.{IsPrepared, Submits, book_left, book_next, prepared, table_taken, version_taken}
+use Rattle.auction_book.specs.Session.{IsPrepared, Submits, book_left, book_next, prepared, table_kept_up, version_kept_up}
 
 -- the book, and for each worker its table with its version, its prepared offer and the acceptances that it was told
 pub record CoreData : Type 0 where
@@ -27,14 +27,14 @@ core_opened s prices workers = record { book = opened s prices workers; seats = 
 -- the rest of an event, once the offer was submitted
 abbrev pub seat_next : Event → BookData → Seat → Seat
 seat_next e b seat = record {
-  table = table_taken e.catch_up b seat.table;
-  version = version_taken e.catch_up b seat.version;
-  offer = prepared (book_next e.catch_up b e.worker).base (table_taken e.catch_up b seat.table) (version_taken e.catch_up b seat.version) (claim_of (book_next e.catch_up b e.worker));
+  table = table_kept_up e.catch_up b seat.table;
+  version = version_kept_up e.catch_up b seat.version;
+  offer = prepared (book_next e.catch_up b e.worker).base (table_kept_up e.catch_up b seat.table) (version_kept_up e.catch_up b seat.version) (claim_of (book_next e.catch_up b e.worker));
   accepted = numbered b.counts e.worker 0;
 }
 
-abbrev pub goes_on : CoreData → Event → Seat → BookData → CoreData
-goes_on core e seat b = record {
+abbrev pub core_next : CoreData → Event → Seat → BookData → CoreData
+core_next core e seat b = record {
   book = book_left e.catch_up b e.worker;
   seats = renumbered core.seats e.worker (seat_next e b seat);
 }
@@ -49,7 +49,7 @@ seat_at core worker = numbered core.seats worker (seat_of_prices [])
 -- an event of a number that no worker has changes nothing
 abbrev pub Happens : CoreData → Event → CoreData → Type 0
 Happens core e new = MatchBool (is_worker core e.worker)
-    ((b : BookData) × Submits core.book e.worker (seat_at core e.worker).offer b × (new ≡ goes_on core e (seat_at core e.worker) b))
+    ((b : BookData) × Submits core.book e.worker (seat_at core e.worker).offer b × (new ≡ core_next core e (seat_at core e.worker) b))
     (new ≡ core)
 
 -- one event after another

@@ -61,21 +61,21 @@ abbrev pub Submits : BookData → ℕ → Option Offer → BookData → Type 0
 Submits b worker offer new = (told : Note) × IsNoted b worker offer new told
 
 -- the book, the worker's table and its version once the worker has caught up, if it does
-abbrev pub book_taken : Bool → BookData → ℕ → BookData
-book_taken catch_up b worker = cond catch_up (caught_up b worker) b
+abbrev pub book_kept_up : Bool → BookData → ℕ → BookData
+book_kept_up catch_up b worker = cond catch_up (caught_up b worker) b
 
-abbrev pub table_taken : Bool → BookData → List ℤ → List ℤ
-table_taken catch_up b table = cond catch_up (prices_of b) table
+abbrev pub table_kept_up : Bool → BookData → List ℤ → List ℤ
+table_kept_up catch_up b table = cond catch_up (prices_of b) table
 
-abbrev pub version_taken : Bool → BookData → ℕ → ℕ
-version_taken catch_up b version = cond catch_up (version_of b) version
+abbrev pub version_kept_up : Bool → BookData → ℕ → ℕ
+version_kept_up catch_up b version = cond catch_up (version_of b) version
 
 abbrev pub next_if_over : BookData → BookData
 next_if_over b = cond (is_over b) (phased b) b
 
 -- once the offer was submitted: the book before the claim
 abbrev pub book_next : Bool → BookData → ℕ → BookData
-book_next catch_up b worker = next_if_over (book_taken catch_up b worker)
+book_next catch_up b worker = next_if_over (book_kept_up catch_up b worker)
 
 -- and the book at the end of the session
 abbrev pub book_left : Bool → BookData → ℕ → BookData

@@ -11,7 +11,7 @@ ghost use Rattle.auction_book.specs.Claims.{IsAsked};
 ghost use Rattle.auction_book.specs.Free.{IsFree};
 ghost use Rattle.auction_book.specs.Phases.{is_over};
 ghost use Rattle.auction_book.specs.Submissions.{IsFitting};
-ghost use Rattle.auction_book.specs.Session.{EndsClaim, IsHandedIn, IsPrepared, IsReachRecorded, book_taken, next_if_over, prepared, table_taken, version_taken};
+ghost use Rattle.auction_book.specs.Session.{EndsClaim, IsHandedIn, IsPrepared, IsReachRecorded, book_kept_up, next_if_over, prepared, table_kept_up, version_kept_up};
 
 use super::answers::{Claim, Note, Refused, Submission};
 use super::book::Book;
@@ -129,9 +129,9 @@ pub(super) fn take_prices(
 )
     requires worker { IsNumber (length book.old.claims) worker }
     requires earlier { IsEarlier book.old.log table.old version.old }
-    ensures book { book.new ≡ book_taken catch_up book.old worker }
-    ensures table { table.new ≡ table_taken catch_up book.old table.old }
-    ensures version { version.new ≡ version_taken catch_up book.old version.old }
+    ensures book { book.new ≡ book_kept_up catch_up book.old worker }
+    ensures table { table.new ≡ table_kept_up catch_up book.old table.old }
+    ensures version { version.new ≡ version_kept_up catch_up book.old version.old }
     ensures free { IsFree book.new }
 {
     book.invariant();

@@ -7,7 +7,7 @@ use Rattle.std.proofs.lemmas.List.Elements.{All-map}
 use Rattle.assign_core.specs.declared.numbers.TheConstants.{MOST_PERSONS}
 use Rattle.assign_core.specs.Prices.{IsPrice, IsTable}
 use Rattle.nushbaret.specs.declared.halves.Halves.{Halves}
-use Rattle.nushbaret.specs.Prices.{IsFirst, IsFirstPrice, price_in}
+use Rattle.nushbaret.specs.Prices.{StandsForFirstPrice, IsFirstPrice, price_in}
 
 within : (p : ℤ) → IsFirstPrice p → IsPrice p
 within p h = record { least = h.least; below = omega (arith, ints, h.greatest) }
@@ -15,7 +15,7 @@ within p h = record { least = h.least; below = omega (arith, ints, h.greatest) }
 each_within : (ps : List ℤ) → All IsFirstPrice ps → All IsPrice ps
 each_within ps h k d lt = within _ (h k d lt)
 
-pub table_of : (first : List Halves) → length first ≤ MOST_PERSONS → All IsFirst first → IsTable (map price_in first)
+pub table_of : (first : List Halves) → length first ≤ MOST_PERSONS → All StandsForFirstPrice first → IsTable (map price_in first)
 table_of first few low = record {
   few = rw length-map few;
   each = each_within (map price_in first) (All-map IsFirstPrice price_in first low);

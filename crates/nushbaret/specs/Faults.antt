@@ -5,7 +5,7 @@ use Rattle.assign_core.specs.Rows.{Listing, IsCost, IsSize}
 use Rattle.assign_core.specs.declared.sense.Sense.{Sense as Wanted}
 use Rattle.nushbaret.specs.declared.fault.Fault.{Fault}
 use Rattle.nushbaret.specs.declared.fault.Fault.TheVariants.{Sense, Size, Length, Person, Object, Cost, Price, Memory}
-use Rattle.nushbaret.specs.Prices.{IsFirst}
+use Rattle.nushbaret.specs.Prices.{StandsForFirstPrice}
 use Rattle.nushbaret.specs.Given.{GivenLists, sense_of, HasLengths, HasRows}
 
 -- the element at place k lacks the property, and those before it have it
@@ -30,7 +30,7 @@ pub record IsWhole (g : GivenLists) : Type 0 where
   pub shape : HasShape g
   pub numbers : AreNumbers g
   pub costs : All IsCost g.costs
-  pub first : All IsFirst g.first
+  pub first : All StandsForFirstPrice g.first
 
 -- the first fault in the order of the variants, by the first place that has it
 abbrev pub HasFault : GivenLists → Fault → Type 0
@@ -42,7 +42,7 @@ HasFault g (Object k) =
     HasShape g × All (IsNumber g.n) g.persons × IsFirstWithout (IsNumber g.n) g.objects k
 HasFault g (Cost k) = HasShape g × AreNumbers g × IsFirstWithout IsCost g.costs k
 HasFault g (Price k) =
-    HasShape g × AreNumbers g × All IsCost g.costs × IsFirstWithout IsFirst g.first k
+    HasShape g × AreNumbers g × All IsCost g.costs × IsFirstWithout StandsForFirstPrice g.first k
 HasFault g Memory = IsWhole g
 
 -- what holds of the problem that is given, under the sense that is wanted

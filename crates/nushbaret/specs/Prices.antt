@@ -12,5 +12,5 @@ pub record IsFirstPrice (p : ℤ) : Type 0 where
   pub least : pos 0 ≤ℤ p
   pub greatest : p ≤ℤ GREATEST_FIRST_PRICE
 
-abbrev pub IsFirst : Halves → Type 0
-IsFirst h = IsFirstPrice (price_in h)
+abbrev pub StandsForFirstPrice : Halves → Type 0
+StandsForFirstPrice h = IsFirstPrice (price_in h)

@@ -3,7 +3,7 @@ ghost use Rattle.std.specs.Prelude.{◌≡◌, ◌<◌, ◌↔◌, ℕ, Some, No
 ghost use Rattle.assign_core.specs.Numbered.{IsNumber};
 ghost use Rattle.assign_core.specs.Rows.{IsCost, IsSize};
 ghost use Rattle.nushbaret.specs.Given.{sense_of};
-ghost use Rattle.nushbaret.specs.Prices.{IsFirst};
+ghost use Rattle.nushbaret.specs.Prices.{StandsForFirstPrice};
 ghost use Rattle.nushbaret.specs.Faults.{HasFault, HasShape, IsFirstWithout, IsWhole};
 
 use crate::fault::Fault;
@@ -36,7 +36,7 @@ impl Judged for Cost {
 }
 
 impl Judged for Halves {
-    ghost is_right = { λ _ first. IsFirst first };
+    ghost is_right = { λ _ first. StandsForFirstPrice first };
 
     fn is_right_among(self, _n: u16) -> bool {
         let price = self.price();

@@ -1,7 +1,7 @@
 // Answers into a caller's rooms, and lists out of them.
 ghost use Rattle.std.specs.Prelude.{◌≡◌, ◌≤◌, ◌++◌, All, IfOk, drop, length, map};
 ghost use Rattle.assign_core.specs.Prices.{IsPrice};
-ghost use Rattle.nushbaret.specs.Prices.{IsFirst, price_in};
+ghost use Rattle.nushbaret.specs.Prices.{StandsForFirstPrice, price_in};
 
 use crate::halves::Halves;
 use assign_core::{MOST_PERSONS, Numbered, Price, Prices};
@@ -53,7 +53,7 @@ pub fn prices_of(alloc: Global, halves: &[Halves]) -> Result<Vec<Price>, AllocEr
 /// First prices by their halves.
 pub fn first_prices(alloc: Global, first: &[Halves]) -> Result<Prices, AllocError>
     requires few { length first.now ≤ MOST_PERSONS }
-    requires low { All IsFirst first.now }
+    requires low { All StandsForFirstPrice first.now }
     ensures { IfOk result (λ prices. length prices ≡ length first.now) }
 {
     let values = prices_of(alloc, first)?;

@@ -6,7 +6,7 @@ ghost use Rattle.assign_core.specs.Outcomes.{IsProof};
 ghost use Rattle.nushbaret.specs.Ends.{HoldsEnd, IsAnswered, IsTold, rooms};
 ghost use Rattle.nushbaret.specs.Faults.{HasFault};
 ghost use Rattle.nushbaret.specs.Given.{HasLengths};
-ghost use Rattle.nushbaret.specs.Prices.{IsFirst};
+ghost use Rattle.nushbaret.specs.Prices.{StandsForFirstPrice};
 
 use crate::end::{End, answer};
 use crate::fault::Fault;
@@ -24,7 +24,7 @@ use std::sync::Arc;
 
 // What the solver finds, from the first prices on if there is one for each object.
 fn outcome_of(alloc: Global, scaled: Arc<Scaled>, first: &[Halves]) -> Result<Outcome, AllocError>
-    requires { All IsFirst first.now }
+    requires { All StandsForFirstPrice first.now }
     ensures { IfOk result (λ outcome. let s = arc_value scaled in IsProof s.sense s.problem outcome) }
 {
     if first.len() == scaled.n() as usize {

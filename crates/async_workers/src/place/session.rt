@@ -6,7 +6,7 @@ ghost use Rattle.auction_book.specs.Book.{BookData};
 ghost use Rattle.auction_book.specs.Claims.{IsAsked, after_claim, claim_of};
 ghost use Rattle.auction_book.specs.Free.{IsFree};
 ghost use Rattle.auction_book.specs.Phases.{is_over};
-ghost use Rattle.auction_book.specs.Session.{IsHandedIn, IsPrepared, book_taken, next_if_over};
+ghost use Rattle.auction_book.specs.Session.{IsHandedIn, IsPrepared, book_kept_up, next_if_over};
 ghost use Rattle.async_workers.specs.inside.Hand.{Ends, IsInHand};
 ghost use Rattle.async_workers.specs.Session.{catches_up, is_too_low, with_table};
 
@@ -80,7 +80,7 @@ fn keep_up(held: &mut Held, desk: &mut Desk, refresh: u64, too_low: bool)
     requires fresh { held.old.caught_up ≡ false }
     ensures hand { (taken : BookData) → IsInHand desk.old taken held.old.book → IsInHand desk.new taken held.new.book }
     ensures caught_up { held.new.caught_up ≡ catches_up refresh too_low desk.old.since }
-    ensures book { held.new.book ≡ book_taken (catches_up refresh too_low desk.old.since) held.old.book desk.old.known.number }
+    ensures book { held.new.book ≡ book_kept_up (catches_up refresh too_low desk.old.since) held.old.book desk.old.known.number }
     ensures desk { desk.new ≡ record desk.old { known = with_table (catches_up refresh too_low desk.old.since) held.old.book desk.old.known } }
 {
     if desk.is_late(refresh, too_low) {

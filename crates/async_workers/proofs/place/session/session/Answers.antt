@@ -1,5 +1,5 @@
 use Rattle.std.proofs.Common.{◌≡◌, ◌∙◌, ap, sym}
-use Rattle.auction_book.specs.Session.{book_taken}
+use Rattle.auction_book.specs.Session.{book_kept_up}
 use Rattle.auction_book.proofs.Runs.{noted_of}
 use Rattle.async_workers.specs.Desk.{DeskData}
 use Rattle.async_workers.specs.Session.{catches_up, with_table}
@@ -26,5 +26,5 @@ returns-clause-ends c =
     let noted = noted_of c.args.held.now.book mid k.number c.args.held.now.offer c.offer_in-note.result.note c.offer_in-note.result.outcome c.in_default.field-0 c.in_default.is c.offer_in-note.ensures.handed_in in
     let caught : c.move_on-outcome.new.held.caught_up ≡ catches_up c.args.refresh c.was_too_low.result c.args.desk.now.since = c.move_on-outcome.ensures.caught_up ∙ c.keep_up.ensures.caught_up in
     ends c.args.refresh c.args.desk.now.since k c.keep_up.new.desk.known c.args.held.now.book mid c.keep_up.new.held.book c.move_on-outcome.new.held.book c.args.held.now.offer c.offer_in-note.result.note c.move_on-outcome.new.held.caught_up c.keep_up.new.desk.known.number c.move_on-outcome.result
-    c.requires.prepared noted c.offer_in-note.ensures.none (caught ∙ ap (λ t. catches_up c.args.refresh t c.args.desk.now.since) c.was_too_low.ensures) (c.keep_up.ensures.book ∙ ap (λ d. book_taken d mid k.number) (sym caught))
+    c.requires.prepared noted c.offer_in-note.ensures.none (caught ∙ ap (λ t. catches_up c.args.refresh t c.args.desk.now.since) c.was_too_low.ensures) (c.keep_up.ensures.book ∙ ap (λ d. book_kept_up d mid k.number) (sym caught))
     (ap (λ (d : DeskData). d.known) c.keep_up.ensures.desk ∙ ap (λ d. with_table d mid k) (sym caught)) kept.may.free (ap (λ (d : DeskData). d.known.number) c.keep_up.ensures.desk) c.move_on-outcome.ensures.ok c.move_on-outcome.ensures.err
