@@ -3,7 +3,8 @@
 
     bench/gate.py FOLDER..
 
-Each folder is a fresh clone. Several gates run side by side from the same moment, each on its own share of the
+Each folder is a fresh clone of a state that has not passed on this machine, since `rt ci` doesn't prove again what
+has. Several gates run side by side from the same moment, each on its own share of the
 processors, so that what disturbs one disturbs the others as much; the last line of each tells it as a ratio to the
 first. What a gate prints goes to FOLDER.log. A process is told by its session and its command; one that lives less
 than half a second counts as rest, and the sum of all is the system's own. An interrupt ends the gates, and what they

@@ -54,7 +54,7 @@
    Now code is NUSHBARET_BEST, objects is {2, 1}: person 1 has object 2, person 2 has object 1; told.total is 5. The prices prove
    that it is best: see `nushbaret_check`. c/example.c is the whole program.
 
-   What is proved of each call stands in crates/nushbaret, and docs/CALLING.md says what isn't. */
+   What is proved of each call, and what is only tested, stands in docs/PROVED.md. */
 #ifndef NUSHBARET_H
 #define NUSHBARET_H
 #include <stddef.h>

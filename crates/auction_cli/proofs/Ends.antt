@@ -1,7 +1,7 @@
 -- How the program ends, on each stream.
 use Rattle.std.proofs.Common.{ℕ, List, [], Option, None, Some, arith, codes, length-append, refl, append-nil, sym}
 use Rattle.std.specs.Io.KnownBytes.{Appends}
-use Rattle.std.proofs.KnownBytes.{Keeps-refl}
+use Rattle.std.proofs.KnownBytes.{Appends-nil, Keeps-refl}
 use Rattle.report.specs.Writing.{IsCutOff}
 use Rattle.auction_cli.specs.Program.{Does, FailsToOpen, Openings, Opens, input_name, line_of, report_name}
 use Rattle.auction_cli.specs.inside.Program.{EndsAbsent}
@@ -19,12 +19,8 @@ pub no_input_done : (asked : Words) (standard : Option (List ℕ)) (files : Open
 no_input_done asked standard files text old no_file.Unopened end f e o = rw e.1 ((text, o), f, Keeps-refl old)
 no_input_done asked standard files text old no_file.Memory end f e o = rw e.1 (Keeps-refl old)
 
-nothing_more : (old : Option (List ℕ)) → Appends old old []
-nothing_more None = tt
-nothing_more (Some xs) = sym (append-nil xs)
-
 -- of a line nothing went out
 pub line_cut_off : (old : Option (List ℕ)) (fault : CliFault) → IsCutOff old old (line_of fault)
 line_cut_off old fault =
     let long = length-append (fault_line fault) (codes "\n") in
-    (line_of fault, omega arith, ([], nothing_more old, refl))
+    (line_of fault, omega arith, ([], Appends-nil old, refl))

@@ -122,26 +122,32 @@ IsSo rows (best sense cost pairs prices) =
 IsSo rows (hall sense persons objects) =
     IsHallSet rows persons objects × ((xs : List ℕ) → IsAssignment rows xs → ⊥)
 
--- what is told of a finding, without the line feed
+-- what is told of an assignment whose prices don't prove it, without the line feed
+abbrev pub unproved_line : Verdict → List ℕ
+unproved_line verdicts.Length = codes "not verified: length"
+unproved_line (verdicts.Unlisted i) = codes "not verified: person " ++ decimal i ++ codes " unlisted"
+unproved_line (verdicts.Twice j) = codes "not verified: object " ++ decimal j ++ codes " twice"
+unproved_line (verdicts.PriceRange j) = codes "not verified: price of object " ++ decimal j ++ codes " out of range"
+unproved_line (verdicts.Slack i k) =
+    codes "not verified: slack of person " ++ decimal i ++ codes " at object " ++ decimal k
+unproved_line verdicts.Yes = codes "not verified"
+
+-- what is told of the lists of a Hall set
+abbrev pub hall_line : HallVerdict → List ℕ
+hall_line halls.Range = codes "not verified: number out of range"
+hall_line halls.Order = codes "not verified: order"
+hall_line (halls.Missing i j) = codes "not verified: object " ++ decimal j ++ codes " missing for person " ++ decimal i
+hall_line (halls.Extra j) = codes "not verified: object " ++ decimal j ++ codes " extra"
+hall_line halls.Count = codes "not verified: not fewer"
+hall_line halls.Yes = codes "verified infeasible"
+
+-- what is told of a finding
 abbrev pub finding_line : Finding → List ℕ
 finding_line OtherSense = codes "not verified: sense"
 finding_line NoPrices = codes "not verified: no prices"
-finding_line (Unproved verdicts.Length) = codes "not verified: length"
-finding_line (Unproved (verdicts.Unlisted i)) = codes "not verified: person " ++ decimal i ++ codes " unlisted"
-finding_line (Unproved (verdicts.Twice j)) = codes "not verified: object " ++ decimal j ++ codes " twice"
-finding_line (Unproved (verdicts.PriceRange j)) =
-    codes "not verified: price of object " ++ decimal j ++ codes " out of range"
-finding_line (Unproved (verdicts.Slack i k)) =
-    codes "not verified: slack of person " ++ decimal i ++ codes " at object " ++ decimal k
-finding_line (Unproved verdicts.Yes) = codes "not verified"
+finding_line (Unproved verdict) = unproved_line verdict
 finding_line (OtherCost i) = codes "not verified: cost of person " ++ decimal i
 finding_line OtherTotal = codes "not verified: total"
 finding_line (Best Min cost) = codes "verified cost " ++ signed_decimal cost
 finding_line (Best Max cost) = codes "verified max cost " ++ signed_decimal cost
-finding_line (Hall halls.Range) = codes "not verified: number out of range"
-finding_line (Hall halls.Order) = codes "not verified: order"
-finding_line (Hall (halls.Missing i j)) =
-    codes "not verified: object " ++ decimal j ++ codes " missing for person " ++ decimal i
-finding_line (Hall (halls.Extra j)) = codes "not verified: object " ++ decimal j ++ codes " extra"
-finding_line (Hall halls.Count) = codes "not verified: not fewer"
-finding_line (Hall halls.Yes) = codes "verified infeasible"
+finding_line (Hall verdict) = hall_line verdict

@@ -41,6 +41,64 @@ impl Finding {
     }
 }
 
+// The line on an assignment whose prices don't prove it.
+#[derive(Drop)]
+struct UnprovedLine(Verdict);
+
+impl fmt::Display for UnprovedLine {
+    ghost use Rattle.std.specs.Prelude.{Some};
+    ghost use Rattle.auction_cli.specs.Findings.{unproved_line};
+
+    ghost output = { λ line. Some (unproved_line line.0) };
+
+    fn fmt<W: fmt::Write>(&self, f: &mut fmt::Formatter<W>) -> fmt::Result {
+        match self.0 {
+            Verdict::Length => write!(f, "not verified: length"),
+            Verdict::Unlisted(person) => write!(f, "not verified: person {} unlisted", person.0),
+            Verdict::Twice(object) => write!(f, "not verified: object {} twice", object.0),
+            Verdict::PriceRange(object) => {
+                write!(f, "not verified: price of object {} out of range", object.0)
+            }
+            Verdict::Slack(person, object) => {
+                write!(
+                    f,
+                    "not verified: slack of person {} at object {}",
+                    person.0, object.0
+                )
+            }
+            Verdict::Yes => write!(f, "not verified"),
+        }
+    }
+}
+
+// The line on the lists of a Hall set.
+#[derive(Drop)]
+struct HallLine(HallVerdict);
+
+impl fmt::Display for HallLine {
+    ghost use Rattle.std.specs.Prelude.{Some};
+    ghost use Rattle.auction_cli.specs.Findings.{hall_line};
+
+    ghost output = { λ line. Some (hall_line line.0) };
+
+    fn fmt<W: fmt::Write>(&self, f: &mut fmt::Formatter<W>) -> fmt::Result {
+        match self.0 {
+            HallVerdict::Range => write!(f, "not verified: number out of range"),
+            HallVerdict::Order => write!(f, "not verified: order"),
+            HallVerdict::Missing(person, object) => {
+                write!(
+                    f,
+                    "not verified: object {} missing for person {}",
+                    object.0, person.0
+                )
+            }
+            HallVerdict::Extra(object) => write!(f, "not verified: object {} extra", object.0),
+            HallVerdict::Count => write!(f, "not verified: not fewer"),
+            HallVerdict::Yes => write!(f, "verified infeasible"),
+        }
+    }
+}
+
 impl fmt::Display for Finding {
     ghost use Rattle.std.specs.Prelude.{Some};
     ghost use Rattle.auction_cli.specs.Findings.{finding_line};
@@ -51,42 +109,12 @@ impl fmt::Display for Finding {
         match self {
             Finding::OtherSense => write!(f, "not verified: sense"),
             Finding::NoPrices => write!(f, "not verified: no prices"),
-            Finding::Unproved(Verdict::Length) => write!(f, "not verified: length"),
-            Finding::Unproved(Verdict::Unlisted(person)) => {
-                write!(f, "not verified: person {} unlisted", person.0)
-            }
-            Finding::Unproved(Verdict::Twice(object)) => {
-                write!(f, "not verified: object {} twice", object.0)
-            }
-            Finding::Unproved(Verdict::PriceRange(object)) => {
-                write!(f, "not verified: price of object {} out of range", object.0)
-            }
-            Finding::Unproved(Verdict::Slack(person, object)) => {
-                write!(
-                    f,
-                    "not verified: slack of person {} at object {}",
-                    person.0, object.0
-                )
-            }
-            Finding::Unproved(Verdict::Yes) => write!(f, "not verified"),
+            Finding::Unproved(verdict) => write!(f, "{}", UnprovedLine(*verdict)),
             Finding::OtherCost(person) => write!(f, "not verified: cost of person {}", person.0),
             Finding::OtherTotal => write!(f, "not verified: total"),
             Finding::Best(Sense::Min, cost) => write!(f, "verified cost {cost}"),
             Finding::Best(Sense::Max, cost) => write!(f, "verified max cost {cost}"),
-            Finding::Hall(HallVerdict::Range) => write!(f, "not verified: number out of range"),
-            Finding::Hall(HallVerdict::Order) => write!(f, "not verified: order"),
-            Finding::Hall(HallVerdict::Missing(person, object)) => {
-                write!(
-                    f,
-                    "not verified: object {} missing for person {}",
-                    object.0, person.0
-                )
-            }
-            Finding::Hall(HallVerdict::Extra(object)) => {
-                write!(f, "not verified: object {} extra", object.0)
-            }
-            Finding::Hall(HallVerdict::Count) => write!(f, "not verified: not fewer"),
-            Finding::Hall(HallVerdict::Yes) => write!(f, "verified infeasible"),
+            Finding::Hall(verdict) => write!(f, "{}", HallLine(*verdict)),
         }
     }
 }

@@ -46,8 +46,8 @@ pub trait Watch {
     fn sessions(&self, more: u64, accepted: u128, progress: Progress);
 
     /// Shortest paths: so many of the persons have an object by now. Told as bids and as searches
-    /// begin, and then after some thousand of their steps. The number falls to 0 alone, where an
-    /// auction before the searches begins a phase or ends.
+    /// begin, and then after some thousand of their steps. The number falls to 0 alone: where first
+    /// prices are left for others, and where an auction before the searches begins a phase or ends.
     fn paths(&self, assigned: u16, persons: u16);
 
     /// Nothing more is told of the run, which is about to write its report or has failed. May be

@@ -237,10 +237,7 @@ fn solve_by_paths<V: Watch>(
     } else {
         solve_paths_from_watched(alloc, scaled, prices, &observer)
     };
-    match found {
-        Ok(outcome) => Ok(outcome),
-        Err(_) => Err(SolveFault::Memory),
-    }
+    Ok(found?)
 }
 
 // What the method comes to from these first prices.
@@ -466,8 +463,8 @@ pub fn run_solve<G: Gate + Sync, T: Threads + Wait + Sync, R: Read, W: Write>(
 /// but with the report's prices as the first prices. Nothing else of the report is looked at: it may
 /// be on another problem, and under another sense.
 ///
-/// Prices of a problem that is much the same may save many rounds, and prices that are far apart may
-/// cost very many: three equal objects with the first prices 0, 0 and P take P rounds and more.
+/// Prices that are far apart may cost very many rounds: three equal objects with the first prices 0, 0
+/// and P take P and more.
 ///
 /// # Errors
 /// As `run_solve`, and `Report` for a report that is refused, `Start` for one without prices, with

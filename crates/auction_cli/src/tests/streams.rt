@@ -3,7 +3,7 @@ use std::alloc::Global;
 use std::io;
 use std::io::{Read, Write};
 
-/// Gives a text in pieces of at most so many bytes, and is interrupted behind it where told so.
+/// Gives a text in pieces of at most so many bytes, and fails behind it where told so.
 #[derive(Clone, Copy)]
 pub struct Pieces<'a> {
     pub text: &'a [u8],
