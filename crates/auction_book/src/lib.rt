@@ -19,4 +19,4 @@ pub use law::{
 pub use schedule::{
     Event, Seat, World, run_schedule, run_schedule_from, runs_are_fit, worlds_go_on,
 };
-pub use session::{begin_next_if_over, prepare, record_below, submit_offer};
+pub use session::{begin_next_if_over, prepare, submit_offer};

@@ -21,12 +21,9 @@ use hall_refuter::{Search, refute};
 use scaled_values::Scaled;
 use std::alloc::{AllocError, Global};
 
-/// Searches what stops a person whose offer is below the floor, and records it: always a Hall set,
-/// since the floor is exact. The claim is over then.
-///
-/// # Errors
-/// Only where memory is refused, and then nothing has changed.
-pub fn record_below(
+// Searches what stops a person whose offer is below the floor, and records it: always a Hall set,
+// since the floor is exact. The claim is over then. Where memory is refused nothing has changed.
+fn record_below(
     alloc: Global,
     book: &mut Book,
     worker: u16,
