@@ -10,10 +10,10 @@ use Rattle.std.proofs.lemmas.Bool.Decides.{nat_tests}
 use Rattle.std.proofs.Math.IntN.{suc_ℤ-*ℤ}
 use Rattle.std.proofs.Math.Seq.{take-append_seam}
 use lib.IntN.{zero-*ℤ}
-use Rattle.assign_core.specs.Numbered.{numbered}
 use Rattle.assign_core.specs.Rows.{Listing, IsProblem}
 use Rattle.assign_core.specs.Prices.{IsPrice, IsTable, price_of}
 use Rattle.assign_core.specs.Matching.{IsMatching, owner_of}
+use Rattle.assign_core.proofs.NumberedLemmas.{numbered-replicate}
 use Rattle.scaled_values.specs.Scaled.{ScaledProblem, eps_after, fifth, first_eps, greatest_of, next_eps, spread, top_of}
 use Rattle.scaled_values.proofs.BenefitRange.{greatest_holds}
 use Rattle.scaled_values.proofs.EpsList.{IsEps-first, few, next_is}
@@ -54,28 +54,16 @@ none_counted p (suc n) h =
     let i = none_counted p n h in
     omega arith
 
-pub no_owner : (n j : ℕ) → owner_of (replicate n None) j ≡ None
-no_owner n zero = refl
-no_owner zero (suc k) = refl
-no_owner (suc n) (suc zero) = refl
-no_owner (suc n) (suc (suc k)) = no_owner n (suc k)
-
 pub nothing_matched : (rows : List Listing) → IsMatching rows (replicate (length rows) None)
 nothing_matched rows = record {
   long = length-replicate (length rows) None;
-  listed = λ i j h. absurd (let o = no_owner (length rows) j in cc);
-  apart = λ i j k h g. absurd (let o = no_owner (length rows) j in cc);
+  listed = λ i j h. absurd (let o = numbered-replicate {A = Option ℕ} (length rows) j None in cc);
+  apart = λ i j k h g. absurd (let o = numbered-replicate {A = Option ℕ} (length rows) j None in cc);
 }
 
 sum_zeros : (n : ℕ) → sum (replicate n 0) ≡ 0
 sum_zeros zero = refl
 sum_zeros (suc n) = let c = sum_by-cons (λ (x : ℕ). x) 0 (replicate n 0) in let i = sum_zeros n in omega arith
-
-pub no_version : (n w : ℕ) → numbered {A = ℕ} (replicate n 0) w 0 ≡ 0
-no_version n zero = refl
-no_version zero (suc k) = refl
-no_version (suc n) (suc zero) = refl
-no_version (suc n) (suc (suc k)) = no_version n (suc k)
 
 least_price : (p : List ℤ) → All IsPrice p → pos 0 ≤ℤ greatest_of p
 least_price p h = greatest_holds (λ x. pos 0 ≤ℤ x) p (omega (arith, ints)) (λ k d lt. (h k d lt).least)
@@ -94,14 +82,14 @@ opened_free s prices workers problem table long low =
       problem = problem;
       sizes = record { priced = long; started = long; counted = length-replicate workers 0 ∙ sym (length-replicate workers None); noted = length-replicate workers 0 ∙ sym (length-replicate workers None) };
       owners_match = nothing_matched s.problem;
-      owners_slack = λ i j h. absurd (let o = no_owner n j in cc);
+      owners_slack = λ i j h. absurd (let o = numbered-replicate {A = Option ℕ} n j None in cc);
       placed_once = λ i.
           let o = none_counted (is_person i) n refl in
           let q = queued_once n i in
           let c = none_counted (is_person i) workers refl in
           omega arith;
       log_ascends = (started_is prices table).1;
-      priced = λ j. subst (λ o. IsPriced eps (price_of prices j) (price_of prices j) o) (sym (no_owner n j)) refl;
+      priced = λ j. subst (λ o. IsPriced eps (price_of prices j) (price_of prices j) o) (sym (numbered-replicate n j None)) refl;
       topped = λ j. let g = price_greatest prices j least in omega (arith, ints);
       in_phase = record { begins = omega arith; start_prices = table; slackness = refl; floor_is = refl; start_low = omega (arith, ints) };
       counts_total = sum_zeros workers;
@@ -137,14 +125,14 @@ phased_free b free over =
       problem = free.problem;
       sizes = record { priced = free.sizes.priced; started = free.sizes.priced; counted = free.sizes.counted; noted = free.sizes.noted };
       owners_match = nothing_matched s.problem;
-      owners_slack = λ i j h. absurd (let o = no_owner n j in cc);
+      owners_slack = λ i j h. absurd (let o = numbered-replicate {A = Option ℕ} n j None in cc);
       placed_once = λ i.
           let o = none_counted (is_person i) n refl in
           let q = queued_once n i in
           let c = sum_by-le-sum_by (λ x. cond {A = ℕ} (is_person i x) 1 0) (λ x. cond {A = ℕ} (is_some x) 1 0) b.claims (person_is_some i) in
           omega arith;
       log_ascends = free.log_ascends;
-      priced = λ j. subst (λ o. IsPriced eps (price_of (prices_of b) j) (price_of (prices_of b) j) o) (sym (no_owner n j)) refl;
+      priced = λ j. subst (λ o. IsPriced eps (price_of (prices_of b) j) (price_of (prices_of b) j) o) (sym (numbered-replicate n j None)) refl;
       topped = λ j. let g = price_greatest (prices_of b) j least in omega (arith, ints);
       in_phase = record {
         begins = omega arith;

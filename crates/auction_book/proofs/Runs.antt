@@ -7,7 +7,7 @@ use Rattle.assign_core.specs.Rows.{IsProblem}
 use Rattle.assign_core.specs.Prices.{IsBelow, IsTable}
 use Rattle.assign_core.specs.declared.numbers.TheConstants.{GREATEST_FIRST_PRICE}
 use Rattle.assign_core.proofs.Matchings.{below_itself, below_through}
-use Rattle.assign_core.proofs.NumberedLemmas.{length-renumbered, numbered-other, numbered-same, numbered_in}
+use Rattle.assign_core.proofs.NumberedLemmas.{length-renumbered, numbered-other, numbered-replicate, numbered-same, numbered_in}
 use Rattle.scaled_values.specs.Scaled.{ScaledProblem, greatest_of}
 use Rattle.scaled_values.proofs.RowFacts.{benefit_row_is}
 use Rattle.bidder.specs.declared.offers.Bid.{Bid}
@@ -37,7 +37,7 @@ use Rattle.auction_book.specs.Submissions.{IsSubmitted}
 use Rattle.auction_book.proofs.Accepting.{accepted_follows, accepted_free, released_follows, released_free}
 use Rattle.auction_book.proofs.Claiming.{claim_by, cond_by}
 use Rattle.auction_book.proofs.Following.{caught_up_follows, claimed_follows, follows_itself, goes_on_itself, goes_on_through, phased_follows, recorded_follows}
-use Rattle.auction_book.proofs.Opening.{no_owner, no_version, opened_free, phased_free}
+use Rattle.auction_book.proofs.Opening.{opened_free, phased_free}
 use Rattle.auction_book.proofs.OtherChanges.{caught_up_free, caught_up_trimmed, claimed_free, recorded_free}
 use Rattle.auction_book.proofs.Places.{claimed_person}
 
@@ -305,8 +305,8 @@ opened_fit s prices workers problem table long low =
       each = λ w number. subst (IsSeat (opened s prices workers) w) (sym (same_seat workers w (seat_of_prices prices) (seat_of_prices []) number.first (let x = number.last in omega arith))) (record {
         long = below_itself prices;
         earlier = record { reached = omega arith; same = λ h. refl; below = λ h. absurd (omega arith) };
-        told = sym (no_version workers w);
-        prepared = no_owner workers w;
+        told = sym (numbered-replicate workers w 0);
+        prepared = numbered-replicate workers w None;
       });
     }
 
