@@ -3,9 +3,9 @@ use Rattle.std.proofs.Common.{◌≡◌, ◌≢◌, ℕ, ℤ, pos, suc, ◌+◌,
 use Rattle.std.specs.List.{count_by}
 use Rattle.std.specs.Ordering.{int_eq}
 use Rattle.std.specs.Cmp.{signed_Decides}
-use Rattle.std.proofs.lemmas.Bool.{eqb-true}
+use Rattle.std.proofs.lemmas.Bool.{and_parts, eqb-true, not-true}
 use Rattle.std.proofs.lemmas.Bool.Decides.{eqb_tells}
-use Rattle.std.proofs.lemmas.List.Sums.{sum_by-cons, sum_by-le-sum_by}
+use Rattle.std.proofs.lemmas.List.Sums.{count_by-le-length, sum_by-cons, sum_by-le-sum_by}
 use Rattle.std.proofs.lemmas.Option.{same_Some}
 use Rattle.assign_core.specs.Numbered.{IsNumber, numbered, renumbered}
 use Rattle.assign_core.specs.Matching.{owner_of}
@@ -71,12 +71,6 @@ there i (Some m ∷ xs) h = elim (eqb_tells i m) [
       (suc r.0, r.1)
 ]
 
-pub both : (x y : Bool) → (x && y) ≡ true → (x ≡ true) × (y ≡ true)
-both true true h = (refl, refl)
-both true false h = cc
-both false true h = cc
-both false false h = cc
-
 -- everybody is assigned in the last phase
 pub record IsComplete (b : BookData) : Type 0 where
   pub assigned : count_by is_some b.owners ≡ persons_of b
@@ -84,7 +78,7 @@ pub record IsComplete (b : BookData) : Type 0 where
 
 pub done_is : (b : BookData) → is_done b ≡ true → IsComplete b
 done_is b h =
-    let w = both (is_assigned b) (int_eq b.ask.eps (pos 1)) h in
+    let w = and_parts (is_assigned b) (int_eq b.ask.eps (pos 1)) h in
     record { assigned = eqb-true (count_by is_some b.owners) (persons_of b) w.0; last = (signed_Decides b.ask.eps (pos 1)).0 w.1 }
 
 -- everybody is assigned, and a phase follows
@@ -92,14 +86,10 @@ pub record IsOver (b : BookData) : Type 0 where
   pub assigned : count_by is_some b.owners ≡ persons_of b
   pub more : b.ask.eps ≢ pos 1
 
-not_true : (x : Bool) → not x ≡ true → x ≡ false
-not_true true h = cc
-not_true false h = refl
-
 pub over_is : (b : BookData) → is_over b ≡ true → IsOver b
 over_is b h =
-    let w = both (is_assigned b) (not (int_eq b.ask.eps (pos 1))) h in
-    let n = not_true (int_eq b.ask.eps (pos 1)) w.1 in
+    let w = and_parts (is_assigned b) (not (int_eq b.ask.eps (pos 1))) h in
+    let n = not-true (int_eq b.ask.eps (pos 1)) w.1 in
     record {
       assigned = eqb-true (count_by is_some b.owners) (persons_of b) w.0;
       more = λ e. let t = (signed_Decides b.ask.eps (pos 1)).1 e in cc;
@@ -113,19 +103,9 @@ owns b i free complete number =
     let once = free.placed_once i in
     let one = one_yes (persons_of b) i number.first number.last in
     let claims = sum_by-le-sum_by (λ x. cond {A = ℕ} (is_person i x) 1 0) (λ x. cond {A = ℕ} (is_some x) 1 0) b.claims (person_is_some i) in
-    let queue = few_in_queue i b.queue in
+    let queue = count_by-le-length (nat_eq i) b.queue in
     let r = there i b.owners (omega arith) in
-    (suc r.0, r.1) where
-      few_in_queue : (i : ℕ) (q : List ℕ) → count_by (nat_eq i) q ≤ length q
-      few_in_queue i [] = omega arith
-      few_in_queue i (x ∷ q) =
-          let c = sum_by-cons (λ y. cond {A = ℕ} (nat_eq i y) 1 0) x q in
-          let r = few_in_queue i q in
-          let m = at_most_one (nat_eq i x) in
-          omega arith where
-            at_most_one : (t : Bool) → cond {A = ℕ} t 1 0 ≤ 1
-            at_most_one true = omega arith
-            at_most_one false = omega arith
+    (suc r.0, r.1)
 
 -- so a list that gives each owner its object gives each person the object that it owns
 pub all_own : (b : BookData) (objects : List ℕ) → IsFree b → IsComplete b → ((i j : ℕ) → owner_of b.owners j ≡ Some i → numbered objects i 0 ≡ j) →
