@@ -1,5 +1,6 @@
 -- What a claim answers.
 use Rattle.std.proofs.Common.{◌≡◌, ℕ, List, [], ◌∷◌, Bool, true, false, cond, is_some, refl}
+use Rattle.std.proofs.lemmas.Bool.{cond_both}
 use Rattle.scaled_values.specs.Scaled.{greatest_of}
 use Rattle.bidder.specs.Offers.{IsAsk}
 use Rattle.auction_book.specs.declared.answers.Claim.{Claim}
@@ -11,17 +12,13 @@ use Rattle.auction_book.specs.Phases.{is_done}
 use Rattle.auction_book.proofs.Opening.{greatest_is_price}
 use Rattle.auction_book.proofs.PhaseBounds.{is_eps}
 
-pub cond_by : {A : Type 0} (P : A → Type 0) (t : Bool) (x y : A) → (t ≡ true → P x) → (t ≡ false → P y) → P (cond t x y)
-cond_by P true x y f g = f refl
-cond_by P false x y f g = g refl
-
 -- what a claim answers, by cases
 pub claim_by : (P : Claim → Type 0) (b : BookData) → (is_some b.refuted ≡ true → P claim.Refuted) → (is_done b ≡ true → P claim.Done) → (b.stopped ≡ true → P claim.Stopped) → (b.stopped ≡ false → b.queue ≡ [] → P claim.Wait) →
     ((person : ℕ) (rest : List ℕ) → b.stopped ≡ false → b.queue ≡ person ∷ rest → P (claim.Person person b.ask)) → P (claim_of b)
 claim_by P b refuted done stopped wait person =
-    cond_by P (is_some b.refuted) claim.Refuted (cond (is_done b) claim.Done (cond b.stopped claim.Stopped (claim_front b b.queue))) refuted
-    (λ h. cond_by P (is_done b) claim.Done (cond b.stopped claim.Stopped (claim_front b b.queue)) done
-    (λ h. cond_by P b.stopped claim.Stopped (claim_front b b.queue) stopped (λ going. front b.queue going refl)))
+    cond_both (is_some b.refuted) claim.Refuted (cond (is_done b) claim.Done (cond b.stopped claim.Stopped (claim_front b b.queue))) P refuted
+    (λ h. cond_both (is_done b) claim.Done (cond b.stopped claim.Stopped (claim_front b b.queue)) P done
+    (λ h. cond_both b.stopped claim.Stopped (claim_front b b.queue) P stopped (λ going. front b.queue going refl)))
   where
     front : (queue : List ℕ) → b.stopped ≡ false → b.queue ≡ queue → P (claim_front b queue)
     front [] going e = wait going e

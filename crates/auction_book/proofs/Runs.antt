@@ -1,6 +1,7 @@
 -- Each event keeps what holds of the core.
 use Rattle.std.proofs.Common.{◌≡◌, ◌≢◌, ℕ, ℤ, zero, suc, ◌+◌, ◌<◌, ◌≤◌, ◌≤ℤ◌, List, [], ◌∷◌, ◌++◌, length, get_or, replicate, nat_le, Bool, true, false, ◌&&◌, MatchBool, Result, Ok, Err, refl, ap, arith, sym, ◌∙◌, subst, Option, None, Some, inl, inr}
 use Rattle.std.proofs.lemmas.List.{get_or-replicate, length-replicate}
+use Rattle.std.proofs.lemmas.Bool.{cond_both}
 use Rattle.std.proofs.lemmas.Bool.Decides.{eqb_tells, nat_tests}
 use Rattle.assign_core.specs.Numbered.{IsNumber, numbered, renumbered}
 use Rattle.assign_core.specs.Rows.{IsProblem}
@@ -35,7 +36,7 @@ use Rattle.auction_book.specs.Schedule.{CoreData, Happens, IsFit, IsSeat, Run, c
 use Rattle.auction_book.specs.Session.{EndsClaim, IsHandedIn, IsNoted, IsPrepared, IsUndone, Submits, book_left, book_next, book_kept_up, next_if_over, prepared, table_kept_up, version_kept_up}
 use Rattle.auction_book.specs.Submissions.{IsSubmitted}
 use Rattle.auction_book.proofs.Accepting.{accepted_follows, accepted_free, released_follows, released_free}
-use Rattle.auction_book.proofs.Claiming.{claim_by, cond_by}
+use Rattle.auction_book.proofs.Claiming.{claim_by}
 use Rattle.auction_book.proofs.Following.{caught_up_follows, claimed_follows, follows_itself, goes_on_itself, goes_on_through, phased_follows, recorded_follows}
 use Rattle.auction_book.proofs.Opening.{opened_free, phased_free}
 use Rattle.auction_book.proofs.OtherChanges.{caught_up_free, caught_up_trimmed, claimed_free, recorded_free}
@@ -159,11 +160,11 @@ taken_same false w b = (refl, refl)
 taken_same true w b = (refl, refl)
 
 step_next : (w : ℕ) (b : BookData) → IsFree b → IsStep w b (next_if_over b)
-step_next w b free = cond_by (IsStep w b) (is_over b) (phased b) b (λ h. record { free = phased_free b free h; follows = phased_follows b w free h })
+step_next w b free = cond_both (is_over b) (phased b) b (IsStep w b) (λ h. record { free = phased_free b free h; follows = phased_follows b w free h })
     (λ h. record { free = free; follows = follows_itself b w })
 
 next_same : (b : BookData) → ((next_if_over b).claims ≡ b.claims) × ((next_if_over b).counts ≡ b.counts)
-next_same b = cond_by (λ (n : BookData). (n.claims ≡ b.claims) × (n.counts ≡ b.counts)) (is_over b) (phased b) b (λ h. (refl, refl)) (λ h. (refl, refl))
+next_same b = cond_both (is_over b) (phased b) b (λ (n : BookData). (n.claims ≡ b.claims) × (n.counts ≡ b.counts)) (λ h. (refl, refl)) (λ h. (refl, refl))
 
 -- what a claim leaves
 record IsClaimed (w : ℕ) (b : BookData) (table : List ℤ) (version : ℕ) (answer : Claim) : Type 0 where
