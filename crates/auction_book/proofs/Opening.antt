@@ -176,10 +176,6 @@ none_wait b free all = let e = everyone (persons_of b) b.owners b.queue b.claims
 pub queue_empty : (b : BookData) → IsFree b → is_over b ≡ true → b.queue ≡ []
 queue_empty b free over = none_wait b free (over_is b over).assigned
 
--- a slice that was written whole
-pub written_whole : (xs ys : List (Option ℕ)) (n : ℕ) → length xs ≡ n → take n (xs ++ drop (length xs) ys) ≡ xs
-written_whole xs ys n e = ap (λ m. take m (xs ++ drop (length xs) ys)) (sym e) ∙ take-append_seam xs (drop (length xs) ys)
-
 -- zeros may be first prices
 pub zeros_low : (n : ℕ) → greatest_of (replicate n (pos 0)) ≤ℤ GREATEST_FIRST_PRICE
 zeros_low n = greatest_holds (λ x. x ≤ℤ GREATEST_FIRST_PRICE) (replicate n (pos 0)) (omega (arith, ints)) (each n) where

@@ -1,9 +1,8 @@
 use Rattle.std.proofs.Common.{◌≡◌, ◌+◌, ◌++◌, ◌∷◌, [], take, drop, length, get_or, sym, ap, subst, ◌∙◌, List, ℕ, false}
 use Rattle.std.specs.Arc.{arc_value}
-use Rattle.std.proofs.lemmas.List.{take_more}
+use Rattle.std.proofs.lemmas.List.{take_at, take_more}
 use Rattle.assign_core.specs.Rows.{IsProblem}
 use Rattle.scaled_values.specs.Scaled.{ScaledProblem}
-use Rattle.std.proofs.Math.Seq.{take-append_seam}
 use Rattle.auction_book.specs.declared.schedule.Event.{Event}
 use Rattle.auction_book.specs.declared.schedule.Seat.{Seat}
 use Rattle.auction_book.specs.Schedule.{CoreData, Happens, Run, core_opened}
@@ -14,10 +13,6 @@ pub happen-requires : goal.happen-requires
 happen-requires c =
     let problem = subst (λ (b : ScaledProblem). IsProblem b.problem) c.deref.ensures c.n-n.ensures.rule in
     rw c.as_mut_slice.ensures.value (runs_fit (arc_value c.args.scaled) c.args.prices c.args.workers _ _ problem c.as_slice-table.ensures.table c.requires.long c.requires.low c.loop-event.invariant)
-
--- a slice that was written whole
-written : (xs ys : List Seat) (n : ℕ) → length xs ≡ n → take n (xs ++ drop (length xs) ys) ≡ xs
-written xs ys n e = ap (λ m. take m (xs ++ drop (length xs) ys)) (sym e) ∙ take-append_seam xs (drop (length xs) ys)
 
 pub loop-event-preserved : goal.loop-event-preserved
 loop-event-preserved c =
@@ -30,7 +25,7 @@ loop-event-preserved c =
     let new : CoreData = record { book = c.happen.new.book; seats = c.happen.new.seats } in
     let happens = subst (λ (s : List Seat). Happens (record { book = c.loop-event.book; seats = s }) e new) c.as_mut_slice.ensures.value c.in_ok-happen.ensures in
     let step : Run start (take i events ++ e ∷ []) new = run_more start mid new (take i events) e c.loop-event.invariant happens in
-    let whole = written c.happen.new.seats c.loop-event.seats.items c.loop-event.seats.len (c.happen.auto.seats ∙ ap length c.as_mut_slice.ensures.value ∙ sym c.loop-event.seats.ok.0) in
+    let whole = take_at c.happen.new.seats (drop (length c.happen.new.seats) c.loop-event.seats.items) c.loop-event.seats.len (c.happen.auto.seats ∙ ap length c.as_mut_slice.ensures.value ∙ sym c.loop-event.seats.ok.0) in
     subst (λ (s : List Seat). Run start (take (i + 1) events) (record { book = c.happen.new.book; seats = s })) (sym whole) (subst (λ es. Run start es new) (sym (take_more events i (record { worker = 0; catch_up = false }) lt)) step)
 
 pub returns-clause-fit : goal.returns-clause-fit

@@ -1,8 +1,8 @@
-use Rattle.std.proofs.Common.{◌≡◌, pos, Option, None, true, count_by, length, replicate, unwrap_or, ℕ, refl, sym, ap, ◌∙◌, subst, arith, rules, SFits, is_some}
+use Rattle.std.proofs.Common.{◌≡◌, pos, Option, None, true, count_by, drop, length, replicate, unwrap_or, ℕ, refl, sym, ap, ◌∙◌, subst, arith, rules, SFits, is_some}
 use Rattle.std.specs.Int.{w64, w128}
 use Rattle.std.specs.Arc.{arc_value}
 use Rattle.std.proofs.lemmas.Int.{to_z-of_z}
-use Rattle.std.proofs.lemmas.List.{length-replicate}
+use Rattle.std.proofs.lemmas.List.{length-replicate, take_at}
 use Rattle.scaled_values.specs.Scaled.{ScaledProblem, IsEps, fifth, floor_of, greatest_of, next_eps}
 use Rattle.scaled_values.proofs.EpsList.{IsEps-next, next_is}
 use Rattle.auction_book.specs.Book.{BookData, prices_of}
@@ -13,7 +13,7 @@ use Rattle.auction_book.specs.Phases.{is_over, persons}
 use Rattle.price_log.specs.History.{today}
 use Rattle.auction_book.proofs.Answering.{over_is}
 use Rattle.auction_book.proofs.PhaseBounds.{is_eps}
-use Rattle.auction_book.proofs.Opening.{greatest_read, none_counted, phase_few, phased_free, queue_empty, written_whole}
+use Rattle.auction_book.proofs.Opening.{greatest_read, none_counted, phase_few, phased_free, queue_empty}
 use Rattle.auction_book.proofs.book.Book.begin_phase.Goals as goal
 
 pub floor-floor-requires-clause-price : goal.floor-floor-requires-clause-price
@@ -57,7 +57,7 @@ returns-clause-book c =
     let n : c.n-n.result ≡ length (arc_value s.scaled).problem = c.n-n.ensures.count ∙ ap (λ (b : ScaledProblem). length b.problem) c.deref-2.ensures in
     let long : length s.owners.items ≡ length (arc_value s.scaled).problem = c.self.invariant.3.owners_match.long in
     let free : c.free_all.new.owners ≡ replicate (length (arc_value s.scaled).problem) None = c.free_all.ensures ∙ ap (λ m. replicate m None) (ap length c.as_mut_slice.ensures.value ∙ long) in
-    let whole = written_whole c.free_all.new.owners s.owners.items s.owners.len (ap length free ∙ length-replicate (length (arc_value s.scaled).problem) None ∙ sym long ∙ sym s.owners.ok.0) in
+    let whole = take_at c.free_all.new.owners (drop (length c.free_all.new.owners) s.owners.items) s.owners.len (ap length free ∙ length-replicate (length (arc_value s.scaled).problem) None ∙ sym long ∙ sym s.owners.ok.0) in
     let owners = whole ∙ free in
     let queue = c.queue_all.ensures.queue ∙ ap persons n in
     let version = c.version-self-inside.ensures in
