@@ -29,6 +29,12 @@ one_yes n k h l = grind (arith, nat_tests)
 one_no : (n k : ℕ) → n < k → one_if_person n k ≡ 0
 one_no n k h = grind (arith, nat_tests)
 
+one_most : (n k : ℕ) → one_if_person n k ≤ 1
+one_most n k = grind (arith, nat_tests)
+
+one_self : (k : ℕ) → cond {A = ℕ} (nat_eq k k) 1 0 ≡ 1
+one_self k = grind (arith, nat_tests)
+
 -- among 1 to n a person is once, and another number is not
 up_to_one : (n k : ℕ) → up_to (λ i. cond (nat_eq i k) 1 0) n ≡ one_if_person n k
 up_to_one zero zero = refl
@@ -85,14 +91,9 @@ all_persons n (Some k ∷ xs) h =
     let f = sum_by-cons (λ y. cond (is_some y) 1 0) (Some k) xs in
     let g = sum_by-cons (λ y. cond (is_person k y) 1 0) (Some k) xs in
     let a = h k in
-    let t : cond {A = ℕ} (nat_eq k k) 1 0 ≡ 1 = same k in
-    let o : one_if_person n k ≤ 1 = at_most n k in
-    omega arith where
-      same : (k : ℕ) → cond {A = ℕ} (nat_eq k k) 1 0 ≡ 1
-      same k = grind (arith, nat_tests)
-
-      at_most : (n k : ℕ) → one_if_person n k ≤ 1
-      at_most n k = grind (arith, nat_tests)
+    let t : cond {A = ℕ} (nat_eq k k) 1 0 ≡ 1 = one_self k in
+    let o : one_if_person n k ≤ 1 = one_most n k in
+    omega arith
 
 queue_count : (i : ℕ) (q : List ℕ) → count_by (nat_eq i) q ≡ count_by (is_person i) (map Some q)
 queue_count i [] = refl
@@ -139,10 +140,8 @@ person_there xs zero i e h l = absurd (omega arith)
 person_there xs (suc k) i e h l =
     let c : cond {A = ℕ} (is_person i (get_or xs k None)) 1 0 ≤ count_by (is_person i) xs = get_or-le-sum_by (λ x. cond (is_person i x) 1 0) xs k None (omega arith) in
     let f : cond {A = ℕ} (is_person i (get_or xs k None)) 1 0 ≡ cond {A = ℕ} (is_person i (Some i)) 1 0 = ap (λ (x : Option ℕ). cond {A = ℕ} (is_person i x) 1 0) e in
-    let g : cond {A = ℕ} (is_person i (Some i)) 1 0 ≡ 1 = same i in
-    omega arith where
-      same : (k : ℕ) → cond {A = ℕ} (nat_eq k k) 1 0 ≡ 1
-      same k = grind (arith, nat_tests)
+    let g : cond {A = ℕ} (is_person i (Some i)) 1 0 ≡ 1 = one_self i in
+    omega arith
 
 -- while a person is claimed the queue has room
 pub has_room : (n : ℕ) (owners : List (Option ℕ)) (queue : List ℕ) (claims : List (Option ℕ)) (worker person : ℕ) → IsPlaced n owners queue claims → numbered claims worker None ≡ Some person → length queue < n
@@ -160,10 +159,8 @@ unowned n owners queue claims worker person j placed held own =
     let v = numbered_in owners j person own in
     let o = person_there owners j person own v.0 v.1 in
     let p = placed person in
-    let m = at_most n person in
-    absurd (omega arith) where
-      at_most : (n k : ℕ) → one_if_person n k ≤ 1
-      at_most n k = grind (arith, nat_tests)
+    let m = one_most n person in
+    absurd (omega arith)
 
 requeued_count : (i : ℕ) (queue : List ℕ) (o : Option ℕ) → count_by (nat_eq i) (requeued queue o) ≡ count_by (nat_eq i) queue + cond (is_person i o) 1 0
 requeued_count i queue None = omega arith
@@ -230,10 +227,8 @@ pub claimed_person : (n : ℕ) (owners : List (Option ℕ)) (queue : List ℕ) (
 claimed_person n owners queue claims person rest placed e =
     let p = placed person in
     let c : count_by (nat_eq person) queue ≡ cond (nat_eq person person) 1 0 + count_by (nat_eq person) rest = ap (count_by (nat_eq person)) e ∙ sum_by-cons (λ y. cond (nat_eq person y) 1 0) person rest in
-    let s = same person in
-    one_at_least n person (omega arith) where
-      same : (k : ℕ) → cond {A = ℕ} (nat_eq k k) 1 0 ≡ 1
-      same k = grind (arith, nat_tests)
+    let s = one_self person in
+    one_at_least n person (omega arith)
 
 -- how many objects are owned, after one got an owner
 pub owned_more : (owners : List (Option ℕ)) (j p k was more : ℕ) (old : Option ℕ) → k ≡ j - 1 → 0 < j → j ≤ length owners → was ≡ count_by is_some owners → old ≡ numbered owners j None → more + cond (is_some old) 1 0 ≡ 1 →
