@@ -61,13 +61,12 @@ fn submit_bid(book: &mut Book, worker: u16, bid: Bid) -> Submission
             note: Note::Accepted,
             outcome: Ok(()),
         },
-        Err(Refused::Memory) => Submission {
-            note: Note::Refused(Refused::Memory),
-            outcome: Err(AllocError),
-        },
         Err(refused) => Submission {
             note: Note::Refused(refused),
-            outcome: Ok(()),
+            outcome: match refused {
+                Refused::Memory => Err(AllocError),
+                _ => Ok(()),
+            },
         },
     }
 }
