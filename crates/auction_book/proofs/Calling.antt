@@ -9,13 +9,13 @@ use Rattle.auction_book.specs.declared.answers.Accepted.{Accepted}
 use Rattle.auction_book.specs.declared.answers.Refused.{Refused}
 use Rattle.auction_book.specs.declared.answers.Refused.TheVariants.{NotClaimed, WrongPhase, TooLow, Memory}
 use Rattle.auction_book.specs.declared.answers.Claim.{Claim}
-use Rattle.auction_book.specs.declared.answers.Claim.TheVariants as claim
 use Rattle.auction_book.specs.Book.{BookData, Holds, persons_of}
 use Rattle.auction_book.specs.Claims.{after_claim}
 use Rattle.auction_book.specs.Follows.{Follows}
 use Rattle.auction_book.specs.Free.{IsFree}
 use Rattle.auction_book.specs.Submissions.{IsFitting, IsRecorded, IsSubmitted}
 use Rattle.auction_book.proofs.Accepting.{accepted_follows, released_follows}
+use Rattle.auction_book.proofs.Claiming.{after_claim_by}
 use Rattle.auction_book.proofs.Following.{claimed_follows, follows_itself, recorded_follows}
 use Rattle.auction_book.proofs.Places.{held_person, unowned}
 
@@ -34,11 +34,7 @@ set_follows w b new below lists (Err (TooLow price)) s = absurd s
 set_follows w b new below lists (Err Memory) s = absurd s
 
 pub answered_follows : (w : ℕ) (b : BookData) (answer : Claim) → Follows w b (after_claim b w answer)
-answered_follows w b (claim.Person person ask) = claimed_follows b w
-answered_follows w b claim.Refuted = follows_itself b w
-answered_follows w b claim.Done = follows_itself b w
-answered_follows w b claim.Stopped = follows_itself b w
-answered_follows w b claim.Wait = follows_itself b w
+answered_follows w b answer = after_claim_by (Follows w b) b w answer (follows_itself b w) (claimed_follows b w)
 
 -- who was claimed is a person of the problem
 pub held_is_person : (b : BookData) (w person : ℕ) → IsFree b → Holds b w person → IsNumber (persons_of b) person

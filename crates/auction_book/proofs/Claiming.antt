@@ -6,7 +6,8 @@ use Rattle.bidder.specs.Offers.{IsAsk}
 use Rattle.auction_book.specs.declared.answers.Claim.{Claim}
 use Rattle.auction_book.specs.declared.answers.Claim.TheVariants as claim
 use Rattle.auction_book.specs.Book.{BookData}
-use Rattle.auction_book.specs.Claims.{claim_front, claim_of}
+use Rattle.auction_book.specs.Changes.{claimed}
+use Rattle.auction_book.specs.Claims.{after_claim, claim_front, claim_of}
 use Rattle.auction_book.specs.Free.{IsFree}
 use Rattle.auction_book.specs.Phases.{is_done}
 use Rattle.auction_book.proofs.Opening.{greatest_is_price}
@@ -23,6 +24,14 @@ claim_by P b refuted done stopped wait person =
     front : (queue : List ℕ) → b.stopped ≡ false → b.queue ≡ queue → P (claim_front b queue)
     front [] going e = wait going e
     front (i ∷ rest) going e = person i rest going e
+
+-- what holds of the book before a claim and where a person was claimed holds after it
+pub after_claim_by : (P : BookData → Type 0) (b : BookData) (worker : ℕ) (answer : Claim) → P b → P (claimed b worker) → P (after_claim b worker answer)
+after_claim_by P b worker (claim.Person person ask) same some = some
+after_claim_by P b worker claim.Refuted same some = same
+after_claim_by P b worker claim.Done same some = same
+after_claim_by P b worker claim.Stopped same some = same
+after_claim_by P b worker claim.Wait same some = same
 
 -- what the book asks is of a phase
 pub ask_is : (b : BookData) → IsFree b → IsAsk b.base b.ask

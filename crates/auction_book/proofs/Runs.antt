@@ -36,7 +36,7 @@ use Rattle.auction_book.specs.Schedule.{CoreData, Happens, IsFit, IsSeat, Run, c
 use Rattle.auction_book.specs.Session.{EndsClaim, IsHandedIn, IsNoted, IsPrepared, IsUndone, Submits, book_left, book_next, book_kept_up, next_if_over, prepared, table_kept_up, version_kept_up}
 use Rattle.auction_book.specs.Submissions.{IsSubmitted}
 use Rattle.auction_book.proofs.Accepting.{accepted_follows, accepted_free, released_follows, released_free}
-use Rattle.auction_book.proofs.Claiming.{claim_by}
+use Rattle.auction_book.proofs.Claiming.{after_claim_by, claim_by}
 use Rattle.auction_book.proofs.Following.{caught_up_follows, claimed_follows, follows_itself, goes_on_itself, goes_on_through, phased_follows, recorded_follows}
 use Rattle.auction_book.proofs.Opening.{opened_free, phased_free}
 use Rattle.auction_book.proofs.OtherChanges.{caught_up_free, caught_up_trimmed, claimed_free, recorded_free}
@@ -360,11 +360,7 @@ pub next_long : (w : ℕ) (catch_up : Bool) (b new : BookData) (table : List ℤ
 next_long w catch_up b new table version is = is.ready.own.long.long ∙ is.ready.next.free.sizes.priced
 
 pub after_claim-base : (b : BookData) (w : ℕ) (answer : Claim) → (after_claim b w answer).base ≡ b.base
-after_claim-base b w (claim.Person person ask) = refl
-after_claim-base b w claim.Refuted = refl
-after_claim-base b w claim.Done = refl
-after_claim-base b w claim.Stopped = refl
-after_claim-base b w claim.Wait = refl
+after_claim-base b w answer = after_claim_by (λ (n : BookData). n.base ≡ b.base) b w answer refl refl
 
 pub same_seats : (t u : List ℤ) (v w : ℕ) (o p : Option Offer) (m n : ℕ) → t ≡ u → v ≡ w → o ≡ p → m ≡ n →
     let first : Seat = record { table = t; version = v; offer = o; accepted = m } in let second : Seat = record { table = u; version = w; offer = p; accepted = n } in first ≡ second
