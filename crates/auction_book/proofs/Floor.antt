@@ -109,7 +109,7 @@ sum_most (x ∷ p) top h =
     let s : pos (suc (length p)) *ℤ top ≡ (pos (length p) *ℤ top) +ℤ top = suc_ℤ-*ℤ (pos (length p)) top in
     omega (arith, ints)
 
--- the bids accepted in a phase, times eps, are at most the sum of top less first price
+-- the bids accepted in a phase, times eps, are at most the sum of top less price at the phase's start
 raised_bound : (b : BookData) → IsFree b → (pos (phase_accepted b) *ℤ b.ask.eps) ≤ℤ ((pos (persons_of b) *ℤ top_of b.base (greatest_of b.start) b.ask.eps) -ℤ sum_of b.start)
 raised_bound b free =
     let top = top_of b.base (greatest_of b.start) b.ask.eps in
@@ -143,7 +143,7 @@ accepted_bound b free =
     let room : room_under top b.start ≡ (pos (persons_of b) *ℤ top) -ℤ sum_of b.start = room_is top b.start ∙ ap (λ m. (pos m *ℤ top) -ℤ sum_of b.start) long in
     bound_div (phase_accepted b) (room_under top b.start) b.ask.eps (eps_least b free) (rw room r)
 
--- no first price of the phase is above its top
+-- no price at the phase's start is above its top
 pub start_under : (b : BookData) → IsFree b → All (λ p. p ≤ℤ top_of b.base (greatest_of b.start) b.ask.eps) b.start
 start_under b free =
     let room = (span b.base b.ask.eps free.problem (is_eps b.base b.ask b.start free.in_phase)).least in

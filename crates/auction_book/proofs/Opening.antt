@@ -150,7 +150,7 @@ phased_free b free over =
       recorded = free.recorded;
     }
 
--- the greatest first price of a phase is at least 0
+-- the greatest price at a phase's start is at least 0
 pub start_least : (b : BookData) → IsFree b → pos 0 ≤ℤ greatest_of b.start
 start_least b free = least_price b.start free.in_phase.start_prices.each
 

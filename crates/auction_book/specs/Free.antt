@@ -27,7 +27,7 @@ pub record IsPhase (base : ScaledProblem) (ask : Ask) (start : List ℤ) : Type 
   pub floor_is : ask.floor ≡ floor_of base (greatest_of start) ask.eps
   pub start_low : greatest_of start ≤ℤ (GREATEST_FIRST_PRICE +ℤ (pos (ask.phase - 1) *ℤ (pos (length base.problem) *ℤ (spread base +ℤ first_eps base))))
 
--- an unowned object has its first price of the phase, an owned one at least eps more
+-- an unowned object has its price at the phase's start, an owned one at least eps more
 abbrev pub IsPriced : ℤ → ℤ → ℤ → Option ℕ → Type 0
 IsPriced eps first now None = now ≡ first
 IsPriced eps first now (Some i) = (first +ℤ eps) ≤ℤ now
