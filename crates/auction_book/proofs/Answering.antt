@@ -1,5 +1,5 @@
 -- Where everybody is assigned in the last phase, the owners and the prices are a certificate.
-use Rattle.std.proofs.Common.{◌≡◌, ◌≢◌, ℕ, ℤ, pos, suc, ◌+◌, ◌<◌, ◌≤◌, List, [], ◌∷◌, length, get_or, nat_eq, Bool, true, false, not, cond, ◌&&◌, refl, ap, arith, sym, ◌∙◌, subst, Option, None, Some, inl, inr, ◌⊎◌, is_some}
+use Rattle.std.proofs.Common.{◌≡◌, ◌≢◌, ℕ, ℤ, pos, suc, ◌+◌, ◌<◌, ◌≤◌, List, [], ◌∷◌, length, get_or, nat_eq, true, not, cond, refl, ap, arith, sym, ◌∙◌, subst, Option, None, Some, inl, inr, ◌⊎◌, is_some}
 use Rattle.std.specs.List.{count_by}
 use Rattle.std.specs.Ordering.{int_eq}
 use Rattle.std.specs.Cmp.{signed_Decides}

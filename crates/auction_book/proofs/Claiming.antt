@@ -1,5 +1,5 @@
 -- What a claim answers.
-use Rattle.std.proofs.Common.{◌≡◌, ℕ, List, [], ◌∷◌, Bool, true, false, cond, is_some, refl}
+use Rattle.std.proofs.Common.{◌≡◌, ℕ, List, [], ◌∷◌, true, false, cond, is_some, refl}
 use Rattle.std.proofs.lemmas.Bool.{cond_both}
 use Rattle.scaled_values.specs.Scaled.{greatest_of}
 use Rattle.bidder.specs.Offers.{IsAsk}

@@ -1,5 +1,5 @@
 -- A book at the start of a run, and at the start of a phase.
-use Rattle.std.proofs.Common.{◌≡◌, ℕ, ℤ, pos, zero, suc, ◌+ℤ◌, ◌*ℤ◌, ◌≤ℤ◌, ◌+◌, ◌-◌, ◌<◌, ◌≤◌, List, [], ◌∷◌, ◌++◌, length, take, drop, replicate, nat_eq, sum, Bool, true, false, cond, refl, ap, arith, sym, ◌∙◌, subst, Option, None, Some, is_some}
+use Rattle.std.proofs.Common.{◌≡◌, ℕ, ℤ, pos, zero, suc, ◌+ℤ◌, ◌*ℤ◌, ◌≤ℤ◌, ◌+◌, ◌-◌, ◌<◌, ◌≤◌, List, [], ◌∷◌, ◌++◌, length, replicate, nat_eq, sum, Bool, true, false, cond, refl, ap, arith, sym, ◌∙◌, subst, Option, None, Some, is_some}
 use Rattle.std.specs.List.{All, count_by}
 use Rattle.std.specs.Option.{option_and_then}
 use Rattle.std.proofs.lemmas.Int.{ints}
@@ -8,11 +8,10 @@ use Rattle.std.proofs.lemmas.List.Sums.{sum_by_push, sum_by-cons, sum_by-le-sum_
 use Rattle.std.proofs.lemmas.Bool.{cond-false}
 use Rattle.std.proofs.lemmas.Bool.Decides.{nat_tests}
 use Rattle.std.proofs.Math.IntN.{suc_ℤ-*ℤ}
-use Rattle.std.proofs.Math.Seq.{take-append_seam}
 use lib.IntN.{zero-*ℤ}
 use Rattle.assign_core.specs.Rows.{Listing, IsProblem}
 use Rattle.assign_core.specs.Prices.{IsPrice, IsTable, price_of}
-use Rattle.assign_core.specs.Matching.{IsMatching, owner_of}
+use Rattle.assign_core.specs.Matching.{IsMatching}
 use Rattle.assign_core.proofs.NumberedLemmas.{numbered-replicate}
 use Rattle.scaled_values.specs.Scaled.{ScaledProblem, eps_after, fifth, first_eps, greatest_of, next_eps, spread, top_of}
 use Rattle.scaled_values.proofs.BenefitRange.{greatest_holds}

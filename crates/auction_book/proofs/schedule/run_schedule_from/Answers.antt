@@ -1,4 +1,4 @@
-use Rattle.std.proofs.Common.{◌≡◌, ◌+◌, ◌++◌, ◌∷◌, [], take, drop, length, get_or, sym, ap, subst, ◌∙◌, List, ℕ, false}
+use Rattle.std.proofs.Common.{◌+◌, ◌++◌, ◌∷◌, [], take, drop, length, get_or, sym, ap, subst, ◌∙◌, List, false}
 use Rattle.std.specs.Arc.{arc_value}
 use Rattle.std.proofs.lemmas.List.{take_at, take_more}
 use Rattle.assign_core.specs.Rows.{IsProblem}
