@@ -105,14 +105,14 @@ pub(crate) fn next_number(seed: &mut u64) -> u64 {
     *seed >> 33
 }
 
-// A number from 0 to `end` - 1.
-pub(crate) fn draw(seed: &mut u64, end: u64) -> u64 {
+// A number from 0 to `end` - 1, for an end beyond 16 bits too, and 0 for an end of 0.
+pub(crate) fn draw_wide(seed: &mut u64, end: u64) -> u64 {
     next_number(seed).checked_rem(end).unwrap_or(0)
 }
 
 // A number from 1 to `last`.
 fn drawn_number(seed: &mut u64, last: u16) -> u16 {
-    let place = draw(seed, u64::from(last));
+    let place = draw_wide(seed, u64::from(last));
     u16::try_from(place).unwrap_or(0).wrapping_add(1)
 }
 
@@ -141,17 +141,17 @@ pub(crate) fn two_persons(alloc: Global, first: &[Price]) -> Result<Case, AllocE
 // Pairs of n persons: all of them or some, with few costs or many.
 fn drawn_pairs(alloc: Global, seed: &mut u64, n: u16) -> Result<Vec<Pair>, AllocError> {
     let range = [3, 20, 1000]
-        .get(draw(seed, 3) as usize)
+        .get(draw_wide(seed, 3) as usize)
         .copied()
         .unwrap_or(1);
-    let share = draw(seed, 4);
+    let share = draw_wide(seed, 4);
     let mut pairs = Vec::new(alloc);
     for i in 0..n {
         for j in 0..n {
-            let cost = i64::try_from(draw(seed, range))
+            let cost = i64::try_from(draw_wide(seed, range))
                 .unwrap_or(0)
                 .wrapping_sub(2);
-            if draw(seed, 4) <= share {
+            if draw_wide(seed, 4) <= share {
                 pairs.push((i + 1, j + 1, cost))?;
             }
         }
@@ -168,16 +168,16 @@ pub(crate) fn drawn_case(
 ) -> Result<Case, AllocError> {
     let n = drawn_number(seed, persons);
     let workers = drawn_number(seed, workers);
-    let sense = if draw(seed, 2) == 0 {
+    let sense = if draw_wide(seed, 2) == 0 {
         Sense::Min
     } else {
         Sense::Max
     };
     let pairs = drawn_pairs(alloc, seed, n)?;
-    let range = if draw(seed, 2) == 0 { 1 } else { 41 };
+    let range = if draw_wide(seed, 2) == 0 { 1 } else { 41 };
     let mut first = Vec::new(alloc);
     for _ in 0..n {
-        first.push(Price::from(draw(seed, range)))?;
+        first.push(Price::from(draw_wide(seed, range)))?;
     }
     Ok(Case {
         n,

@@ -1,6 +1,6 @@
 // Runs over drawn lists of events, beside a plain book and its workers.
 use super::super::schedule::{Event, Seat, World, run_schedule_from};
-use super::drawn::{Case, draw, drawn_case, first_prices, scaled_of, size};
+use super::drawn::{Case, draw_wide, drawn_case, first_prices, scaled_of, size};
 use super::plain::PlainBook;
 use super::plain_calls::answer;
 use super::plain_world::{PlainSeat, PlainWorld, plain_run};
@@ -15,14 +15,14 @@ fn drawn_events(
     workers: u16,
     most: u64,
 ) -> Result<Vec<Event>, AllocError> {
-    let share = draw(seed, 5);
+    let share = draw_wide(seed, 5);
     let numbers = u64::from(workers).wrapping_mul(8).wrapping_add(2);
     let mut events = Vec::new(alloc);
-    for _ in 0..draw(seed, most.wrapping_add(1)) {
-        let place = draw(seed, numbers).wrapping_add(7);
+    for _ in 0..draw_wide(seed, most.wrapping_add(1)) {
+        let place = draw_wide(seed, numbers).wrapping_add(7);
         events.push(Event {
             worker: u16::try_from(place.wrapping_div(8)).unwrap_or(0),
-            catch_up: draw(seed, 4) < share,
+            catch_up: draw_wide(seed, 4) < share,
         })?;
     }
     Ok(events)

@@ -3,7 +3,7 @@ use super::super::book::Book;
 use super::calls::{
     Call, Mistake, Reply, Trial, call_of, named, open_trial, told_below, told_bid, told_claim,
 };
-use super::drawn::{Case, draw, drawn_case, first_prices, scaled_of, size};
+use super::drawn::{Case, draw_wide, drawn_case, first_prices, scaled_of, size};
 use super::plain::{PlainBook, at, bound, offer, opened, prices, version};
 use super::plain_calls;
 use super::plain_calls::{ask, phase_over};
@@ -206,7 +206,7 @@ pub(crate) fn same_answer(
 
 // What a worker brings is right in most draws.
 fn drawn_mistake(seed: &mut u64) -> Mistake {
-    match draw(seed, 12) {
+    match draw_wide(seed, 12) {
         0 => Mistake::Phase,
         1 => Mistake::Person,
         _ => Mistake::Nothing,
@@ -214,7 +214,7 @@ fn drawn_mistake(seed: &mut u64) -> Mistake {
 }
 
 fn drawn_call(seed: &mut u64) -> Call {
-    match draw(seed, 40) {
+    match draw_wide(seed, 40) {
         0..=12 => Call::Claim,
         13..=26 => Call::Submit(drawn_mistake(seed)),
         27..=30 => Call::CatchUp,
@@ -302,7 +302,7 @@ fn agrees(
     plain: &mut PlainTrial,
     draws: &mut Draws,
 ) -> Result<bool, AllocError> {
-    let place = draw(&mut draws.seed, plain.desks.len() as u64) as usize;
+    let place = draw_wide(&mut draws.seed, plain.desks.len() as u64) as usize;
     let call = drawn_call(&mut draws.seed);
     let worker = u16::try_from(place).unwrap_or(0).wrapping_add(1);
     let told = call_of(alloc, trial, worker, call)?;

@@ -369,7 +369,7 @@ fn sessions(alloc: Global, trial: &mut Trial, count: u32) -> Result<(), AllocErr
     Ok(())
 }
 
-// An trial of as many persons as there may be. With a shift of 1 persons 1 and 2 both list object 1.
+// A trial of as many persons as there may be. With a shift of 1 persons 1 and 2 both list object 1.
 fn wide_trial(
     alloc: Global,
     shift: u16,
