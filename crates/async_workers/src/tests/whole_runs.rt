@@ -179,7 +179,7 @@ impl Gate for Holding {
     }
 }
 
-// Holds worker 1 after its first session until worker 2 was told of one.
+// Holds each worker after its first session until the other one was told of one.
 #[derive(Drop)]
 struct Telling {
     told: AtomicU64,
@@ -192,7 +192,7 @@ impl Gate for Telling {
     fn before_submit(&self, _worker: u16, _turns: u64) {}
 
     fn after_session(&self, worker: u16, _note: Note) {
-        if is_first(&self.told, worker) && worker == 1 {
+        if is_first(&self.told, worker) {
             hold(&self.told, 2, true, &self.late);
         }
     }
@@ -383,8 +383,8 @@ fn stale_bid<R: Threads + Wait + Sync>(
     Ok((seen, refused, late))
 }
 
-// Whether two workers of whom one is held find an assignment, how many were told of a session, and whether one was held
-// too long.
+// Whether two workers that wait for each other find an assignment, how many were told of a session, and whether one was
+// held too long.
 fn eight_told<R: Threads + Wait + Sync>(
     rt: &R,
     alloc: Global,
