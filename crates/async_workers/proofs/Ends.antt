@@ -12,9 +12,8 @@ use Rattle.auction_book.specs.Free.{IsFree}
 use Rattle.auction_book.specs.Phases.{opened}
 use Rattle.auction_book.proofs.Answering.{done_is}
 use Rattle.auction_book.proofs.Following.{goes_on_through}
-use Rattle.auction_book.proofs.Opening.{no_owner}
 use Rattle.async_workers.specs.declared.solving.Tally.{Tally}
-use Rattle.async_workers.specs.PlaceRule.{Extends, IsUntouched}
+use Rattle.async_workers.specs.PlaceRule.{Extends}
 use Rattle.async_workers.specs.Solving.{IsAnsweredBy, IsEndOf, IsEnough, IsSolved, accepted_in_all, tallies, tally_of}
 
 pub recorded_hall : (b : BookData) (hall copy : HallLists) → IsFree b → b.refuted ≡ Some hall → copy ≡ hall → IsAnsweredBy b (Hall copy)
@@ -68,9 +67,6 @@ solved_enough s prices workers (Best c) told is =
     omega (arith, all, owned, total, persons, sums)
 
 -- ---- a whole run
-pub opened_untouched : (s : ScaledProblem) (prices : List ℤ) (workers : ℕ) (b : BookData) → b ≡ opened s prices workers → IsUntouched b
-opened_untouched s prices workers b is = subst IsUntouched (sym is) record { no_claims = no_owner workers; no_acceptances = refl }
-
 -- the workers' book has an end, and no Hall set was recorded in the opened one
 pub solved : (s : ScaledProblem) (prices : List ℤ) (workers : ℕ) (opening worked : BookData) (outcome : Outcome) (told : List Tally) → opening ≡ opened s prices workers → Extends opening worked → IsEndOf worked (length worked.claims) outcome told → IsSolved s prices workers outcome told
 solved s prices workers opening worked outcome told is extends end =

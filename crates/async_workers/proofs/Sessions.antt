@@ -1,5 +1,6 @@
 -- What the steps of a session make of the book in hand.
 use Rattle.std.proofs.Common.{◌≡◌, ◌≢◌, ℕ, ℤ, ◌+◌, List, [], ◌∷◌, ◌++◌, Bool, true, false, length, Option, None, Some, Result, Ok, Err, OnErr, IfOk, inl, inr, refl, sym, ap, ◌∙◌, subst, arith, length-append}
+use Rattle.std.proofs.lemmas.Bool.{cond_both}
 use Rattle.assign_core.specs.Numbered.{numbered}
 use Rattle.assign_core.specs.Prices.{IsBelow}
 use Rattle.bidder.specs.declared.offers.Bid.{Bid}
@@ -18,9 +19,9 @@ use Rattle.auction_book.specs.Free.{IsFree}
 use Rattle.auction_book.specs.Phases.{is_over}
 use Rattle.auction_book.specs.Session.{EndsClaim, IsHandedIn, IsNoted, IsPrepared, IsUndone, book_next, book_kept_up, next_if_over, note_of}
 use Rattle.auction_book.specs.Submissions.{IsSubmitted}
-use Rattle.auction_book.proofs.Claiming.{cond_by}
 use Rattle.auction_book.proofs.Answering.{over_is}
-use Rattle.auction_book.proofs.Following.{claimed_follows, follows_itself, follows_through}
+use Rattle.auction_book.proofs.Calling.{answered_follows}
+use Rattle.auction_book.proofs.Following.{follows_through}
 use Rattle.auction_book.proofs.Places.{everyone}
 use Rattle.auction_book.proofs.Runs.{ready}
 use Rattle.scaled_values.specs.Scaled.{ScaledProblem}
@@ -48,14 +49,7 @@ handed_hand d taken b c new worker hand same_book same_worker ends free =
 
 -- claims and phases
 pub next_stopped : (b : BookData) → (next_if_over b).stopped ≡ b.stopped
-next_stopped b = cond_by (λ (n : BookData). n.stopped ≡ b.stopped) (is_over b) (phased b) b (λ h. refl) (λ h. refl)
-
-claim_follows : (b : BookData) (worker : ℕ) (answer : Claim) → Follows worker b (after_claim b worker answer)
-claim_follows b worker (claim.Person person ask) = claimed_follows b worker
-claim_follows b worker claim.Refuted = follows_itself b worker
-claim_follows b worker claim.Done = follows_itself b worker
-claim_follows b worker claim.Stopped = follows_itself b worker
-claim_follows b worker claim.Wait = follows_itself b worker
+next_stopped b = cond_both (is_over b) (phased b) b (λ (n : BookData). n.stopped ≡ b.stopped) (λ h. refl) (λ h. refl)
 
 claim_stopped : (b : BookData) (worker : ℕ) (answer : Claim) → (after_claim b worker answer).stopped ≡ b.stopped
 claim_stopped b worker (claim.Person person ask) = refl
@@ -74,7 +68,7 @@ hand_moved d taken b c mid over new worker answer hand none same next again same
     let n = next_if_over b in
     let book : over ≡ n = again ∙ next ∙ ap next_if_over same in
     let new_is : new ≡ after_claim n d.known.number answer = is ∙ (λ i. after_claim (book i) (same_worker i) answer) in
-    let follows = follows_through b n (after_claim n d.known.number answer) d.known.number (next_follows d taken b hand none) (claim_follows n d.known.number answer) in
+    let follows = follows_through b n (after_claim n d.known.number answer) d.known.number (next_follows d taken b hand none) (answered_follows d.known.number n answer) in
     hand_follows d taken b new hand (subst (Follows d.known.number b) (sym new_is) follows) (ap (λ (b : BookData). b.stopped) new_is ∙ claim_stopped n d.known.number answer ∙ next_stopped b) free
 
 pub asked_in_hand : (d : DeskData) (taken b c mid over : BookData) (answer : Claim) → IsInHand d taken b → numbered b.claims d.known.number None ≡ None → c ≡ b → mid ≡ next_if_over c → over ≡ mid → IsAsked over.base answer → IsAsked d.base answer

@@ -1,5 +1,6 @@
 -- One thread goes on with a book as worker 1.
 use Rattle.std.proofs.Common.{◌≡◌, ℕ, ℤ, zero, suc, ◌+◌, ◌<◌, ◌≤◌, inl, inr, List, ◌∷◌, Option, None, Some, length, get_or, refl, sym, ap, ◌∙◌, subst, arith, false}
+use Rattle.std.proofs.lemmas.Bool.{cond_both}
 use Rattle.std.proofs.lemmas.Bool.Decides.{eqb_tells}
 use Rattle.assign_core.specs.Numbered.{IsNumber, numbered}
 use Rattle.assign_core.proofs.NumberedLemmas.{numbered-same}
@@ -16,7 +17,8 @@ use Rattle.auction_book.specs.Follows.{Follows, GoesOn}
 use Rattle.auction_book.specs.Free.{IsFree}
 use Rattle.auction_book.specs.Phases.{is_over}
 use Rattle.auction_book.specs.Session.{IsPrepared, next_if_over, prepared}
-use Rattle.auction_book.proofs.Claiming.{claim_by, cond_by}
+use Rattle.auction_book.proofs.Calling.{answered_follows}
+use Rattle.auction_book.proofs.Claiming.{claim_by}
 use Rattle.auction_book.proofs.Following.{claimed_follows, follows_itself, given_up_follows, goes_on_through, phased_follows, stop_follows}
 use Rattle.auction_book.proofs.Places.{claimed_person}
 use Rattle.async_workers.proofs.Turning.{given_up_none}
@@ -40,7 +42,6 @@ one_given_up b before h worker le = elim (eqb_tells worker (before + 1)) [
 
 -- what worker 1 has after a claim: an offer from today's prices, where it has a person
 record IsClaimed (b : BookData) (version : ℕ) (answer : Claim) : Type 0 where
-  pub follows : Follows 1 b (after_claim b 1 answer)
   pub prices : prices_of (after_claim b 1 answer) ≡ prices_of b
   pub base : (after_claim b 1 answer).base ≡ b.base
   pub prepared : IsPrepared (after_claim b 1 answer) 1 (prices_of b) version (prepared b.base (prices_of b) version answer)
@@ -50,7 +51,6 @@ claimed_front b version person rest free number e =
     let p = claimed_person (persons_of b) b.owners b.queue b.claims person rest free.placed_once e in
     let row = benefit_row_is b.base person free.problem p in
     record {
-      follows = claimed_follows b 1;
       prices = refl;
       base = refl;
       prepared = (person, numbered-same b.claims 1 (Some (get_or b.queue 0 0)) None number.first number.last ∙ ap (λ q. Some (get_or q 0 0)) e, offer_is b.base (prices_of b) version b.ask person row.rising);
@@ -59,10 +59,10 @@ claimed_front b version person rest free number e =
 claimed_is : (b : BookData) (version : ℕ) → IsFree b → IsNumber (length b.claims) 1 → numbered b.claims 1 None ≡ None → IsClaimed b version (claim_of b)
 claimed_is b version free number none =
     claim_by (IsClaimed b version) b
-    (λ h. record { follows = follows_itself b 1; prices = refl; base = refl; prepared = none })
-    (λ h. record { follows = follows_itself b 1; prices = refl; base = refl; prepared = none })
-    (λ h. record { follows = follows_itself b 1; prices = refl; base = refl; prepared = none })
-    (λ going e. record { follows = follows_itself b 1; prices = refl; base = refl; prepared = none })
+    (λ h. record { prices = refl; base = refl; prepared = none })
+    (λ h. record { prices = refl; base = refl; prepared = none })
+    (λ h. record { prices = refl; base = refl; prepared = none })
+    (λ going e. record { prices = refl; base = refl; prepared = none })
     (λ person rest going e. claimed_front b version person rest free number e)
 
 -- the offer that is made of the claim is prepared
@@ -75,14 +75,13 @@ alone_prepared b new s table version answer offer free number none is_answer is_
     let made : offer ≡ prepared b.base (prices_of b) version answer = is_offer ∙ (λ i. prepared ((is_base ∙ base) i) ((is_table ∙ prices) i) version answer) in
     subst (λ (z : BookData × List ℤ × Option Offer). IsPrepared z.0 1 z.1 version z.2) (λ i. (sym is_new i, sym prices i, sym made i)) c.prepared
 
-pub alone_claimed : (b new : BookData) (answer : Claim) → IsFree b → IsNumber (length b.claims) 1 → numbered b.claims 1 None ≡ None → answer ≡ claim_of b → new ≡ after_claim b 1 answer → Follows 1 b new
-alone_claimed b new answer free number none is_answer is_new =
-    subst (Follows 1 b) (sym is_new) (subst (IsClaimed b 0) (sym is_answer) (claimed_is b 0 free number none)).follows
+pub alone_claimed : (b new : BookData) (answer : Claim) → new ≡ after_claim b 1 answer → Follows 1 b new
+alone_claimed b new answer is = subst (Follows 1 b) (sym is) (answered_follows 1 b answer)
 
 -- the next phase, if this one is over
 pub alone_next : (b mid new : BookData) → GoesOn b mid → IsFree mid → numbered mid.claims 1 None ≡ None → new ≡ next_if_over mid → GoesOn b new × (numbered new.claims 1 None ≡ None)
 alone_next b mid new on free none is = subst (λ (n : BookData). GoesOn b n × (numbered n.claims 1 None ≡ None)) (sym is)
-    (cond_by (λ (n : BookData). GoesOn b n × (numbered n.claims 1 None ≡ None)) (is_over mid) (phased mid) mid
+    (cond_both (is_over mid) (phased mid) mid (λ (n : BookData). GoesOn b n × (numbered n.claims 1 None ≡ None))
     (λ h. (goes_on_through b mid (phased mid) on (phased_follows mid 1 free h).goes_on, none)) (λ h. (on, none)))
 
 -- who resumes a book alone

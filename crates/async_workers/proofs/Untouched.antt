@@ -3,6 +3,7 @@ use Rattle.std.proofs.Common.{◌≡◌, ℕ, ℤ, zero, suc, List, [], ◌∷�
 use Rattle.std.proofs.lemmas.List.Sums.{sum_by-cons}
 use Rattle.assign_core.specs.Numbered.{IsNumber, numbered}
 use Rattle.assign_core.proofs.Matchings.{below_itself}
+use Rattle.assign_core.proofs.NumberedLemmas.{numbered-replicate}
 use Rattle.price_log.specs.History.{History, IsEarlier, last_version, table_at, today}
 use Rattle.price_log.proofs.Histories.{today-at}
 use Rattle.auction_book.specs.Book.{BookData, prices_of}
@@ -47,12 +48,6 @@ first_told b number free untouched in_range = record {
   stopped = λ asked. absurd (true≢false (sym asked));
 }
 
-no_claims : (workers k : ℕ) → numbered {A = Option ℕ} (replicate workers None) k None ≡ None
-no_claims workers zero = refl
-no_claims zero (suc k) = refl
-no_claims (suc workers) (suc zero) = refl
-no_claims (suc workers) (suc (suc k)) = no_claims workers (suc k)
-
 -- so is a book at the start of a run
 pub opened_untouched : (s : ScaledProblem) (prices : List ℤ) (workers : ℕ) → IsUntouched (opened s prices workers)
-opened_untouched s prices workers = record { no_claims = no_claims workers; no_acceptances = refl }
+opened_untouched s prices workers = record { no_claims = λ worker. numbered-replicate workers worker None; no_acceptances = refl }

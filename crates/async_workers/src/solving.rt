@@ -124,19 +124,12 @@ pub fn solve_workers_from<G: Gate + Sync, R: Threads + Wait + Sync>(
     ensures enough { IfOk result (λ r. IsEnough (length (arc_value scaled).problem) r.0 r.1.items) }
     ensures memory { IfErr result (λ fault. fault ≡ solve_fault.Memory) }
 {
-    let Ok(opening) = Book::open_from(alloc, scaled, prices, workers) else {
-        return Err(SolveFault::Memory);
-    };
-    let Ok((book, fault)) = worked_book(rt, alloc, opening, refresh, gate) else {
-        return Err(SolveFault::Memory);
-    };
+    let opening = Book::open_from(alloc, scaled, prices, workers)?;
+    let (book, fault) = worked_book(rt, alloc, opening, refresh, gate)?;
     if let Some(fault) = fault {
         return Err(fault);
     }
-    match answer(rt, alloc, book) {
-        Ok(found) => Ok(found),
-        Err(AllocError) => Err(SolveFault::Memory),
-    }
+    Ok(answer(rt, alloc, book)?)
 }
 
 /// Solves by workers as `solve_workers_from` does, with all first prices 0.
@@ -157,8 +150,6 @@ pub fn solve_workers<G: Gate + Sync, R: Threads + Wait + Sync>(
     ensures enough { IfOk result (λ r. IsEnough (length (arc_value scaled).problem) r.0 r.1.items) }
     ensures memory { IfErr result (λ fault. fault ≡ solve_fault.Memory) }
 {
-    match Prices::zeros(alloc, scaled.n()) {
-        Ok(zeros) => solve_workers_from(rt, alloc, scaled, zeros, workers, refresh, gate),
-        Err(AllocError) => Err(SolveFault::Memory),
-    }
+    let zeros = Prices::zeros(alloc, scaled.n())?;
+    solve_workers_from(rt, alloc, scaled, zeros, workers, refresh, gate)
 }

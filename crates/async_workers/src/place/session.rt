@@ -11,28 +11,15 @@ ghost use Rattle.async_workers.specs.inside.Hand.{Ends, IsInHand};
 ghost use Rattle.async_workers.specs.Session.{catches_up, is_too_low, with_table};
 
 use super::{Desk, Held};
-use crate::gate::Standing;
-use auction_book::{Book, Claim, Note, Refused, Submission, begin_next_if_over, submit_offer};
+use auction_book::{Claim, Note, Refused, Submission, begin_next_if_over, submit_offer};
 use bidder::Offer;
 use std::alloc::{AllocError, Global};
 
-// What came of a session: what is told of its offer, what the worker's claim was answered, and how far the run is.
+// What came of a session: what is told of its offer, and what the worker's claim was answered.
 #[derive(Drop)]
 pub(super) struct Ended {
     pub note: Note,
     pub outcome: Result<Claim, AllocError>,
-    pub standing: Standing,
-}
-
-// How far the run is.
-fn standing_of(book: &Book) -> Standing {
-    let ask = book.ask();
-    Standing {
-        phase: ask.phase,
-        eps: ask.eps,
-        assigned: book.assigned(),
-        accepted: book.version(),
-    }
 }
 
 impl Held {
@@ -132,14 +119,9 @@ pub(super) fn session(alloc: Global, held: &mut Held, desk: &mut Desk, refresh: 
         return Ended {
             note,
             outcome: Err(refused),
-            standing: standing_of(held.book()),
         };
     }
     keep_up(held, desk, refresh, was_too_low(note));
     let outcome = move_on(alloc, held, desk);
-    Ended {
-        note,
-        outcome,
-        standing: standing_of(held.book()),
-    }
+    Ended { note, outcome }
 }

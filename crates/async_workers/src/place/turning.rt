@@ -8,30 +8,42 @@ ghost use Rattle.async_workers.specs.Turns.{CanTurn, EndsRun, Faulted, Serves, T
 
 use super::session::{Ended, session};
 use super::{BookPlace, Desk};
-use crate::gate::{Gate, Turn, TurnFault};
-use auction_book::Claim;
+use crate::gate::{Gate, Standing, Turn, TurnFault};
+use auction_book::{Book, Claim};
 use bidder::make_bid;
-use std::alloc::{AllocError, Global};
+use std::alloc::Global;
 use std::sync::Wait;
 
-// Takes the book, does a session with it, and puts it back.
+// How far the run is.
+fn standing_of(book: &Book) -> Standing {
+    let ask = book.ask();
+    Standing {
+        phase: ask.phase,
+        eps: ask.eps,
+        assigned: book.assigned(),
+        accepted: book.version(),
+    }
+}
+
+// Takes the book, does a session with it, and puts it back. What came of the session, and how far the run is then.
 fn one_session<R: Wait>(
     rt: &R,
     alloc: Global,
     place: &BookPlace,
     desk: &mut Desk,
     refresh: u64,
-) -> Ended
+) -> (Ended, Standing)
     requires { CanTurn place.now desk.old }
     ensures serves { Serves desk.old desk.new
-        (Ends refresh desk.old.since desk.old.known desk.old.offer result.note result.outcome) }
+        (Ends refresh desk.old.since desk.old.known desk.old.offer result.0.note result.0.outcome) }
     ensures table { length desk.new.known.table ≡ length desk.new.base.problem }
-    ensures asked { IfOk result.outcome (IsAsked desk.new.base) }
+    ensures asked { IfOk result.0.outcome (IsAsked desk.new.base) }
 {
     let mut held = desk.take(rt, place);
     let ended = session(alloc, &mut held, desk, refresh);
+    let standing = standing_of(held.book());
     held.give(rt, place, desk);
-    ended
+    (ended, standing)
 }
 
 // Prepares the offer of the person that was claimed, if one was.
@@ -90,15 +102,8 @@ pub fn turn<G: Gate, R: Wait>(
     if desk.offer.is_some() {
         gate.before_submit(number, desk.sessions);
     }
-    let Ended {
-        note,
-        outcome,
-        standing,
-    } = one_session(rt, alloc, place, desk, refresh);
+    let (Ended { note, outcome }, standing) = one_session(rt, alloc, place, desk, refresh);
     gate.after_session(number, note);
     gate.after_standing(number, desk.sessions, standing);
-    match outcome {
-        Ok(claim) => Ok(prepare_offer(desk, claim, gate)),
-        Err(AllocError) => Err(TurnFault::Memory),
-    }
+    Ok(prepare_offer(desk, outcome?, gate))
 }

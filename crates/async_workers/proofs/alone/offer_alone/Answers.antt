@@ -21,7 +21,7 @@ prepare-offer-requires-clause-asked c =
 
 pub submit_offer-requires-clause-worker : goal.submit_offer-requires-clause-worker
 submit_offer-requires-clause-worker c =
-    let follows = alone_claimed c.args.book.now c.claim-claim.new.self c.claim-claim.result c.invariant.ensures c.requires.worker c.requires.none c.claim-claim.ensures.answer c.claim-claim.ensures.book in
+    let follows = alone_claimed c.args.book.now c.claim-claim.new.self c.claim-claim.result c.claim-claim.ensures.book in
     subst (λ n. IsNumber n 1) (sym follows.goes_on.workers) c.requires.worker
 
 pub submit_offer-requires-clause-prepared : goal.submit_offer-requires-clause-prepared
@@ -36,5 +36,5 @@ submit_offer-requires-clause-prepared c =
 
 pub returns-clause-goes_on : goal.returns-clause-goes_on
 returns-clause-goes_on c =
-    let claimed = alone_claimed c.args.book.now c.claim-claim.new.self c.claim-claim.result c.invariant.ensures c.requires.worker c.requires.none c.claim-claim.ensures.answer c.claim-claim.ensures.book in
+    let claimed = alone_claimed c.args.book.now c.claim-claim.new.self c.claim-claim.result c.claim-claim.ensures.book in
     goes_on_through c.args.book.now c.claim-claim.new.self c.submit_offer.new.book claimed.goes_on c.submit_offer.ensures.ends.follows.goes_on
