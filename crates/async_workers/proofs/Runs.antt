@@ -1,7 +1,8 @@
 -- The desks before and after the workers' runs.
 use Rattle.std.proofs.Common.{◌≡◌, ℕ, zero, suc, ◌+◌, ◌<◌, List, [], ◌∷◌, ◌++◌, map, length, get_or, sym, ap, ◌∙◌, subst, refl, arith, append_assoc, add-one}
 use Rattle.std.specs.List.{All}
-use Rattle.std.proofs.lemmas.List.{map-append, length_push, length-map}
+use Rattle.std.proofs.lemmas.List.{map-append, length_push, length-map, get_or-map}
+use Rattle.std.proofs.lemmas.List.Elements.{All-map, All-nil, All-push}
 use Rattle.atomic_table.specs.Seated.{TableId}
 use Rattle.crossbeam_utils.specs.declared.cache_padded.CachePadded.{CachePadded}
 use Rattle.auction_book.specs.Book.{BookData}
@@ -10,6 +11,7 @@ use Rattle.async_workers.specs.PlaceRule.{Extends}
 use Rattle.async_workers.specs.Desk.{DeskData, IsAway, IsReady, IsTrueOf, new_desk, new_desks}
 use Rattle.async_workers.specs.inside.Working.{HasWorked, IsMemory, desk_in, fault_in}
 use Rattle.async_workers.specs.Turns.{CanTurn, WorksOn}
+use Rattle.async_workers.proofs.Desks.{new_desks_can}
 use Rattle.async_workers.proofs.Extending.{extends_itself, extends_through}
 
 -- ---- moving from the front of one list to the end of another
@@ -19,30 +21,9 @@ moved f done left old x is = ap (λ l. l ++ left) (map-append f done (x ∷ []))
 pub moved_out : {A B : Type 0} (f : A → B) (done : List B) (left old : List A) (x : A) → old ≡ x ∷ left → (done ++ f x ∷ []) ++ map f left ≡ done ++ map f old
 moved_out f done left old x is = append_assoc done (f x ∷ []) (map f left) ∙ ap (λ l. done ++ map f l) (sym is)
 
--- ---- a fact of each element, as a recursion
-abbrev Each : {A : Type 0} → (A → Type 0) → List A → Type 0
-Each P [] = Unit {0}
-Each P (x ∷ xs) = P x × Each P xs
-
-each_append : {A : Type 0} (P : A → Type 0) (xs ys : List A) → Each P xs → Each P ys → Each P (xs ++ ys)
-each_append P [] ys a b = b
-each_append P (x ∷ xs) ys a b = (a.0, each_append P xs ys a.1 b)
-
-each_at : {A : Type 0} (P : A → Type 0) (xs : List A) → Each P xs → (k : ℕ) (d : A) → k < length xs → P (get_or xs k d)
-each_at P [] a k d lt = absurd (omega arith)
-each_at P (x ∷ xs) a zero d lt = a.0
-each_at P (x ∷ xs) a (suc k) d lt = each_at P xs a.1 k d (omega arith)
-
-each_all : {A : Type 0} (P : A → Type 0) (xs : List A) → Each P xs → All P xs
-each_all P xs a = λ k d lt. each_at P xs a k d lt
-
-each_of_map : {A B : Type 0} (P : B → Type 0) (f : A → B) (xs : List A) → Each P (map f xs) → Each (λ x. P (f x)) xs
-each_of_map P f [] a = tt
-each_of_map P f (x ∷ xs) a = (a.0, each_of_map P f xs a.1)
-
-each_to_map : {A B : Type 0} (P : B → Type 0) (f : A → B) (xs : List A) → Each (λ x. P (f x)) xs → Each P (map f xs)
-each_to_map P f [] a = tt
-each_to_map P f (x ∷ xs) a = (a.0, each_to_map P f xs a.1)
+-- what is true of the elements of a mapped list
+unmapped : {A B : Type 0} (P : B → Type 0) (f : A → B) (xs : List A) → All P (map f xs) → All (λ x. P (f x)) xs
+unmapped P f xs all = λ k d lt. let e = length-map xs f in subst P (get_or-map f xs k d (f d) lt) (all k (f d) (omega (arith, lt, e)))
 
 -- ---- what a run keeps
 pub works_through : (d e f : DeskData) → WorksOn d e → WorksOn e f → WorksOn d f
@@ -71,26 +52,16 @@ worked_from place b d e f w =
 abbrev pub AreWorked : List (CachePadded Worker) → List (CachePadded Worker) → Type 0
 AreWorked xs ys = (length ys ≡ length xs) × ((k : ℕ) (d : CachePadded Worker) → k < length xs → HasWorked (get_or xs k d) (get_or ys k d))
 
-each_worked : (place : TableId) (b : BookData) (xs ys : List (CachePadded Worker)) → AreWorked xs ys → Each (λ w. IsFrom place b (desk_in w)) xs → Each (λ w. IsFrom place b (desk_in w)) ys
-each_worked place b [] [] w a = tt
-each_worked place b [] (y ∷ ys) w a = absurd (let e = w.0 in omega (arith, e))
-each_worked place b (x ∷ xs) [] w a = absurd (let e = w.0 in omega (arith, e))
-each_worked place b (x ∷ xs) (y ∷ ys) w a =
-    let e = w.0 in
-    let same : length ys ≡ length xs = omega (arith, e) in
-    (worked_from place b (desk_in x) (desk_in y) a.0 (w.1 0 x (omega arith)).works, each_worked place b xs ys (same, λ k d lt. w.1 (suc k) d (omega (arith, lt))) a.1)
+all_worked : (place : TableId) (b : BookData) (xs ys : List (CachePadded Worker)) → AreWorked xs ys → All (λ w. IsFrom place b (desk_in w)) xs → All (λ w. IsFrom place b (desk_in w)) ys
+all_worked place b xs ys w from = λ k d lt. let e = w.0 in let in_xs : k < length xs = omega (arith, e, lt) in worked_from place b (desk_in (get_or xs k d)) (desk_in (get_or ys k d)) (from k d in_xs) (w.1 k d in_xs).works
 
 pub faults_in : (xs ys : List (CachePadded Worker)) → AreWorked xs ys → All (λ w. IsMemory (fault_in w)) ys
 faults_in xs ys w = λ k d lt. let e = w.0 in (w.1 k d (omega (arith, e, lt))).fault
 
 -- ---- the new desks
-each_new : (place : TableId) (b : BookData) (n : ℕ) → Each (IsFrom place b) (new_desks place b n)
-each_new place b zero = tt
-each_new place b (suc n) = each_append (IsFrom place b) (new_desks place b n) (new_desk place b (n + 1) ∷ []) (each_new place b n) (record { at = refl; extends = (b, b, refl, extends_itself b) }, tt)
-
-each_can : (place : TableId) (b : BookData) (n : ℕ) → Each (CanTurn place) (new_desks place b n)
-each_can place b zero = tt
-each_can place b (suc n) = each_append (CanTurn place) (new_desks place b n) (new_desk place b (n + 1) ∷ []) (each_can place b n) (record { ready = (refl, (b, b, refl)); offer = refl }, tt)
+all_new : (place : TableId) (b : BookData) (n : ℕ) → All (IsFrom place b) (new_desks place b n)
+all_new place b zero = All-nil (IsFrom place b)
+all_new place b (suc n) = All-push (IsFrom place b) (new_desks place b n) (new_desk place b (n + 1)) (all_new place b n) (record { at = refl; extends = (b, b, refl, extends_itself b) })
 
 length-new_desks : (place : TableId) (b : BookData) (n : ℕ) → length (new_desks place b n) ≡ n
 length-new_desks place b zero = refl
@@ -98,23 +69,23 @@ length-new_desks place b (suc n) = length_push (new_desks place b n) (new_desk p
 
 -- the workers may start
 pub workers_can : (place : TableId) (b : BookData) (n : ℕ) (xs : List (CachePadded Worker)) → map desk_in xs ≡ new_desks place b n → All (λ w. CanTurn place (desk_in w)) xs
-workers_can place b n xs is = each_all (λ w. CanTurn place (desk_in w)) xs (each_of_map (CanTurn place) desk_in xs (subst (Each (CanTurn place)) (sym is) (each_can place b n)))
+workers_can place b n xs is = unmapped (CanTurn place) desk_in xs (new_desks_can place b n (map desk_in xs) is)
 
 pub length_workers : (place : TableId) (b : BookData) (n : ℕ) (xs : List (CachePadded Worker)) → map desk_in xs ≡ new_desks place b n → length xs ≡ n
 length_workers place b n xs is = sym (length-map xs desk_in) ∙ ap length is ∙ length-new_desks place b n
 
 -- ---- the desks that come back
-each_back : (place : TableId) (b : BookData) (n : ℕ) (xs ys : List (CachePadded Worker)) (ds : List DeskData) → map desk_in xs ≡ new_desks place b n → AreWorked xs ys → ds ≡ map desk_in ys → Each (IsFrom place b) ds
-each_back place b n xs ys ds is w back =
-    let from = each_of_map (IsFrom place b) desk_in xs (subst (Each (IsFrom place b)) (sym is) (each_new place b n)) in
-    subst (Each (IsFrom place b)) (sym back) (each_to_map (IsFrom place b) desk_in ys (each_worked place b xs ys w from))
+all_back : (place : TableId) (b : BookData) (n : ℕ) (xs ys : List (CachePadded Worker)) (ds : List DeskData) → map desk_in xs ≡ new_desks place b n → AreWorked xs ys → ds ≡ map desk_in ys → All (IsFrom place b) ds
+all_back place b n xs ys ds is w back =
+    let from = unmapped (IsFrom place b) desk_in xs (subst (All (IsFrom place b)) (sym is) (all_new place b n)) in
+    subst (All (IsFrom place b)) (sym back) (All-map (IsFrom place b) desk_in ys (all_worked place b xs ys w from))
 
 pub back_ready : (place : TableId) (b : BookData) (n : ℕ) (xs ys : List (CachePadded Worker)) (ds : List DeskData) → map desk_in xs ≡ new_desks place b n → AreWorked xs ys → ds ≡ map desk_in ys → All (IsReady place) ds
-back_ready place b n xs ys ds is w back = λ k d lt. let f = each_at (IsFrom place b) ds (each_back place b n xs ys ds is w back) k d lt in (f.at, (f.extends.0, f.extends.1, f.extends.2))
+back_ready place b n xs ys ds is w back = λ k d lt. let f = all_back place b n xs ys ds is w back k d lt in (f.at, (f.extends.0, f.extends.1, f.extends.2))
 
 -- the book of which all that a desk was told is true extends the opening one
 pub back_extends : (place : TableId) (b c : BookData) (n : ℕ) (xs ys : List (CachePadded Worker)) (ds : List DeskData) → map desk_in xs ≡ new_desks place b n → AreWorked xs ys → ds ≡ map desk_in ys → 0 < length ds → All (IsTrueOf c) ds → Extends b c
 back_extends place b c n xs ys ds is w back some told =
     let d = new_desk place b 0 in
-    let g = (each_at (IsFrom place b) ds (each_back place b n xs ys ds is w back) 0 d some).extends in
+    let g = (all_back place b n xs ys ds is w back 0 d some).extends in
     extends_through b g.1 c g.3 (told 0 d some g.0 g.1 g.2).put_on
