@@ -40,7 +40,7 @@ first_known b number = record {
 abbrev pub told_first : BookData → ℕ → Told
 told_first b number = record { base = b.base; known = first_known b number; taken = b; put = b }
 
--- and after one desk more
+-- the opener's view after one desk more
 abbrev pub opener_next : BookData → View → View
 opener_next b Fresh = Opening b 1
 opener_next b (Opening o made) = Opening o (made + 1)
