@@ -1,9 +1,11 @@
 // The opening of a place.
-ghost use Rattle.std.specs.Prelude.{◌≡◌, None, false, length, IfOk};
+ghost use Rattle.std.specs.Prelude.{◌≡◌, length, IfOk};
 ghost use Rattle.crossbeam_queue.specs.Passes.{view, IsPassOf, IsSamePass};
+ghost use Rattle.auction_book.specs.Book.{BookData};
 ghost use Rattle.async_workers.specs.PlaceRule.{IsUntouched};
 ghost use Rattle.async_workers.specs.inside.Passing.{opener_at};
 ghost use Rattle.async_workers.specs.Desk.{new_desks};
+ghost use Rattle.async_workers.specs.Views.{first_known};
 
 use super::{BookPlace, Desk};
 use crate::boxed::BoxedBook;
@@ -54,7 +56,7 @@ fn open_with<O: Opening, R: Wait>(
 
 // What a new desk knows.
 fn first_known(number: u16, table: Prices) -> Known
-    ensures { result ≡ record { number = number; table = table; version = 0; accepted = 0; claim = None; stop = false } }
+    ensures { (b : BookData) → result ≡ (let k = first_known b number in record k { table = table }) }
 {
     Known {
         number,

@@ -21,5 +21,5 @@ loop-made-preserved g c =
       opener = views.0 ∙ ap (λ o. opener_next o (view c.loop-made.pass)) c.requires.book ∙ ap (opener_next b) inv.opener ∙ opener_next-at b c.loop-made.made;
       desks = desks_more _ _ b c.loop-made.made _ _ _ _ _ _ _ (c.in_ok-scaled.ensures ∙ c.scaled.ensures.scaled) pass.1.0
           (views.1 ∙ ap (λ o. desk_made o (view c.loop-made.pass)) c.requires.book ∙ ap (desk_made b) inv.opener ∙ desk_made-at b c.loop-made.made)
-          (c.in_ok-table.ensures ∙ c.prices.ensures.prices) c.first_known.ensures inv.desks c.reserve.ensures.items c.push_reserved.ensures.items;
+          (c.in_ok-table.ensures ∙ c.prices.ensures.prices) (c.first_known.ensures b) inv.desks c.reserve.ensures.items c.push_reserved.ensures.items;
     }
