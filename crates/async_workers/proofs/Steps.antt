@@ -14,7 +14,7 @@ use Rattle.async_workers.specs.declared.rule.View.{View}
 use Rattle.async_workers.specs.declared.rule.View.TheVariants.{Fresh, Opening, Away, Holding, Meeting, Spent}
 use Rattle.async_workers.specs.Views.{claim_in, claim_with, desk_made, keeps_empty, met, opener_next, told_at, told_first}
 use Rattle.async_workers.specs.inside.Passing.{opener_at}
-use Rattle.async_workers.specs.PlaceRule.{ExtendsBy, Fits, Gave, IsRunning, IsSeated, IsTold, IsUnopened, IsUntouched, MayFollow, Rule, Takes, Took, content}
+use Rattle.async_workers.specs.PlaceRule.{ExtendsBy, Fits, Gave, HasItsNumber, IsRunning, IsTold, IsUnopened, IsUntouched, MayFollow, Rule, Takes, Took, content}
 use Rattle.async_workers.specs.inside.Passing.{IsClosing, IsVacant, MetIsTold}
 use Rattle.async_workers.proofs.Extending.{extends_itself, extends_through, own_extended}
 use Rattle.async_workers.proofs.Untouched.{first_told}
@@ -99,13 +99,13 @@ lies_there none b x items e = (refl, cc, cc)
 lies_there (some p) b x items e = absurd cc
 
 -- the other views when a pass takes the book
-others_taken : (b : BookData) (holder : Maybe ℕ) (made : ℕ) (seat : ℕ → Maybe ℕ) (pass j : ℕ) (u : View) → holder ≡ none → j ≢ pass → Fits b holder made seat j u → Fits b (some pass) made seat j u
-others_taken b holder made seat pass j Fresh empty apart f = f
-others_taken b holder made seat pass j (Opening o n) empty apart f = absurd (not_held j holder empty f.0)
-others_taken b holder made seat pass j (Away t) empty apart f = ((λ e. apart (sym (some-injective pass j e))), f.1, f.2)
-others_taken b holder made seat pass j (Holding t taken) empty apart f = absurd (not_held j holder empty f.0)
-others_taken b holder made seat pass j (Meeting t taken u) empty apart f = absurd (not_held j holder empty f.0)
-others_taken b holder made seat pass j Spent empty apart f = λ e. apart (sym (some-injective pass j e))
+others_taken : (b : BookData) (holder : Maybe ℕ) (made : ℕ) (pass_of : ℕ → Maybe ℕ) (pass j : ℕ) (u : View) → holder ≡ none → j ≢ pass → Fits b holder made pass_of j u → Fits b (some pass) made pass_of j u
+others_taken b holder made pass_of pass j Fresh empty apart f = f
+others_taken b holder made pass_of pass j (Opening o n) empty apart f = absurd (not_held j holder empty f.0)
+others_taken b holder made pass_of pass j (Away t) empty apart f = ((λ e. apart (sym (some-injective pass j e))), f.1, f.2)
+others_taken b holder made pass_of pass j (Holding t taken) empty apart f = absurd (not_held j holder empty f.0)
+others_taken b holder made pass_of pass j (Meeting t taken u) empty apart f = absurd (not_held j holder empty f.0)
+others_taken b holder made pass_of pass j Spent empty apart f = λ e. apart (sym (some-injective pass j e))
 
 -- take
 takes : (pass : ℕ) (t : Told) → Pops Rule pass (Away t) (λ x w. Takes t x w)
@@ -114,32 +114,32 @@ takes pass t x items views rule at =
     let lies = lies_there g.holder g.book x items g.place in
     let mine = g.each pass (Away t) at in
     let w : View = Holding t x in
-    let F : ℕ → View → Type 0 = Fits g.book (some pass) g.made g.seat in (
+    let F : ℕ → View → Type 0 = Fits g.book (some pass) g.made g.pass_of in (
       w,
       inr record {
         book = g.book;
         holder = some pass;
         made = g.made;
-        seat = g.seat;
+        pass_of = g.pass_of;
         free = g.free;
         place = lies.2;
         held = λ q e. (w, subst (λ q. get_elem? (set views pass w) q ≡ some w) (some-injective pass q e) (set_here views pass w (there_is views pass (Away t) at)), refl);
-        each = each_set F views pass w (refl, lies.1, mine.1, mine.2) (λ j u apart e. others_taken g.book g.holder g.made g.seat pass j u lies.0 apart (g.each j u e));
+        each = each_set F views pass w (refl, lies.1, mine.1, mine.2) (λ j u apart e. others_taken g.book g.holder g.made g.pass_of pass j u lies.0 apart (g.each j u e));
       },
       record { view = refl; free = subst IsFree (sym lies.1) g.free; told = subst (λ b. IsTold b t) (sym lies.1) mine.1 },
     )
 
 -- the other views when a pass puts the book x in place of b
-others_given : (b x : BookData) (holder : Maybe ℕ) (made : ℕ) (seat : ℕ → Maybe ℕ) (pass j number : ℕ) (u : View) → IsFree b → holder ≡ some pass → j ≢ pass → seat number ≡ some pass →
-    ExtendsBy number b x → (b.stopped ≡ true → x.stopped ≡ true) → Fits b holder made seat j u → Fits x none made seat j u
-others_given b x holder made seat pass j number Fresh free held apart mine follows stays f = f
-others_given b x holder made seat pass j number (Opening o n) free held apart mine follows stays f = absurd (apart (same_pass j pass holder f.0 held))
-others_given b x holder made seat pass j number (Away t) free held apart mine follows stays f =
-    let other : t.known.number ≢ number = λ e. apart (same_pass j pass (seat number) (subst (λ n. seat n ≡ some j) e f.2.0) mine) in
+others_given : (b x : BookData) (holder : Maybe ℕ) (made : ℕ) (pass_of : ℕ → Maybe ℕ) (pass j number : ℕ) (u : View) → IsFree b → holder ≡ some pass → j ≢ pass → pass_of number ≡ some pass →
+    ExtendsBy number b x → (b.stopped ≡ true → x.stopped ≡ true) → Fits b holder made pass_of j u → Fits x none made pass_of j u
+others_given b x holder made pass_of pass j number Fresh free held apart mine follows stays f = f
+others_given b x holder made pass_of pass j number (Opening o n) free held apart mine follows stays f = absurd (apart (same_pass j pass holder f.0 held))
+others_given b x holder made pass_of pass j number (Away t) free held apart mine follows stays f =
+    let other : t.known.number ≢ number = λ e. apart (same_pass j pass (pass_of number) (subst (λ n. pass_of n ≡ some j) e f.2.0) mine) in
     ((λ e. some-ne-none j (sym e)), told_kept b x number t free f.1 follows stays other, f.2)
-others_given b x holder made seat pass j number (Holding t taken) free held apart mine follows stays f = absurd (apart (same_pass j pass holder f.0 held))
-others_given b x holder made seat pass j number (Meeting t taken u) free held apart mine follows stays f = absurd (apart (same_pass j pass holder f.0 held))
-others_given b x holder made seat pass j number Spent free held apart mine follows stays f = λ e. some-ne-none j (sym e)
+others_given b x holder made pass_of pass j number (Holding t taken) free held apart mine follows stays f = absurd (apart (same_pass j pass holder f.0 held))
+others_given b x holder made pass_of pass j number (Meeting t taken u) free held apart mine follows stays f = absurd (apart (same_pass j pass holder f.0 held))
+others_given b x holder made pass_of pass j number Spent free held apart mine follows stays f = λ e. some-ne-none j (sym e)
 
 -- what the giver was told is true of the book that it puts back
 told_given : (k : Known) (taken x : BookData) → IsFree taken → IsNumber (length taken.claims) k.number → MayFollow k taken x → IsTold x (told_at k taken x)
@@ -164,21 +164,21 @@ gives pass t taken x k same may items views room rule at =
     let mine = g.each pass (Holding t taken) at in
     let empty : items ≡ [] = g.place ∙ ap (λ h. content h g.book) mine.0 in
     let w : View = Away (told_at k taken x) in
-    let F : ℕ → View → Type 0 = Fits x none g.made g.seat in
+    let F : ℕ → View → Type 0 = Fits x none g.made g.pass_of in
     let free : IsFree taken = subst IsFree (sym mine.1) g.free in
     let number : IsNumber (length taken.claims) k.number = subst (λ (z : BookData × ℕ). IsNumber (length z.0.claims) z.1) (λ i. (sym mine.1 i, same i)) mine.2.number in
-    let seated : (g.seat k.number ≡ some pass) × (k.number ≤ g.made) = subst (λ n. (g.seat n ≡ some pass) × (n ≤ g.made)) same mine.3 in (
+    let has_number : (g.pass_of k.number ≡ some pass) × (k.number ≤ g.made) = subst (λ n. (g.pass_of n ≡ some pass) × (n ≤ g.made)) same mine.3 in (
       w,
       inr record {
         book = x;
         holder = none;
         made = g.made;
-        seat = g.seat;
+        pass_of = g.pass_of;
         free = may.free;
         place = ap (λ l. l ++ x ∷ []) empty;
         held = λ q e. absurd (some-ne-none q (sym e));
-        each = each_set F views pass w ((λ e. some-ne-none pass (sym e)), told_given k taken x free number may, seated)
-            (λ j u apart e. others_given g.book x g.holder g.made g.seat pass j k.number u g.free mine.0 apart seated.0
+        each = each_set F views pass w ((λ e. some-ne-none pass (sym e)), told_given k taken x free number may, has_number)
+            (λ j u apart e. others_given g.book x g.holder g.made g.pass_of pass j k.number u g.free mine.0 apart has_number.0
             (subst (λ b. ExtendsBy k.number b x) mine.1 may.extends)
             (subst (λ (b : BookData). b.stopped ≡ true → x.stopped ≡ true) mine.1 may.stays_stopped)
             (g.each j u e));
@@ -193,29 +193,29 @@ sees_vacant pass t taken items views rule at =
     let mine = g.each pass (Holding t taken) at in
     g.place ∙ ap (λ h. content h g.book) mine.0
 
--- the seats with one more
-with_seat : (ℕ → Maybe ℕ) → ℕ → ℕ → ℕ → Maybe ℕ
-with_seat seat number pass m = cond (eqb m number) (some pass) (seat m)
+-- which pass has a number, with one number more
+with_pass : (ℕ → Maybe ℕ) → ℕ → ℕ → ℕ → Maybe ℕ
+with_pass pass_of number pass m = cond (eqb m number) (some pass) (pass_of m)
 
-with_seat-same : (seat : ℕ → Maybe ℕ) (number pass : ℕ) → with_seat seat number pass number ≡ some pass
-unfolding with_seat
-with_seat-same seat number pass = ap (λ b. cond b (some pass) (seat number)) (eq-eqb number number refl)
+with_pass-same : (pass_of : ℕ → Maybe ℕ) (number pass : ℕ) → with_pass pass_of number pass number ≡ some pass
+unfolding with_pass
+with_pass-same pass_of number pass = ap (λ b. cond b (some pass) (pass_of number)) (eq-eqb number number refl)
 
-with_seat-other : (seat : ℕ → Maybe ℕ) (number pass m : ℕ) → m ≢ number → with_seat seat number pass m ≡ seat m
-unfolding with_seat
-with_seat-other seat number pass m ne = ap (λ b. cond b (some pass) (seat m)) (ne_eqb m number ne)
+with_pass-other : (pass_of : ℕ → Maybe ℕ) (number pass m : ℕ) → m ≢ number → with_pass pass_of number pass m ≡ pass_of m
+unfolding with_pass
+with_pass-other pass_of number pass m ne = ap (λ b. cond b (some pass) (pass_of m)) (ne_eqb m number ne)
 
 -- the other views when a desk is made
-others_split : (b : BookData) (holder : Maybe ℕ) (made : ℕ) (seat : ℕ → Maybe ℕ) (pass j new : ℕ) (u : View) → holder ≡ some pass → j ≢ pass → Fits b holder made seat j u →
-    Fits b holder (made + 1) (with_seat seat (made + 1) new) j u
-others_split b holder made seat pass j new Fresh held apart f = f
-others_split b holder made seat pass j new (Opening o n) held apart f = absurd (apart (same_pass j pass holder f.0 held))
-others_split b holder made seat pass j new (Away t) held apart f =
+others_split : (b : BookData) (holder : Maybe ℕ) (made : ℕ) (pass_of : ℕ → Maybe ℕ) (pass j new : ℕ) (u : View) → holder ≡ some pass → j ≢ pass → Fits b holder made pass_of j u →
+    Fits b holder (made + 1) (with_pass pass_of (made + 1) new) j u
+others_split b holder made pass_of pass j new Fresh held apart f = f
+others_split b holder made pass_of pass j new (Opening o n) held apart f = absurd (apart (same_pass j pass holder f.0 held))
+others_split b holder made pass_of pass j new (Away t) held apart f =
     let last = f.2.1 in
-    (f.0, f.1, (with_seat-other seat (made + 1) new t.known.number (λ e. let e' : t.known.number ≡ made + 1 = e in omega arith) ∙ f.2.0, omega arith))
-others_split b holder made seat pass j new (Holding t taken) held apart f = absurd (apart (same_pass j pass holder f.0 held))
-others_split b holder made seat pass j new (Meeting t taken u) held apart f = absurd (apart (same_pass j pass holder f.0 held))
-others_split b holder made seat pass j new Spent held apart f = f
+    (f.0, f.1, (with_pass-other pass_of (made + 1) new t.known.number (λ e. let e' : t.known.number ≡ made + 1 = e in omega arith) ∙ f.2.0, omega arith))
+others_split b holder made pass_of pass j new (Holding t taken) held apart f = absurd (apart (same_pass j pass holder f.0 held))
+others_split b holder made pass_of pass j new (Meeting t taken u) held apart f = absurd (apart (same_pass j pass holder f.0 held))
+others_split b holder made pass_of pass j new Spent held apart f = f
 
 -- split
 splits : (items : List BookData) (views : List View) (pass : ℕ) (b : BookData) (made : ℕ) → IsUntouched b → IsRunning items views → get_elem? views pass ≡ some (Opening b made) → made < length b.claims →
@@ -228,23 +228,23 @@ splits items views pass b made untouched g at few =
     let new : ℕ = length vs in
     let long : new ≡ length views = length-set views pass left in
     let here : pass < length views = there_is views pass (Opening b made) at in
-    let seat : ℕ → Maybe ℕ = with_seat g.seat (g.made + 1) new in
+    let pass_of : ℕ → Maybe ℕ = with_pass g.pass_of (g.made + 1) new in
     let free : IsFree b = subst IsFree (sym mine.1) g.free in
-    let F : ℕ → View → Type 0 = Fits g.book g.holder (g.made + 1) seat in
+    let F : ℕ → View → Type 0 = Fits g.book g.holder (g.made + 1) pass_of in
     let is : made ≡ g.made = mine.2 in
     let old : (j : ℕ) (u : View) → get_elem? vs j ≡ some u → F j u =
-    each_set F views pass left (mine.0, mine.1, ap (λ k. k + 1) mine.2) (λ j u apart e. others_split g.book g.holder g.made g.seat pass j new u mine.0 apart (g.each j u e)) in
+    each_set F views pass left (mine.0, mine.1, ap (λ k. k + 1) mine.2) (λ j u apart e. others_split g.book g.holder g.made g.pass_of pass j new u mine.0 apart (g.each j u e)) in
     let told : IsTold b (told_first b (made + 1)) = first_told b (made + 1) free untouched (record { first = omega arith; last = omega arith }) in
     let added : F new right = (
       (λ e. let same : new ≡ pass = same_pass new pass g.holder e mine.0 in omega arith),
       subst (λ c. IsTold c (told_first b (made + 1))) mine.1 told,
-      (ap (λ k. seat (k + 1)) is ∙ with_seat-same g.seat (g.made + 1) new, omega arith),
+      (ap (λ k. pass_of (k + 1)) is ∙ with_pass-same g.pass_of (g.made + 1) new, omega arith),
     ) in
     record {
       book = g.book;
       holder = g.holder;
       made = g.made + 1;
-      seat = seat;
+      pass_of = pass_of;
       free = g.free;
       place = g.place;
       held = λ q e. (left, at_longer vs (right ∷ []) q left (subst (λ q. get_elem? vs q ≡ some left) (same_pass pass q g.holder mine.0 e) (set_here views pass left here)), refl);
@@ -265,7 +265,7 @@ opened_hand items views pass b free fresh at =
       book = b;
       holder = some pass;
       made = 0;
-      seat = λ _. none;
+      pass_of = λ _. none;
       free = free;
       place = fresh.0;
       held = λ q e. (start, subst (λ q. get_elem? (set views pass start) q ≡ some start) (some-injective pass q e) (set_here views pass start here), refl);
@@ -287,30 +287,30 @@ forks_first pass b free untouched some_worker items views rule at =
     (splits items (set views pass start) pass b 0 untouched g (set_here views pass start (there_is views pass Fresh at)) some_worker))
 
 -- the other views when the opener puts the book in
-others_opened : (b : BookData) (holder : Maybe ℕ) (made : ℕ) (seat : ℕ → Maybe ℕ) (pass j : ℕ) (u : View) → holder ≡ some pass → j ≢ pass → Fits b holder made seat j u → Fits b none made seat j u
-others_opened b holder made seat pass j Fresh held apart f = f
-others_opened b holder made seat pass j (Opening o n) held apart f = absurd (apart (same_pass j pass holder f.0 held))
-others_opened b holder made seat pass j (Away t) held apart f = ((λ e. some-ne-none j (sym e)), f.1, f.2)
-others_opened b holder made seat pass j (Holding t taken) held apart f = absurd (apart (same_pass j pass holder f.0 held))
-others_opened b holder made seat pass j (Meeting t taken u) held apart f = absurd (apart (same_pass j pass holder f.0 held))
-others_opened b holder made seat pass j Spent held apart f = λ e. some-ne-none j (sym e)
+others_opened : (b : BookData) (holder : Maybe ℕ) (made : ℕ) (pass_of : ℕ → Maybe ℕ) (pass j : ℕ) (u : View) → holder ≡ some pass → j ≢ pass → Fits b holder made pass_of j u → Fits b none made pass_of j u
+others_opened b holder made pass_of pass j Fresh held apart f = f
+others_opened b holder made pass_of pass j (Opening o n) held apart f = absurd (apart (same_pass j pass holder f.0 held))
+others_opened b holder made pass_of pass j (Away t) held apart f = ((λ e. some-ne-none j (sym e)), f.1, f.2)
+others_opened b holder made pass_of pass j (Holding t taken) held apart f = absurd (apart (same_pass j pass holder f.0 held))
+others_opened b holder made pass_of pass j (Meeting t taken u) held apart f = absurd (apart (same_pass j pass holder f.0 held))
+others_opened b holder made pass_of pass j Spent held apart f = λ e. some-ne-none j (sym e)
 
 -- the opener's give
 put_in : (items : List BookData) (views : List View) (pass : ℕ) (b : BookData) (made : ℕ) → IsRunning items views → get_elem? views pass ≡ some (Opening b made) → IsRunning (items ++ b ∷ []) (set views pass Spent)
 put_in items views pass b made g at =
     let mine = g.each pass (Opening b made) at in
     let empty : items ≡ [] = g.place ∙ ap (λ h. content h g.book) mine.0 in
-    let F : ℕ → View → Type 0 = Fits b none g.made g.seat in
+    let F : ℕ → View → Type 0 = Fits b none g.made g.pass_of in
     record {
       book = b;
       holder = none;
       made = g.made;
-      seat = g.seat;
+      pass_of = g.pass_of;
       free = subst IsFree (sym mine.1) g.free;
       place = ap (λ l. l ++ b ∷ []) empty;
       held = λ q e. absurd (some-ne-none q (sym e));
       each = each_set F views pass Spent (λ e. some-ne-none pass (sym e)) (λ j u apart e.
-          subst (λ c. Fits c none g.made g.seat j u) (sym mine.1) (others_opened g.book g.holder g.made g.seat pass j u mine.0 apart (g.each j u e)));
+          subst (λ c. Fits c none g.made g.pass_of j u) (sym mine.1) (others_opened g.book g.holder g.made g.pass_of pass j u mine.0 apart (g.each j u e)));
     }
 
 opens : (pass : ℕ) (b : BookData) (made : ℕ) → IsFree b → Pushes Rule 1 pass (opener_at b made) b (λ w. w ≡ Spent)
@@ -324,12 +324,12 @@ opens pass b (suc made) free items views room rule at =
 
 -- join
 merged : (items : List BookData) (views : List View) (pass other : ℕ) (v : View) (t : Told) (taken : BookData) (u : Told) (g : IsRunning items views) → get_elem? views pass ≡ some v →
-    (g.holder ≡ some pass) × (taken ≡ g.book) × IsTold g.book t × IsSeated g.made g.seat pass t → ¬ (other ≡ pass) → get_elem? (set views pass (Meeting t taken u)) other ≡ some (Away u) →
+    (g.holder ≡ some pass) × (taken ≡ g.book) × IsTold g.book t × HasItsNumber g.made g.pass_of pass t → ¬ (other ≡ pass) → get_elem? (set views pass (Meeting t taken u)) other ≡ some (Away u) →
     IsRunning items (set (set views pass (Meeting t taken u)) other Spent)
 merged items views pass other v t taken u g at mine apart theirs_at =
     let both : View = Meeting t taken u in
     let vs : List View = set views pass both in
-    let F : ℕ → View → Type 0 = Fits g.book g.holder g.made g.seat in
+    let F : ℕ → View → Type 0 = Fits g.book g.holder g.made g.pass_of in
     let was : get_elem? views other ≡ some (Away u) = ⊎_elim (λ x. absurd (apart x.0)) (λ x. x.1) (at_set views pass other both (Away u) theirs_at) in
     let theirs = g.each other (Away u) was in
     let now : (j : ℕ) (y : View) → get_elem? vs j ≡ some y → F j y = each_set F views pass both (mine.0, mine.1, mine.2, mine.3, theirs.1) (λ j y _ e. g.each j y e) in
@@ -337,7 +337,7 @@ merged items views pass other v t taken u g at mine apart theirs_at =
       book = g.book;
       holder = g.holder;
       made = g.made;
-      seat = g.seat;
+      pass_of = g.pass_of;
       free = g.free;
       place = g.place;
       held = λ q e. (

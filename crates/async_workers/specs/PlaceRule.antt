@@ -42,17 +42,17 @@ pub record IsTold (b : BookData) (t : Told) : Type 0 where
   pub stopped : t.known.stop ≡ true → b.stopped ≡ true
 
 -- distinct numbers: only this pass has the number of its desk, which is one of those that the opener has given out
-abbrev pub IsSeated : ℕ → (ℕ → Maybe ℕ) → ℕ → Told → Type 0
-IsSeated made seat pass t = (seat t.known.number ≡ some pass) × (t.known.number ≤ made)
+abbrev pub HasItsNumber : ℕ → (ℕ → Maybe ℕ) → ℕ → Told → Type 0
+HasItsNumber made pass_of pass t = (pass_of t.known.number ≡ some pass) × (t.known.number ≤ made)
 
 -- one view and the book, who holds it, and the numbers given out
 abbrev pub Fits : BookData → Maybe ℕ → ℕ → (ℕ → Maybe ℕ) → ℕ → View → Type 0
-Fits b holder made seat pass Fresh = ⊥
-Fits b holder made seat pass (Opening o n) = (holder ≡ some pass) × (o ≡ b) × (n ≡ made)
-Fits b holder made seat pass (Away t) = (holder ≢ some pass) × IsTold b t × IsSeated made seat pass t
-Fits b holder made seat pass (Holding t taken) = (holder ≡ some pass) × (taken ≡ b) × IsTold b t × IsSeated made seat pass t
-Fits b holder made seat pass (Meeting t taken u) = (holder ≡ some pass) × (taken ≡ b) × IsTold b t × IsSeated made seat pass t × IsTold b u
-Fits b holder made seat pass Spent = holder ≢ some pass
+Fits b holder made pass_of pass Fresh = ⊥
+Fits b holder made pass_of pass (Opening o n) = (holder ≡ some pass) × (o ≡ b) × (n ≡ made)
+Fits b holder made pass_of pass (Away t) = (holder ≢ some pass) × IsTold b t × HasItsNumber made pass_of pass t
+Fits b holder made pass_of pass (Holding t taken) = (holder ≡ some pass) × (taken ≡ b) × IsTold b t × HasItsNumber made pass_of pass t
+Fits b holder made pass_of pass (Meeting t taken u) = (holder ≡ some pass) × (taken ≡ b) × IsTold b t × HasItsNumber made pass_of pass t × IsTold b u
+Fits b holder made pass_of pass Spent = holder ≢ some pass
 
 -- the book lies in the place exactly where no pass holds it
 abbrev pub content : Maybe ℕ → BookData → List BookData
@@ -68,11 +68,11 @@ pub record IsRunning (items : List BookData) (views : List View) : Type 0 where
   pub book : BookData
   pub holder : Maybe ℕ
   pub made : ℕ
-  pub seat : ℕ → Maybe ℕ
+  pub pass_of : ℕ → Maybe ℕ
   pub free : IsFree book
   pub place : items ≡ content holder book
   pub held : IsHolder holder views
-  pub each : (pass : ℕ) (v : View) → get_elem? views pass ≡ some v → Fits book holder made seat pass v
+  pub each : (pass : ℕ) (v : View) → get_elem? views pass ≡ some v → Fits book holder made pass_of pass v
 
 -- the opener alone, and no book
 abbrev pub IsUnopened : List BookData → List View → Type 0
