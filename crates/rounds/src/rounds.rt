@@ -210,10 +210,7 @@ pub fn solve_rounds_by<O: Offering>(
     ensures memory { IfErr result (λ fault. fault ≡ SolveFault.Memory) }
 {
     let (mut persons, mut offers) = (Vec::new(alloc), Vec::new(alloc));
-    match run_rounds(offering, alloc, scaled, prices, &mut persons, &mut offers) {
-        Ok(outcome) => Ok(outcome),
-        Err(_) => Err(SolveFault::Memory),
-    }
+    Ok(run_rounds(offering, alloc, scaled, prices, &mut persons, &mut offers)?)
 }
 
 /// Solves by rounds of offers that begin at these prices, one for each object and each at most
@@ -223,8 +220,9 @@ pub fn solve_rounds_by<O: Offering>(
 /// the rounds are in Jacobi's form).
 ///
 /// It returns, but first prices that are far apart, or a problem without an assignment, may cost
-/// very many rounds. A round costs the pairs that its persons list, and takes memory only where
-/// more persons wait than in the rounds before.
+/// very many rounds. A round costs the pairs that its persons list. It takes memory where more
+/// persons wait than in the rounds before and for the log of raises; a new phase and the end take
+/// some too.
 ///
 /// # Errors
 /// Only where memory is refused.
@@ -263,10 +261,8 @@ pub fn solve_rounds(
     ensures decided { IfOk result (IsDecided (arc_value scaled)) }
     ensures memory { IfErr result (λ fault. fault ≡ SolveFault.Memory) }
 {
-    match Prices::zeros(alloc, scaled.n()) {
-        Ok(zeros) => solve_rounds_from(rt, alloc, scaled, zeros),
-        Err(_) => Err(SolveFault::Memory),
-    }
+    let zeros = Prices::zeros(alloc, scaled.n())?;
+    solve_rounds_from(rt, alloc, scaled, zeros)
 }
 
 /// Solves by rounds of offers as `solve_rounds_from` does, in the calling thread alone, so that it
@@ -300,8 +296,6 @@ pub fn solve_rounds_alone(alloc: Global, scaled: Arc<Scaled>) -> Result<Outcome,
     ensures decided { IfOk result (IsDecided (arc_value scaled)) }
     ensures memory { IfErr result (λ fault. fault ≡ SolveFault.Memory) }
 {
-    match Prices::zeros(alloc, scaled.n()) {
-        Ok(zeros) => solve_rounds_alone_from(alloc, scaled, zeros),
-        Err(_) => Err(SolveFault::Memory),
-    }
+    let zeros = Prices::zeros(alloc, scaled.n())?;
+    solve_rounds_alone_from(alloc, scaled, zeros)
 }
