@@ -25,7 +25,7 @@ fn phase_line(alloc: Global, ask: Ask, prices: &[Price]) -> Result<String, Alloc
 }
 
 // How many bids of workers 1, 2, .. were accepted.
-fn counts_of(alloc: Global, book: &Book) -> Result<Vec<u128>, AllocError> {
+fn accepted_by(alloc: Global, book: &Book) -> Result<Vec<u128>, AllocError> {
     let mut counts = Vec::new(alloc);
     for i in 0..book.workers() {
         counts.push(book.accepted_by(i + 1))?;
@@ -70,11 +70,11 @@ fn round_told(alloc: Global, book: &mut Book, lines: &mut Vec<String>) -> Result
 {
     begin_next_if_over(alloc, book)?;
     let phase = phase_line(alloc, book.ask(), book.prices().as_slice())?;
-    let before = counts_of(alloc, book)?;
+    let before = accepted_by(alloc, book)?;
     let mut offers = Vec::new(alloc);
     let came = run_round(&mut Alone, book, &mut Vec::new(alloc), &mut offers)?;
     lines.push(phase)?;
-    let after = counts_of(alloc, book)?;
+    let after = accepted_by(alloc, book)?;
     tell_offers(
         alloc,
         offers.as_slice(),
