@@ -1,5 +1,6 @@
 -- Workers claim the queue.
 use Rattle.std.proofs.Common.{◌≡◌, ℕ, zero, suc, ◌+◌, ◌<◌, ◌≤◌, ◌⊎◌, inl, inr, List, [], ◌∷◌, ◌++◌, Option, None, Some, length, get_or, drop, set, refl, ap, sym, ◌∙◌, subst, arith, append_assoc, append-nil, length-append, get_or-set_same, get_or-set_other}
+use Rattle.std.proofs.lemmas.Bool.{cases_eq}
 use Rattle.std.proofs.lemmas.List.{length_push, get_or_push, get_or_append_left, nil_from_length}
 use Rattle.assign_core.specs.Numbered.{numbered, renumbered}
 use Rattle.auction_book.specs.Book.{BookData, persons_of}
@@ -49,9 +50,6 @@ claimed_less persons claims i room was = record {
     | inr less ↦ get_or-set_other claims i k None None (λ (e : k ≡ i). omega arith) ∙ h (suc k) (omega arith)
   ]
 
-  same_or_other : (k i : ℕ) → (k ≡ i) ⊎ (k ≡ i → ⊥)
-  same_or_other k i = grind arith
-
   by_place : (claims : List (Option ℕ)) (i k : ℕ) → k ≡ i → get_or claims k None ≡ None → get_or (set claims i None) k None ≡ None
   by_place [] i k e h = h
   by_place (x ∷ claims) zero zero e h = refl
@@ -61,7 +59,7 @@ claimed_less persons claims i room was = record {
 
   others_less : (claims : List (Option ℕ)) (i n : ℕ) → ((w : ℕ) → n < w → numbered claims w None ≡ None) → (w : ℕ) → n < w → numbered (renumbered claims (suc i) None) w None ≡ None
   others_less claims i n h zero lt = refl
-  others_less claims i n h (suc k) lt = elim (same_or_other k i) [
+  others_less claims i n h (suc k) lt = elim (cases_eq k i) [
     | inl e ↦ by_place claims i k e (h (suc k) lt)
     | inr ne ↦ get_or-set_other claims i k None None ne ∙ h (suc k) lt
   ]

@@ -2,25 +2,19 @@
 use Rattle.std.proofs.Common.{◌≡◌, ℕ, pos, ◌+◌, ◌<◌, ◌&&◌, List, [], ◌∷◌, None, Some, option_map, Bool, true, false, not, cond, length, refl, ap, sym, ◌∙◌, subst, arith}
 use Rattle.std.specs.Ordering.{int_eq}
 use Rattle.std.specs.Cmp.Derive.{both_true}
+use Rattle.std.proofs.lemmas.Bool.{and_parts, not-false}
 use Rattle.scaled_values.specs.Scaled.{ScaledProblem, fifth, next_eps}
 use Rattle.scaled_values.proofs.EpsList.{next_is}
-use Rattle.bidder.specs.declared.offers.Offer.{Offer}
 use Rattle.auction_book.specs.Book.{BookData, persons_of, prices_of}
 use Rattle.auction_book.specs.Changes.{phased}
 use Rattle.auction_book.specs.Free.{IsFree}
 use Rattle.auction_book.specs.Phases.{is_assigned, is_done, is_over, persons}
 use Rattle.auction_book.specs.Session.{next_if_over}
-use Rattle.auction_book.proofs.Answering.{both}
 use Rattle.auction_book.proofs.Opening.{length-persons}
 use Rattle.auction_book.proofs.Answering.{over_is}
-use Rattle.rounds.specs.inside.Books.{HaveOffered, IsAtRest, IsClaimed, plain_of}
-use Rattle.rounds.specs.Offers.{offers_of}
-use Rattle.rounds.specs.Plain.{Plain, after_offers, begun, ready, ready_by, round}
+use Rattle.rounds.specs.inside.Books.{IsAtRest, plain_of}
+use Rattle.rounds.specs.Plain.{Plain, begun, ready, ready_by}
 use Rattle.rounds.proofs.Waiting.{assigned_empty, empty_assigned}
-
-not_false : (x : Bool) → not x ≡ false → x ≡ true
-not_false true h = refl
-not_false false h = cc
 
 and_true : (x y : Bool) → x ≡ true → x && y ≡ false → y ≡ false
 and_true true y h k = k
@@ -28,7 +22,7 @@ and_true false y h k = absurd cc
 
 -- where nobody waits or is claimed and no phase follows, it is the last phase
 last_phase : (b : BookData) → IsAtRest b → b.queue ≡ [] → is_over b ≡ false → int_eq b.ask.eps (pos 1) ≡ true
-last_phase b rest none last = not_false (int_eq b.ask.eps (pos 1)) (and_true (is_assigned b) (not (int_eq b.ask.eps (pos 1))) (empty_assigned b rest none) last)
+last_phase b rest none last = not-false (int_eq b.ask.eps (pos 1)) (and_true (is_assigned b) (not (int_eq b.ask.eps (pos 1))) (empty_assigned b rest none) last)
 
 -- so everything is done
 pub all_done : (b : BookData) → IsAtRest b → b.queue ≡ [] → is_over b ≡ false → is_done b ≡ true
@@ -55,7 +49,7 @@ some_ready s b some = by_queue s b b.queue refl some where
 pub phase_ready : (b : BookData) → IsFree b → is_over b ≡ true → ready b.base (plain_of b) ≡ Some (plain_of (phased b))
 phase_ready b free over =
     let is = over_is b over in
-    let none = assigned_empty b free (both (is_assigned b) (not (int_eq b.ask.eps (pos 1))) over).0 in
+    let none = assigned_empty b free (and_parts (is_assigned b) (not (int_eq b.ask.eps (pos 1))) over).0 in
     ready_as b.base (plain_of b) [] none ∙ ap (option_map (begun b.base (prices_of b) (b.ask.phase + 1))) (next_is b.ask.eps is.more)
 
 -- a phase begins with nobody claimed where nobody was
@@ -82,11 +76,3 @@ not_begun b true rest none =
     let zero_long : length (persons (persons_of b)) ≡ 0 = ap length none in
     absurd (omega arith)
 not_begun b false rest none = refl
-
--- ---- a round
--- the offers of all who waited, submitted over the book whose queue was claimed
-pub round_is : (old mid : BookData) (persons : List ℕ) (offers : List Offer) → IsClaimed old persons mid → HaveOffered mid persons offers → round old.base (plain_of old) ≡ after_offers offers (plain_of mid)
-round_is old mid persons offers claimed have =
-    let made = have.made ∙ ap (offers_of mid.base (prices_of mid) mid.ask) claimed.all ∙ ap (λ (b : BookData). offers_of b.base (prices_of b) b.ask old.queue) claimed.rest in
-    let plain : plain_of mid ≡ record (plain_of old) { queue = [] } = ap plain_of claimed.rest in
-    sym (ap (λ xs. after_offers xs (plain_of mid)) made ∙ ap (after_offers (offers_of old.base (prices_of old) old.ask old.queue)) plain)

@@ -4,13 +4,13 @@ use Rattle.std.specs.List.{count_by}
 use Rattle.std.specs.Ordering.{int_eq}
 use Rattle.std.proofs.lemmas.List.{length-replicate}
 use Rattle.assign_core.specs.declared.outcome.Outcome.{Outcome}
+use Rattle.assign_core.proofs.NumberedLemmas.{numbered-replicate}
 use Rattle.scaled_values.specs.Scaled.{ScaledProblem}
 use Rattle.auction_book.specs.Book.{BookData, prices_of}
 use Rattle.auction_book.specs.Free.{IsFree}
 use Rattle.auction_book.specs.Changes.{phased}
 use Rattle.auction_book.specs.Phases.{is_over, opened}
 use Rattle.auction_book.specs.Session.{next_if_over}
-use Rattle.auction_book.proofs.Opening.{no_owner}
 use Rattle.rounds.specs.declared.rounds.Round.TheVariants as came
 use Rattle.rounds.specs.inside.Books.{IsAtRest, IsRound, plain_of, room}
 use Rattle.rounds.specs.Outcomes.{IsOfRounds, IsOutcome, IsProof}
@@ -30,8 +30,8 @@ running_first s prices workers b e free n = subst (IsRunning s prices) (sym e) (
     going = record { free = subst IsFree e free; unrefuted = refl; unstopped = refl; workers = length-replicate workers None ∙ n };
     unclaimed = record {
       held = λ k d from lt. absurd (omega arith);
-      past = λ w le. no_owner workers w;
-      others = λ w lt. no_owner workers w;
+      past = λ w le. numbered-replicate workers w None;
+      others = λ w lt. numbered-replicate workers w None;
     };
   };
   base = refl;

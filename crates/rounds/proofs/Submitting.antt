@@ -32,7 +32,7 @@ use Rattle.rounds.specs.Offers.{CanOffer}
 use Rattle.rounds.specs.Plain.{after_bid, after_offers}
 use Rattle.rounds.proofs.Claiming.{claimed_less}
 use Rattle.rounds.proofs.Rooms.{room_falls}
-use Rattle.rounds.proofs.Waiting.{claimed_number}
+use Rattle.auction_book.proofs.Calling.{held_is_person}
 
 -- ---- a book's change is the plain one
 pub plain-after : (low : Bool) (b : BookData) (worker : ℕ) (bid : Bid) → plain_of (book_after low b worker bid) ≡ after_bid low (plain_of b) bid
@@ -57,7 +57,7 @@ made_at b persons offers i offer have within here =
     let many : i < length persons = omega arith in
     let person = get_or persons i 0 in
     let held = have.claimed.held i 0 (omega arith) many in
-    let number = claimed_number b (suc i) person have.going.free held in
+    let number = held_is_person b (suc i) person have.going.free held in
     let made_is : get_or offers i offer ≡ f person = ap (λ (xs : List Offer). get_or xs i offer) have.made ∙ get_or-map f persons i 0 offer many in
     record {
       within = within;
@@ -73,7 +73,7 @@ made_at b persons offers i offer have within here =
 pub can_offer : (b : BookData) (persons : List ℕ) → IsGoing b → AreClaimed persons 0 b.claims → CanOffer b.base (prices_of b) b.ask persons
 can_offer b persons going claimed =
     record {
-      numbers = λ k d lt. claimed_number b (suc k) (get_or persons k d) going.free (claimed.held k d (omega arith) lt);
+      numbers = λ k d lt. held_is_person b (suc k) (get_or persons k d) going.free (claimed.held k d (omega arith) lt);
       priced = going.free.sizes.priced;
       asked = ask_is b going.free;
     }
@@ -82,7 +82,7 @@ pub can_offer_as : (b : BookData) (persons waiting : List ℕ) (s : ScaledProble
 can_offer_as b persons waiting s prices ask going claimed e f g h =
     subst (λ x. CanOffer x prices ask waiting) (sym e) (subst (λ x. CanOffer b.base x ask waiting) (sym f) (subst (λ x. CanOffer b.base (prices_of b) x waiting) (sym g) (subst (CanOffer b.base (prices_of b) b.ask) (sym h) (can_offer b persons going claimed))))
 
--- ---- turns
+-- ---- offers are submitted
 -- the first i offers have been submitted
 pub record IsSubmitting (old now : BookData) (persons : List ℕ) (offers : List Offer) (i : ℕ) : Type 0 where
   pub going : IsGoing now

@@ -3,9 +3,9 @@ use Rattle.std.proofs.Common.{◌≡◌, ℕ, pos, suc, ◌≤◌, List, [], ◌
 use Rattle.std.specs.List.{count_by}
 use Rattle.std.specs.Ordering.{int_eq}
 use Rattle.std.proofs.lemmas.List.Sums.{sum_by-cons}
-use Rattle.std.proofs.lemmas.Bool.{eqb-true}
+use Rattle.std.proofs.lemmas.Bool.{and_parts, eqb-true}
 use Rattle.std.proofs.lemmas.Bool.Decides.{nat_tests}
-use Rattle.assign_core.specs.Numbered.{IsNumber, numbered}
+use Rattle.assign_core.specs.Numbered.{numbered}
 use Rattle.assign_core.proofs.NumberedLemmas.{length-renumbered}
 use Rattle.auction_book.specs.declared.answers.Claim.{Claim}
 use Rattle.auction_book.specs.declared.answers.Claim.TheVariants as claim
@@ -15,15 +15,10 @@ use Rattle.bidder.specs.declared.offers.Ask.{Ask}
 use Rattle.auction_book.specs.Claims.{after_claim, claim_of}
 use Rattle.auction_book.specs.Free.{IsFree}
 use Rattle.auction_book.specs.Phases.{is_assigned}
-use Rattle.auction_book.proofs.Answering.{both}
 use Rattle.auction_book.proofs.Claiming.{claim_by}
 use Rattle.auction_book.proofs.Opening.{none_wait}
-use Rattle.auction_book.proofs.Places.{everyone, held_person}
+use Rattle.auction_book.proofs.Places.{everyone}
 use Rattle.rounds.specs.inside.Books.{IsAtRest, IsGoing}
-
--- a claimed person is a person
-pub claimed_number : (b : BookData) (worker person : ℕ) → IsFree b → numbered b.claims worker None ≡ Some person → IsNumber (persons_of b) person
-claimed_number b worker person free held = held_person (persons_of b) b.owners b.queue b.claims worker person free.placed_once held
 
 -- ---- nobody is claimed
 count_none : (xs : List (Option ℕ)) → ((k : ℕ) → numbered xs (suc k) None ≡ None) → count_by is_some xs ≡ 0
@@ -64,7 +59,7 @@ nobody_claimed b new worker answer going e f h =
     let IsNobody : Claim → Type 0 = λ c. ((p : ℕ) (a : Ask) → c ≡ claim.Person p a → ⊥) → (b.queue ≡ []) × (after_claim b worker c ≡ b) in
     let claimed : IsNobody (claim_of b) = claim_by IsNobody b
     (λ refuted none. absurd (true≢false (sym refuted ∙ ap is_some going.unrefuted)))
-    (λ done none. (assigned_empty b going.free (both (is_assigned b) (int_eq b.ask.eps (pos 1)) done).0, refl))
+    (λ done none. (assigned_empty b going.free (and_parts (is_assigned b) (int_eq b.ask.eps (pos 1)) done).0, refl))
     (λ stopped none. absurd (true≢false (sym stopped ∙ going.unstopped)))
     (λ on empty none. (empty, refl))
     (λ person rest on front none. absurd (none person b.ask refl)) in

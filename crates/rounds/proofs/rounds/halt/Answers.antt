@@ -5,20 +5,18 @@ use Rattle.assign_core.specs.Reach.{IsPath}
 use Rattle.assign_core.specs.Matching.{owner_of}
 use Rattle.scaled_values.specs.Scaled.{ScaledProblem}
 use Rattle.hall_refuter.specs.Search.{IsFound}
-use Rattle.auction_book.specs.Book.{persons_of}
+use Rattle.auction_book.proofs.Calling.{held_is_person, held_owns_nothing}
 use Rattle.auction_book.proofs.Floor.{no_path}
-use Rattle.auction_book.proofs.Places.{unowned}
-use Rattle.rounds.proofs.Waiting.{claimed_number}
 use Rattle.rounds.proofs.rounds.halt.Goals as goal
 
 pub refute-requires-clause-person : goal.refute-requires-clause-person
 refute-requires-clause-person c =
-    subst (λ (s : ScaledProblem). IsNumber (length s.problem) c.args.person) (sym (c.deref.ensures ∙ c.scaled.ensures.scaled)) (claimed_number c.args.book.now c.requires.worker c.args.person c.requires.free c.requires.held)
+    subst (λ (s : ScaledProblem). IsNumber (length s.problem) c.args.person) (sym (c.deref.ensures ∙ c.scaled.ensures.scaled)) (held_is_person c.args.book.now c.requires.worker c.args.person c.requires.free c.requires.held)
 
 pub refute-requires-clause-alone : goal.refute-requires-clause-alone
 refute-requires-clause-alone c = λ j h.
     let b = c.args.book.now in
-    unowned (persons_of b) b.owners b.queue b.claims c.requires.worker c.args.person j c.requires.free.placed_once c.requires.held (ap (λ o. owner_of o j) (sym c.owners.ensures.owners) ∙ h)
+    held_owns_nothing b c.requires.worker c.args.person j c.requires.free c.requires.held (ap (λ o. owner_of o j) (sym c.owners.ensures.owners) ∙ h)
 
 pub unreachable-requires : goal.unreachable-requires
 unreachable-requires c =
