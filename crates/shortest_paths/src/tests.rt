@@ -1,10 +1,11 @@
 // Problems of all kinds beside a slow search and beside rounds. A search that finds nothing meets
 // the contract too, so that it does find something is shown here alone.
-ghost use Rattle.std.specs.Prelude.{◌≡◌, length, IfOk};
+ghost use Rattle.std.specs.Prelude.{◌≡◌, ◌≤ℤ◌, length, IfOk};
 ghost use Rattle.assign_core.specs.Numbered.{IsNumber};
 ghost use Rattle.assign_core.specs.Prices.{IsPrice};
 ghost use Rattle.assign_core.specs.Rows.{IsCost, IsSize};
 ghost use Rattle.assign_core.specs.Sparse.{IsTriple};
+ghost use Rattle.scaled_values.specs.Scaled.{greatest_of};
 ghost use Rattle.rounds.specs.Outcomes.{IsProof};
 
 mod kinds;
@@ -73,7 +74,8 @@ fn problem_of(alloc: Global, n: u16, pairs: &[Pair]) -> Result<Problem, AllocErr
 
 // A first price brought into range.
 fn first_price(price: Price) -> Price
-    ensures { IsPrice result }
+    ensures least { IsPrice result }
+    ensures low { result ≤ℤ GREATEST_FIRST_PRICE }
 {
     price.max(0).min(GREATEST_FIRST_PRICE)
 }
@@ -81,7 +83,8 @@ fn first_price(price: Price) -> Price
 // First prices of n objects: those given, and 0 for the rest.
 fn first_prices(alloc: Global, n: u16, given: &[Price]) -> Result<Prices, AllocError>
     requires { IsSize n }
-    ensures { IfOk result (λ prices. length prices ≡ n) }
+    ensures long { IfOk result (λ prices. length prices ≡ n) }
+    ensures low { IfOk result (λ prices. greatest_of prices ≤ℤ GREATEST_FIRST_PRICE) }
 {
     let mut values = Vec::with_capacity(alloc, n as usize)?;
     for i in 0..n {
