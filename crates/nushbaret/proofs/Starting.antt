@@ -3,7 +3,7 @@ use Rattle.std.proofs.Common.{ℤ, List, length, map, ◌≤◌, arith}
 use Rattle.std.specs.List.{All}
 use Rattle.std.proofs.lemmas.Int.{ints}
 use Rattle.std.proofs.lemmas.List.{length-map}
-use Rattle.std.proofs.lemmas.List.Elements.{All-map}
+use Rattle.std.proofs.lemmas.List.Elements.{All-map, All-weaker}
 use Rattle.assign_core.specs.declared.numbers.TheConstants.{MOST_PERSONS}
 use Rattle.assign_core.specs.Prices.{IsPrice, IsTable}
 use Rattle.nushbaret.specs.declared.halves.Halves.{Halves}
@@ -12,11 +12,8 @@ use Rattle.nushbaret.specs.Prices.{StandsForFirstPrice, IsFirstPrice, price_in}
 within : (p : ℤ) → IsFirstPrice p → IsPrice p
 within p h = record { least = h.least; below = omega (arith, ints, h.greatest) }
 
-each_within : (ps : List ℤ) → All IsFirstPrice ps → All IsPrice ps
-each_within ps h k d lt = within _ (h k d lt)
-
 pub table_of : (first : List Halves) → length first ≤ MOST_PERSONS → All StandsForFirstPrice first → IsTable (map price_in first)
 table_of first few low = record {
   few = rw length-map few;
-  each = each_within (map price_in first) (All-map IsFirstPrice price_in first low);
+  each = All-weaker IsFirstPrice IsPrice within (map price_in first) (All-map IsFirstPrice price_in first low);
 }
