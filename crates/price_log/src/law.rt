@@ -5,6 +5,13 @@ ghost use Rattle.assign_core.specs.Prices.{IsBelow};
 ghost use Rattle.price_log.specs.History.{Continues, History, IsEarlier, IsHistory, last_version, table_at, today};
 ghost use Rattle.price_log.specs.Changes.{after_raise, trimmed};
 
+use crate::log::MOST_KEPT;
+
+/// Which number the limit of raises kept is.
+pub fn log_limits()
+    ensures { MOST_KEPT ≡ 65_536 }
+{}
+
 /// That one log continues another is an order, and each change of a log continues it.
 pub fn logs_continue()
     ensures itself { (log : History) → Continues log log }

@@ -7,6 +7,8 @@ mod raise;
 #[cfg(test)]
 mod tests;
 
-pub use law::{changes_are_versions, earlier_tables_are_below, earlier_tables_stay, logs_continue};
+pub use law::{
+    changes_are_versions, earlier_tables_are_below, earlier_tables_stay, log_limits, logs_continue,
+};
 pub use log::{MOST_KEPT, PriceLog};
 pub use raise::Raise;
