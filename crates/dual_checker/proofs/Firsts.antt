@@ -1,11 +1,8 @@
 -- The lowest number that has a fault.
-use Rattle.std.proofs.Common.{◌≡◌, ℕ, ◌<◌, ◌≤◌, ◌+◌, inl, inr, arith, subst}
+use Rattle.std.proofs.Common.{◌≡◌, ℕ, ◌<◌, ◌+◌, inl, inr, arith, subst}
 use Rattle.std.proofs.lemmas.Bool.{cases_lt, cases_order}
 use Rattle.assign_core.specs.Numbered.{IsNumber}
 use Rattle.dual_checker.specs.Faults.{IsFirst}
-
-pub number_within : (n m i : ℕ) → n ≤ m → IsNumber n i → IsNumber m i
-number_within n m i le h = record { first = h.first; last = omega arith }
 
 pub first_at : (F : ℕ → Type 0) (n i : ℕ) → i < n → ((k : ℕ) → IsNumber i k → ¬ F k) → F (i + 1) → IsFirst F n (i + 1)
 first_at F n i lt before here = record {

@@ -1,9 +1,9 @@
 -- Marks that are added one after another.
-use Rattle.std.proofs.Common.{◌≡◌, ℕ, ◌<◌, ◌+◌, ◌-◌, ◌↔◌, zero, suc, List, Bool, true, false, length, get_or, replicate, set, inl, inr, arith, refl, ap, subst, sym, ◌∙◌}
+use Rattle.std.proofs.Common.{◌≡◌, ℕ, ◌<◌, ◌+◌, ◌-◌, ◌↔◌, List, Bool, true, false, length, replicate, set, inl, inr, arith, ap, subst, sym, ◌∙◌}
 use Rattle.std.proofs.lemmas.Bool.{cases_lt}
 use Rattle.std.proofs.lemmas.Bool.Decides.{eqb_tells}
 use Rattle.assign_core.specs.Numbered.{IsNumber, numbered, renumbered, IsMarked}
-use Rattle.assign_core.proofs.NumberedLemmas.{numbered-same, numbered-other, renumber-set}
+use Rattle.assign_core.proofs.NumberedLemmas.{numbered-same, numbered-other, numbered-replicate, renumber-set}
 use Rattle.dual_checker.specs.HallMarks.{AddsMarks}
 
 -- j stands in relation R to one of the first i places
@@ -55,20 +55,11 @@ adds_item f i x k start marks at within place h =
     (adds_more (λ k j. f k ≡ j) i start marks (renumbered marks x true) h
     (adds_same (λ j. x ≡ j) (λ j. f i ≡ j) marks (renumbered marks x true) (λ j. ((λ e. sym at ∙ e), (λ e. at ∙ e))) (adds_one marks x within)))
 
-none_at : (m i : ℕ) → get_or (replicate m false) i false ≡ false
-none_at zero i = refl
-none_at (suc m) zero = refl
-none_at (suc m) (suc i) = none_at m i
-
-none_set : (m j : ℕ) → numbered (replicate m false) j false ≡ false
-none_set m zero = refl
-none_set m (suc i) = none_at m i
-
 -- where none was set at first, the marks tell who has property P
 pub just_added : (m : ℕ) (before after : List Bool) (P : ℕ → Type 0) → before ≡ replicate m false → AddsMarks before P after → (j : ℕ) → IsMarked after j ↔ P j
 just_added m before after P none h j = (
   (λ k. elim ((h j).0 k) [
-    | inl b ↦ let no = ap (λ l. numbered l j false) none ∙ none_set m j in absurd (false_not_true (sym no ∙ b))
+    | inl b ↦ let no = ap (λ l. numbered l j false) none ∙ numbered-replicate m j false in absurd (false_not_true (sym no ∙ b))
     | inr p ↦ p
   ]),
   (λ p. (h j).1 (inr p)),

@@ -1,27 +1,20 @@
 -- Tables of counts, one more at a time.
-use Rattle.std.proofs.Common.{◌≡◌, ℕ, zero, suc, ◌<◌, ◌≤◌, ◌+◌, ◌-◌, List, [], length, take, set, replicate, nat_eq, true, false, get_or, arith, inl, inr, sym, ◌∙◌, ap, subst, ◌==◌, ◌≢◌, All, Option, None, Some, MatchOption}
+use Rattle.std.proofs.Common.{◌≡◌, ℕ, ◌<◌, ◌≤◌, ◌+◌, ◌-◌, List, [], length, take, set, replicate, nat_eq, true, false, get_or, arith, inl, inr, sym, ◌∙◌, ap, subst, ◌==◌, ◌≢◌, All, Option, None, Some, MatchOption}
 use Rattle.std.specs.List.{IsDistinct}
-use Rattle.std.proofs.lemmas.List.{get_or-replicate, length-replicate, length-take-le}
+use Rattle.std.proofs.lemmas.List.{length-take-le}
 use Rattle.std.proofs.lemmas.List.Sums.{count_by_more_yes, count_by_more_no, count_by-le-length}
 use Rattle.std.proofs.lemmas.Bool.Decides.{eqb_tells}
 use Rattle.std.proofs.lemmas.Bool.{cases_lt}
 use Rattle.std.proofs.lemmas.List.Elements.{All-weaker}
 use Rattle.assign_core.specs.Numbered.{IsNumber, numbered, renumbered}
-use Rattle.assign_core.proofs.NumberedLemmas.{numbered-same, numbered-other, length-renumbered, renumber-set}
+use Rattle.assign_core.proofs.NumberedLemmas.{numbered-same, numbered-other, length-renumbered, numbered-replicate, renumber-set}
 use Rattle.dual_checker.specs.Faults.{IsFirst, IsGivenTwice}
 use Rattle.dual_checker.specs.Counts.{AreCounts}
 use Rattle.dual_checker.proofs.Places.{at_place}
 use Rattle.dual_checker.proofs.Givings.{count_of, nowhere, distinct_from}
 
-numbered-replicate : (n j : ℕ) → IsNumber n j → numbered (replicate {A = ℕ} n 0) j 0 ≡ 0
-numbered-replicate n zero h = let some = h.first in absurd (omega arith)
-numbered-replicate n (suc i) h = let last = h.last in get_or-replicate n i 0 0 (omega arith)
-
 pub none_counted : (n : ℕ) (counts : List ℕ) → counts ≡ replicate n 0 → AreCounts counts []
-none_counted n counts e j h =
-    let zeros : length (replicate {A = ℕ} n 0) ≡ n = simp length-replicate in
-    let long : length counts ≡ n = ap length e ∙ zeros in
-    ap (λ l. numbered l j 0) e ∙ numbered-replicate n j (subst (λ m. IsNumber m j) long h)
+none_counted n counts e j h = ap (λ l. numbered l j 0) e ∙ numbered-replicate n j 0
 
 pub few_counted : (counts xs : List ℕ) (i x : ℕ) → AreCounts counts (take i xs) → i ≤ length xs → IsNumber (length counts) x → numbered counts x 0 ≤ i
 few_counted counts xs i x h le within =

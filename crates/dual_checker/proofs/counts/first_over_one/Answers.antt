@@ -1,7 +1,7 @@
 use Rattle.std.proofs.Common.{◌≤◌, ◌<◌, arith}
 use Rattle.assign_core.specs.Numbered.{numbered}
-use Rattle.dual_checker.proofs.Firsts.{first_at, number_within, one_more}
-use Rattle.assign_core.proofs.NumberedLemmas.{numbered-next}
+use Rattle.dual_checker.proofs.Firsts.{first_at, one_more}
+use Rattle.assign_core.proofs.NumberedLemmas.{number_within, numbered-next}
 use Rattle.dual_checker.proofs.counts.first_over_one.Goals as goal
 
 pub loop-i-init : goal.loop-i-init

@@ -3,7 +3,7 @@ use Rattle.std.proofs.lemmas.List.{get_or_default}
 use Rattle.assign_core.specs.Numbered.{IsNumber}
 use Rattle.assign_core.specs.Rows.{listed_in}
 use Rattle.dual_checker.specs.HallMarks.{AddsMarks}
-use Rattle.dual_checker.proofs.Firsts.{number_within}
+use Rattle.assign_core.proofs.NumberedLemmas.{number_within}
 use Rattle.dual_checker.proofs.HallFirsts.{row_places}
 use Rattle.dual_checker.proofs.HallMarking.{adds_item, adds_same}
 use Rattle.dual_checker.proofs.hall_marks.mark_row.Goals as goal
