@@ -18,7 +18,8 @@ use Rattle.assign_core.specs.Assignment.{AreListed, IsAssignment, total}
 use Rattle.assign_core.specs.Hall.{IsHallSet}
 use Rattle.assign_core.specs.Prices as prices
 use Rattle.assign_core.proofs.Listed.{all_listed, length_zip, object_within}
-use Rattle.assign_core.proofs.Members.{contains_later}
+use Rattle.assign_core.proofs.Members.{contains_first, contains_later}
+use Rattle.assign_core.proofs.NumberedLemmas.{number_within}
 use Rattle.report.specs.Reports.{IsReport, IsBestReport, IsHallReport, is_entry, is_price, is_rising, is_total, ArePrices, cost_limit, price_end}
 use Rattle.report.specs.Outcomes.{pairs_of, chosen_prices, outcome_report, IsOutcome}
 
@@ -31,10 +32,6 @@ abs_between (negsuc n) k l h = omega (arith, ints, l)
 cost_here : (n : ℕ) (row : Listing) (j : ℕ) → IsRow n row → IsSome (listed_in row j) → rows.IsCost (listed_or_zero row j)
 cost_here n row j r s = all_listed (λ e. rows.IsCost e.1) row j r.costs s
 
--- a number from 1 to n is one to m
-up_to : (n m j : ℕ) → n ≤ m → IsNumber n j → IsNumber m j
-up_to n m j l o = record { first = o.first; last = omega (arith, l, o.last) }
-
 entries_allowed : (n : ℕ) (s : Sense) (rows : List Listing) (xs : List ℕ) → n ≤ MOST_PERSONS → All (IsRow n) rows → AreListed rows xs → AllByRecursion (λ e. is_entry (Some s) e ≡ true) (pairs_of rows xs)
 entries_allowed n s [] xs l a h = tt
 entries_allowed n s (row ∷ rows) [] l a h = tt
@@ -42,7 +39,7 @@ entries_allowed n s (row ∷ rows) (j ∷ xs) l a h =
     let r = All-head (IsRow n) row rows a in
     let o = object_within n row j r.within h.0 in
     let c = cost_here n row j r h.0 in
-    let m = up_to n MOST_PERSONS j l o in
+    let m = number_within n MOST_PERSONS j l o in
     let near = abs_between (listed_or_zero row j) (cost_limit (Some s)) c.least c.greatest in
     (rw (lt-ltb 0 j m.first, le-leb j MOST_PERSONS m.last) (le-leb _ _ near), entries_allowed n s rows xs l (All-tail (IsRow n) row rows a) h.1)
 
@@ -112,15 +109,12 @@ rises xs s h = rising_by_index 0 xs (first xs h) (λ k l. let e : k + 1 ≡ suc 
 
 few_all : (n : ℕ) (xs : List ℕ) → n ≤ MOST_PERSONS → AllByRecursion (IsNumber n) xs → AllByRecursion (IsNumber MOST_PERSONS) xs
 few_all n [] l h = tt
-few_all n (x ∷ xs) l h = (up_to n MOST_PERSONS x l h.0, few_all n xs l h.1)
+few_all n (x ∷ xs) l h = (number_within n MOST_PERSONS x l h.0, few_all n xs l h.1)
 
 -- what every member meets
 each_member : (P : ℕ → Type 0) (xs : List ℕ) → ((x : ℕ) → Contains xs x → P x) → AllByRecursion P xs
 each_member P [] f = tt
-each_member P (x ∷ xs) f = (f x (here x xs), each_member P xs (λ y m. f y (contains_later x xs y m)))
-  where
-    here : (x : ℕ) (xs : List ℕ) → Contains (x ∷ xs) x
-    here x xs = (0, omega arith, refl)
+each_member P (x ∷ xs) f = (f x (contains_first x xs), each_member P xs (λ y m. f y (contains_later x xs y m)))
 
 listed_range : (n : ℕ) (rows : List Listing) (k j : ℕ) → All (IsRow n) rows → IsSome (listed_in (get_or rows k []) j) → IsNumber n j
 listed_range n [] k j a h = absurd (search rules)

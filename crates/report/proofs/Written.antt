@@ -3,6 +3,7 @@ use Rattle.std.proofs.Common.{◌≡◌, ℕ, ◌<◌, ◌≤◌, ◌+◌, List,
 use Rattle.std.proofs.Common.{take-add, add-one, unwrap_or, ℤ, pos, map, get_or, decimal}
 use Rattle.std.proofs.lemmas.List.{drop_more, drop_all}
 use Rattle.std.specs.Io.KnownBytes.{Appends}
+use Rattle.std.proofs.KnownBytes.{Appends-trans}
 use Rattle.report.specs.Writing.{Sent, IsCutOff, Writes}
 use Rattle.report.specs.inside.Holding.{Puts}
 use Rattle.report.specs.declared.fault.WriteFault.{WriteFault}
@@ -11,6 +12,7 @@ use Rattle.report.specs.Words.{behind_spaces}
 use Rattle.report.specs.Lines.{line_text, lines_text, price_line, price_lines, assign_line, assign_lines}
 use Rattle.report.specs.Outcomes.{pairs_of}
 use Rattle.assign_core.specs.Rows.{Listing, listed_in, listed_or_zero, row_of}
+use Rattle.assign_core.proofs.NumberedLemmas.{numbered-next}
 
 pub appends_more : (old mid new : Option (List ℕ)) (bytes : List ℕ) (at n : ℕ) → Appends old mid (take at bytes) → Appends mid new (take n (drop at bytes)) → Appends old new (take (at + n) bytes)
 appends_more None mid new bytes at n f g = tt
@@ -19,17 +21,11 @@ appends_more (Some xs) (Some ys) None bytes at n f g = absurd g
 appends_more (Some xs) (Some ys) (Some zs) bytes at n f g =
     g ∙ ap (λ l. l ++ take n (drop at bytes)) f ∙ append_assoc xs (take at bytes) (take n (drop at bytes)) ∙ ap (λ l. xs ++ l) (sym (take-add at n bytes))
 
-appends_two : (old mid new : Option (List ℕ)) (a b : List ℕ) → Appends old mid a → Appends mid new b → Appends old new (a ++ b)
-appends_two None mid new a b f g = tt
-appends_two (Some xs) None new a b f g = absurd f
-appends_two (Some xs) (Some ys) None a b f g = absurd g
-appends_two (Some xs) (Some ys) (Some zs) a b f g = g ∙ ap (λ l. l ++ b) f ∙ append_assoc xs a b
-
 -- what was left goes on
 pub sent_on : (old mid new : Option (List ℕ)) (text here more left : List ℕ) → Sent old mid text (here ++ more) → Sent mid new here left → Sent old new text (left ++ more)
 sent_on old mid new text here more left f g = (
   f.0 ++ g.0,
-  appends_two old mid new f.0 g.0 f.1 g.1,
+  Appends-trans old mid new f.0 g.0 f.1 g.1,
   f.2 ∙ ap (λ t. f.0 ++ t) (ap (λ t. t ++ more) g.2 ∙ append_assoc g.0 left more) ∙ sym (append_assoc f.0 g.0 (left ++ more)),
 )
 
@@ -88,11 +84,8 @@ pub pairs_more : (rows : List Listing) (xs : List ℕ) (i x : ℕ) (cost : ℤ) 
 pairs_more rows xs i x cost l lt e f =
     let row : drop i rows ≡ get_or rows i [] ∷ drop (i + 1) rows = drop_more rows i [] (omega arith) in
     let object : drop i xs ≡ x ∷ drop (i + 1) xs = drop_more xs i x lt ∙ ap (λ y. y ∷ drop (i + 1) xs) (sym e) in
-    let cost_is : cost ≡ listed_or_zero (get_or rows i []) x = f ∙ ap (λ r. listed_or_zero r x) (row_at rows i) in
+    let cost_is : cost ≡ listed_or_zero (get_or rows i []) x = f ∙ ap (λ r. listed_or_zero r x) (numbered-next rows i []) in
     rw (row, object, cost_is) (sym (append_assoc (line_text (assign_line (i + 1) x (listed_or_zero (get_or rows i []) x))) (10 ∷ []) (lines_text (assign_lines (i + 1 + 1) (pairs_of (drop (i + 1) rows) (drop (i + 1) xs))))))
-  where
-    row_at : (rows : List Listing) (i : ℕ) → row_of rows (i + 1) ≡ get_or rows i []
-    row_at rows i = rw add-one refl
 
 no_pairs : (rows : List Listing) → pairs_of rows [] ≡ []
 no_pairs [] = refl
@@ -106,7 +99,7 @@ pub put_end : (old new : Option (List ℕ)) (text kept rest : List ℕ) → rest
 put_end old new text kept rest e f = (f.0, f.1, f.2 ∙ ap (λ t. f.0 ++ t) (ap (λ t. kept ++ t) e ∙ append-nil kept))
 
 sent_next : (old mid new : Option (List ℕ)) (a b c : List ℕ) → Sent old mid a b → Sent mid new b c → Sent old new a c
-sent_next old mid new a b c f g = (f.0 ++ g.0, appends_two old mid new f.0 g.0 f.1 g.1, f.2 ∙ ap (λ t. f.0 ++ t) g.2 ∙ sym (append_assoc f.0 g.0 c))
+sent_next old mid new a b c f g = (f.0 ++ g.0, Appends-trans old mid new f.0 g.0 f.1 g.1, f.2 ∙ ap (λ t. f.0 ++ t) g.2 ∙ sym (append_assoc f.0 g.0 c))
 
 -- Parts of a text, one after the other: each goes out or is held back, but the last one may fail.
 
@@ -173,7 +166,7 @@ fourth_of_four old one two three new kept first second third last r text a b c d
 
 -- what is held back in the end goes out
 pub all_out : {X : Type 0} (old mid new : Option (List ℕ)) (text held : List ℕ) (r : Result X WriteFault) → Sent old mid ([] ++ text) held → Writes mid new r held → Writes old new r text
-all_out old mid new text held (Ok x) f g = whole old new (f.0 ++ held) text (sym f.2) (appends_two old mid new f.0 held f.1 g)
+all_out old mid new text held (Ok x) f g = whole old new (f.0 ++ held) text (sym f.2) (Appends-trans old mid new f.0 held f.1 g)
   where
     whole : (old new : Option (List ℕ)) (a b : List ℕ) → a ≡ b → Appends old new a → Appends old new b
     whole old new a b e h = rw (sym e) h

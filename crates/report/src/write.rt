@@ -28,7 +28,7 @@ fn put_pairs<W: Write>(
     ensures { Puts (W.contents w.old) (W.contents w.new) pending.old pending.new result
         (lines_text (Lines.assign_lines 1 (pairs_of problem.now assignment.now))) }
 {
-    // There are as many objects as rows, so that each place has a person's number.
+    // That each place has a person's number follows from this call.
     let _n = problem.n();
     for (i, object) in assignment.objects().iter().enumerate() {
         let person = Person(i as u16 + 1);
