@@ -1,6 +1,6 @@
 -- Writing in pieces.
 use Rattle.std.proofs.Common.{◌≡◌, ℕ, ◌<◌, ◌≤◌, ◌+◌, List, [], ◌∷◌, ◌++◌, Option, Some, None, length, take, drop, refl, sym, ap, subst, ◌∙◌, append_assoc, append-nil, arith, length-append}
-use Rattle.std.proofs.Common.{take-add, add-one, unwrap_or, ℤ, pos, map, get_or, decimal}
+use Rattle.std.proofs.Common.{take-add, unwrap_or, ℤ, pos, map, get_or, decimal}
 use Rattle.std.proofs.lemmas.List.{drop_more, drop_all}
 use Rattle.std.specs.Io.KnownBytes.{Appends}
 use Rattle.std.proofs.KnownBytes.{Appends-trans}
