@@ -55,6 +55,7 @@ fn raise_times(log: &mut PriceLog, times: u32) -> Result<(), AllocError>
     ensures below { IfOk result (λ _. IsBelow (today log.old) (today log.new)) }
     ensures log { IfOk result (λ _. IsHistory log.new) }
 {
+    // That the log is one before the first raise follows from this call.
     let _log = log.prices();
     for _ in 0..times {
         raise_by_one(log)?;
