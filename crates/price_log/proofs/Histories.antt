@@ -1,8 +1,8 @@
 -- Logs, their tables and their trims.
-use Rattle.std.proofs.Common.{◌≡◌, ℕ, ℤ, pos, zero, suc, ◌+ℤ◌, ◌≤ℤ◌, ◌<ℤ◌, ◌+◌, ◌-◌, ◌*◌, ◌^◌, ◌<◌, ◌≤◌, List, [], ◌∷◌, ◌++◌, length, get_or, set, take, drop, nat_eq, refl, ap, arith, sym, ◌∙◌, subst, length-append, length-drop, inl, inr, Result, Ok, Err, OnOk, IfOk}
+use Rattle.std.proofs.Common.{◌≡◌, ℕ, ℤ, pos, zero, suc, ◌+ℤ◌, ◌≤ℤ◌, ◌<ℤ◌, ◌+◌, ◌-◌, ◌*◌, ◌^◌, ◌<◌, ◌≤◌, List, [], ◌∷◌, ◌++◌, length, get_or, set, take, drop, take-add, nat_eq, refl, ap, arith, sym, ◌∙◌, subst, length-append, length-drop, inl, inr, Result, Ok, Err, OnOk, IfOk}
 use Rattle.std.specs.List.{All}
 use Rattle.std.proofs.lemmas.Int.{ints}
-use Rattle.std.proofs.lemmas.List.{take-append-le, take-append-drop, drop-take, take-take, take_all, take_more, length-take-le}
+use Rattle.std.proofs.lemmas.List.{take-append-le, take-append-drop, take_all, take_more, length-take-le}
 use Rattle.std.proofs.Math.Seq.{drop-cons}
 use Rattle.std.proofs.lemmas.List.Elements.{All-head, All-tail, All-set}
 use Rattle.std.proofs.lemmas.Bool.{cond-true, cond-false}
@@ -85,9 +85,6 @@ sum_bound (x ∷ p) h =
     let e : length (x ∷ p) * 10 ^ 22 ≡ length p * 10 ^ 22 + 10 ^ 22 = omega arith in
     rw e (omega (arith, ints))
 
-parts : {A : Type 0} (k m : ℕ) (xs : List A) → take (k + m) xs ≡ take k xs ++ take m (drop k xs)
-parts k m xs = sym (take-append-drop k (take (k + m) xs)) ∙ (λ i. take-take k (k + m) xs (omega arith) i ++ drop-take k m xs i)
-
 -- the version of a log is at most the sum of its prices, and so has 128 bits
 pub version_early : (log : History) → IsHistory log → pos (last_version log) ≤ℤ sum_of (today log)
 version_early log is = let s = sum_raised log.base log.raises is.rises in let e = is.early in omega (arith, ints)
@@ -112,7 +109,7 @@ table_split : (log : History) (u v : ℕ) → log.first_kept ≤ u → u ≤ v �
 table_split log u v h k =
     let e : v - log.first_kept ≡ (u - log.first_kept) + (v - u) = omega arith in
     ap (λ m. raised log.base (take m log.raises)) e
-    ∙ ap (raised log.base) (parts (u - log.first_kept) (v - u) log.raises)
+    ∙ ap (raised log.base) (take-add (u - log.first_kept) (v - u) log.raises)
     ∙ raised-append log.base (take (u - log.first_kept) log.raises) (take (v - u) (drop (u - log.first_kept) log.raises))
 
 pub continues-refl : (l : History) → Continues l l
@@ -221,7 +218,7 @@ table_rises l u v is le =
     let d : b ≡ a + (b - a) = omega arith in
     let c = cut l.base a l.raises is.rises in
     let e : table_at l v ≡ raised (raised l.base (take a l.raises)) (take (b - a) (drop a l.raises)) =
-    ap (λ m. raised l.base (take m l.raises)) d ∙ ap (raised l.base) (parts a (b - a) l.raises) ∙ raised-append l.base (take a l.raises) (take (b - a) (drop a l.raises)) in
+    ap (λ m. raised l.base (take m l.raises)) d ∙ ap (raised l.base) (take-add a (b - a) l.raises) ∙ raised-append l.base (take a l.raises) (take (b - a) (drop a l.raises)) in
     subst (IsBelow (table_at l u)) (sym e) (raises_up (table_at l u) (take (b - a) (drop a l.raises)) (cut (table_at l u) (b - a) (drop a l.raises) c.1).0)
 
 pub today-at : (l : History) → table_at l (last_version l) ≡ today l
