@@ -19,7 +19,7 @@ use Rattle.auction_book.specs.Phases.{is_over}
 use Rattle.auction_book.specs.Session.{IsPrepared, next_if_over, prepared}
 use Rattle.auction_book.proofs.Calling.{answered_follows}
 use Rattle.auction_book.proofs.Claiming.{claim_by}
-use Rattle.auction_book.proofs.Following.{claimed_follows, follows_itself, given_up_follows, goes_on_through, phased_follows, stop_follows}
+use Rattle.auction_book.proofs.Following.{given_up_follows, goes_on_through, phased_follows, stop_follows}
 use Rattle.auction_book.proofs.Places.{claimed_person}
 use Rattle.async_workers.proofs.Turning.{given_up_none}
 

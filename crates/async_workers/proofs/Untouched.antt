@@ -1,5 +1,5 @@
 -- A book in which nobody has a claim and no bid was accepted.
-use Rattle.std.proofs.Common.{◌≡◌, ℕ, ℤ, zero, suc, List, [], ◌∷◌, Option, None, replicate, true≢false, refl, sym, ap, ◌∙◌, arith, sum, get_or, length}
+use Rattle.std.proofs.Common.{◌≡◌, ℕ, ℤ, zero, suc, List, [], ◌∷◌, None, true≢false, refl, sym, ap, ◌∙◌, arith, sum, get_or, length}
 use Rattle.std.proofs.lemmas.List.Sums.{sum_by-cons}
 use Rattle.assign_core.specs.Numbered.{IsNumber, numbered}
 use Rattle.assign_core.proofs.Matchings.{below_itself}
