@@ -76,8 +76,11 @@ compare("nushbaret_told", fields("nushbaret_told"), crate_fields("told.rt", "Tol
 text = (TOP / "crates/assign_core/src/numbers.rt").read_text().replace("_", "")
 for name in ["MOST_PERSONS", "GREATEST_COST"]:
     compare(name, int(re.search(rf"NUSHBARET_{name} (?:INT64_C\()?(\d+)", HEADER)[1]), int(re.search(rf"{name.replace('_', '')}: \w+ = (\d+)", text)[1]))
-version = re.search(r'VERSION: &str = "(.*)"', (TOP / "crates/assign_core/src/version.rt").read_text())[1]
-compare("version", re.search(r'NUSHBARET_VERSION "(.*)"', HEADER)[1], version)
+version = (TOP / "VERSION").read_text().strip()
+compare("version of the header", re.search(r'NUSHBARET_VERSION "(.*)"', HEADER)[1], version)
+for file in TOP.glob("crates/*/src/*.rt"):
+    for told in re.findall(r'VERSION: &str = "(.*)"', file.read_text()):
+        compare(f"version of {file.parent.parent.name}", told, version)
 mapped = re.findall(r"^\s+(nushbaret_\w+);", (TOP / "c/exports.map").read_text(), flags=re.M)
 compare("exports.map", sorted(mapped), sorted(calls))
 shown = subprocess.run(["nm", "-D", "--defined-only", TOP / "c/out/libnushbaret.so"], capture_output=True, text=True, check=True).stdout

@@ -1,8 +1,8 @@
 // A problem: for each person the listed objects, rising, each with its cost.
-ghost use Rattle.std.specs.Prelude.{◌≡◌, ℕ, ℤ, ◌+◌, ◌-◌, ◌*◌, ◌<◌, ◌≤◌, List, [], ◌++◌, Some, IsSome, length, map, All, IfOk};
+ghost use Rattle.std.specs.Prelude.{◌≡◌, ℕ, ℤ, ◌+◌, ◌-◌, ◌*◌, ◌<◌, ◌≤◌, List, [], ◌++◌, Some, IsSome, length, map, replicate, All, IfOk};
 ghost use Rattle.assign_core.specs.Numbered.{IsNumber, numbered};
 ghost use Rattle.assign_core.specs.Rows.{Listing, IsProblem, IsRising, IsRow, IsCost, IsSize, HasCosts, listed_in, row_of};
-ghost use Rattle.assign_core.specs.Dense.{dense_rows, row_from, rows_cut};
+ghost use Rattle.assign_core.specs.Dense.{dense_rows, dense_rows_among, row_from, rows_cut};
 ghost use Rattle.assign_core.specs.Assignment.{IsAssignment, total};
 
 use super::assignment::Assignment;
@@ -64,6 +64,43 @@ fn row_of_costs(alloc: Global, costs: &[Cost]) -> Result<Vec<(Object, Cost)>, Al
     Ok(row)
 }
 
+// The rows of `n` persons among `m` objects: the first `m` costs are those of person 1, the next `m` those of person 2, ..
+fn cut_rows(
+    alloc: Global,
+    n: u16,
+    m: u16,
+    costs: &[Cost],
+) -> Result<Vec<Vec<(Object, Cost)>>, AllocError>
+    requires few { m ≤ MOST_PERSONS }
+    requires count { length costs.now ≡ n * m }
+    ensures { IfOk result (λ rows. map (λ r. r.items) rows.items ≡ rows_cut m n costs.now) }
+{
+    let mut rows = Vec::with_capacity(alloc, n.max(m) as usize)?;
+    let mut left = costs;
+    for _ in 0..n {
+        let (front, rest) = left.split_at(m as usize);
+        rows.push(row_of_costs(alloc, front)?)?;
+        left = rest;
+    }
+    Ok(rows)
+}
+
+// The rows with empty ones behind them, so that there are at least `m`.
+fn filled_up(
+    alloc: Global,
+    mut rows: Vec<Vec<(Object, Cost)>>,
+    n: u16,
+    m: u16,
+) -> Result<Vec<Vec<(Object, Cost)>>, AllocError>
+    ensures { IfOk result (λ all. map (λ r. r.items) all.items
+        ≡ map (λ r. r.items) rows.items ++ replicate (m - n) []) }
+{
+    for _ in 0..m.saturating_sub(n) {
+        rows.push(Vec::new(alloc))?;
+    }
+    Ok(rows)
+}
+
 impl Problem {
     /// The problem of these rows.
     pub fn from_rows(rows: Vec<Vec<(Object, Cost)>>) -> Problem
@@ -87,14 +124,31 @@ impl Problem {
         requires costs { All IsCost costs.now }
         ensures { IfOk result (λ problem. problem ≡ dense_rows n costs.now) }
     {
-        let mut rows = Vec::with_capacity(alloc, n as usize)?;
-        let mut left = costs;
-        for _ in 0..n {
-            let (front, rest) = left.split_at(n as usize);
-            rows.push(row_of_costs(alloc, front)?)?;
-            left = rest;
-        }
-        Ok(Problem { rows })
+        Ok(Problem {
+            rows: cut_rows(alloc, n, n, costs)?,
+        })
+    }
+
+    /// The problem of `n` persons among `m` objects in which each person lists each object: the
+    /// first `m` costs are those of person 1 to objects 1, 2, .., the next `m` those of person 2,
+    /// and so on. Where there are more objects than persons, persons `n + 1` to `m` list nothing:
+    /// an assignment of the first `n` is meant.
+    ///
+    /// It reads each cost once, and takes 16 bytes for it, and 24 for each person.
+    ///
+    /// # Errors
+    /// Only where memory is refused.
+    pub fn dense_among(alloc: Global, n: u16, m: u16, costs: &[Cost]) -> Result<Problem, AllocError>
+        requires persons { IsSize n }
+        requires objects { IsSize m }
+        requires count { length costs.now ≡ n * m }
+        requires costs { All IsCost costs.now }
+        ensures { IfOk result (λ problem. problem ≡ dense_rows_among n m costs.now) }
+    {
+        let rows = cut_rows(alloc, n, m, costs)?;
+        Ok(Problem {
+            rows: filled_up(alloc, rows, n, m)?,
+        })
     }
 
     /// How many persons there are, and how many objects.

@@ -14,7 +14,7 @@ ghost use Rattle.auction_cli.specs.inside.Words.{IsFaultOf};
 ghost use Rattle.auction_cli.specs.Words.{flag_rule, input_rule, method_rule, named_rule, numbered_rule, optional_rule, plain_solve_app, program, report_rule, solve_app, start_rule, valued_rule, verify_app, version_rule};
 ghost use Rattle.auction_cli.specs.Words.{full_line, full_options, full_verify_line, input_line, input_verify_line, is_max, mode_name, sense_name, usual_options};
 
-use assign_core::{Sense, VERSION};
+use assign_core::Sense;
 use clap::builder::ValueParser;
 use clap::error::ErrorKind;
 use clap::{Arg, ArgAction, ArgMatches, Command, Error};
@@ -395,6 +395,9 @@ fn version_flag<'a>(alloc: Global) -> Arg<'a>
         .help("Print the version")
         .action(ArgAction::Version)
 }
+
+// The program's number, as the file VERSION at the top has it.
+const VERSION: &str = "1.0.0";
 
 // The program's command with its subcommands. clap's own option for the version has a short name.
 fn command<'a>(alloc: Global) -> Result<Command<'a>, AllocError>

@@ -1,7 +1,8 @@
 // Which version this is.
 ghost use Rattle.std.specs.Prelude.{◌≡◌, ◌++◌, ◌∷◌, ◌<◌, ◌≤◌, codes, drop, length};
 
-use assign_core::VERSION;
+// The library's number, as the file VERSION at the top has it.
+const VERSION: &str = "1.0.0";
 
 /// The length of the version's text. Where the room has a place more than that, the text and a 0 stand at
 /// its beginning then; else it is as it was.

@@ -1,26 +1,8 @@
-use Rattle.std.proofs.Common.{◌≡◌, ◌-◌, ◌+◌, ◌++◌, ◌∷◌, subst, append-nil, arith, sym, ◌∙◌, ap, map, take}
+use Rattle.std.proofs.Common.{subst, sym}
 use Rattle.assign_core.specs.Rows.{IsProblem}
-use Rattle.assign_core.specs.Dense.{rows_cut, row_from}
-use Rattle.assign_core.proofs.DenseRows.{rows_cut-step, rows_moved, less_left, IsProblem-dense}
+use Rattle.assign_core.proofs.DenseRows.{IsProblem-dense}
 use Rattle.assign_core.proofs.problem.Problem.dense.Goals as goal
-
-pub loop-preserved : goal.loop-preserved
-loop-preserved c =
-    let lt = c.loop-test.true in
-    let less = less_left c.args.n c.loop.counter lt in
-    let row = c.in_ok-row_of_costs.ensures ∙ ap (row_from 1) c.split_at.ensures.front in
-    record {
-      whole =
-          ap (λ l. map (λ r. r.items) l ++ rows_cut c.args.n (c.args.n - (c.loop.counter + 1)) c.split_at.result.1.now) c.in_ok-push.ensures.items
-          ∙ rows_moved (λ r. r.items) c.loop.rows.items c.in_ok-row_of_costs.field-0 (row_from 1 (take c.args.n c.loop.left.now)) (rows_cut c.args.n (c.args.n - (c.loop.counter + 1)) c.split_at.result.1.now) row
-          ∙ ap (λ l. map (λ r. r.items) c.loop.rows.items ++ l)
-          (ap (λ l. row_from 1 (take c.args.n c.loop.left.now) ∷ rows_cut c.args.n (c.args.n - (c.loop.counter + 1)) l) c.split_at.ensures.back ∙ sym (rows_cut-step c.args.n c.loop.counter c.loop.left.now lt))
-          ∙ c.loop.invariant.whole;
-      long = let b = c.split_at.ensures.back_len in let w = c.loop.invariant.long in omega arith;
-    }
 
 pub invariant_of-result : goal.invariant_of-result
 invariant_of-result c =
-    let done : c.args.n - c.loop.counter ≡ 0 = omega (arith, c.loop-test.false) in
-    let all = sym (append-nil (map (λ r. r.items) c.loop.rows.items)) ∙ ap (λ m. map (λ r. r.items) c.loop.rows.items ++ rows_cut c.args.n m c.loop.left.now) (sym done) ∙ c.loop.invariant.whole in
-    subst IsProblem (sym all) (IsProblem-dense c.args.n c.args.costs.now c.requires.size c.requires.count c.requires.costs)
+    subst IsProblem (sym c.in_ok-cut_rows.ensures) (IsProblem-dense c.args.n c.args.costs.now c.requires.size c.requires.count c.requires.costs)

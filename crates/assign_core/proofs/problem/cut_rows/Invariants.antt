@@ -1,10 +1,10 @@
 use Rattle.std.proofs.Common.{◌≡◌, ◌*◌, ◌-◌, ◌++◌, length, map}
 use Rattle.assign_core.specs.Dense.{rows_cut}
-use Rattle.assign_core.proofs.problem.Problem.dense.Given as goal
+use Rattle.assign_core.proofs.problem.cut_rows.Given as goal
 
 -- the rows so far and those cut from the costs that are left are all rows
 abbrev pub invariant-loop : goal.invariant-loop
 invariant-loop l = record {
-  whole : map (λ r. r.items) l.rows.items ++ rows_cut l.n (l.n - l.counter) l.left ≡ rows_cut l.n l.n l.fn.costs;
-  long : length l.left ≡ (l.n - l.counter) * l.n;
+  whole : map (λ r. r.items) l.rows.items ++ rows_cut l.m (l.n - l.counter) l.left ≡ rows_cut l.m l.n l.fn.costs;
+  long : length l.left ≡ (l.n - l.counter) * l.m;
 }
