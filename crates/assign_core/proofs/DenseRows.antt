@@ -1,9 +1,10 @@
 -- Dense problems: rows cut from a list of costs.
 use Rattle.std.proofs.Common.{◌≡◌, ℕ, ℤ, pos, ◌<◌, ◌≤◌, ◌+◌, ◌-◌, ◌*◌, zero, suc, List, [], ◌∷◌, ◌++◌, length, replicate, drop, take, get_or, map, refl, arith, sym, ◌∙◌, ap, append_assoc, length-take-le, length-drop, subst}
+use Rattle.std.proofs.Math.Seq.{take-append_seam}
 use Rattle.std.proofs.lemmas.List.{map-append, length-append, length-replicate}
 use Rattle.std.specs.List.{All}
 use Rattle.std.proofs.lemmas.List.Elements.{All-nil, All-cons, All-take, All-drop, All-append, All-replicate, All-weaker}
-use Rattle.assign_core.specs.Rows.{Listing, IsCost, IsRow, IsSize, IsProblem}
+use Rattle.assign_core.specs.Rows.{Listing, IsAmong, IsCost, IsRow, IsSize, IsProblem}
 use Rattle.assign_core.specs.Dense.{dense_rows_among, row_from, rows_cut}
 use Rattle.assign_core.specs.Numbered.{IsNumber}
 
@@ -91,6 +92,18 @@ IsProblem-dense_among n m costs persons objects long h =
         few = let a = persons.few in let b = objects.few in omega (arith, both);
       };
       each = subst (λ k. All (IsRow k) (dense_rows_among n m costs)) (sym both) (All-append (IsRow (n + (m - n))) (rows_cut m n costs) (replicate (m - n) []) rows others);
+    }
+
+-- and its first n rows are the rows of costs
+pub IsAmong-dense_among : (n m : ℕ) (costs : List ℤ) → IsSize m → length costs ≡ n * m → All IsCost costs → IsAmong n m (dense_rows_among n m costs)
+IsAmong-dense_among n m costs objects long h =
+    let cut = length-rows_cut m n costs in
+    let both = length-append (rows_cut m n costs) (replicate {A = Listing} (m - n) []) in
+    let front : take n (dense_rows_among n m costs) ≡ rows_cut m n costs = ap (λ k. take k (dense_rows_among n m costs)) (sym cut) ∙ take-append_seam (rows_cut m n costs) (replicate (m - n) []) in
+    record {
+      persons = omega (arith, cut, both);
+      objects = objects;
+      each = subst (All (IsRow m)) (sym front) (rows_are m n costs (omega (arith, long)) h);
     }
 
 -- one row is cut off

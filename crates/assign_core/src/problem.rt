@@ -1,7 +1,7 @@
 // A problem: for each person the listed objects, rising, each with its cost.
 ghost use Rattle.std.specs.Prelude.{◌≡◌, ℕ, ℤ, ◌+◌, ◌-◌, ◌*◌, ◌<◌, ◌≤◌, List, [], ◌++◌, Some, IsSome, length, map, replicate, All, IfOk};
 ghost use Rattle.assign_core.specs.Numbered.{IsNumber, numbered};
-ghost use Rattle.assign_core.specs.Rows.{Listing, IsProblem, IsRising, IsRow, IsCost, IsSize, HasCosts, listed_in, row_of};
+ghost use Rattle.assign_core.specs.Rows.{Listing, IsAmong, IsProblem, IsRising, IsRow, IsCost, IsSize, HasCosts, listed_in, row_of};
 ghost use Rattle.assign_core.specs.Dense.{dense_rows, dense_rows_among, row_from, rows_cut};
 ghost use Rattle.assign_core.specs.Assignment.{IsAssignment, total};
 
@@ -143,7 +143,8 @@ impl Problem {
         requires objects { IsSize m }
         requires count { length costs.now ≡ n * m }
         requires costs { All IsCost costs.now }
-        ensures { IfOk result (λ problem. problem ≡ dense_rows_among n m costs.now) }
+        ensures rows { IfOk result (λ problem. problem ≡ dense_rows_among n m costs.now) }
+        ensures among { IfOk result (IsAmong n m) }
     {
         let rows = cut_rows(alloc, n, m, costs)?;
         Ok(Problem {
