@@ -1,25 +1,28 @@
 -- Each verdict excludes the others.
-use Rattle.std.proofs.Common.{◌≡◌, ℕ, ℤ, pos, List, [], length, nat_eq, All, arith, ap, ◌∙◌, sym, refl, subst, IsSome}
+use Rattle.std.proofs.Common.{◌≡◌, ℕ, ℤ, pos, List, [], length, map, nat_eq, All, arith, ap, ◌∙◌, sym, refl, subst, IsSome, inl, inr}
+use Rattle.std.proofs.lemmas.Int.{ints}
+use Rattle.std.proofs.lemmas.List.{length-map}
 use Rattle.std.specs.List.{IsDistinct}
 use Rattle.assign_core.specs.declared.sense.Sense.{Sense}
 use Rattle.assign_core.specs.Rows.{Listing, listed_in, row_of}
 use Rattle.assign_core.specs.Assignment.{AreListed}
-use Rattle.assign_core.specs.Benefits.{benefit_rows}
+use Rattle.assign_core.specs.Benefits.{benefit_row}
 use Rattle.assign_core.specs.Prices.{IsPrice}
-use Rattle.assign_core.specs.Slackness.{AllSlack, HasSlack, IsCertificate}
+use Rattle.assign_core.specs.Slackness.{AllSlack, AreLow, HasSlack}
 use Rattle.assign_core.proofs.Listed.{length_zip}
 use Rattle.assign_core.proofs.NumberedLemmas.{All-numbered}
 use Rattle.assign_core.proofs.Zips.{pair_number}
-use Rattle.assign_core.proofs.BenefitRows.{length-benefit_rows}
 use Rattle.dual_checker.specs.declared.verdict.Verdict.TheVariants.{Length, Unlisted, Twice, PriceRange, Slack, Yes}
-use Rattle.dual_checker.specs.Faults.{IsFirst, AreLong, IsUnlisted, IsGivenTwice, IsOutOfRange, BreaksSlackOf, IsShort, own_object}
-use Rattle.dual_checker.specs.Verdicts.{VerdictsDiffer}
+use Rattle.dual_checker.specs.Faults.{IsFirst, AreLong, IsUnlisted, IsGivenTwice, IsOutOfRange, BreaksSlackOf, IsShort, IsDear, own_object}
+use Rattle.dual_checker.specs.declared.verdict.Verdict.{Verdict}
+use Rattle.dual_checker.specs.declared.among.VerdictAmong.TheVariants.{Usual, Dear}
+use Rattle.dual_checker.specs.Verdicts.{IsFault, IsSlackAssignment, IsVerdict, IsVerdictAmong, VerdictsDiffer, VerdictsAmongDiffer}
 use Rattle.dual_checker.proofs.Firsts.{firsts_agree}
 use Rattle.dual_checker.proofs.Givings.{once_at_most}
 use Rattle.dual_checker.proofs.Worths.{slack_unbroken}
 
-long : (sense : Sense) (rows : List Listing) (xs : List ℕ) (prices : List ℤ) → IsCertificate sense rows xs prices → AreLong rows xs prices
-long sense rows xs prices c = record { objects = sym (length_zip _ rows xs c.assigned.listed); prices_too = c.priced }
+long : (sense : Sense) (m : ℕ) (rows : List Listing) (xs : List ℕ) (prices : List ℤ) → IsSlackAssignment sense m rows xs prices → AreLong m rows xs prices
+long sense m rows xs prices c = record { objects = sym (length_zip _ rows xs c.assigned.listed); prices_too = c.priced }
 
 not_unlisted : (rows : List Listing) (xs : List ℕ) (i : ℕ) → AreListed rows xs → IsFirst (IsUnlisted rows xs) (length rows) i → ⊥
 not_unlisted rows xs i h f = f.here (pair_number (λ row j. IsSome (listed_in row j)) rows xs i [] 0 h f.number.first f.number.last)
@@ -30,49 +33,112 @@ not_twice xs n j h f = let a = once_at_most xs j h in let b = f.here in omega ar
 not_out : (prices : List ℤ) (n j : ℕ) → length prices ≡ n → All IsPrice prices → IsFirst (IsOutOfRange prices) n j → ⊥
 not_out prices n j l h f = f.here (All-numbered IsPrice prices j (pos 0) h f.number.first (let b = f.number.last in omega arith))
 
-not_short : (sense : Sense) (rows : List Listing) (xs : List ℕ) (prices : List ℤ) (i : ℕ) → AllSlack (pos 1) prices (benefit_rows sense rows) xs → IsFirst (IsShort sense rows xs prices) (length rows) i → ⊥
-not_short sense rows xs prices i h f =
-    let e = length-benefit_rows sense rows in
-    let slack = pair_number (HasSlack (pos 1) prices) (benefit_rows sense rows) xs i [] 0 h f.number.first (let b = f.number.last in omega arith) in
-    slack_unbroken (pos 1) prices (row_of (benefit_rows sense rows) i) (own_object xs i) f.here.0 slack f.here.1
+not_short : (sense : Sense) (m : ℕ) (rows : List Listing) (xs : List ℕ) (prices : List ℤ) (i : ℕ) → AllSlack (pos 1) prices (map (benefit_row sense m) rows) xs →
+    IsFirst (IsShort sense m rows xs prices) (length rows) i → ⊥
+not_short sense m rows xs prices i h f =
+    let e : length (map (benefit_row sense m) rows) ≡ length rows = simp length-map in
+    let slack = pair_number (HasSlack (pos 1) prices) (map (benefit_row sense m) rows) xs i [] 0 h f.number.first (let b = f.number.last in omega arith) in
+    slack_unbroken (pos 1) prices (row_of (map (benefit_row sense m) rows) i) (own_object xs i) f.here.0 slack f.here.1
+
+not_dear : (m : ℕ) (prices : List ℤ) (xs : List ℕ) (j : ℕ) → AreLow m prices xs → IsFirst (IsDear m prices xs) m j → ⊥
+not_dear m prices xs j low f =
+    let over = f.here.1.2 in
+    elim (low j f.here.1.0 f.number f.here.1.1) [ inl c ↦ f.here.0 c | inr le ↦ absurd (omega (arith, ints)) ]
+
+pub faults_differ : (sense : Sense) (m : ℕ) (rows : List Listing) (xs : List ℕ) (prices : List ℤ) (v w : Verdict) →
+    IsFault sense m rows xs prices v → IsFault sense m rows xs prices w → v ≡ w
+faults_differ s m r x p Length Length a b = refl
+faults_differ s m r x p Length (Unlisted j) a b = absurd (a b.0)
+faults_differ s m r x p Length (Twice j) a b = absurd (a b.0)
+faults_differ s m r x p Length (PriceRange j) a b = absurd (a b.0)
+faults_differ s m r x p Length (Slack j k) a b = absurd (a b.0)
+faults_differ s m r x p Length Yes a b = absurd (a (long s m r x p b))
+faults_differ s m r x p (Unlisted i) Length a b = absurd (b a.0)
+faults_differ s m r x p (Unlisted i) (Unlisted j) a b = ap Unlisted (firsts_agree _ _ i j a.1 b.1)
+faults_differ s m r x p (Unlisted i) (Twice j) a b = absurd (not_unlisted r x i b.1 a.1)
+faults_differ s m r x p (Unlisted i) (PriceRange j) a b = absurd (not_unlisted r x i b.1.listed a.1)
+faults_differ s m r x p (Unlisted i) (Slack j k) a b = absurd (not_unlisted r x i b.1.listed a.1)
+faults_differ s m r x p (Unlisted i) Yes a b = absurd (not_unlisted r x i b.assigned.listed a.1)
+faults_differ s m r x p (Twice i) Length a b = absurd (b a.0)
+faults_differ s m r x p (Twice i) (Unlisted j) a b = absurd (not_unlisted r x j a.1 b.1)
+faults_differ s m r x p (Twice i) (Twice j) a b = ap Twice (firsts_agree _ _ i j a.2 b.2)
+faults_differ s m r x p (Twice i) (PriceRange j) a b = absurd (not_twice x _ i b.1.apart a.2)
+faults_differ s m r x p (Twice i) (Slack j k) a b = absurd (not_twice x _ i b.1.apart a.2)
+faults_differ s m r x p (Twice i) Yes a b = absurd (not_twice x _ i b.assigned.apart a.2)
+faults_differ s m r x p (PriceRange i) Length a b = absurd (b a.0)
+faults_differ s m r x p (PriceRange i) (Unlisted j) a b = absurd (not_unlisted r x j a.1.listed b.1)
+faults_differ s m r x p (PriceRange i) (Twice j) a b = absurd (not_twice x _ j a.1.apart b.2)
+faults_differ s m r x p (PriceRange i) (PriceRange j) a b = ap PriceRange (firsts_agree _ _ i j a.2 b.2)
+faults_differ s m r x p (PriceRange i) (Slack j k) a b = absurd (not_out p _ i b.0.prices_too b.2 a.2)
+faults_differ s m r x p (PriceRange i) Yes a b = absurd (not_out p _ i b.priced b.in_range a.2)
+faults_differ s m r x p (Slack i l) Length a b = absurd (b a.0)
+faults_differ s m r x p (Slack i l) (Unlisted j) a b = absurd (not_unlisted r x j a.1.listed b.1)
+faults_differ s m r x p (Slack i l) (Twice j) a b = absurd (not_twice x _ j a.1.apart b.2)
+faults_differ s m r x p (Slack i l) (PriceRange j) a b = absurd (not_out p _ j a.0.prices_too a.2 b.2)
+faults_differ s m r x p (Slack i l) (Slack j k) a b =
+    let e = firsts_agree _ _ i j a.3 b.3 in
+    let o = firsts_agree (BreaksSlackOf s m r x p j) m l k (subst (λ q. IsFirst (BreaksSlackOf s m r x p q) m l) e a.4) b.4 in
+    ap (λ q. Slack q l) e ∙ ap (λ q. Slack j q) o
+faults_differ s m r x p (Slack i l) Yes a b = absurd (not_short s m r x p i b.slack a.3)
+faults_differ s m r x p Yes Length a b = absurd (b (long s m r x p a))
+faults_differ s m r x p Yes (Unlisted j) a b = absurd (not_unlisted r x j a.assigned.listed b.1)
+faults_differ s m r x p Yes (Twice j) a b = absurd (not_twice x _ j a.assigned.apart b.2)
+faults_differ s m r x p Yes (PriceRange j) a b = absurd (not_out p _ j a.priced a.in_range b.2)
+faults_differ s m r x p Yes (Slack j k) a b = absurd (not_short s m r x p j a.slack b.3)
+faults_differ s m r x p Yes Yes a b = refl
+
+-- a verdict is the first fault, and the other way round
+pub fault_of : (sense : Sense) (rows : List Listing) (xs : List ℕ) (prices : List ℤ) (v : Verdict) → IsVerdict sense rows xs prices v →
+    IsFault sense (length rows) rows xs prices v
+fault_of s r x p Length h = h
+fault_of s r x p (Unlisted i) h = h
+fault_of s r x p (Twice j) h = h
+fault_of s r x p (PriceRange j) h = h
+fault_of s r x p (Slack i k) h = h
+fault_of s r x p Yes h = record { assigned = h.assigned; priced = h.priced; in_range = h.in_range; slack = h.slack }
+
+pub verdict_of : (sense : Sense) (rows : List Listing) (xs : List ℕ) (prices : List ℤ) (v : Verdict) →
+    IsFault sense (length rows) rows xs prices v → IsVerdict sense rows xs prices v
+verdict_of s r x p Length h = h
+verdict_of s r x p (Unlisted i) h = h
+verdict_of s r x p (Twice j) h = h
+verdict_of s r x p (PriceRange j) h = h
+verdict_of s r x p (Slack i k) h = h
+verdict_of s r x p Yes h = record { assigned = h.assigned; priced = h.priced; in_range = h.in_range; slack = h.slack }
 
 pub differ : VerdictsDiffer
-differ s r x p Length Length a b = refl
-differ s r x p Length (Unlisted j) a b = absurd (a b.0)
-differ s r x p Length (Twice j) a b = absurd (a b.0)
-differ s r x p Length (PriceRange j) a b = absurd (a b.0)
-differ s r x p Length (Slack j k) a b = absurd (a b.0)
-differ s r x p Length Yes a b = absurd (a (long s r x p b))
-differ s r x p (Unlisted i) Length a b = absurd (b a.0)
-differ s r x p (Unlisted i) (Unlisted j) a b = ap Unlisted (firsts_agree _ _ i j a.1 b.1)
-differ s r x p (Unlisted i) (Twice j) a b = absurd (not_unlisted r x i b.1 a.1)
-differ s r x p (Unlisted i) (PriceRange j) a b = absurd (not_unlisted r x i b.1.listed a.1)
-differ s r x p (Unlisted i) (Slack j k) a b = absurd (not_unlisted r x i b.1.listed a.1)
-differ s r x p (Unlisted i) Yes a b = absurd (not_unlisted r x i b.assigned.listed a.1)
-differ s r x p (Twice i) Length a b = absurd (b a.0)
-differ s r x p (Twice i) (Unlisted j) a b = absurd (not_unlisted r x j a.1 b.1)
-differ s r x p (Twice i) (Twice j) a b = ap Twice (firsts_agree _ _ i j a.2 b.2)
-differ s r x p (Twice i) (PriceRange j) a b = absurd (not_twice x _ i b.1.apart a.2)
-differ s r x p (Twice i) (Slack j k) a b = absurd (not_twice x _ i b.1.apart a.2)
-differ s r x p (Twice i) Yes a b = absurd (not_twice x _ i b.assigned.apart a.2)
-differ s r x p (PriceRange i) Length a b = absurd (b a.0)
-differ s r x p (PriceRange i) (Unlisted j) a b = absurd (not_unlisted r x j a.1.listed b.1)
-differ s r x p (PriceRange i) (Twice j) a b = absurd (not_twice x _ j a.1.apart b.2)
-differ s r x p (PriceRange i) (PriceRange j) a b = ap PriceRange (firsts_agree _ _ i j a.2 b.2)
-differ s r x p (PriceRange i) (Slack j k) a b = absurd (not_out p _ i b.0.prices_too b.2 a.2)
-differ s r x p (PriceRange i) Yes a b = absurd (not_out p _ i b.priced b.in_range a.2)
-differ s r x p (Slack i l) Length a b = absurd (b a.0)
-differ s r x p (Slack i l) (Unlisted j) a b = absurd (not_unlisted r x j a.1.listed b.1)
-differ s r x p (Slack i l) (Twice j) a b = absurd (not_twice x _ j a.1.apart b.2)
-differ s r x p (Slack i l) (PriceRange j) a b = absurd (not_out p _ j a.0.prices_too a.2 b.2)
-differ s r x p (Slack i l) (Slack j k) a b =
-    let e = firsts_agree _ _ i j a.3 b.3 in
-    let o = firsts_agree (BreaksSlackOf s r x p j) (length r) l k (subst (λ q. IsFirst (BreaksSlackOf s r x p q) (length r) l) e a.4) b.4 in
-    ap (λ q. Slack q l) e ∙ ap (λ q. Slack j q) o
-differ s r x p (Slack i l) Yes a b = absurd (not_short s r x p i b.slack a.3)
-differ s r x p Yes Length a b = absurd (b (long s r x p a))
-differ s r x p Yes (Unlisted j) a b = absurd (not_unlisted r x j a.assigned.listed b.1)
-differ s r x p Yes (Twice j) a b = absurd (not_twice x _ j a.assigned.apart b.2)
-differ s r x p Yes (PriceRange j) a b = absurd (not_out p _ j a.priced a.in_range b.2)
-differ s r x p Yes (Slack j k) a b = absurd (not_short s r x p j a.slack b.3)
-differ s r x p Yes Yes a b = refl
+differ s r x p v w a b = faults_differ s (length r) r x p v w (fault_of s r x p v a) (fault_of s r x p w b)
+
+-- the same among m objects
+usual_fault : (sense : Sense) (m : ℕ) (rows : List Listing) (xs : List ℕ) (prices : List ℤ) (v : Verdict) →
+    IsVerdictAmong sense m rows xs prices (Usual v) → IsFault sense m rows xs prices v
+usual_fault s m r x p Length h = h
+usual_fault s m r x p (Unlisted i) h = h
+usual_fault s m r x p (Twice j) h = h
+usual_fault s m r x p (PriceRange j) h = h
+usual_fault s m r x p (Slack i k) h = h
+usual_fault s m r x p Yes h = record { assigned = h.assigned; priced = h.priced; in_range = h.in_range; slack = h.slack }
+
+pub usual_verdict : (sense : Sense) (m : ℕ) (rows : List Listing) (xs : List ℕ) (prices : List ℤ) (v : Verdict) → (v ≡ Yes → ⊥) →
+    IsFault sense m rows xs prices v → IsVerdictAmong sense m rows xs prices (Usual v)
+usual_verdict s m r x p Length other h = h
+usual_verdict s m r x p (Unlisted i) other h = h
+usual_verdict s m r x p (Twice j) other h = h
+usual_verdict s m r x p (PriceRange j) other h = h
+usual_verdict s m r x p (Slack i k) other h = h
+usual_verdict s m r x p Yes other h = absurd (other refl)
+
+dear_apart : (sense : Sense) (m : ℕ) (rows : List Listing) (xs : List ℕ) (prices : List ℤ) (v : Verdict) (j : ℕ) →
+    IsVerdictAmong sense m rows xs prices (Usual v) → IsVerdictAmong sense m rows xs prices (Dear j) → ⊥
+dear_apart s m r x p Length j a b = a (long s m r x p b.0)
+dear_apart s m r x p (Unlisted i) j a b = not_unlisted r x i b.0.assigned.listed a.1
+dear_apart s m r x p (Twice i) j a b = not_twice x _ i b.0.assigned.apart a.2
+dear_apart s m r x p (PriceRange i) j a b = not_out p _ i b.0.priced b.0.in_range a.2
+dear_apart s m r x p (Slack i k) j a b = not_short s m r x p i b.0.slack a.3
+dear_apart s m r x p Yes j a b = not_dear m p x j a.low b.1
+
+pub differ_among : VerdictsAmongDiffer
+differ_among s m r x p (Usual v) (Usual w) a b = ap Usual (faults_differ s m r x p v w (usual_fault s m r x p v a) (usual_fault s m r x p w b))
+differ_among s m r x p (Usual v) (Dear j) a b = absurd (dear_apart s m r x p v j a b)
+differ_among s m r x p (Dear j) (Usual v) a b = absurd (dear_apart s m r x p v j b a)
+differ_among s m r x p (Dear i) (Dear j) a b = ap Dear (firsts_agree _ _ i j a.1 b.1)

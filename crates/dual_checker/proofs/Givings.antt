@@ -10,10 +10,10 @@ use Rattle.std.proofs.lemmas.Bool.Decides.{eqb_tells}
 abbrev pub count_of : List ℕ → ℕ → ℕ
 count_of xs j = count_by (λ x. x == j) xs
 
-count-more : (x : ℕ) (xs : List ℕ) (j : ℕ) → nat_eq x j ≡ true → count_of (x ∷ xs) j ≡ 1 + count_of xs j
+pub count-more : (x : ℕ) (xs : List ℕ) (j : ℕ) → nat_eq x j ≡ true → count_of (x ∷ xs) j ≡ 1 + count_of xs j
 count-more x xs j e = sum_by-cons (λ y. cond (y == j) 1 0) x xs ∙ ap (λ n. n + count_of xs j) (cond-true (nat_eq x j) 1 0 e)
 
-count-same : (x : ℕ) (xs : List ℕ) (j : ℕ) → nat_eq x j ≡ false → count_of (x ∷ xs) j ≡ count_of xs j
+pub count-same : (x : ℕ) (xs : List ℕ) (j : ℕ) → nat_eq x j ≡ false → count_of (x ∷ xs) j ≡ count_of xs j
 count-same x xs j e =
     let one : count_of (x ∷ xs) j ≡ 0 + count_of xs j = sum_by-cons (λ y. cond (y == j) 1 0) x xs ∙ ap (λ n. n + count_of xs j) (cond-false (nat_eq x j) 1 0 e) in
     omega arith

@@ -4,6 +4,8 @@ pub mod Givings
 pub mod Tallies
 pub mod Worths
 pub mod Differences
+pub mod Fronts
+pub mod Dear
 pub mod HallMarking
 pub mod HallFirsts
 pub mod HallDifferences

@@ -1,5 +1,5 @@
 -- Rows of benefits, and what breaks slackness in them.
-use Rattle.std.proofs.Common.{◌≡◌, ℕ, ℤ, pos, ◌+ℤ◌, ◌-ℤ◌, ◌≤ℤ◌, ◌<ℤ◌, ◌<◌, List, [], length, Some, IsSome, arith, inl, inr, refl, ap, ◌∙◌, sym, unwrap_or, get_or, ◌+◌, subst}
+use Rattle.std.proofs.Common.{◌≡◌, ℕ, ℤ, pos, ◌+ℤ◌, ◌-ℤ◌, ◌≤ℤ◌, ◌<ℤ◌, ◌<◌, List, [], length, map, Some, IsSome, arith, inl, inr, refl, ap, ◌∙◌, sym, unwrap_or, get_or, ◌+◌, subst}
 use Rattle.std.specs.List.{All}
 use Rattle.std.proofs.lemmas.Int.{ints}
 use Rattle.std.proofs.lemmas.Bool.{cases_order}
@@ -11,7 +11,7 @@ use Rattle.assign_core.specs.Assignment.{AreListed}
 use Rattle.assign_core.proofs.Zips.{pair_number}
 use Rattle.assign_core.proofs.NumberedLemmas.{numbered-next}
 use Rattle.assign_core.specs.Rows.{Listing, IsListed, IsProblem, IsRow, IsRising, listed_in, listed_or_zero, row_of}
-use Rattle.assign_core.specs.Benefits.{benefit, benefit_row, benefit_rows}
+use Rattle.assign_core.specs.Benefits.{benefit, benefit_row}
 use Rattle.assign_core.specs.Prices.{price_of}
 use Rattle.assign_core.specs.Slackness.{HasSlack, IsWorth}
 use Rattle.assign_core.proofs.Listed.{all_listed, listed_range, rising_listed}
@@ -30,10 +30,6 @@ pub own_listed : (rows : List Listing) (xs : List ℕ) (i x : ℕ) → AreListed
 own_listed rows xs i x listed long lt is =
     let own : x ≡ numbered xs (i + 1) 0 = is ∙ get_or_default xs i x 0 lt ∙ sym (numbered-next xs i 0) in
     rw own (pair_number (λ row j. IsSome (listed_in row j)) rows xs (i + 1) [] 0 listed (omega arith) (omega arith))
-
--- and it is an object that has a price
-pub own_priced : (rows : List Listing) (xs : List ℕ) (prices : List ℤ) (i x : ℕ) → IsProblem rows → length prices ≡ length rows → AreListed rows xs → length xs ≡ length rows → i < length xs → x ≡ get_or xs i x → IsNumber (length prices) x
-own_priced rows xs prices i x is priced listed long lt own = rw priced (listed_range rows (i + 1) x is (own_listed rows xs i x listed long lt own)).object
 
 -- entry e, with its cost, is worth at most 1 more than own
 abbrev pub IsUnder : Sense → ℕ → List ℤ → ℤ → ℕ × ℤ → Type 0
@@ -81,9 +77,9 @@ first_break sense n prices row j i own entry r lt is e before over =
       none_below = λ k some below. none_under sense n prices row j i own entry r.rising lt e before k (omega arith);
     }
 
--- what holds of a row as it was read, with as many persons as prices, and of an object as it was read, holds of them by the person's number
-pub by_number : (Q : Listing → ℕ → Type 0) (sense : Sense) (rows : List Listing) (xs : List ℕ) (row : Listing) (n i j : ℕ) → n ≡ length rows → row ≡ row_of rows i → j ≡ own_object xs i →
-    Q (benefit_row sense n row) j → Q (row_of (benefit_rows sense rows) i) (own_object xs i)
-by_number Q sense rows xs row n i j long read object h =
-    let e : benefit_row sense n row ≡ row_of (benefit_rows sense rows) i = ap (λ m. benefit_row sense m row) long ∙ ap (benefit_row sense (length rows)) read ∙ sym (row_of-benefits sense (length rows) rows i) in
-    subst (λ r. Q r (own_object xs i)) e (subst (Q (benefit_row sense n row)) object h)
+-- what holds of a row as it was read and of an object as it was read holds of them by the person's number
+pub by_number : (Q : Listing → ℕ → Type 0) (sense : Sense) (m : ℕ) (rows : List Listing) (xs : List ℕ) (row : Listing) (i j : ℕ) → row ≡ row_of rows i → j ≡ own_object xs i →
+    Q (benefit_row sense m row) j → Q (row_of (map (benefit_row sense m) rows) i) (own_object xs i)
+by_number Q sense m rows xs row i j read object h =
+    let e : benefit_row sense m row ≡ row_of (map (benefit_row sense m) rows) i = ap (benefit_row sense m) read ∙ sym (row_of-benefits sense m rows i) in
+    subst (λ r. Q r (own_object xs i)) e (subst (Q (benefit_row sense m row)) object h)

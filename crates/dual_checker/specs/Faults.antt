@@ -1,8 +1,8 @@
 -- What may be wrong with two lists, one of objects and one of prices.
-use Rattle.std.specs.Prelude.{◌≡◌, ℕ, ℤ, pos, ◌+ℤ◌, ◌<ℤ◌, ◌<◌, ◌==◌, List, length, IsSome, count_by}
+use Rattle.std.specs.Prelude.{◌≡◌, ℕ, ℤ, pos, ◌+ℤ◌, ◌<ℤ◌, ◌<◌, ◌==◌, List, length, map, IsSome, Contains, count_by}
 use Rattle.assign_core.specs.Numbered.{IsNumber, numbered}
 use Rattle.assign_core.specs.Rows.{Listing, IsListed, listed_in, listed_or_zero, row_of}
-use Rattle.assign_core.specs.Benefits.{benefit_rows}
+use Rattle.assign_core.specs.Benefits.{benefit_row}
 use Rattle.assign_core.specs.Prices.{price_of, IsPrice}
 use Rattle.assign_core.specs.declared.sense.Sense.{Sense}
 
@@ -12,10 +12,10 @@ pub record IsFirst (Fault : ℕ → Type 0) (n k : ℕ) : Type 0 where
   pub here : Fault k
   pub none_below : (i : ℕ) → 0 < i → i < k → ¬ Fault i
 
--- an object and a price for each person
-pub record AreLong (rows : List Listing) (xs : List ℕ) (prices : List ℤ) : Type 0 where
+-- an object for each person, and a price for each of m objects
+pub record AreLong (m : ℕ) (rows : List Listing) (xs : List ℕ) (prices : List ℤ) : Type 0 where
   pub objects : length xs ≡ length rows
-  pub prices_too : length prices ≡ length rows
+  pub prices_too : length prices ≡ m
 
 -- the object of person i
 abbrev pub own_object : List ℕ → ℕ → ℕ
@@ -38,10 +38,14 @@ pub record BreaksSlack (eps : ℤ) (prices : List ℤ) (row : Listing) (j k : �
   pub listed : IsSome (listed_in row k)
   pub more : (listed_or_zero row j +ℤ price_of prices k +ℤ eps) <ℤ (listed_or_zero row k +ℤ price_of prices j)
 
--- object k breaks the slackness 1 of person i
-abbrev pub BreaksSlackOf : Sense → List Listing → List ℕ → List ℤ → ℕ → ℕ → Type 0
-BreaksSlackOf sense rows xs prices i k = BreaksSlack (pos 1) prices (row_of (benefit_rows sense rows) i) (own_object xs i) k
+-- among m objects, object k breaks the slackness 1 of person i
+abbrev pub BreaksSlackOf : Sense → ℕ → List Listing → List ℕ → List ℤ → ℕ → ℕ → Type 0
+BreaksSlackOf sense m rows xs prices i k = BreaksSlack (pos 1) prices (row_of (map (benefit_row sense m) rows) i) (own_object xs i) k
 
 -- some object breaks the slackness 1 of person i
-abbrev pub IsShort : Sense → List Listing → List ℕ → List ℤ → ℕ → Type 0
-IsShort sense rows xs prices i = (k : ℕ) × BreaksSlackOf sense rows xs prices i k
+abbrev pub IsShort : Sense → ℕ → List Listing → List ℕ → List ℤ → ℕ → Type 0
+IsShort sense m rows xs prices i = (k : ℕ) × BreaksSlackOf sense m rows xs prices i k
+
+-- nobody has object j, and it costs over 1 more than another of m objects
+abbrev pub IsDear : ℕ → List ℤ → List ℕ → ℕ → Type 0
+IsDear m prices xs j = ¬ Contains xs j × ((k : ℕ) × IsNumber m k × ((price_of prices k +ℤ pos 1) <ℤ price_of prices j))

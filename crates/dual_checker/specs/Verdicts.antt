@@ -1,26 +1,54 @@
 -- What each verdict says of two lists, one of objects and one of prices.
-use Rattle.std.specs.Prelude.{◌≡◌, ℕ, ℤ, List, length, All}
+use Rattle.std.specs.Prelude.{◌≡◌, ℕ, ℤ, pos, List, length, map, All}
 use Rattle.assign_core.specs.declared.sense.Sense.{Sense}
 use Rattle.assign_core.specs.Rows.{Listing}
 use Rattle.assign_core.specs.Assignment.{AreListed, IsAssignment}
+use Rattle.assign_core.specs.Benefits.{benefit_row}
 use Rattle.assign_core.specs.Prices.{IsPrice}
-use Rattle.assign_core.specs.Slackness.{IsCertificate}
+use Rattle.assign_core.specs.Slackness.{AllSlack, IsCertificate, IsCertificateAmong}
 use Rattle.dual_checker.specs.declared.verdict.Verdict.{Verdict}
 use Rattle.dual_checker.specs.declared.verdict.Verdict.TheVariants.{Length, Unlisted, Twice, PriceRange, Slack, Yes}
-use Rattle.dual_checker.specs.Faults.{IsFirst, AreLong, IsUnlisted, IsGivenTwice, IsOutOfRange, BreaksSlackOf, IsShort}
+use Rattle.dual_checker.specs.declared.among.VerdictAmong.{VerdictAmong}
+use Rattle.dual_checker.specs.declared.among.VerdictAmong.TheVariants.{Usual, Dear}
+use Rattle.dual_checker.specs.Faults.{IsFirst, AreLong, IsUnlisted, IsGivenTwice, IsOutOfRange, BreaksSlackOf, IsShort, IsDear}
 
--- the first fault in the order of the variants, by the lowest number that has it, and Yes where there is none
+-- an assignment among m objects, and prices in range at which each person has slackness 1
+pub record IsSlackAssignment (sense : Sense) (m : ℕ) (rows : List Listing) (xs : List ℕ) (prices : List ℤ) : Type 0 where
+  pub assigned : IsAssignment rows xs
+  pub priced : length prices ≡ m
+  pub in_range : All IsPrice prices
+  pub slack : AllSlack (pos 1) prices (map (benefit_row sense m) rows) xs
+
+-- among m objects the first fault in the order of the variants, by the lowest number that has it, and Yes where there is
+-- none of these
+abbrev pub IsFault : Sense → ℕ → List Listing → List ℕ → List ℤ → Verdict → Type 0
+IsFault sense m rows xs prices Length = ¬ AreLong m rows xs prices
+IsFault sense m rows xs prices (Unlisted i) = AreLong m rows xs prices × IsFirst (IsUnlisted rows xs) (length rows) i
+IsFault sense m rows xs prices (Twice j) = AreLong m rows xs prices × AreListed rows xs × IsFirst (IsGivenTwice xs) m j
+IsFault sense m rows xs prices (PriceRange j) = AreLong m rows xs prices × IsAssignment rows xs × IsFirst (IsOutOfRange prices) m j
+IsFault sense m rows xs prices (Slack i k) =
+    AreLong m rows xs prices × IsAssignment rows xs × All IsPrice prices
+    × IsFirst (IsShort sense m rows xs prices) (length rows) i × IsFirst (BreaksSlackOf sense m rows xs prices i) m k
+IsFault sense m rows xs prices Yes = IsSlackAssignment sense m rows xs prices
+
+-- among as many objects as persons: the first fault, and Yes where the lists are a certificate
 abbrev pub IsVerdict : Sense → List Listing → List ℕ → List ℤ → Verdict → Type 0
-IsVerdict sense rows xs prices Length = ¬ AreLong rows xs prices
-IsVerdict sense rows xs prices (Unlisted i) = AreLong rows xs prices × IsFirst (IsUnlisted rows xs) (length rows) i
-IsVerdict sense rows xs prices (Twice j) = AreLong rows xs prices × AreListed rows xs × IsFirst (IsGivenTwice xs) (length rows) j
-IsVerdict sense rows xs prices (PriceRange j) = AreLong rows xs prices × IsAssignment rows xs × IsFirst (IsOutOfRange prices) (length rows) j
-IsVerdict sense rows xs prices (Slack i k) =
-    AreLong rows xs prices × IsAssignment rows xs × All IsPrice prices
-    × IsFirst (IsShort sense rows xs prices) (length rows) i × IsFirst (BreaksSlackOf sense rows xs prices i) (length rows) k
 IsVerdict sense rows xs prices Yes = IsCertificate sense rows xs prices
+IsVerdict sense rows xs prices fault = IsFault sense (length rows) rows xs prices fault
+
+-- among m objects: the first fault, behind the others that an unowned object is dear, and Yes where the lists are a
+-- certificate
+abbrev pub IsVerdictAmong : Sense → ℕ → List Listing → List ℕ → List ℤ → VerdictAmong → Type 0
+IsVerdictAmong sense m rows xs prices (Usual Yes) = IsCertificateAmong sense m rows xs prices
+IsVerdictAmong sense m rows xs prices (Usual fault) = IsFault sense m rows xs prices fault
+IsVerdictAmong sense m rows xs prices (Dear j) = IsSlackAssignment sense m rows xs prices × IsFirst (IsDear m prices xs) m j
 
 -- no two verdicts hold of the same problem, sense and lists
 abbrev pub VerdictsDiffer : Type 0
 VerdictsDiffer = (sense : Sense) (rows : List Listing) (xs : List ℕ) (prices : List ℤ) (v w : Verdict) →
     IsVerdict sense rows xs prices v → IsVerdict sense rows xs prices w → v ≡ w
+
+-- the same among m objects
+abbrev pub VerdictsAmongDiffer : Type 0
+VerdictsAmongDiffer = (sense : Sense) (m : ℕ) (rows : List Listing) (xs : List ℕ) (prices : List ℤ) (v w : VerdictAmong) →
+    IsVerdictAmong sense m rows xs prices v → IsVerdictAmong sense m rows xs prices w → v ≡ w

@@ -1,8 +1,10 @@
 // The checker: the first fault of the verdicts' order.
-ghost use Rattle.std.specs.Prelude.{◌≡◌, ◌↔◌, length, replicate, IfOk};
+ghost use Rattle.std.specs.Prelude.{◌≡◌, ◌↔◌, length, replicate, take, IfOk};
 ghost use Rattle.assign_core.specs.Assignment.{IsBest};
 ghost use Rattle.assign_core.specs.Slackness.{IsCertificate};
-ghost use Rattle.dual_checker.specs.Verdicts.{IsVerdict};
+ghost use Rattle.assign_core.specs.Rows.{IsAmong};
+ghost use Rattle.dual_checker.specs.Counts.{AreCounts};
+ghost use Rattle.dual_checker.specs.Verdicts.{IsFault, IsVerdict};
 
 use super::counts::first_given_twice;
 use super::listed::first_unlisted;
@@ -12,19 +14,25 @@ use super::verdict::Verdict;
 use assign_core::{Object, Price, Problem, Sense};
 use std::alloc::{AllocError, Global};
 
-// The first fault, told by counts that are 0 at first.
-fn first_fault(
+// The first fault of the first `n` persons' objects and of a price for each count; the counts are 0 at first.
+pub fn first_fault(
     counts: &mut [u16],
     problem: &Problem,
+    n: u16,
     sense: Sense,
     objects: &[Object],
     prices: &[Price],
 ) -> Verdict
-    requires { counts.old ≡ replicate (length problem.now) 0 }
-    ensures { IsVerdict sense problem.now objects.now prices.now result }
+    requires among { IsAmong n (length counts.old) problem.now }
+    requires zero { counts.old ≡ replicate (length counts.old) 0 }
+    ensures fault { IsFault sense (length counts.old) (take n problem.now) objects.now
+        prices.now result }
+    ensures counts { result ≡ Verdict.Yes → AreCounts counts.new objects.now }
+    ensures long { length counts.new ≡ length counts.old }
 {
-    let n = problem.n() as usize;
-    if objects.len() != n || prices.len() != n {
+    // That there are few enough persons follows from this call.
+    let _persons = problem.n();
+    if objects.len() != n as usize || prices.len() != counts.len() {
         return Verdict::Length;
     }
     if let Some(person) = first_unlisted(problem, objects) {
@@ -63,7 +71,7 @@ pub fn check(
         (v ≡ Verdict.Yes) ↔ IsCertificate sense problem.now objects.now prices.now) }
     ensures best { IfOk result (λ v. v ≡ Verdict.Yes → IsBest sense problem.now objects.now) }
 {
-    let n = problem.n() as usize;
-    let mut counts = vec![in alloc; 0u16; n]?;
-    Ok(first_fault(counts.as_mut_slice(), problem, sense, objects, prices))
+    let n = problem.n();
+    let mut counts = vec![in alloc; 0u16; n as usize]?;
+    Ok(first_fault(counts.as_mut_slice(), problem, n, sense, objects, prices))
 }

@@ -1,11 +1,13 @@
 // Answers of any origin, taken where they are proofs.
-ghost use Rattle.std.specs.Prelude.{◌≡◌, ◌↔◌, IsTrue, IfOk, IfSome};
+ghost use Rattle.std.specs.Prelude.{◌≡◌, ◌↔◌, take, IsTrue, IfOk, IfSome};
 ghost use Rattle.assign_core.specs.declared.sense.Sense.{Sense};
-ghost use Rattle.assign_core.specs.Slackness.{IsCertificate};
+ghost use Rattle.assign_core.specs.Rows.{IsAmong};
+ghost use Rattle.assign_core.specs.Slackness.{IsCertificate, IsCertificateAmong};
 ghost use Rattle.assign_core.specs.Hall.{IsHallSet};
-ghost use Rattle.assign_core.specs.Outcomes.{IsProof};
+ghost use Rattle.assign_core.specs.Outcomes.{IsProof, IsProofAmong};
 ghost use Rattle.dual_checker.specs.Confirmed.{IsConfirmed};
 
+use super::among::{VerdictAmong, check_among};
 use super::checker::check;
 use super::hall::check_hall;
 use super::hall_verdict::HallVerdict;
@@ -65,6 +67,39 @@ pub fn confirm_best(
     }
     // That there are few enough prices for a table follows from this call.
     let _few = problem.n();
+    let prices = Prices::new(alloc, prices)?;
+    let assignment = Assignment::new(objects);
+    Ok(Some(Outcome::Best(Certificate { assignment, prices })))
+}
+
+/// The outcome that these objects of persons 1 to `n` and these prices of objects 1 to `m` are, where
+/// they are a certificate under this sense, as `check_among` tells. `None` exactly where they aren't.
+///
+/// The lists may be of any length and hold any numbers. They are not copied.
+///
+/// # Errors
+/// Only where memory is refused. The lists are dropped then.
+pub fn confirm_best_among(
+    alloc: Global,
+    problem: &Problem,
+    n: u16,
+    m: u16,
+    sense: Sense,
+    objects: Vec<Object>,
+    prices: Vec<Price>,
+) -> Result<Option<Outcome>, AllocError>
+    requires { IsAmong n m problem.now }
+    ensures lists { IfOk result (IsConfirmed
+        (IsCertificateAmong sense m (take n problem.now) objects.items prices.items)
+        (Outcome.Best (record { assignment = objects.items; prices = prices.items }))) }
+    ensures proof { IfOk result
+        (λ found. IfSome found (IsProofAmong sense m (take n problem.now))) }
+{
+    let (listed, priced) = (objects.as_slice(), prices.as_slice());
+    let verdict = check_among(alloc, problem, n, m, sense, listed, priced)?;
+    if verdict != VerdictAmong::Usual(Verdict::Yes) {
+        return Ok(None);
+    }
     let prices = Prices::new(alloc, prices)?;
     let assignment = Assignment::new(objects);
     Ok(Some(Outcome::Best(Certificate { assignment, prices })))

@@ -36,11 +36,13 @@ fn first_over_one(counts: &[u16]) -> Option<Object>
 
 // The lowest object that is given twice, told by counts that are 0 at first.
 pub fn first_given_twice(counts: &mut [u16], objects: &[Object]) -> Option<Object>
-    requires zero { counts.old ≡ replicate (length objects.now) 0 }
+    requires zero { counts.old ≡ replicate (length counts.old) 0 }
     requires few { length objects.now ≤ MOST_PERSONS }
-    requires within { All (IsNumber (length objects.now)) objects.now }
-    ensures { MatchOption result (IsDistinct nat_eq objects.now)
-        (λ j. IsFirst (IsGivenTwice objects.now) (length objects.now) j) }
+    requires most { length counts.old ≤ MOST_PERSONS }
+    requires within { All (IsNumber (length counts.old)) objects.now }
+    ensures first { MatchOption result (IsDistinct nat_eq objects.now)
+        (λ j. IsFirst (IsGivenTwice objects.now) (length counts.old) j) }
+    ensures counts { AreCounts counts.new objects.now }
 {
     count_given(counts, objects);
     first_over_one(counts)

@@ -1,6 +1,7 @@
 //! Checks certificates and Hall sets. Whoever made them is not trusted.
 #![tactic(auto)]
 
+mod among;
 mod checker;
 mod confirm;
 mod counts;
@@ -15,8 +16,9 @@ mod slack;
 mod tests;
 mod verdict;
 
+pub use among::{VerdictAmong, check_among, one_verdict_among};
 pub use checker::check;
-pub use confirm::{confirm_best, confirm_hall, confirms};
+pub use confirm::{confirm_best, confirm_best_among, confirm_hall, confirms};
 pub use hall::check_hall;
 pub use hall_verdict::{HallVerdict, one_hall_verdict};
 pub use verdict::{Verdict, one_verdict};

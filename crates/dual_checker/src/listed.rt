@@ -1,15 +1,16 @@
 // Whether each person lists its object.
-ghost use Rattle.std.specs.Prelude.{◌≡◌, length, MatchOption};
+ghost use Rattle.std.specs.Prelude.{◌≤◌, length, take, MatchOption};
 ghost use Rattle.dual_checker.specs.Faults.{IsFirst, IsUnlisted};
 ghost use Rattle.assign_core.specs.Assignment.{AreListed};
 
 use assign_core::{Object, Person, Problem};
 
-// The lowest person that doesn't list its object.
+// Of as many persons as objects are given, the lowest that doesn't list its object.
 pub fn first_unlisted(problem: &Problem, objects: &[Object]) -> Option<Person>
-    requires { length objects.now ≡ length problem.now }
-    ensures { MatchOption result (AreListed problem.now objects.now)
-        (λ i. IsFirst (IsUnlisted problem.now objects.now) (length problem.now) i) }
+    requires { length objects.now ≤ length problem.now }
+    ensures { let rows = take (length objects.now) problem.now in
+        MatchOption result (AreListed rows objects.now)
+        (λ i. IsFirst (IsUnlisted rows objects.now) (length objects.now) i) }
 {
     // That as many persons can be numbered follows from this call.
     let _persons = problem.n();

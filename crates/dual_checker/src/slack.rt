@@ -1,8 +1,8 @@
 // Whether each person has slackness 1.
-ghost use Rattle.std.specs.Prelude.{◌≡◌, ℕ, ℤ, pos, ◌+◌, ◌*ℤ◌, ◌≤ℤ◌, ◌-ℤ◌, length, All, MatchOption};
+ghost use Rattle.std.specs.Prelude.{◌≡◌, ℕ, ℤ, pos, ◌+◌, ◌*ℤ◌, ◌≤◌, ◌≤ℤ◌, ◌-ℤ◌, length, map, take, All, MatchOption};
 ghost use Rattle.assign_core.specs.Numbered.{IsNumber};
 ghost use Rattle.assign_core.specs.Rows.{IsCost, IsRow, IsSize, IsListed, listed_or_zero, row_of};
-ghost use Rattle.assign_core.specs.Benefits.{benefit, benefit_row, benefit_rows};
+ghost use Rattle.assign_core.specs.Benefits.{benefit, benefit_row};
 ghost use Rattle.assign_core.specs.Prices.{IsPrice, price_of};
 ghost use Rattle.assign_core.specs.Slackness.{AllSlack, HasSlack};
 ghost use Rattle.dual_checker.specs.Faults.{BreaksSlack, BreaksSlackOf, IsFirst, IsShort};
@@ -11,7 +11,7 @@ ghost use Rattle.assign_core.specs.Assignment.{AreListed};
 use assign_core::{Cost, GREATEST_COST, MOST_PERSONS, Object, Person, Price, Problem, Sense};
 
 // An object's price.
-fn price_at(prices: &[Price], object: Object) -> Price
+pub fn price_at(prices: &[Price], object: Object) -> Price
     requires object { IsNumber (length prices.now) object }
     requires in_range { All IsPrice prices.now }
     ensures value { result ≡ price_of prices.now object }
@@ -31,7 +31,7 @@ fn worth(sense: Sense, n: u16, cost: Cost, price: Price) -> Price
     i128::from(sense.benefit(n, cost)) - price
 }
 
-// What a person's own object is worth to it.
+// What a person's own object is worth to it, among as many objects as prices.
 fn own_worth(
     problem: &Problem,
     sense: Sense,
@@ -41,18 +41,17 @@ fn own_worth(
 ) -> Price
     requires person { IsNumber (length problem.now) person }
     requires listed { IsListed problem.now person object }
+    requires size { IsSize (length prices.now) }
     requires number { IsNumber (length prices.now) object }
-    requires priced { length prices.now ≡ length problem.now }
     requires in_range { All IsPrice prices.now }
     ensures value { let cost = listed_or_zero (row_of problem.now person) object in
-        result ≡ (benefit sense (length problem.now) cost -ℤ price_of prices.now object) }
+        result ≡ (benefit sense (length prices.now) cost -ℤ price_of prices.now object) }
     ensures most { result ≤ℤ (pos (MOST_PERSONS + 1) *ℤ GREATEST_COST) }
 {
-    let n = problem.n();
     // That each listed cost is in range follows from this call.
     let _listed = problem.row(person);
     let cost = problem.cost_of(person, object).unwrap_or(0);
-    worth(sense, n, cost, price_at(prices, object))
+    worth(sense, prices.len() as u16, cost, price_at(prices, object))
 }
 
 // The lowest object of a row that is worth more than a person's own object by over 1.
@@ -83,22 +82,24 @@ fn first_broken(
     None
 }
 
-// The lowest person without slackness 1, and the lowest object that breaks it.
+// Of as many persons as objects are given, the lowest without slackness 1, and the lowest object that breaks it.
 pub fn first_short(
     problem: &Problem,
     sense: Sense,
     objects: &[Object],
     prices: &[Price],
 ) -> Option<(Person, Object)>
-    requires long { length objects.now ≡ length problem.now }
-    requires listed { AreListed problem.now objects.now }
-    requires priced { length prices.now ≡ length problem.now }
+    requires long { length objects.now ≤ length problem.now }
+    requires size { IsSize (length prices.now) }
+    requires rows { All (IsRow (length prices.now)) (take (length objects.now) problem.now) }
+    requires listed { AreListed (take (length objects.now) problem.now) objects.now }
     requires in_range { All IsPrice prices.now }
-    ensures { let n = length problem.now in
+    ensures { let m = length prices.now in
+        let rows = take (length objects.now) problem.now in
         MatchOption result
-        (AllSlack (pos 1) prices.now (benefit_rows sense problem.now) objects.now)
-        (λ p. IsFirst (IsShort sense problem.now objects.now prices.now) n p.0
-        × IsFirst (BreaksSlackOf sense problem.now objects.now prices.now p.0) n p.1) }
+        (AllSlack (pos 1) prices.now (map (benefit_row sense m) rows) objects.now)
+        (λ p. IsFirst (IsShort sense m rows objects.now prices.now) (length objects.now) p.0
+        × IsFirst (BreaksSlackOf sense m rows objects.now prices.now p.0) m p.1) }
 {
     // That as many persons can be numbered follows from this call.
     let _persons = problem.n();

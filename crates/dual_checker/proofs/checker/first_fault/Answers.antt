@@ -1,15 +1,21 @@
-use Rattle.std.proofs.Common.{ℕ, length, sym, subst, All, ◌∙◌}
-use Rattle.std.proofs.lemmas.List.Elements.{All-weaker, All-from_recursion}
-use Rattle.assign_core.specs.Numbered.{IsNumber}
-use Rattle.assign_core.specs.Rows.{IsRow, IsWithin}
-use Rattle.assign_core.proofs.Listed.{objects_within}
+use Rattle.std.proofs.Common.{ℕ, length, take, arith, sym, subst, All}
+use Rattle.assign_core.specs.Rows.{IsRow}
+use Rattle.dual_checker.proofs.Fronts.{given_within}
 use Rattle.dual_checker.proofs.checker.first_fault.Goals as goal
+
+pub first_given_twice-requires-clause-few : goal.first_given_twice-requires-clause-few
+first_given_twice-requires-clause-few c =
+    let few = c.n-persons.ensures.problem.size.few in
+    omega (arith, few, c.requires.among.persons, c.if-objects-n.false)
 
 pub first_given_twice-requires-clause-within : goal.first_given_twice-requires-clause-within
 first_given_twice-requires-clause-within c =
-    let n : ℕ = length c.args.problem.now in
-    let xs = c.args.objects.now in
-    let within = All-weaker (IsRow n) (IsWithin n) (λ r h. h.within) c.args.problem.now c.n-n.ensures.problem.each in
-    let range = All-from_recursion (IsNumber n) xs (objects_within n c.args.problem.now xs within c.in_default.ensures) in
-    let P : ℕ → Type 0 = λ m. All (IsNumber m) xs in
-    subst P (sym (c.if-objects-n.false ∙ c.n-n.ensures.count)) range
+    let m : ℕ = length c.args.counts.now in
+    let each = subst (λ k. All (IsRow m) (take k c.args.problem.now)) (sym c.if-objects-n.false) c.requires.among.each in
+    given_within m (take (length c.args.objects.now) c.args.problem.now) c.args.objects.now each c.in_default.ensures
+
+pub first_short-requires-clause-rows : goal.first_short-requires-clause-rows
+first_short-requires-clause-rows c =
+    let m : ℕ = length c.args.counts.now in
+    let each = subst (λ k. All (IsRow m) (take k c.args.problem.now)) (sym c.if-objects-n.false) c.requires.among.each in
+    subst (λ k. All (IsRow k) (take (length c.args.objects.now) c.args.problem.now)) (sym c.if-prices-counts.false) each

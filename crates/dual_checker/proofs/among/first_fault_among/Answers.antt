@@ -1,0 +1,37 @@
+use Rattle.std.proofs.Common.{◌≡◌, ℕ, length, take, rules, sym, ◌∙◌, subst}
+use Rattle.assign_core.specs.Slackness.{AreLow}
+use Rattle.dual_checker.specs.declared.verdict.Verdict.TheVariants.{Yes}
+use Rattle.dual_checker.specs.Faults.{IsDear, IsFirst}
+use Rattle.dual_checker.specs.Verdicts.{IsFault, IsSlackAssignment}
+use Rattle.dual_checker.proofs.Dear.{dear_from, low_from}
+use Rattle.dual_checker.proofs.among.first_fault_among.Goals as goal
+
+pub returns-in-Some : goal.returns-in-Some
+returns-in-Some c =
+    let m : ℕ = length c.args.counts.now in
+    let rows = take c.args.n c.args.problem.now in
+    let xs = c.args.objects.now in
+    let prices = c.args.prices.now in
+    let yes : c.first_fault-fault.result ≡ Yes = search rules in
+    let slack : IsSlackAssignment c.args.sense m rows xs prices = subst (IsFault c.args.sense m rows xs prices) yes c.first_fault-fault.ensures.fault in
+    let long = c.first_fault-fault.ensures.long ∙ sym slack.priced in
+    let dear = dear_from c.first_fault-fault.new.counts xs prices c.in-Some.object (c.first_fault-fault.ensures.counts yes) long c.in-Some.ensures in
+    (slack, subst (λ k. IsFirst (IsDear k prices xs) k c.in-Some.object) slack.priced dear)
+
+pub returns-in-None : goal.returns-in-None
+returns-in-None c =
+    let m : ℕ = length c.args.counts.now in
+    let rows = take c.args.n c.args.problem.now in
+    let xs = c.args.objects.now in
+    let prices = c.args.prices.now in
+    let yes : c.first_fault-fault.result ≡ Yes = search rules in
+    let slack : IsSlackAssignment c.args.sense m rows xs prices = subst (IsFault c.args.sense m rows xs prices) yes c.first_fault-fault.ensures.fault in
+    let long = c.first_fault-fault.ensures.long ∙ sym slack.priced in
+    let low = low_from c.first_fault-fault.new.counts xs prices (c.first_fault-fault.ensures.counts yes) long c.in-None.ensures in
+    record {
+      assigned = slack.assigned;
+      priced = slack.priced;
+      in_range = slack.in_range;
+      slack = slack.slack;
+      low = subst (λ k. AreLow k prices xs) slack.priced low;
+    }

@@ -1,0 +1,132 @@
+// The checker of problems in which there may be more objects than persons.
+ghost use Rattle.std.specs.Prelude.{◌≡◌, ◌↔◌, ℕ, pos, ◌+ℤ◌, ◌≤ℤ◌, ◌<ℤ◌, ◌<◌, ◌⊎◌, length, replicate, take, All, IfOk, IsTrue, MatchOption};
+ghost use Rattle.assign_core.specs.Numbered.{IsNumber, numbered};
+ghost use Rattle.assign_core.specs.Rows.{IsAmong, IsSize};
+ghost use Rattle.assign_core.specs.Assignment.{IsBest};
+ghost use Rattle.assign_core.specs.Prices.{IsPrice, price_of};
+ghost use Rattle.assign_core.specs.Slackness.{IsCertificateAmong};
+ghost use Rattle.dual_checker.specs.Faults.{IsFirst};
+ghost use Rattle.dual_checker.specs.Verdicts.{IsVerdictAmong, VerdictsAmongDiffer};
+
+use super::checker::first_fault;
+use super::slack::price_at;
+use super::verdict::Verdict;
+use assign_core::{Object, Price, Problem, Sense};
+use std::alloc::{AllocError, Global};
+
+/// What the checker says of an object for each of n persons and a price for each of m objects: the
+/// first of these that applies.
+#[derive(Clone, Copy, PartialEq, Eq)]
+pub enum VerdictAmong {
+    /// A fault that lists for as many objects as persons may have too, or `Yes`: the lists are a
+    /// certificate.
+    Usual(Verdict),
+    /// The lowest object that nobody has and that costs over 1 more than the cheapest.
+    Dear(Object),
+}
+
+/// No two verdicts hold of the same problem, sense and lists.
+pub fn one_verdict_among()
+    ensures { VerdictsAmongDiffer }
+{}
+
+// An object of the least price.
+fn cheapest(prices: &[Price]) -> Object
+    requires { IsSize (length prices.now) }
+    ensures number { IsNumber (length prices.now) result }
+    ensures least { (k : ℕ) → IsNumber (length prices.now) k
+        → price_of prices.now result ≤ℤ price_of prices.now k }
+{
+    let mut least = Object(1);
+    for (i, price) in prices.iter().enumerate() {
+        if *price < prices[least.place()] {
+            least = Object(i as u16 + 1);
+        }
+    }
+    least
+}
+
+// Whether an object is given to nobody, by its count, and costs over so much.
+fn is_dear(count: u16, price: Price, most: Price) -> bool
+    ensures { IsTrue result ↔ ((count ≡ 0) × (most <ℤ price)) }
+{
+    count == 0 && price > most
+}
+
+// The lowest object that is given to nobody and costs over 1 more than another.
+fn first_dear(counts: &[u16], prices: &[Price]) -> Option<Object>
+    requires long { length counts.now ≡ length prices.now }
+    requires size { IsSize (length prices.now) }
+    requires in_range { All IsPrice prices.now }
+    ensures { let m = length prices.now in
+        MatchOption result
+        ((j k : ℕ) → IsNumber m j → IsNumber m k
+        → (0 < numbered counts.now j 0)
+        ⊎ (price_of prices.now j ≤ℤ (price_of prices.now k +ℤ pos 1)))
+        (λ j. IsFirst (λ i. (numbered counts.now i 0 ≡ 0) × ((k : ℕ) × IsNumber m k
+        × ((price_of prices.now k +ℤ pos 1) <ℤ price_of prices.now i))) m j) }
+{
+    let most = price_at(prices, cheapest(prices)) + 1;
+    for (i, price) in prices.iter().enumerate() {
+        if is_dear(counts[i], *price, most) {
+            return Some(Object(i as u16 + 1));
+        }
+    }
+    None
+}
+
+// The first fault, told by counts of the objects that are 0 at first.
+fn first_fault_among(
+    counts: &mut [u16],
+    problem: &Problem,
+    n: u16,
+    sense: Sense,
+    objects: &[Object],
+    prices: &[Price],
+) -> VerdictAmong
+    requires among { IsAmong n (length counts.old) problem.now }
+    requires zero { counts.old ≡ replicate (length counts.old) 0 }
+    ensures { IsVerdictAmong sense (length counts.old) (take n problem.now) objects.now
+        prices.now result }
+{
+    let fault = first_fault(counts, problem, n, sense, objects, prices);
+    if fault != Verdict::Yes {
+        return VerdictAmong::Usual(fault);
+    }
+    match first_dear(counts, prices) {
+        Some(object) => VerdictAmong::Dear(object),
+        None => VerdictAmong::Usual(Verdict::Yes),
+    }
+}
+
+/// Whether the objects of persons 1 to `n` and the prices of objects 1 to `m` are a certificate
+/// under this sense, and if not, the first fault: those of `check` in their order, and behind them
+/// the lowest object that is too dear for one that nobody has.
+///
+/// Of the problem's persons the first `n` are meant; where there are more objects the others list
+/// nothing (`Problem::dense_among`). Yes proves the assignment best: slackness 1 at benefits scaled
+/// by `m + 1`, and no object that is left over costs over 1 more than any. The lists may be of any
+/// length and hold any numbers. The time is linear in the listed pairs.
+///
+/// # Errors
+/// Only where memory is refused, before anything is looked at.
+pub fn check_among(
+    alloc: Global,
+    problem: &Problem,
+    n: u16,
+    m: u16,
+    sense: Sense,
+    objects: &[Object],
+    prices: &[Price],
+) -> Result<VerdictAmong, AllocError>
+    requires { IsAmong n m problem.now }
+    ensures verdict { IfOk result (λ v.
+        IsVerdictAmong sense m (take n problem.now) objects.now prices.now v) }
+    ensures yes { IfOk result (λ v. (v ≡ VerdictAmong.Usual Verdict.Yes)
+        ↔ IsCertificateAmong sense m (take n problem.now) objects.now prices.now) }
+    ensures best { IfOk result (λ v.
+        v ≡ VerdictAmong.Usual Verdict.Yes → IsBest sense (take n problem.now) objects.now) }
+{
+    let mut counts = vec![in alloc; 0u16; m as usize]?;
+    Ok(first_fault_among(counts.as_mut_slice(), problem, n, sense, objects, prices))
+}
