@@ -12,8 +12,6 @@ mod hall_verdict;
 mod listed;
 mod priced;
 mod slack;
-#[cfg(test)]
-mod tests;
 mod verdict;
 
 pub use among::{VerdictAmong, check_among, one_verdict_among};
