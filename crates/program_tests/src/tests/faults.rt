@@ -1,0 +1,259 @@
+// Runs that fail, with the lines and the statuses that they are to give.
+use crate::tests::streams::failing_writer;
+use crate::tests::watched::{Seen, assert_told, run_on, run_with, watched_run, whole_devices};
+use assign_core::{Object, Person};
+use auction_command::{CliFault, NoWords, status_of};
+use orlib_reader::InputFault;
+use report::{ReportFault, StartFault};
+use std::process::Abort;
+use std::sync::Wait;
+use std::test::Fail;
+use std::thread::Threads;
+
+// Texts with the line that refuses each, with these words, in bytes and at once.
+fn assert_refused(
+    rt: &(impl Threads + Wait + Sync + Abort + AllocGlobal),
+    line: &str,
+    table: &[(&[u8], &str)],
+) -> Result<(), Fail> {
+    for (text, fault) in table {
+        for most in [1, 65536] {
+            let seen = run_with(rt, rt.alloc(), line, text, b"", most)?;
+            assert_told(rt, &seen, 3, fault);
+        }
+    }
+    Ok(())
+}
+
+#[test]
+fn refused_texts(rt: HostRuntime) -> Result<(), Fail> {
+    let dense: [(&[u8], &str); 11] = [
+        (b"", "input: empty\n"),
+        (b" \t\r\n\x0b\x0c", "input: empty\n"),
+        (b"8193 1", "input: size out of range\n"),
+        (b"0", "input: size out of range\n"),
+        (b"x", "input: bad number at byte 0\n"),
+        (b"1 3.0", "input: bad number at byte 2\n"),
+        (b"1 1000000000001", "input: cost out of range at byte 2\n"),
+        (b"2 1 2", "input: truncated after 3 numbers\n"),
+        (b"2 1 2 3", "input: truncated after 4 numbers\n"),
+        (b"1 7 8", "input: extra data at byte 4\n"),
+        (b"1 7 x", "input: extra data at byte 4\n"),
+    ];
+    assert_refused(&rt, "solve", &dense)?;
+    let sparse: [(&[u8], &str); 2] = [
+        (b"2 1 1 5 2 1", "input: truncated after 6 numbers\n"),
+        (b"2 3 1 5", "input: index out of range at byte 2\n"),
+    ];
+    assert_refused(&rt, "solve --sparse", &sparse)
+}
+
+#[test]
+fn input_that_fails(rt: HostRuntime) -> Result<(), Fail> {
+    let alloc = rt.alloc();
+    let texts: [&[u8]; 3] = [b"", b"2 1 2", b"2 1 2 3 5"];
+    for text in texts {
+        let mut devices = whole_devices(alloc, text, b"", 2);
+        devices.text.fails = true;
+        let seen = run_on(&rt, alloc, "solve", devices)?;
+        assert_told(&rt, &seen, 4, "device: read failed\n");
+    }
+    Ok(())
+}
+
+// The report is opened before the problem is read, and read behind it.
+#[test]
+fn reports_that_cannot_be_read(rt: HostRuntime) -> Result<(), Fail> {
+    let alloc = rt.alloc();
+    let unopened = "device: cannot open the report\n";
+    let cut_off = "input: truncated after 2 numbers\n";
+    let two: &[u8] = b"2 1 2 3 5";
+    let table: [(&str, &[u8], u8, &str); 11] = [
+        ("verify none", b"x", 4, unopened),
+        ("verify refused", b"x", 4, "memory refused\n"),
+        ("verify report", b"x", 3, "input: bad number at byte 0\n"),
+        ("verify report", two, 4, "device: read failed\n"),
+        ("verify ", b"x", 4, unopened),
+        ("verify report --sparse", b"2 1", 3, cut_off),
+        ("solve --start none", b"x", 4, unopened),
+        ("solve --start refused", b"x", 4, "memory refused\n"),
+        (
+            "solve --start report",
+            b"x",
+            3,
+            "input: bad number at byte 0\n",
+        ),
+        ("solve --start report", two, 4, "device: read failed\n"),
+        ("solve --sparse --start=report", b"2 1", 3, cut_off),
+    ];
+    for (line, text, status, told) in table {
+        let mut devices = whole_devices(alloc, text, b"cost 5\nass", 2);
+        devices.report.fails = true;
+        let seen = run_on(&rt, alloc, line, devices)?;
+        assert_told(&rt, &seen, status, told);
+    }
+    Ok(())
+}
+
+// What a run left on each stream, and its status.
+fn assert_left(rt: &impl Abort, seen: &Seen, status: u8, out: &[u8], errors: &[u8]) {
+    assert_eq!(rt;
+        (seen.out.as_slice(), seen.errors.as_slice()),
+        (out, errors)
+    );
+    assert_eq!(rt; seen.status, status);
+}
+
+// With room for each count of bytes that is less than the text has, just its beginning goes out.
+fn assert_cut_off(
+    rt: &(impl Threads + Wait + Sync + Abort + AllocGlobal),
+    line: &str,
+    text: &[u8],
+) -> Result<(), Fail> {
+    let alloc = rt.alloc();
+    let report = b"infeasible\npersons 1 1\nobjects 0\n";
+    for room in 0..text.len() {
+        let (front, _) = text.split_at(room);
+        for (most, fails) in [(1, true), (1, false), (100, true), (100, false)] {
+            let mut devices = whole_devices(alloc, b"2 1 2 3 5", report, 100);
+            devices.out = failing_writer(alloc, room, most, fails);
+            let seen = run_on(rt, alloc, line, devices)?;
+            assert_left(rt, &seen, 4, front, b"device: write failed\n");
+        }
+    }
+    Ok(())
+}
+
+#[test]
+fn output_that_fails(rt: HostRuntime) -> Result<(), Fail> {
+    assert_cut_off(
+        &rt,
+        "solve --prices",
+        b"sense min\ncost 5\nassign 1 2 2\nassign 2 1 3\nprice 1 14\nprice 2 12\n",
+    )?;
+    assert_cut_off(
+        &rt,
+        "verify report",
+        b"not verified: object 1 missing for person 1\n",
+    )?;
+    assert_cut_off(&rt, "--help", b"Solve as")
+}
+
+// Where standard error fails, the status is what it would have been.
+#[test]
+fn errors_that_fail(rt: HostRuntime) -> Result<(), Fail> {
+    let alloc = rt.alloc();
+    let table: [(&str, u8, &[u8]); 4] = [
+        ("solve", 3, b"input: bad"),
+        ("verify", 2, b"error: the"),
+        ("verify none", 4, b"device: ca"),
+        ("solve --fast", 2, b"error: une"),
+    ];
+    for (line, status, start) in table {
+        for room in [0, 10] {
+            let mut devices = whole_devices(alloc, b"x", b"", 100);
+            devices.errors = failing_writer(alloc, room, 3, false);
+            let seen = run_on(&rt, alloc, line, devices)?;
+            let (wanted, _) = start.split_at(room);
+            assert_left(&rt, &seen, status, b"", wanted);
+            assert!(rt; !seen.whole);
+        }
+    }
+    Ok(())
+}
+
+#[test]
+fn no_words(rt: HostRuntime) -> Result<(), Fail> {
+    let alloc = rt.alloc();
+    let table = [
+        (NoWords::NoText, 2, "error: the words are no text\n"),
+        (NoWords::Memory, 4, "memory refused\n"),
+    ];
+    for (none, status, line) in table {
+        let devices = whole_devices(alloc, b"1 7", b"", 100);
+        let seen = watched_run(&rt, alloc, Err(none), devices);
+        assert_told(&rt, &seen, status, line);
+    }
+    Ok(())
+}
+
+// The fault has this status and this line.
+fn assert_line(
+    rt: &(impl Abort + AllocGlobal),
+    fault: &CliFault,
+    status: u8,
+    line: &str,
+) -> Result<(), Fail> {
+    assert_eq!(rt; status_of(fault), status);
+    assert_eq!(rt; format!(in rt.alloc(); "{fault}")?.as_str(), line);
+    Ok(())
+}
+
+#[test]
+fn lines_on_inputs(rt: HostRuntime) -> Result<(), Fail> {
+    let table = [
+        (InputFault::Empty, "input: empty"),
+        (InputFault::BadToken(12), "input: bad number at byte 12"),
+        (InputFault::Size, "input: size out of range"),
+        (InputFault::Cost(7), "input: cost out of range at byte 7"),
+        (InputFault::Index(7), "input: index out of range at byte 7"),
+        (InputFault::Truncated(3), "input: truncated after 3 numbers"),
+        (InputFault::Extra(9), "input: extra data at byte 9"),
+        (InputFault::TooLong, "input: longer than 1073741824 bytes"),
+    ];
+    for (fault, line) in table {
+        assert_line(&rt, &CliFault::Input(fault), 3, line)?;
+    }
+    assert_line(
+        &rt,
+        &CliFault::Input(InputFault::Read),
+        4,
+        "device: read failed",
+    )?;
+    assert_line(
+        &rt,
+        &CliFault::Input(InputFault::Memory),
+        4,
+        "memory refused",
+    )
+}
+
+#[test]
+fn lines_on_reports(rt: HostRuntime) -> Result<(), Fail> {
+    let table = [
+        (ReportFault::Line(12), 3, "report: bad line 12"),
+        (ReportFault::TooLong, 3, "report: longer than 1048576 bytes"),
+        (ReportFault::Ends(7), 3, "report: ends before line 7"),
+        (ReportFault::Read, 4, "device: read failed"),
+        (ReportFault::Memory, 4, "memory refused"),
+    ];
+    for (fault, status, line) in table {
+        assert_line(&rt, &CliFault::Report(fault), status, line)?;
+    }
+    Ok(())
+}
+
+#[test]
+fn other_lines(rt: HostRuntime) -> Result<(), Fail> {
+    let great = StartFault::Price(Object(7));
+    let table = [
+        (CliFault::Start(StartFault::NoPrices), 3, "start: no prices"),
+        (
+            CliFault::Start(StartFault::Length(12)),
+            3,
+            "start: 12 prices",
+        ),
+        (
+            CliFault::Start(great),
+            3,
+            "start: price of object 7 too great",
+        ),
+        (CliFault::Write, 4, "device: write failed"),
+        (CliFault::Memory, 4, "memory refused"),
+        (CliFault::Stuck(Person(12)), 5, "stuck at person 12"),
+    ];
+    for (fault, status, line) in &table {
+        assert_line(&rt, fault, *status, line)?;
+    }
+    Ok(())
+}
