@@ -1,10 +1,11 @@
 // Runs that fail, with the lines and the statuses that they are to give.
 use crate::tests::streams::failing_writer;
-use crate::tests::watched::{Seen, assert_told, run_on, run_with, watched_run, whole_devices};
+use crate::tests::watched::{assert_told, leaves, run_on, run_with, watched_run, whole_devices};
 use assign_core::{Object, Person};
 use auction_command::{CliFault, NoWords, status_of};
 use orlib_reader::InputFault;
 use report::{ReportFault, StartFault};
+use std::alloc::{AllocError, Global};
 use std::process::Abort;
 use std::sync::Wait;
 use std::test::Fail;
@@ -95,13 +96,24 @@ fn reports_that_cannot_be_read(rt: HostRuntime) -> Result<(), Fail> {
     Ok(())
 }
 
-// What a run left on each stream, and its status.
-fn assert_left(rt: &impl Abort, seen: &Seen, status: u8, out: &[u8], errors: &[u8]) {
-    assert_eq!(rt;
-        (seen.out.as_slice(), seen.errors.as_slice()),
-        (out, errors)
+// Whether a run with room for these bytes alone writes just them, and tells that the write failed.
+fn is_cut_off(
+    rt: &(impl Threads + Wait + Sync),
+    alloc: Global,
+    line: &str,
+    front: &[u8],
+    most: usize,
+    fails: bool,
+) -> Result<bool, AllocError> {
+    let mut devices = whole_devices(
+        alloc,
+        b"2 1 2 3 5",
+        b"infeasible\npersons 1 1\nobjects 0\n",
+        100,
     );
-    assert_eq!(rt; seen.status, status);
+    devices.out = failing_writer(alloc, front.len(), most, fails);
+    let seen = run_on(rt, alloc, line, devices)?;
+    Ok(leaves(&seen, 4, front, b"device: write failed\n"))
 }
 
 // With room for each count of bytes that is less than the text has, just its beginning goes out.
@@ -110,15 +122,13 @@ fn assert_cut_off(
     line: &str,
     text: &[u8],
 ) -> Result<(), Fail> {
-    let alloc = rt.alloc();
-    let report = b"infeasible\npersons 1 1\nobjects 0\n";
     for room in 0..text.len() {
         let (front, _) = text.split_at(room);
         for (most, fails) in [(1, true), (1, false), (100, true), (100, false)] {
-            let mut devices = whole_devices(alloc, b"2 1 2 3 5", report, 100);
-            devices.out = failing_writer(alloc, room, most, fails);
-            let seen = run_on(rt, alloc, line, devices)?;
-            assert_left(rt, &seen, 4, front, b"device: write failed\n");
+            assert!(rt;
+                is_cut_off(rt, rt.alloc(), line, front, most, fails)?,
+                "{line}"
+            );
         }
     }
     Ok(())
@@ -139,10 +149,23 @@ fn output_that_fails(rt: HostRuntime) -> Result<(), Fail> {
     assert_cut_off(&rt, "--help", b"Solve as")
 }
 
+// Whether a run with room for these bytes alone on standard error tells just them, and ends as it would have.
+fn is_told_in_part(
+    rt: &(impl Threads + Wait + Sync),
+    alloc: Global,
+    line: &str,
+    status: u8,
+    front: &[u8],
+) -> Result<bool, AllocError> {
+    let mut devices = whole_devices(alloc, b"x", b"", 100);
+    devices.errors = failing_writer(alloc, front.len(), 3, false);
+    let seen = run_on(rt, alloc, line, devices)?;
+    Ok(leaves(&seen, status, b"", front) && !seen.whole)
+}
+
 // Where standard error fails, the status is what it would have been.
 #[test]
 fn errors_that_fail(rt: HostRuntime) -> Result<(), Fail> {
-    let alloc = rt.alloc();
     let table: [(&str, u8, &[u8]); 4] = [
         ("solve", 3, b"input: bad"),
         ("verify", 2, b"error: the"),
@@ -151,12 +174,11 @@ fn errors_that_fail(rt: HostRuntime) -> Result<(), Fail> {
     ];
     for (line, status, start) in table {
         for room in [0, 10] {
-            let mut devices = whole_devices(alloc, b"x", b"", 100);
-            devices.errors = failing_writer(alloc, room, 3, false);
-            let seen = run_on(&rt, alloc, line, devices)?;
-            let (wanted, _) = start.split_at(room);
-            assert_left(&rt, &seen, status, b"", wanted);
-            assert!(rt; !seen.whole);
+            let (front, _) = start.split_at(room);
+            assert!(rt;
+                is_told_in_part(&rt, rt.alloc(), line, status, front)?,
+                "{line}"
+            );
         }
     }
     Ok(())
@@ -177,45 +199,43 @@ fn no_words(rt: HostRuntime) -> Result<(), Fail> {
     Ok(())
 }
 
-// The fault has this status and this line.
-fn assert_line(
-    rt: &(impl Abort + AllocGlobal),
-    fault: &CliFault,
-    status: u8,
-    line: &str,
-) -> Result<(), Fail> {
-    assert_eq!(rt; status_of(fault), status);
-    assert_eq!(rt; format!(in rt.alloc(); "{fault}")?.as_str(), line);
-    Ok(())
+// Whether a fault has this status and this line.
+fn has_line(alloc: Global, fault: &CliFault, status: u8, line: &str) -> Result<bool, AllocError> {
+    let text = format!(in alloc; "{fault}")?;
+    Ok(status_of(fault) == status && text.as_str() == line)
 }
 
 #[test]
 fn lines_on_inputs(rt: HostRuntime) -> Result<(), Fail> {
     let table = [
-        (InputFault::Empty, "input: empty"),
-        (InputFault::BadToken(12), "input: bad number at byte 12"),
-        (InputFault::Size, "input: size out of range"),
-        (InputFault::Cost(7), "input: cost out of range at byte 7"),
-        (InputFault::Index(7), "input: index out of range at byte 7"),
-        (InputFault::Truncated(3), "input: truncated after 3 numbers"),
-        (InputFault::Extra(9), "input: extra data at byte 9"),
-        (InputFault::TooLong, "input: longer than 1073741824 bytes"),
+        (InputFault::Empty, 3, "input: empty"),
+        (InputFault::BadToken(12), 3, "input: bad number at byte 12"),
+        (InputFault::Size, 3, "input: size out of range"),
+        (InputFault::Cost(7), 3, "input: cost out of range at byte 7"),
+        (
+            InputFault::Index(7),
+            3,
+            "input: index out of range at byte 7",
+        ),
+        (
+            InputFault::Truncated(3),
+            3,
+            "input: truncated after 3 numbers",
+        ),
+        (InputFault::Extra(9), 3, "input: extra data at byte 9"),
+        (
+            InputFault::TooLong,
+            3,
+            "input: longer than 1073741824 bytes",
+        ),
+        (InputFault::Read, 4, "device: read failed"),
+        (InputFault::Memory, 4, "memory refused"),
     ];
-    for (fault, line) in table {
-        assert_line(&rt, &CliFault::Input(fault), 3, line)?;
+    for (fault, status, line) in table {
+        let fault = CliFault::Input(fault);
+        assert!(rt; has_line(rt.alloc(), &fault, status, line)?, "{line}");
     }
-    assert_line(
-        &rt,
-        &CliFault::Input(InputFault::Read),
-        4,
-        "device: read failed",
-    )?;
-    assert_line(
-        &rt,
-        &CliFault::Input(InputFault::Memory),
-        4,
-        "memory refused",
-    )
+    Ok(())
 }
 
 #[test]
@@ -228,7 +248,8 @@ fn lines_on_reports(rt: HostRuntime) -> Result<(), Fail> {
         (ReportFault::Memory, 4, "memory refused"),
     ];
     for (fault, status, line) in table {
-        assert_line(&rt, &CliFault::Report(fault), status, line)?;
+        let fault = CliFault::Report(fault);
+        assert!(rt; has_line(rt.alloc(), &fault, status, line)?, "{line}");
     }
     Ok(())
 }
@@ -253,7 +274,7 @@ fn other_lines(rt: HostRuntime) -> Result<(), Fail> {
         (CliFault::Stuck(Person(12)), 5, "stuck at person 12"),
     ];
     for (fault, status, line) in &table {
-        assert_line(&rt, fault, *status, line)?;
+        assert!(rt; has_line(rt.alloc(), fault, *status, line)?, "{line}");
     }
     Ok(())
 }

@@ -39,8 +39,11 @@ type Worked = (&'static str, &'static [u8], &'static [u8], u8, &'static str);
 
 // The run wrote a report that starts so, told nothing, and ended with this status.
 fn assert_starts(rt: &impl Abort, seen: &Seen, status: u8, start: &str) {
-    assert!(rt; seen.out.as_slice().starts_with(start.as_bytes()));
-    assert_eq!(rt; (seen.errors.len(), seen.status), (0, status));
+    let begins = seen.out.as_slice().starts_with(start.as_bytes());
+    assert!(rt;
+        begins && seen.errors.is_empty() && seen.status == status,
+        "{start}"
+    );
 }
 
 #[test]

@@ -155,31 +155,41 @@ pub fn first_line(text: &[u8]) -> &[u8] {
     line
 }
 
+/// Whether a run ended with this status, and left just this on each stream.
+pub fn leaves(seen: &Seen, status: u8, out: &[u8], errors: &[u8]) -> bool {
+    seen.status == status && seen.out.as_slice() == out && seen.errors.as_slice() == errors
+}
+
+// Whether these are its status and its first lines, and it could tell all.
+fn begins(seen: &Seen, status: u8, out: &str, errors: &str) -> bool {
+    seen.status == status
+        && seen.whole
+        && first_line(seen.out.as_slice()) == out.as_bytes()
+        && first_line(seen.errors.as_slice()) == errors.as_bytes()
+}
+
 /// The run wrote this text, told nothing, and ended with this status.
 pub fn assert_reported(rt: &impl Abort, seen: &Seen, status: u8, text: &str) {
-    assert_eq!(rt; seen.out.as_slice(), text.as_bytes());
-    assert_eq!(rt; seen.errors.len(), 0);
-    assert_eq!(rt; seen.status, status);
+    assert!(rt; leaves(seen, status, text.as_bytes(), b""), "{text}");
 }
 
 /// The run told this line, and all of it, wrote nothing, and ended with this status.
 pub fn assert_told(rt: &impl Abort, seen: &Seen, status: u8, line: &str) {
-    assert_eq!(rt; seen.errors.as_slice(), line.as_bytes());
-    assert!(rt; seen.whole);
-    assert_eq!(rt; seen.status, status);
-    assert_eq!(rt; seen.out.len(), 0);
+    assert!(rt;
+        leaves(seen, status, b"", line.as_bytes()) && seen.whole,
+        "{line}"
+    );
 }
 
 /// The first lines of a run on each stream, all of which it could tell, and its status.
 pub fn assert_begins(rt: &impl Abort, seen: &Seen, status: u8, out: &str, errors: &str) {
-    assert_eq!(rt; first_line(seen.out.as_slice()), out.as_bytes());
-    assert_eq!(rt; first_line(seen.errors.as_slice()), errors.as_bytes());
-    assert_eq!(rt; seen.status, status);
-    assert!(rt; seen.whole);
+    assert!(rt; begins(seen, status, out, errors), "{out}{errors}");
 }
 
 /// The words were refused with this first line, and nothing was written.
 pub fn assert_words_refused(rt: &impl Abort, seen: &Seen, errors: &str) {
-    assert_begins(rt, seen, 2, "", errors);
-    assert_eq!(rt; seen.out.len(), 0);
+    assert!(rt;
+        begins(seen, 2, "", errors) && seen.out.is_empty(),
+        "{errors}"
+    );
 }
