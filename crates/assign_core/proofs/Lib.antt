@@ -8,7 +8,6 @@ mod Searching
 pub mod Duality
 pub mod Matchings
 pub mod DensePairs
-pub mod Tried
 pub mod HallSets
 pub mod HallReach
 pub mod NumberedLemmas

@@ -7,7 +7,7 @@ use std::alloc::{AllocError, Global};
 use std::marker::Model;
 
 /// The objects of persons 1, 2, .., all different.
-#[derive(Debug, Drop)]
+#[derive(Drop)]
 pub struct Assignment {
     objects: Vec<Object>,
 }

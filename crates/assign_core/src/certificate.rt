@@ -4,7 +4,7 @@ use super::prices::Prices;
 
 /// An assignment with prices, under which each person has slackness 1 where it belongs to a
 /// problem.
-#[derive(Debug, Drop)]
+#[derive(Drop)]
 pub struct Certificate {
     pub assignment: Assignment,
     pub prices: Prices,

@@ -13,7 +13,7 @@ use std::marker::Model;
 
 /// Persons and objects, both rising: where the objects are all that the persons list, and are
 /// fewer, there is no assignment (P. Hall, On representatives of subsets, 1935).
-#[derive(Debug, Drop)]
+#[derive(Drop)]
 pub struct HallSet {
     persons: Vec<Person>,
     objects: Vec<Object>,

@@ -8,13 +8,10 @@ mod hall;
 mod law;
 mod numbers;
 mod outcome;
-mod plain;
 mod prices;
 mod problem;
 mod sense;
 mod sparse;
-#[cfg(test)]
-mod tests;
 mod version;
 
 pub use assignment::Assignment;
@@ -29,7 +26,6 @@ pub use numbers::{
     PRICE_END, Person, Price,
 };
 pub use outcome::{Outcome, SolveFault};
-pub use plain::plain_best;
 pub use prices::Prices;
 pub use problem::Problem;
 pub use sense::Sense;

@@ -29,7 +29,7 @@ pub const GREATEST_FIRST_PRICE: Price = 1_000_000_000_000_000_000_000;
 pub const NARROW_END: i64 = 1 << 62;
 
 /// A person's number, from 1.
-#[derive(Clone, Copy, Debug, PartialEq, Eq, PartialOrd, Ord)]
+#[derive(Clone, Copy, PartialEq, Eq, PartialOrd, Ord)]
 pub struct Person(pub u16);
 
 impl Model for Person {

@@ -6,14 +6,14 @@ use std::alloc::AllocError;
 
 /// What a run finds: an assignment with prices that prove it best, or a Hall set, which proves
 /// that there is no assignment.
-#[derive(Debug, Drop)]
+#[derive(Drop)]
 pub enum Outcome {
     Best(Certificate),
     Hall(HallSet),
 }
 
 /// Why a run ends with no answer.
-#[derive(Debug, Drop)]
+#[derive(Drop)]
 pub enum SolveFault {
     /// Memory was refused.
     Memory,

@@ -11,7 +11,7 @@ use std::marker::Model;
 ///
 /// Beside each price stands one in 64 bits that is no greater: the price itself, or `NARROW_END`
 /// where it is above. By these a scan sees which objects change nothing, without wider sums.
-#[derive(Debug, Drop)]
+#[derive(Drop)]
 pub struct Prices {
     values: Vec<Price>,
     narrow: Vec<i64>,

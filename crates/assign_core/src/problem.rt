@@ -12,7 +12,7 @@ use std::marker::Model;
 
 /// For each person a list of (object, cost), rising by object; from 1 to `MOST_PERSONS` persons
 /// and as many objects, both numbered from 1.
-#[derive(Debug, Drop)]
+#[derive(Drop)]
 pub struct Problem {
     rows: Vec<Vec<(Object, Cost)>>,
 }

@@ -6,7 +6,7 @@ ghost use Rattle.assign_core.specs.Benefits.{benefit, IsBenefit};
 use super::numbers::{Benefit, Cost};
 
 /// Whether the least cost is wanted or the greatest.
-#[derive(Clone, Copy, Debug, PartialEq, Eq)]
+#[derive(Clone, Copy, PartialEq, Eq)]
 pub enum Sense {
     Min,
     Max,

@@ -5,8 +5,6 @@ mod blocks;
 mod law;
 mod offers;
 mod scan;
-#[cfg(test)]
-mod tests;
 
 pub use law::{
     accepted_bid_is_slack, best_two_is_determined, computed_offer_is_the_offer,

@@ -13,7 +13,7 @@ use assign_core::{Object, Person, Price, Prices};
 use scaled_values::{Row, Scaled};
 
 /// What a phase asks of a bid.
-#[derive(Clone, Copy, Debug, PartialEq, Eq)]
+#[derive(Clone, Copy, PartialEq, Eq)]
 pub struct Ask {
     /// The phase's number.
     pub phase: u16,
@@ -24,7 +24,7 @@ pub struct Ask {
 }
 
 /// A bid of a person for an object.
-#[derive(Clone, Copy, Debug, PartialEq, Eq)]
+#[derive(Clone, Copy, PartialEq, Eq)]
 pub struct Bid {
     pub person: Person,
     pub object: Object,
@@ -38,7 +38,7 @@ pub struct Bid {
 }
 
 /// No object that the person lists is worth the floor.
-#[derive(Clone, Copy, Debug, PartialEq, Eq)]
+#[derive(Clone, Copy, PartialEq, Eq)]
 pub struct BelowFloor {
     pub person: Person,
     /// The phase in which it was found.
@@ -46,7 +46,7 @@ pub struct BelowFloor {
 }
 
 /// What a person offers.
-#[derive(Clone, Copy, Debug, PartialEq, Eq)]
+#[derive(Clone, Copy, PartialEq, Eq)]
 pub enum Offer {
     Bid(Bid),
     Below(BelowFloor),

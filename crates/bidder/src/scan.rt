@@ -16,7 +16,7 @@ use assign_core::{Benefit, Object, Price, Prices};
 
 /// The best object of a row under a table of prices. An object's value is its benefit less its
 /// price.
-#[derive(Clone, Copy, Debug, PartialEq, Eq)]
+#[derive(Clone, Copy, PartialEq, Eq)]
 pub struct BestTwo {
     /// The object of the greatest value, the lowest number of those that have it.
     pub object: Object,

@@ -5,7 +5,7 @@ use assign_core::{Object, Person};
 
 /// What the checker says of a list of persons and a list of objects: the first of these that
 /// applies. A number is named where it stands in its list.
-#[derive(Clone, Copy, Debug, PartialEq, Eq)]
+#[derive(Clone, Copy, PartialEq, Eq)]
 pub enum HallVerdict {
     /// Some number isn't one of 1 to the number of persons.
     Range,

@@ -11,8 +11,6 @@ mod hall_verdict;
 mod listed;
 mod priced;
 mod slack;
-#[cfg(test)]
-mod tests;
 mod verdict;
 
 pub use checker::check;

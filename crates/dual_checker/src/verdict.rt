@@ -5,7 +5,7 @@ use assign_core::{Object, Person};
 
 /// What the checker says of a list of objects and a list of prices, one of each for each person:
 /// the first of these that applies.
-#[derive(Clone, Copy, Debug, PartialEq, Eq)]
+#[derive(Clone, Copy, PartialEq, Eq)]
 pub enum Verdict {
     /// A list is not as long as there are persons.
     Length,

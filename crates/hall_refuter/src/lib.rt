@@ -6,8 +6,6 @@ mod lists;
 mod path;
 mod reach;
 mod search;
-#[cfg(test)]
-mod tests;
 
 pub use law::refutation_is_determined;
 pub use search::{Search, refute};

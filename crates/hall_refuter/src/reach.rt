@@ -9,14 +9,14 @@ use assign_core::{Object, Person, Problem};
 use std::alloc::{AllocError, Global};
 
 // How a person was reached: through an object that the person found at place `parent` lists.
-#[derive(Clone, Copy, Debug)]
+#[derive(Clone, Copy)]
 pub struct Arrival {
     pub object: Object,
     pub parent: usize,
 }
 
 // A reached person. The first has no arrival.
-#[derive(Clone, Copy, Debug)]
+#[derive(Clone, Copy)]
 pub struct Found {
     pub person: Person,
     pub arrival: Option<Arrival>,
@@ -24,7 +24,7 @@ pub struct Found {
 
 // The reached persons in the order in which they were found, and for each object whether it was
 // met on the way.
-#[derive(Debug, Drop)]
+#[derive(Drop)]
 pub struct Reach {
     pub found: Vec<Found>,
     pub met: Vec<bool>,

@@ -16,7 +16,7 @@ use std::alloc::{AllocError, Global};
 
 /// What a search finds: a Hall set of all that a person reaches, or an alternating path from the
 /// person to an unowned object.
-#[derive(Debug, Drop)]
+#[derive(Drop)]
 pub enum Search {
     Hall(HallSet),
     Path(Vec<Object>),

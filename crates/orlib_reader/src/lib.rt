@@ -14,8 +14,6 @@ mod layout;
 mod machine;
 mod pairs;
 mod sparse;
-#[cfg(test)]
-mod tests;
 mod token;
 
 use assign_core::Problem;

@@ -38,8 +38,6 @@ mod ranges;
 mod read;
 mod send;
 mod start;
-#[cfg(test)]
-mod tests;
 mod value;
 mod words;
 mod write;

@@ -7,8 +7,6 @@ mod phases;
 mod range;
 mod row;
 mod scaled;
-#[cfg(test)]
-mod tests;
 
 pub use law::{eps_divisor, eps_in_range, extremes_are_listed, few_phases, last_eps_is_one};
 pub use phases::{EPS_DIVISOR, next_eps};

@@ -12,7 +12,7 @@ use std::alloc::{AllocError, Global};
 
 /// The benefits of a person's pairs: of one that lists all objects they stand in the order of the
 /// objects, of any other with their objects, rising.
-#[derive(Clone, Copy, Debug, PartialEq, Eq)]
+#[derive(Clone, Copy, PartialEq, Eq)]
 pub enum Row<'a> {
     Full(&'a [Benefit]),
     Pairs(&'a [(Object, Benefit)]),

@@ -1,0 +1,69 @@
+// Lists that become outcomes, and outcomes that are proofs.
+use super::hall::three_persons;
+use super::{by_digits, two_by_two};
+use assign_core::{Object, Person, Sense};
+use dual_checker::{confirm_best, confirm_hall, confirms};
+use std::alloc::{AllocError, Global};
+use std::test::Fail;
+
+// Whether objects by their digits, at prices 14 and 12, are taken under a sense, and if so, whether
+// the outcome is a proof under Min and under Max.
+fn best_taken(
+    alloc: Global,
+    sense: Sense,
+    objects: &str,
+) -> Result<Option<(bool, bool)>, AllocError> {
+    let problem = two_by_two(alloc)?;
+    let objects: Vec<Object> = by_digits(alloc, objects)?;
+    let prices = vec![in alloc; 14, 12]?;
+    let Some(outcome) = confirm_best(alloc, &problem, sense, objects, prices)? else {
+        return Ok(None);
+    };
+    let least = confirms(alloc, &problem, Sense::Min, &outcome)?;
+    Ok(Some((least, confirms(alloc, &problem, Sense::Max, &outcome)?)))
+}
+
+#[test]
+fn lists_of_objects_and_prices(rt: HostRuntime) -> Result<(), Fail> {
+    for (sense, objects, taken) in [
+        (Sense::Min, "21", Some((true, false))),
+        (Sense::Max, "21", None),
+        (Sense::Min, "12", None),
+        (Sense::Min, "22", None),
+        (Sense::Min, "2", None),
+    ] {
+        assert_eq!(rt; best_taken(rt.alloc(), sense, objects)?, taken);
+    }
+    Ok(())
+}
+
+// Whether persons and objects by their digits are taken, and if so, whether the outcome is a proof
+// of the same problem and of another.
+fn hall_taken(
+    alloc: Global,
+    persons: &str,
+    objects: &str,
+) -> Result<Option<(bool, bool)>, AllocError> {
+    let problem = three_persons(alloc)?;
+    let persons: Vec<Person> = by_digits(alloc, persons)?;
+    let objects: Vec<Object> = by_digits(alloc, objects)?;
+    let Some(outcome) = confirm_hall(alloc, &problem, persons, objects)? else {
+        return Ok(None);
+    };
+    let other = two_by_two(alloc)?;
+    let same = confirms(alloc, &problem, Sense::Min, &outcome)?;
+    Ok(Some((same, confirms(alloc, &other, Sense::Min, &outcome)?)))
+}
+
+#[test]
+fn lists_of_persons_and_objects(rt: HostRuntime) -> Result<(), Fail> {
+    for (persons, objects, taken) in [
+        ("12", "1", Some((true, false))),
+        ("2", "1", None),
+        ("13", "1", None),
+        ("21", "1", None),
+    ] {
+        assert_eq!(rt; hall_taken(rt.alloc(), persons, objects)?, taken);
+    }
+    Ok(())
+}

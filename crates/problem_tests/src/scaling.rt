@@ -1,0 +1,268 @@
+// Worked values of small and of wide problems.
+ghost use Rattle.std.specs.Prelude.{pos, ◌≤ℤ◌};
+ghost use Rattle.assign_core.specs.Prices.{IsPrice};
+ghost use Rattle.scaled_values.specs.Scaled.{IsEps};
+
+use assign_core::{Cost, GREATEST_COST, MOST_PERSONS, Object, Person, Price, Problem, Sense};
+use scaled_values::{Row, Scaled, next_eps, scale};
+use std::alloc::{AllocError, Global};
+use std::test::Fail;
+
+// A wide problem with two listed pairs, of these costs and their negations.
+fn two_pairs(alloc: Global, cost: Cost) -> Result<Scaled, AllocError>
+    requires least { pos 0 ≤ℤ cost }
+    requires greatest { cost ≤ℤ GREATEST_COST }
+{
+    let triples = [(Person(1), Object(1), -cost), (Person(2), Object(2), cost)];
+    let problem = Problem::sparse(alloc, MOST_PERSONS, &triples)?;
+    scale(alloc, problem, Sense::Min)
+}
+
+// The slacknesses of all phases.
+fn eps_list(alloc: Global, scaled: &Scaled) -> Result<Vec<i64>, AllocError> {
+    let mut all = Vec::new(alloc);
+    let mut next = Some(scaled.first_eps());
+    for _ in 0..30 {
+        if let Some(eps) = next {
+            all.push(eps)?;
+            next = next_eps(eps);
+        }
+    }
+    Ok(all)
+}
+
+// The floor and the top of a phase.
+fn bounds(scaled: &Scaled, p0: Price, eps: i64) -> (Price, Price)
+    requires price { IsPrice p0 }
+    requires eps { IsEps scaled.now eps }
+{
+    (scaled.floor(p0, eps), scaled.top(p0, eps))
+}
+
+// The floor and the top of the phase after one.
+fn next_bounds(scaled: &Scaled, p0: Price, eps: i64) -> Option<(Price, Price)>
+    requires price { IsPrice p0 }
+    requires eps { IsEps scaled.now eps }
+{
+    let next = next_eps(eps)?;
+    Some(bounds(scaled, p0, next))
+}
+
+// The spread of a wide problem with such costs.
+fn wide_spread(alloc: Global, cost: Cost) -> Result<i64, AllocError>
+    requires least { pos 0 ≤ℤ cost }
+    requires greatest { cost ≤ℤ GREATEST_COST }
+{
+    Ok(two_pairs(alloc, cost)?.spread())
+}
+
+// Its slacknesses.
+fn wide_eps(alloc: Global, cost: Cost) -> Result<Vec<i64>, AllocError>
+    requires least { pos 0 ≤ℤ cost }
+    requires greatest { cost ≤ℤ GREATEST_COST }
+{
+    eps_list(alloc, &two_pairs(alloc, cost)?)
+}
+
+#[test]
+fn spread_of_a_wide_problem(rt: HostRuntime) -> Result<(), Fail> {
+    let spread = wide_spread(rt.alloc(), 1_000_000)?;
+    assert_eq!(rt; spread, 16_386_000_000);
+    Ok(())
+}
+
+#[test]
+fn slacknesses_of_a_wide_problem(rt: HostRuntime) -> Result<(), Fail> {
+    let all = wide_eps(rt.alloc(), 1_000_000)?;
+    let known = [
+        3_277_200_000,
+        655_440_000,
+        131_088_000,
+        26_217_600,
+        5_243_520,
+        1_048_704,
+        209_740,
+        41_948,
+        8_389,
+        1_677,
+        335,
+        67,
+        13,
+        2,
+        1,
+    ];
+    assert_eq!(rt; all.as_slice(), known.as_slice());
+    Ok(())
+}
+
+#[test]
+fn slacknesses_of_the_widest_problem(rt: HostRuntime) -> Result<(), Fail> {
+    let all = wide_eps(rt.alloc(), GREATEST_COST)?;
+    let known = [
+        3_277_200_000_000_000,
+        655_440_000_000_000,
+        131_088_000_000_000,
+        26_217_600_000_000,
+        5_243_520_000_000,
+        1_048_704_000_000,
+        209_740_800_000,
+        41_948_160_000,
+        8_389_632_000,
+        1_677_926_400,
+        335_585_280,
+        67_117_056,
+        13_423_411,
+        2_684_682,
+        536_936,
+        107_387,
+        21_477,
+        4_295,
+        859,
+        171,
+        34,
+        6,
+        1,
+    ];
+    assert_eq!(rt; all.as_slice(), known.as_slice());
+    Ok(())
+}
+
+// The least and the greatest benefit, the spread, and the slacknesses of the first two phases.
+fn range_told(scaled: &Scaled) -> ([i64; 4], Option<i64>) {
+    let eps = scaled.first_eps();
+    let range = [
+        scaled.least_benefit(),
+        scaled.greatest_benefit(),
+        scaled.spread(),
+        eps,
+    ];
+    (range, next_eps(eps))
+}
+
+// What a person lists, as a line.
+fn row_told(alloc: Global, scaled: &Scaled, i: u16) -> Result<String, AllocError> {
+    if i == 0 || i > scaled.n() {
+        return format!(in alloc; "no person");
+    }
+    match scaled.row(Person(i)) {
+        Row::Full(benefits) => format!(in alloc; "all objects {benefits:?}"),
+        Row::Pairs(pairs) => format!(in alloc; "pairs {pairs:?}"),
+    }
+}
+
+// The floor and the top of a first phase that starts with this greatest price.
+fn first_bounds(scaled: &Scaled, p0: Price) -> (Price, Price)
+    requires { IsPrice p0 }
+{
+    bounds(scaled, p0, scaled.first_eps())
+}
+
+// Those of a second phase.
+fn second_bounds(scaled: &Scaled, p0: Price) -> Option<(Price, Price)>
+    requires { IsPrice p0 }
+{
+    next_bounds(scaled, p0, scaled.first_eps())
+}
+
+// The problem of two persons under `Min`.
+fn dense_pair(alloc: Global) -> Result<Scaled, AllocError> {
+    let problem = Problem::dense(alloc, 2, &[1, 2, 3, 5])?;
+    scale(alloc, problem, Sense::Min)
+}
+
+// What a person of it lists, as a line.
+fn dense_row(alloc: Global, i: u16) -> Result<String, AllocError> {
+    row_told(alloc, &dense_pair(alloc)?, i)
+}
+
+#[test]
+fn rows_of_two_persons(rt: HostRuntime) -> Result<(), Fail> {
+    for (i, known) in ["all objects [-3, -6]", "all objects [-9, -15]"]
+        .iter()
+        .enumerate()
+    {
+        let row = dense_row(rt.alloc(), i as u16 + 1)?;
+        assert_eq!(rt; row.as_str(), *known);
+    }
+    Ok(())
+}
+
+#[test]
+fn two_persons(rt: HostRuntime) -> Result<(), Fail> {
+    let scaled = dense_pair(rt.alloc())?;
+    let told = (scaled.problem().n(), scaled.n(), scaled.sense());
+    assert!(rt; told == (2, 2, Sense::Min));
+    assert_eq!(rt; range_told(&scaled), ([-15, -3, 12, 2], Some(1)));
+    // from prices of 0, and a run that begins at the prices 14 and 12
+    let first = [first_bounds(&scaled, 0), first_bounds(&scaled, 14)];
+    let second = [second_bounds(&scaled, 8), second_bounds(&scaled, 20)];
+    assert_eq!(rt; first, [(-29, 28), (-43, 42)]);
+    assert_eq!(rt; second, [Some((-36, 34)), Some((-48, 46))]);
+    Ok(())
+}
+
+// Persons 1 and 2 list object 1, and person 3 the others.
+fn few_pairs(alloc: Global, sense: Sense) -> Result<Scaled, AllocError> {
+    let triples = [
+        (Person(1), Object(1), 4),
+        (Person(2), Object(1), 6),
+        (Person(3), Object(2), 1),
+        (Person(3), Object(3), 2),
+    ];
+    let problem = Problem::sparse(alloc, 3, &triples)?;
+    scale(alloc, problem, sense)
+}
+
+// The first person of it that lists something else than its line says.
+fn other_row(alloc: Global, sense: Sense, lines: &[&str; 3]) -> Result<Option<u16>, AllocError> {
+    for (i, line) in lines.iter().enumerate() {
+        let row = row_told(alloc, &few_pairs(alloc, sense)?, i as u16 + 1)?;
+        if row.as_str() != *line {
+            return Ok(Some(i as u16 + 1));
+        }
+    }
+    Ok(None)
+}
+
+#[test]
+fn rows_of_few_pairs(rt: HostRuntime) -> Result<(), Fail> {
+    let least = [
+        "pairs [(Object(1), -16)]",
+        "pairs [(Object(1), -24)]",
+        "pairs [(Object(2), -4), (Object(3), -8)]",
+    ];
+    assert_eq!(rt; other_row(rt.alloc(), Sense::Min, &least)?, None);
+    let greatest = [
+        "pairs [(Object(1), 16)]",
+        "pairs [(Object(1), 24)]",
+        "pairs [(Object(2), 4), (Object(3), 8)]",
+    ];
+    assert_eq!(rt; other_row(rt.alloc(), Sense::Max, &greatest)?, None);
+    Ok(())
+}
+
+#[test]
+fn three_persons_with_few_pairs(rt: HostRuntime) -> Result<(), Fail> {
+    for (sense, least, greatest, floor) in [(Sense::Min, -24, -4, -72), (Sense::Max, 4, 24, -44)] {
+        let scaled = few_pairs(rt.alloc(), sense)?;
+        assert_eq!(rt; range_told(&scaled), ([least, greatest, 20, 4], Some(1)));
+        assert_eq!(rt; first_bounds(&scaled, 0), (floor, 72));
+    }
+    Ok(())
+}
+
+// One person that lists nothing.
+fn lone(alloc: Global) -> Result<Scaled, AllocError> {
+    let problem = Problem::sparse(alloc, 1, &[])?;
+    scale(alloc, problem, Sense::Min)
+}
+
+#[test]
+fn nothing_listed(rt: HostRuntime) -> Result<(), Fail> {
+    let scaled = lone(rt.alloc())?;
+    let row = row_told(rt.alloc(), &scaled, 1)?;
+    assert_eq!(rt; row.as_str(), "pairs []");
+    assert_eq!(rt; range_told(&scaled), ([0, 0, 0, 1], None));
+    assert_eq!(rt; first_bounds(&scaled, 5), (-5, 6));
+    Ok(())
+}
