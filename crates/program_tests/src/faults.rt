@@ -1,6 +1,5 @@
 // Runs that fail, with the lines and the statuses that they are to give.
-use crate::tests::streams::failing_writer;
-use crate::tests::watched::{assert_told, leaves, run_on, run_with, watched_run, whole_devices};
+use crate::watched::{assert_told, leaves, run_on, run_with, watched_run, whole_devices};
 use assign_core::{Object, Person};
 use auction_command::{CliFault, NoWords, status_of};
 use orlib_reader::InputFault;
@@ -10,6 +9,7 @@ use std::process::Abort;
 use std::sync::Wait;
 use std::test::Fail;
 use std::thread::Threads;
+use test_helpers::failing_writer;
 
 // Texts with the line that refuses each, with these words, in bytes and at once.
 fn assert_refused(

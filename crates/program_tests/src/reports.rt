@@ -1,12 +1,13 @@
 // Texts with the reports and the statuses that they are to give.
-use crate::tests::streams::{next_number, problem_in};
-use crate::tests::watched::{assert_reported, run_with};
-use assign_core::{Sense, plain_best};
+use crate::texts::problem_in;
+use crate::watched::{assert_reported, run_with};
+use assign_core::Sense;
 use std::alloc::{AllocError, Global};
 use std::process::Abort;
 use std::sync::Wait;
 use std::test::Fail;
 use std::thread::Threads;
+use test_helpers::{next_number, plain_best};
 
 // Runs with these words on each text, in bytes and at once, end with the status and this report.
 fn assert_reports(

@@ -1,6 +1,6 @@
 // Runs by shortest paths.
-use crate::tests::starts::{neighbours_of, report_of};
-use crate::tests::watched::{assert_reported, assert_told, assert_words_refused, run_with};
+use crate::starts::{neighbours_of, report_of};
+use crate::watched::{assert_reported, assert_told, assert_words_refused, run_with};
 use std::alloc::{AllocError, Global};
 use std::sync::Wait;
 use std::test::Fail;

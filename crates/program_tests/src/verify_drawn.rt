@@ -1,7 +1,7 @@
 // What is printed for drawn problems is verified, and with a number changed only where it is
 // right still.
-use crate::tests::streams::{ample_writer, next_number, problem_in, whole_text};
-use assign_core::{Cost, Object, Person, Price, Problem, Sense, plain_best};
+use crate::texts::problem_in;
+use assign_core::{Cost, Object, Person, Price, Problem, Sense};
 use async_workers::OpenGate;
 use auction_command::{Mode, SolveOpts, Verified, run_solve, run_verify};
 use orlib_reader::InputFault;
@@ -10,6 +10,7 @@ use std::alloc::{AllocError, Global};
 use std::sync::Wait;
 use std::test::Fail;
 use std::thread::Threads;
+use test_helpers::{ample_writer, next_number, plain_best, whole_text};
 
 // A problem's text, whether it lists pairs, and which costs are wanted.
 #[derive(Drop)]

@@ -1,10 +1,10 @@
 // Runs of the whole program whose streams are watched, for tests.
-use crate::tests::streams::{FailingWriter, Pieces, failing_writer, whole_text};
 use auction_command::{Files, NoFile, NoWords, ProgramEnd, Told, Unwatched, run_program};
 use std::alloc::{AllocError, Global};
 use std::process::Abort;
 use std::sync::Wait;
 use std::thread::Threads;
+use test_helpers::{FailingWriter, Pieces, failing_writer, whole_text};
 
 // A report and a problem under these names, and a file that memory is refused for under `refused`.
 #[derive(Drop)]

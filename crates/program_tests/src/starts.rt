@@ -1,10 +1,10 @@
 // Runs that begin at the prices of a report.
-use crate::tests::streams::next_number;
-use crate::tests::watched::{assert_reported, assert_told, first_line, run_with};
+use crate::watched::{assert_reported, assert_told, first_line, run_with};
 use std::alloc::{AllocError, Global};
 use std::sync::Wait;
 use std::test::Fail;
 use std::thread::Threads;
+use test_helpers::next_number;
 
 // The report with prices on two persons.
 const TWO: &[u8] = b"sense min\ncost 5\nassign 1 2 2\nassign 2 1 3\nprice 1 14\nprice 2 12\n";

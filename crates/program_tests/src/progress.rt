@@ -1,5 +1,4 @@
 // What a watch is told of a run, and the lines that a teller makes of it.
-use crate::tests::streams::{ample_writer, whole_text};
 use assign_core::Sense;
 use async_workers::OpenGate;
 use auction_command::{
@@ -11,6 +10,7 @@ use std::sync::Wait;
 use std::sync::atomic::{AtomicBool, AtomicU64, Ordering};
 use std::test::Fail;
 use std::thread::Threads;
+use test_helpers::{ample_writer, whole_text};
 
 // Follows a run: what it was told last and how often, and whether it was told something that can't be.
 #[derive(Drop)]

@@ -1,11 +1,11 @@
 // Runs whose problem lies in a file that the words name.
-use crate::tests::streams::whole_text;
-use crate::tests::watched::{Seen, assert_reported, assert_told, run_on, whole_devices};
+use crate::watched::{Seen, assert_reported, assert_told, run_on, whole_devices};
 use std::alloc::{AllocError, Global};
 use std::process::Abort;
 use std::sync::Wait;
 use std::test::Fail;
 use std::thread::Threads;
+use test_helpers::whole_text;
 
 // A problem on standard input, which such a run leaves alone.
 const STANDARD: &[u8] = b"1 7";

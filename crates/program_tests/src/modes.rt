@@ -1,6 +1,5 @@
 // Both modes, on problems whose reports, or what is compared of them, are the same for any threads.
-use crate::tests::streams::{ample_writer, whole_text};
-use crate::tests::watched::{Seen, assert_words_refused, run_with};
+use crate::watched::{Seen, assert_words_refused, run_with};
 use assign_core::Sense;
 use async_workers::{Gate, Note};
 use auction_command::{Ended, Mode, SolveOpts, run_solve};
@@ -11,6 +10,7 @@ use std::sync::atomic::{AtomicU64, Ordering};
 use std::test::Fail;
 use std::thread;
 use std::thread::Threads;
+use test_helpers::{ample_writer, whole_text};
 
 const EIGHT: &[u8] = b"8
 14 20 22 28 34 40 46 48

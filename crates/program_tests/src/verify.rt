@@ -1,10 +1,10 @@
 // Reports held against problems, with the lines that are told of them.
-use crate::tests::streams::{Pieces, failing_writer, whole_text};
 use assign_core::{Object, Sense};
 use auction_command::{CliFault, Finding, Verified, run_verify, run_verify_under};
 use dual_checker::{HallVerdict, Verdict};
 use std::alloc::{AllocError, Global};
 use std::test::Fail;
+use test_helpers::{Pieces, failing_writer, whole_text};
 
 // What a run answered, and what it wrote.
 #[derive(Drop)]

@@ -1,5 +1,5 @@
 // Command lines, with the statuses and the first lines that they give.
-use crate::tests::watched::{assert_begins, run_with, watched_run, whole_devices};
+use crate::watched::{assert_begins, run_with, watched_run, whole_devices};
 use std::test::Fail;
 
 // Valid in both layouts.

@@ -1,9 +1,6 @@
 // The answers and Hall sets of drawn runs of the book, held against the checkers.
-ghost use Rattle.std.specs.Prelude.{◌≡◌, ◌≤◌, All, IfOk, length};
-ghost use Rattle.report.specs.Starts.{IsFirstPrice};
-
-use crate::tests::streams::{next_number, problem_in};
-use assign_core::{MOST_PERSONS, Price, Prices, Problem, Sense};
+use crate::texts::problem_in;
+use assign_core::{Price, Problem, Sense};
 use auction_book::{Book, Event, World, run_schedule_from};
 use dual_checker::{HallVerdict, Verdict, check, check_hall};
 use scaled_values::scale;
@@ -11,6 +8,7 @@ use std::alloc::{AllocError, Global};
 use std::process::Abort;
 use std::sync::Arc;
 use std::test::Fail;
+use test_helpers::{first_prices, next_number};
 
 // The text of at most five persons, who list all objects or some, at few costs or many.
 fn drawn_text(alloc: Global, seed: &mut u64) -> Result<String, AllocError> {
@@ -28,18 +26,14 @@ fn drawn_text(alloc: Global, seed: &mut u64) -> Result<String, AllocError> {
 }
 
 // First prices of n objects: up to 40 for some of them, and 0 for the rest.
-fn drawn_prices(alloc: Global, seed: &mut u64, n: u16) -> Result<Prices, AllocError>
-    requires { n ≤ MOST_PERSONS }
-    ensures long { IfOk result (λ prices. length prices ≡ n) }
-    ensures low { IfOk result (λ prices. All IsFirstPrice prices) }
-{
+fn drawn_prices(alloc: Global, seed: &mut u64, n: u16) -> Result<Vec<Price>, AllocError> {
     let priced = next_number(seed) % 6;
-    let mut values = Vec::with_capacity(alloc, n as usize)?;
+    let mut prices = Vec::with_capacity(alloc, n as usize)?;
     for i in 0..n {
         let most = if u64::from(i) < priced { 40 } else { 0 };
-        values.push((next_number(seed) % (most + 1)) as Price)?;
+        prices.push((next_number(seed) % (most + 1)) as Price)?;
     }
-    Prices::new(alloc, values)
+    Ok(prices)
 }
 
 // Events of workers 0 to 4, so that there are some of no worker.
@@ -64,7 +58,8 @@ fn drawn_world(
 ) -> Result<World, AllocError> {
     let n = problem.n();
     let scaled = Arc::new(alloc, scale(alloc, problem, sense)?)?;
-    let prices = drawn_prices(alloc, seed, n)?;
+    let given = drawn_prices(alloc, seed, n)?;
+    let prices = first_prices(alloc, n, given.as_slice())?;
     let workers = (next_number(seed) % 4) as u16 + 1;
     let events = drawn_events(alloc, seed)?;
     run_schedule_from(alloc, scaled, prices, workers, events.as_slice())
