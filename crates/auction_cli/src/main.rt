@@ -1,24 +1,17 @@
 //! Solves assignment problems from the command line.
 #![tactic(auto)]
 
-mod finding;
-mod program;
-mod progress;
-mod run;
-mod teller;
-#[cfg(test)]
-mod tests;
-mod verify;
-mod words;
-
-use program::{Files, NoFile, NoWords, run_program};
+pub use auction_command::{
+    CliFault, Ended, Method, Mode, SolveOpts, Verified, Words, WordsFault, read_words, run_solve,
+    run_solve_by, run_solve_from, run_verify,
+};
+use auction_command::{Console, Files, NoFile, NoWords, Teller, run_program};
 use std::fs::File;
 use std::io::{IsTerminal, Write};
 use std::os::fd::AsRawFd;
 use std::process::ExitCode;
 use std::time::Clock;
 use std::{env, fs, io};
-use teller::{Console, Teller};
 
 // Opens a file, and leaves standard input's number free. Where standard input is closed the file would get that
 // number, and a report be read as the problem; so it is moved, and reading the problem from standard input fails.

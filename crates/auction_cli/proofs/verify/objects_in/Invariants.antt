@@ -1,6 +1,0 @@
-use Rattle.std.proofs.Common.{◌≡◌, take}
-use Rattle.auction_cli.specs.Findings.{objects_of}
-use Rattle.auction_cli.proofs.verify.objects_in.Given as goal
-
-abbrev pub invariant-loop-object : goal.invariant-loop-object
-invariant-loop-object l = l.objects.items ≡ objects_of (take l.object-index l.pairs)

@@ -1,0 +1,30 @@
+-- The first prices of a run.
+use Rattle.std.proofs.Common.{ℕ, ℤ, ◌≤ℤ◌, List, Option, Result, Ok, Err, IfSome, arith}
+use Rattle.std.proofs.lemmas.Int.{ints}
+use Rattle.std.specs.List.{All}
+use Rattle.assign_core.specs.declared.numbers.TheConstants.{GREATEST_FIRST_PRICE}
+use Rattle.assign_core.specs.Rows.{Listing}
+use Rattle.scaled_values.proofs.BenefitRange.{greatest_holds}
+use Rattle.scaled_values.specs.Scaled.{greatest_of}
+use Rattle.report.specs.Starts.{IsFirstPrice}
+use Rattle.auction_command.specs.Solve.{BeginsAt, Reads, SolveOutcomeBy}
+use Rattle.auction_command.specs.inside.Solve.{Reports}
+use Rattle.auction_command.specs.declared.words.Method.{Method}
+use Rattle.auction_command.specs.declared.words.SolveOpts.{SolveOpts}
+use Rattle.auction_command.specs.declared.run.Ended.{Ended}
+use Rattle.auction_command.specs.declared.run.CliFault.{CliFault}
+use Rattle.auction_command.specs.declared.run.CliFault.TheVariants.{Input, Report as ReportFault, Start, Write, Memory, Stuck}
+
+pub low_greatest : (prices : List ℤ) → All IsFirstPrice prices → greatest_of prices ≤ℤ GREATEST_FIRST_PRICE
+low_greatest prices h = greatest_holds IsFirstPrice prices (omega (arith, ints)) h
+
+-- what a run over a problem and first prices comes to is the outcome of the whole run
+pub reports_outcome : (method : Method) (options : SolveOpts) (input : Option (List ℕ)) (start : Option (Option (List ℕ))) (rows : List Listing) (prices : List ℤ) (old new : Option (List ℕ)) (result : Result Ended CliFault) →
+    IfSome input (λ bytes. Reads options.sparse bytes (Ok rows)) → BeginsAt start rows prices → Reports method options rows prices old new result → SolveOutcomeBy method options input start old new result
+reports_outcome method options input start rows prices old new (Ok ended) i b r = (r.0, (rows, prices, i, b, r.1), r.2)
+reports_outcome method options input start rows prices old new (Err Write) i b r = (r.0, r.1, (rows, prices, i, b, r.2), r.3)
+reports_outcome method options input start rows prices old new (Err Memory) i b r = r
+reports_outcome method options input start rows prices old new (Err (Input fault)) i b r = absurd r
+reports_outcome method options input start rows prices old new (Err (ReportFault fault)) i b r = absurd r
+reports_outcome method options input start rows prices old new (Err (Start fault)) i b r = absurd r
+reports_outcome method options input start rows prices old new (Err (Stuck person)) i b r = absurd r

@@ -1,0 +1,203 @@
+-- What the program has written on each stream, and its status, by its words and how it ended.
+use Rattle.std.specs.Prelude.{◌≡◌, ◌≢◌, ◌⊎◌, ℕ, Bool, List, ◌++◌, Option, None, Some, Result, Ok, Err, codes, ⊤}
+use Rattle.std.specs.Io.KnownBytes.{Appends, Keeps}
+use Rattle.clap.specs.Words.{fault_of, IsAmong, Text}
+use Rattle.clap.specs.declared.error.kind.ErrorKind.{ErrorKind}
+use Rattle.clap.specs.declared.error.kind.ErrorKind.TheVariants.{DisplayHelp, DisplayVersion, OutOfMemory}
+use Rattle.std.specs.Option.{IsSomeAnd, option_map}
+use Rattle.std.specs.String.{string_bytes}
+use Rattle.assign_core.specs.declared.sense.Sense.{Sense}
+use Rattle.report.specs.Writing.{IsCutOff}
+use Rattle.auction_command.specs.Solve.{SolveOutcomeBy, end_status, fault_line, status}
+use Rattle.auction_command.specs.Verify.{VerifyOutcome}
+use Rattle.auction_command.specs.Words.{AskFor, AskForNoMode, AskForNoModeAt, AskForNoSense, AskForNoSenseAt, Places, program}
+use Rattle.auction_command.specs.declared.words.Method.{Method}
+use Rattle.auction_command.specs.declared.words.SolveOpts.{SolveOpts}
+use Rattle.auction_command.specs.declared.words.Words.{Words}
+use Rattle.auction_command.specs.declared.words.Words.TheVariants.{Solve, Verify}
+use Rattle.auction_command.specs.declared.verify.Verified.TheVariants.{Yes, No}
+use Rattle.auction_command.specs.declared.run.CliFault.{CliFault}
+use Rattle.auction_command.specs.declared.run.CliFault.TheVariants.{Write, Memory}
+use Rattle.auction_command.specs.declared.program.NoWords.{NoWords}
+use Rattle.auction_command.specs.declared.program.NoWords.TheVariants as no_words
+use Rattle.auction_command.specs.declared.program.NoFile.{NoFile}
+use Rattle.auction_command.specs.declared.program.NoFile.TheVariants as no_file
+use Rattle.auction_command.specs.declared.program.Named.{Named}
+use Rattle.auction_command.specs.declared.program.Named.TheVariants.{Report, Input}
+use Rattle.auction_command.specs.declared.program.Told.{Told}
+use Rattle.auction_command.specs.declared.program.Told.TheVariants.{Whole, Part}
+use Rattle.auction_command.specs.declared.program.ProgramEnd.{ProgramEnd}
+use Rattle.auction_command.specs.declared.program.ProgramEnd.TheVariants.{Reported, Checked, Helped, Refused, Unopened, Failed}
+
+-- the words as texts, or why there are none
+abbrev pub Given : Type 0
+Given = Result (List Text) NoWords
+
+abbrev pub given_by : {V : Type 0} → (V → List Text) → Result V NoWords → Given
+given_by texts (Ok words) = Ok (texts words)
+given_by texts (Err none) = Err none
+
+-- clap finds no fault in the words, and this is what they choose
+abbrev pub Asks : Given → Words → Type 0
+Asks (Ok words) asked = AskFor words asked
+Asks (Err none) asked = ⊥
+
+-- neither a request for help nor for the version
+abbrev pub IsMistake : ErrorKind → Type 0
+IsMistake kind = (kind ≢ DisplayHelp) × (kind ≢ DisplayVersion)
+
+-- clap finds a fault in the words that is no mistake: they ask for help
+abbrev pub AsksForHelp : Given → Type 0
+AsksForHelp (Ok words) =
+    (at : Places) × (kind : ErrorKind) × IsAmong kind (fault_of (program at) words) × (IsMistake kind → ⊥)
+AsksForHelp (Err none) = ⊥
+
+-- clap finds a mistake in the words
+abbrev pub AreMistaken : List Text → Type 0
+AreMistaken words =
+    (at : Places) × (kind : ErrorKind) × IsAmong kind (fault_of (program at) words) × (kind ≢ OutOfMemory) × IsMistake kind
+
+-- clap finds a mistake in the words, they name no mode or no sense, or one of them is no text
+abbrev pub AreRefused : Given → Type 0
+AreRefused (Ok words) = AreMistaken words ⊎ AskForNoMode words ⊎ AskForNoSense words
+AreRefused (Err none) = none ≡ no_words.NoText
+
+-- what opening a file comes to: the bytes that are then left to be read, where the reader tells them, or why it can't be read
+abbrev pub Opening : Type 0
+Opening = Result (Option (List ℕ)) NoFile
+
+abbrev pub opening_of : {R : Type 0} → (R → Option (List ℕ)) → Result R NoFile → Opening
+opening_of remaining (Ok file) = Ok (remaining file)
+opening_of remaining (Err absent) = Err absent
+
+-- what opening may come to, by the file's name
+abbrev pub Openings : Type 1
+Openings = Text → Opening → Type 0
+
+-- the report that is to be checked, or to be begun at
+abbrev pub report_name : Words → Option Text
+report_name (Solve options start asked) = option_map string_bytes start
+report_name (Verify sparse sense name input) = Some (string_bytes name)
+
+-- the file with the problem, which else is on standard input
+abbrev pub input_name : Words → Option Text
+input_name (Solve options start asked) = option_map string_bytes asked.input
+input_name (Verify sparse sense name input) = option_map string_bytes input
+
+-- opening came to these bytes, where a file is named, and none was opened where none is
+abbrev pub Opens : Openings → Option Text → Option (Option (List ℕ)) → Type 0
+Opens files (Some name) (Some text) = files name (Ok text)
+Opens files None None = ⊤
+Opens files name text = ⊥
+
+-- a file is named, and opening it came to this
+abbrev pub FailsToOpen : Openings → Option Text → NoFile → Type 0
+FailsToOpen files name absent = IsSomeAnd name (λ n. files n (Err absent))
+
+-- the bytes that the problem is read from: those that opening the input came to, where one is named, and else those of standard input
+abbrev pub IsProblemText : Openings → Option Text → Option (List ℕ) → Option (List ℕ) → Type 0
+IsProblemText files (Some name) standard text = files name (Ok text)
+IsProblemText files None standard text = text ≡ standard
+
+-- how a run of `solve` ends the program
+abbrev pub SolveEnd : Method → SolveOpts → Option (List ℕ) → Option (Option (List ℕ)) → Option (List ℕ) →
+    Option (List ℕ) → ProgramEnd → Type 0
+SolveEnd method options input start old new (Reported ended) = SolveOutcomeBy method options input start old new (Ok ended)
+SolveEnd method options input start old new (Failed fault told) = SolveOutcomeBy method options input start old new (Err fault)
+SolveEnd method options input start old new end = ⊥
+
+-- and one of `verify`
+abbrev pub VerifyEnd : Bool → Option Sense → Option (List ℕ) → Option (List ℕ) → Option (List ℕ) → Option (List ℕ) →
+    ProgramEnd → Type 0
+VerifyEnd sparse wanted input text old new (Checked verified) = VerifyOutcome sparse wanted input text old new (Ok verified)
+VerifyEnd sparse wanted input text old new (Failed fault told) = VerifyOutcome sparse wanted input text old new (Err fault)
+VerifyEnd sparse wanted input text old new end = ⊥
+
+-- what is asked for was done, with the files opened that it names, the report first, and the program ended so: nothing went
+-- out where one of them can't be opened or memory is refused
+abbrev pub Does : Words → Option (List ℕ) → Openings → Option (List ℕ) → Option (List ℕ) → ProgramEnd → Type 0
+Does asked standard files old new (Unopened Report told) =
+    FailsToOpen files (report_name asked) no_file.Unopened × Keeps old new
+Does asked standard files old new (Unopened Input told) =
+    ((text : Option (Option (List ℕ))) × Opens files (report_name asked) text)
+    × FailsToOpen files (input_name asked) no_file.Unopened × Keeps old new
+Does asked standard files old new (Failed Memory told) = Keeps old new
+Does (Solve options start asked) standard files old new end =
+    (text : Option (Option (List ℕ))) × Opens files (option_map string_bytes start) text
+    × (problem : Option (List ℕ)) × IsProblemText files (option_map string_bytes asked.input) standard problem
+    × SolveEnd asked.method options problem text old new end
+Does (Verify sparse sense name input) standard files old new end =
+    (text : Option (List ℕ)) × files (string_bytes name) (Ok text)
+    × (problem : Option (List ℕ)) × IsProblemText files (option_map string_bytes input) standard problem
+    × VerifyEnd sparse sense problem text old new end
+
+-- the words are refused or ask for help, of which a beginning went out where writing fails, or memory is refused
+abbrev pub EndsAtWords : Given → Option (List ℕ) → Option (List ℕ) → ProgramEnd → Type 0
+EndsAtWords given old new Helped = AsksForHelp given × (text : List ℕ) × Appends old new text
+EndsAtWords given old new (Refused told) = AreRefused given × Keeps old new
+EndsAtWords given old new (Failed Write told) = AsksForHelp given × (text : List ℕ) × IsCutOff old new text
+EndsAtWords given old new (Failed Memory told) = Keeps old new
+EndsAtWords given old new end = ⊥
+
+-- what standard input and the files held, and what went to standard output
+abbrev pub ProgramOutcome : Given → Option (List ℕ) → Openings → Option (List ℕ) → Option (List ℕ) →
+    ProgramEnd → Type 0
+ProgramOutcome given standard files old new end =
+    EndsAtWords given old new end
+    ⊎ ((asked : Words) × Asks given asked × Does asked standard files old new end)
+
+-- nothing is read where the words are refused, ask for help or name a file that can't be opened, and nothing else but where
+-- it may be
+abbrev pub IsReadWhere : Type 0 → Option (List ℕ) → Option (List ℕ) → ProgramEnd → Type 0
+IsReadWhere may old new Helped = new ≡ old
+IsReadWhere may old new (Refused told) = new ≡ old
+IsReadWhere may old new (Unopened named told) = new ≡ old
+IsReadWhere may old new end = (new ≡ old) ⊎ may
+
+-- so with standard input, which may be read where the words ask for something that names no input
+abbrev pub InputOutcome : Given → Option (List ℕ) → Option (List ℕ) → ProgramEnd → Type 0
+InputOutcome given old new end =
+    IsReadWhere ((asked : Words) × Asks given asked × (input_name asked ≡ None)) old new end
+
+-- a text went to a stream, or a beginning of it
+abbrev pub Tells : Option (List ℕ) → Option (List ℕ) → List ℕ → Told → Type 0
+Tells old new text Whole = Appends old new text
+Tells old new text Part = IsCutOff old new text
+
+-- why the words are refused: which modes or which senses there are, that one of them is no text, or in clap's words, which are open
+abbrev pub IsRefusal : Given → List ℕ → Type 0
+IsRefusal (Ok words) text =
+    (((at : Places) → AskForNoModeAt at words) → text ≡ codes "usage: mode is rounds or workers\n")
+    × (((at : Places) → AskForNoSenseAt at words) → text ≡ codes "usage: sense is min or max\n")
+IsRefusal (Err none) text = text ≡ codes "error: the words are no text\n"
+
+-- the line on a file that can't be opened, with its line feed
+abbrev pub unopened_line : Named → List ℕ
+unopened_line Report = codes "device: cannot open the report\n"
+unopened_line Input = codes "device: cannot open the input\n"
+
+-- a fault's line, with its line feed
+abbrev pub line_of : CliFault → List ℕ
+line_of fault = fault_line fault ++ codes "\n"
+
+-- what went to standard error
+abbrev pub ErrorOutcome : Given → Option (List ℕ) → Option (List ℕ) → ProgramEnd → Type 0
+ErrorOutcome given old new (Reported ended) = Keeps old new
+ErrorOutcome given old new (Checked verified) = Keeps old new
+ErrorOutcome given old new Helped = Keeps old new
+ErrorOutcome given old new (Refused told) =
+    (text : List ℕ) × IsRefusal given text × Tells old new text told
+ErrorOutcome given old new (Unopened named told) = Tells old new (unopened_line named) told
+ErrorOutcome given old new (Failed fault told) = Tells old new (line_of fault) told
+
+-- 0 for an assignment, for a report that is right and for help, 1 where there is no assignment, 2 for
+-- words that are refused, 4 for a file that can't be opened, 5 for a report that is wrong, and else
+-- a fault's own
+abbrev pub exit_status : ProgramEnd → ℕ
+exit_status (Reported ended) = end_status ended
+exit_status (Checked Yes) = 0
+exit_status (Checked No) = 5
+exit_status Helped = 0
+exit_status (Refused told) = 2
+exit_status (Unopened named told) = 4
+exit_status (Failed fault told) = status fault

@@ -1,0 +1,166 @@
+-- What a run of `solve` reads and writes, and how it ends.
+use Rattle.std.specs.Prelude.{◌≡◌, ℕ, ℤ, Bool, true, false, List, ◌++◌, Option, None, Some, Result, Ok, Err, IfSome, codes, decimal, pos, replicate, length}
+use Rattle.std.specs.Option.{IsSomeAnd}
+use Rattle.std.specs.Io.KnownBytes.{Appends, Keeps}
+use Rattle.assign_core.specs.declared.sense.Sense.{Sense}
+use Rattle.assign_core.specs.Rows.{Listing}
+use Rattle.assign_core.specs.Assignment.{IsAssignment, IsBest}
+use Rattle.assign_core.specs.declared.outcome.Outcome.{Outcome}
+use Rattle.assign_core.specs.declared.outcome.Outcome.TheVariants.{Best, Hall}
+use Rattle.scaled_values.specs.Scaled.{ScaledProblem}
+use Rattle.rounds.specs.Outcomes.{IsDecided, IsOfRounds, IsProof}
+use Rattle.async_workers.specs.declared.solving.Tally.{Tally}
+use Rattle.async_workers.specs.Solving.{IsSolved}
+use Rattle.report.specs.Lines.{report_text}
+use Rattle.report.specs.Outcomes.{outcome_report}
+use Rattle.report.specs.Writing.{IsCutOff}
+use Rattle.orlib_reader.specs.FaultText.{fault_text}
+use Rattle.orlib_reader.specs.Texts.{Answers, SparseAnswers, dense_reading, sparse_reading}
+use Rattle.orlib_reader.specs.declared.fault.InputFault.{InputFault}
+use Rattle.orlib_reader.specs.declared.fault.InputFault.TheVariants as inputs
+use Rattle.report.specs.FaultText.{fault_text as report_fault_text, start_text}
+use Rattle.report.specs.declared.fault.ReportFault.{ReportFault}
+use Rattle.report.specs.declared.fault.ReportFault.TheVariants as refusals
+use Rattle.report.specs.declared.fault.StartFault.{StartFault}
+use Rattle.report.specs.Answers.{Answers as ReportAnswers}
+use Rattle.report.specs.Reports as reports
+use Rattle.report.specs.Starts.{HasStartFault, IsStart}
+use Rattle.auction_command.specs.declared.words.Method.{Method}
+use Rattle.auction_command.specs.declared.words.Method.TheVariants.{Auction, Paths}
+use Rattle.auction_command.specs.declared.words.Mode.{Mode}
+use Rattle.auction_command.specs.declared.words.Mode.TheVariants.{Rounds, Workers}
+use Rattle.auction_command.specs.declared.words.SolveOpts.{SolveOpts}
+use Rattle.auction_command.specs.declared.run.Ended.{Ended}
+use Rattle.auction_command.specs.declared.run.Ended.TheVariants.{Optimal, Infeasible}
+use Rattle.auction_command.specs.declared.run.CliFault.{CliFault}
+use Rattle.auction_command.specs.declared.run.CliFault.TheVariants.{Input, Report, Start, Write, Memory, Stuck}
+
+-- what the bytes of a sparse or of a dense text give
+abbrev pub Reads : Bool → List ℕ → Result (List Listing) InputFault → Type 0
+Reads true bytes result = SparseAnswers result (sparse_reading bytes)
+Reads false bytes result = Answers result (dense_reading bytes)
+
+-- a problem under a sense
+abbrev pub problem_under : Sense → List Listing → ScaledProblem
+problem_under sense rows = record { problem = rows; sense = sense }
+
+-- a best assignment, or there is none
+abbrev pub IsSettled : Sense → List Listing → Outcome → Type 0
+IsSettled sense rows (Best c) = IsBest sense rows c.assignment
+IsSettled sense rows (Hall h) = (xs : List ℕ) → IsAssignment rows xs → ⊥
+
+-- what a mode comes to from these prices: the outcome of plain rounds, or one of so many workers
+abbrev pub IsOutcomeIn : Mode → ℕ → ScaledProblem → List ℤ → Outcome → Type 0
+IsOutcomeIn Rounds workers s prices outcome = IsOfRounds s prices outcome
+IsOutcomeIn Workers workers s prices outcome = (told : List Tally) × IsSolved s prices workers outcome told
+
+-- what a method comes to from these prices: the auction to what its mode comes to; shortest paths, from any prices, to an assignment exactly where there is one
+abbrev pub IsOutcomeBy : Method → SolveOpts → ScaledProblem → List ℤ → Outcome → Type 0
+IsOutcomeBy Auction options s prices outcome = IsOutcomeIn options.mode options.workers s prices outcome
+IsOutcomeBy Paths options s prices outcome = IsDecided s outcome
+
+-- what the method that is asked for comes to from these prices: with prices that prove it best, or a Hall set
+pub record IsSolution (method : Method) (options : SolveOpts) (rows : List Listing) (prices : List ℤ) (outcome : Outcome) : Type 0 where
+  pub reached : IsOutcomeBy method options (problem_under options.sense rows) prices outcome
+  pub proof : IsProof (problem_under options.sense rows) outcome
+  pub settled : IsSettled options.sense rows outcome
+
+abbrev pub end_of : Outcome → Ended
+end_of (Best c) = Optimal
+end_of (Hall h) = Infeasible
+
+-- the text reports what the method that is asked for comes to from these prices, under the sense that is asked for, with its prices where they are
+pub record IsReportOn (method : Method) (options : SolveOpts) (rows : List Listing) (prices : List ℤ) (ended : Ended) (text : List ℕ) : Type 0 where
+  pub outcome : Outcome
+  pub solution : IsSolution method options rows prices outcome
+  pub end : ended ≡ end_of outcome
+  pub told : text ≡ report_text (outcome_report rows options.sense outcome options.prices)
+
+-- the first prices: all 0 where no report is named, and else those of the report that its bytes are, where they are known
+abbrev pub BeginsAt : Option (Option (List ℕ)) → List Listing → List ℤ → Type 0
+BeginsAt None rows prices = prices ≡ replicate (length rows) (pos 0)
+BeginsAt (Some text) rows prices =
+    (report : reports.Report) × IfSome text (λ bytes. ReportAnswers bytes (Ok report)) × IsStart report (length rows) prices
+
+-- known bytes are a problem that has this report, from the first prices
+abbrev pub IsAnswer : Method → SolveOpts → Option (List ℕ) → Option (Option (List ℕ)) → Ended → List ℕ → Type 0
+IsAnswer method options input start ended text =
+    (rows : List Listing) × (prices : List ℤ) × IfSome input (λ bytes. Reads options.sparse bytes (Ok rows))
+    × BeginsAt start rows prices × IsReportOn method options rows prices ended text
+
+-- known bytes are no problem, and this is their first fault; nothing went out
+pub record IsRefused (sparse : Bool) (input old new : Option (List ℕ)) (fault : InputFault) : Type 0 where
+  pub answer : IfSome input (λ bytes. Reads sparse bytes (Err fault))
+  pub kept : Keeps old new
+
+-- known bytes are a problem, and others no report, with this as their first fault; nothing went out
+pub record IsRefusedReport (sparse : Bool) (input text old new : Option (List ℕ)) (fault : ReportFault) : Type 0 where
+  pub rows : List Listing
+  pub problem : IfSome input (λ bytes. Reads sparse bytes (Ok rows))
+  pub answer : IfSome text (λ bytes. ReportAnswers bytes (Err fault))
+  pub kept : Keeps old new
+
+-- known bytes are a problem, and others a report at whose prices its run can't begin; nothing went out
+pub record IsRefusedStart (sparse : Bool) (input text old new : Option (List ℕ)) (fault : StartFault) : Type 0 where
+  pub rows : List Listing
+  pub report : reports.Report
+  pub problem : IfSome input (λ bytes. Reads sparse bytes (Ok rows))
+  pub said : IfSome text (λ bytes. ReportAnswers bytes (Ok report))
+  pub unfit : HasStartFault report (length rows) fault
+  pub kept : Keeps old new
+
+-- what a run by a method has read, of the problem and of the report that is named, if one is, and written, by how it ended: the report and nothing else, or a beginning of
+-- it where writing fails, or nothing
+abbrev pub SolveOutcomeBy : Method → SolveOpts → Option (List ℕ) → Option (Option (List ℕ)) → Option (List ℕ) →
+    Option (List ℕ) → Result Ended CliFault → Type 0
+SolveOutcomeBy method options input start old new (Ok ended) =
+    (text : List ℕ) × IsAnswer method options input start ended text × Appends old new text
+SolveOutcomeBy method options input start old new (Err Write) =
+    (ended : Ended) × (text : List ℕ) × IsAnswer method options input start ended text × IsCutOff old new text
+SolveOutcomeBy method options input start old new (Err (Input fault)) = IsRefused options.sparse input old new fault
+SolveOutcomeBy method options input start old new (Err (Report fault)) =
+    IsSomeAnd start (λ text. IsRefusedReport options.sparse input text old new fault)
+SolveOutcomeBy method options input start old new (Err (Start fault)) =
+    IsSomeAnd start (λ text. IsRefusedStart options.sparse input text old new fault)
+SolveOutcomeBy method options input start old new (Err Memory) = Keeps old new
+SolveOutcomeBy method options input start old new (Err (Stuck person)) = ⊥
+
+-- the same of a run by auction
+abbrev pub SolveOutcome : SolveOpts → Option (List ℕ) → Option (Option (List ℕ)) → Option (List ℕ) →
+    Option (List ℕ) → Result Ended CliFault → Type 0
+SolveOutcome options input start old new result = SolveOutcomeBy Auction options input start old new result
+
+-- 4 where the device failed or memory was refused, and 3 for a text that is refused
+abbrev pub input_status : InputFault → ℕ
+input_status inputs.Read = 4
+input_status inputs.Memory = 4
+input_status _ = 3
+
+abbrev pub report_status : ReportFault → ℕ
+report_status refusals.Read = 4
+report_status refusals.Memory = 4
+report_status _ = 3
+
+-- 0 for an assignment, 1 where there is none
+abbrev pub end_status : Ended → ℕ
+end_status Optimal = 0
+end_status Infeasible = 1
+
+-- what a fault prints, without its line feed
+abbrev pub fault_line : CliFault → List ℕ
+fault_line (Input fault) = fault_text fault
+fault_line (Report fault) = report_fault_text fault
+fault_line (Start fault) = start_text fault
+fault_line Write = codes "device: write failed"
+fault_line Memory = codes "memory refused"
+fault_line (Stuck person) = codes "stuck at person " ++ decimal person
+
+-- 4 for want of memory and for devices that fail, 5 where nothing was found, and else what a text
+-- that is refused has
+abbrev pub status : CliFault → ℕ
+status (Input fault) = input_status fault
+status (Report fault) = report_status fault
+status (Start fault) = 3
+status Write = 4
+status Memory = 4
+status (Stuck person) = 5

@@ -1,0 +1,47 @@
+-- What a run of `verify` reads and writes, and how it ends.
+use Rattle.std.specs.Prelude.{◌≡◌, ℕ, Bool, List, ◌++◌, Option, Result, Ok, Err, IfSome, codes}
+use Rattle.std.specs.Io.KnownBytes.{Appends, Keeps}
+use Rattle.assign_core.specs.declared.sense.Sense.{Sense}
+use Rattle.assign_core.specs.Rows.{Listing}
+use Rattle.report.specs.Answers as reports
+use Rattle.report.specs.Reports.{Report}
+use Rattle.report.specs.Writing.{IsCutOff}
+use Rattle.auction_command.specs.Solve.{IsRefused, IsRefusedReport, Reads}
+use Rattle.auction_command.specs.Findings.{IsFoundUnder, IsSo, finding_line, verdict_of}
+use Rattle.auction_command.specs.declared.finding.Finding.{Finding}
+use Rattle.auction_command.specs.declared.verify.Verified.{Verified}
+use Rattle.auction_command.specs.declared.verify.Verified.TheVariants.{Yes}
+use Rattle.auction_command.specs.declared.run.CliFault.{CliFault}
+use Rattle.auction_command.specs.declared.run.CliFault.TheVariants as faults
+
+-- a finding's line, with its line feed
+abbrev pub told_line : Finding → List ℕ
+told_line finding = finding_line finding ++ codes "\n"
+
+-- known bytes are a problem and a report, in which this is found where this sense is asked for, or
+-- any; where nothing is wrong, what the report says is so
+pub record IsFinding (sparse : Bool) (wanted : Option Sense) (input text : Option (List ℕ)) (finding : Finding) : Type 0 where
+  pub rows : List Listing
+  pub report : Report
+  pub problem : IfSome input (λ bytes. Reads sparse bytes (Ok rows))
+  pub said : IfSome text (λ bytes. reports.Answers bytes (Ok report))
+  pub found : IsFoundUnder wanted rows report finding
+  pub so : verdict_of finding ≡ Yes → IsSo rows report
+
+-- what a run has read, of the problem and of the report, and written, by how it ended: one line, or
+-- a beginning of it where writing fails, or nothing
+abbrev pub VerifyOutcome : Bool → Option Sense → Option (List ℕ) → Option (List ℕ) → Option (List ℕ) →
+    Option (List ℕ) → Result Verified CliFault → Type 0
+VerifyOutcome sparse wanted input text old new (Ok verified) =
+    (finding : Finding) × IsFinding sparse wanted input text finding × (verified ≡ verdict_of finding)
+    × Appends old new (told_line finding)
+VerifyOutcome sparse wanted input text old new (Err faults.Write) =
+    (finding : Finding) × IsFinding sparse wanted input text finding
+    × IsCutOff old new (told_line finding)
+VerifyOutcome sparse wanted input text old new (Err (faults.Input fault)) =
+    IsRefused sparse input old new fault
+VerifyOutcome sparse wanted input text old new (Err (faults.Report fault)) =
+    IsRefusedReport sparse input text old new fault
+VerifyOutcome sparse wanted input text old new (Err faults.Memory) = Keeps old new
+VerifyOutcome sparse wanted input text old new (Err (faults.Start fault)) = ⊥
+VerifyOutcome sparse wanted input text old new (Err (faults.Stuck person)) = ⊥

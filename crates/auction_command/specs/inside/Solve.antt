@@ -1,0 +1,39 @@
+-- Runs of `solve` behind the reading of the problem.
+use Rattle.std.specs.Prelude.{ℕ, ℤ, List, Option, Result, Ok, Err, IfSome, ⊤}
+use Rattle.std.specs.Option.{IsSomeAnd}
+use Rattle.std.specs.Io.KnownBytes.{Appends, Keeps}
+use Rattle.assign_core.specs.Rows.{Listing}
+use Rattle.report.specs.Answers.{Answers}
+use Rattle.report.specs.Reports as reports
+use Rattle.report.specs.Starts.{HasStartFault}
+use Rattle.report.specs.Writing.{IsCutOff}
+use Rattle.auction_command.specs.Solve.{IsReportOn}
+use Rattle.auction_command.specs.declared.words.Method.{Method}
+use Rattle.auction_command.specs.declared.words.SolveOpts.{SolveOpts}
+use Rattle.auction_command.specs.declared.run.Ended.{Ended}
+use Rattle.auction_command.specs.declared.run.CliFault.{CliFault}
+use Rattle.auction_command.specs.declared.run.CliFault.TheVariants.{Report, Start, Write, Memory}
+
+-- by how a run over a problem and first prices ended: the report went out, or a beginning of it, or nothing
+abbrev pub Reports : Method → SolveOpts → List Listing → List ℤ → Option (List ℕ) → Option (List ℕ) →
+    Result Ended CliFault → Type 0
+Reports method options rows prices old new (Ok ended) =
+    (text : List ℕ) × IsReportOn method options rows prices ended text × Appends old new text
+Reports method options rows prices old new (Err Write) =
+    (ended : Ended) × (text : List ℕ) × IsReportOn method options rows prices ended text × IsCutOff old new text
+Reports method options rows prices old new (Err Memory) = Keeps old new
+Reports method options rows prices old new (Err fault) = ⊥
+
+-- why no run with n objects begins at the prices of a report
+abbrev pub HasNoStart : reports.Report → ℕ → CliFault → Type 0
+HasNoStart report n (Start fault) = HasStartFault report n fault
+HasNoStart report n Memory = ⊤
+HasNoStart report n fault = ⊥
+
+-- why no run with n objects begins at the report that is named: it is refused, or so are its prices
+abbrev pub FailsToBegin : Option (Option (List ℕ)) → ℕ → CliFault → Type 0
+FailsToBegin start n (Report fault) = IsSomeAnd start (λ text. IfSome text (λ bytes. Answers bytes (Err fault)))
+FailsToBegin start n (Start fault) =
+    IsSomeAnd start (λ text. (report : reports.Report) × IfSome text (λ bytes. Answers bytes (Ok report)) × HasStartFault report n fault)
+FailsToBegin start n Memory = ⊤
+FailsToBegin start n fault = ⊥

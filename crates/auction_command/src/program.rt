@@ -1,0 +1,415 @@
+// The whole program: from words and streams to an end with its status.
+ghost use Rattle.std.specs.Prelude.{◌≡◌, ◌<◌, ℕ, List, None, Ok, Err, Option, String, IfOk, IfErr, map};
+ghost use Rattle.std.specs.Option.{option_map};
+ghost use Rattle.std.specs.String.{string_bytes};
+ghost use Rattle.std.specs.declared.alloc.Global.{Global};
+ghost use Rattle.clap.specs.Words.{Text};
+ghost use Rattle.auction_command.specs.Program.{Does, EndsAtWords, SolveEnd, VerifyEnd};
+ghost use Rattle.auction_command.specs.inside.Program.{EndsAbsent, EndsFailed};
+ghost use Rattle.auction_command.specs.Program.{FailsToOpen, Given, IsReadWhere, Opening, Opens, given_by, input_name, opening_of};
+ghost use Rattle.auction_command.specs.Program.{ErrorOutcome, InputOutcome, ProgramOutcome, Tells, exit_status, unopened_line};
+ghost use Rattle.auction_command.specs.Words.{IsInRanges, WordsOutcome};
+ghost use Rattle.auction_command.specs.declared.words.Words.TheVariants.{Solve, Verify};
+ghost use Rattle.auction_command.specs.declared.words.WordsFault.TheVariants.{Clap};
+
+use crate::progress::Watch;
+use crate::run::{CliFault, Ended, end_status_of, run_solve_watched, status_of};
+use crate::verify::{Verified, run_verify_under};
+use crate::words::{Asked, Method, SolveOpts, Words, WordsFault, read_words};
+use arrayvec::ArrayString;
+use assign_core::Sense;
+use async_workers::OpenGate;
+use clap::Error;
+use report::{WriteFault, write_text};
+use std::alloc::Global;
+use std::convert::AsStr;
+use std::fmt::Write as FmtWrite;
+use std::io::{Read, Write};
+use std::sync::Wait;
+use std::thread::Threads;
+
+/// Why the program has no words to read.
+#[derive(Clone, Copy, PartialEq, Eq)]
+pub enum NoWords {
+    /// One of them is no text.
+    NoText,
+    /// Memory was refused.
+    Memory,
+}
+
+/// Why a file can't be read.
+#[derive(Clone, Copy, PartialEq, Eq)]
+pub enum NoFile {
+    /// It can't be opened.
+    Unopened,
+    /// Memory was refused.
+    Memory,
+}
+
+/// Where files lie, each under a name.
+pub trait Files {
+    /// An opened file.
+    type File: Read + Drop;
+
+    ghost may_open: { Self → List ℕ → Opening → Type 0 };
+
+    /// Opens the file of this name.
+    ///
+    /// # Errors
+    /// Why it can't be read.
+    fn open(&self, name: &str) -> Result<Self::File, NoFile>
+        ensures { may_open self.now name.now (opening_of Self.File.remaining result) };
+}
+
+/// What the words name a file for.
+#[derive(Clone, Copy, PartialEq, Eq)]
+pub enum Named {
+    /// It has the report that is to be checked, or whose prices are to be the first.
+    Report,
+    /// It has the problem.
+    Input,
+}
+
+/// How much of a line or a text standard error took.
+#[derive(Clone, Copy, PartialEq, Eq)]
+pub enum Told {
+    /// All of it.
+    Whole,
+    /// A beginning of it or nothing: the stream failed, or took no byte.
+    Part,
+}
+
+/// How the program ended.
+#[derive(Drop)]
+pub enum ProgramEnd {
+    /// The report stands on standard output.
+    Reported(Ended),
+    /// What a report was found to be stands on standard output.
+    Checked(Verified),
+    /// The help or the version that was asked for stands on standard output.
+    Helped,
+    /// The words are refused, and standard error was told why.
+    Refused(Told),
+    /// The file that the words name for this can't be opened, and standard error was told so.
+    Unopened(Named, Told),
+    /// The run failed, and standard error was told how.
+    Failed(CliFault, Told),
+}
+
+impl ProgramEnd {
+    /// The exit status: 0 for an assignment, for a report that is right and for help, 1 where there
+    /// is no assignment, 2 for words that are refused, 4 for a file that can't be opened, 5 for a
+    /// report that is wrong, and for a fault as `status_of` has it. It is the same where standard
+    /// error fails.
+    pub fn status(&self) -> u8
+        ensures { result ≡ exit_status self.now }
+    {
+        match self {
+            ProgramEnd::Reported(ended) => end_status_of(*ended),
+            ProgramEnd::Checked(Verified::Yes) | ProgramEnd::Helped => 0,
+            ProgramEnd::Refused(_) => 2,
+            ProgramEnd::Unopened(_, _) => 4,
+            ProgramEnd::Checked(Verified::No) => 5,
+            ProgramEnd::Failed(fault, _) => status_of(fault),
+        }
+    }
+}
+
+// Tells standard error a text, as far as it takes it.
+fn tell<E: Write>(e: &mut E, text: &[u8]) -> Told
+    ensures { Tells (E.contents e.old) (E.contents e.new) text.now result }
+{
+    match write_text(e, text) {
+        Ok(()) => Told::Whole,
+        Err(WriteFault::Write) => Told::Part,
+    }
+}
+
+// Tells standard error the line of a fault. It takes no memory, which may be refused already.
+fn fail<E: Write>(e: &mut E, fault: CliFault) -> ProgramEnd
+    ensures { EndsFailed fault (E.contents e.old) (E.contents e.new) result }
+{
+    let mut line: ArrayString<64> = ArrayString::new();
+    match line.writeln(&fault) {
+        Ok(()) => {
+            let told = tell(e, line.as_bytes());
+            ProgramEnd::Failed(fault, told)
+        }
+        Err(_) => ProgramEnd::Failed(fault, Told::Part),
+    }
+}
+
+// Prints what clap has to say: help that was asked for, or why the words are refused.
+fn refuse<W: Write, E: Write>(alloc: Global, error: Error, w: &mut W, e: &mut E) -> ProgramEnd
+    ensures output { (words : List Text) → WordsOutcome words (Err (Clap error))
+        → EndsAtWords (Ok words) (W.contents w.old) (W.contents w.new) result }
+    ensures errors { (words : List Text) → WordsOutcome words (Err (Clap error))
+        → ErrorOutcome (Ok words) (E.contents e.old) (E.contents e.new) result }
+{
+    let text = match format!(in alloc; "{error}") {
+        Ok(text) => text,
+        Err(_) => return fail(e, CliFault::Memory),
+    };
+    if error.use_stderr() {
+        return ProgramEnd::Refused(tell(e, text.as_bytes()));
+    }
+    match write_text(w, text.as_bytes()) {
+        Ok(()) => ProgramEnd::Helped,
+        Err(_) => fail(e, CliFault::Write),
+    }
+}
+
+// Solves from one stream to the other, from the prices of a report where there is one.
+fn solve<Q: Read + Drop, R: Read, W: Write, E: Write, V: Watch + Sync>(
+    rt: &(impl Threads + Wait + Sync),
+    alloc: Global,
+    options: SolveOpts,
+    method: Method,
+    start: Option<Q>,
+    r: &mut R,
+    w: &mut W,
+    e: &mut E,
+    watch: &V,
+) -> ProgramEnd
+    requires { 0 < options.workers }
+    ensures output { SolveEnd method options (R.remaining r.old) (option_map Q.remaining start)
+        (W.contents w.old) (W.contents w.new) result }
+    ensures errors { (given : Given)
+        → ErrorOutcome given (E.contents e.old) (E.contents e.new) result }
+{
+    match run_solve_watched(rt, alloc, r, start, w, options, method, &OpenGate, watch) {
+        Ok(ended) => ProgramEnd::Reported(ended),
+        Err(fault) => {
+            watch.over();
+            fail(e, fault)
+        }
+    }
+}
+
+// Checks a report.
+fn verify<Q: Read + Drop, R: Read, W: Write, E: Write>(
+    alloc: Global,
+    sparse: bool,
+    wanted: Option<Sense>,
+    mut report: Q,
+    r: &mut R,
+    w: &mut W,
+    e: &mut E,
+) -> ProgramEnd
+    ensures output { VerifyEnd sparse wanted (R.remaining r.old) (Q.remaining report)
+        (W.contents w.old) (W.contents w.new) result }
+    ensures errors { (given : Given)
+        → ErrorOutcome given (E.contents e.old) (E.contents e.new) result }
+{
+    match run_verify_under(alloc, r, &mut report, sparse, wanted, w) {
+        Ok(verified) => ProgramEnd::Checked(verified),
+        Err(fault) => fail(e, fault),
+    }
+}
+
+// Opens the file of this name, if there is one.
+fn open_named<F: Files>(files: &F, name: Option<String>) -> Result<Option<F::File>, NoFile>
+    ensures ok { IfOk result (λ file. Opens (F.may_open files.now)
+        (option_map string_bytes name) (option_map F.File.remaining file)) }
+    ensures err { IfErr result
+        (FailsToOpen (F.may_open files.now) (option_map string_bytes name)) }
+{
+    match name {
+        None => Ok(None),
+        Some(name) => match files.open(name.as_str()) {
+            Ok(file) => Ok(Some(file)),
+            Err(absent) => Err(absent),
+        },
+    }
+}
+
+// The line on a file that can't be opened.
+fn unopened(named: Named) -> &'static [u8]
+    ensures { result.now ≡ unopened_line named }
+{
+    match named {
+        Named::Report => b"device: cannot open the report\n",
+        Named::Input => b"device: cannot open the input\n",
+    }
+}
+
+// Tells why a file can't be read.
+fn tell_absent<E: Write>(named: Named, absent: NoFile, e: &mut E) -> ProgramEnd
+    ensures end { EndsAbsent named absent result }
+    ensures errors { (given : Given)
+        → ErrorOutcome given (E.contents e.old) (E.contents e.new) result }
+{
+    match absent {
+        NoFile::Unopened => ProgramEnd::Unopened(named, tell(e, unopened(named))),
+        NoFile::Memory => fail(e, CliFault::Memory),
+    }
+}
+
+// Solves the problem of the file that is named for it, or else of the stream.
+fn solve_named<F: Files, R: Read, W: Write, E: Write, V: Watch + Sync>(
+    rt: &(impl Threads + Wait + Sync),
+    alloc: Global,
+    options: SolveOpts,
+    asked: Asked,
+    start: Option<F::File>,
+    files: &F,
+    r: &mut R,
+    w: &mut W,
+    e: &mut E,
+    watch: &V,
+) -> ProgramEnd
+    requires { 0 < options.workers }
+    ensures output { (name : Option (String Global))
+        → Opens (F.may_open files.now) (option_map string_bytes name) (option_map F.File.remaining start)
+        → Does (Solve options name asked) (R.remaining r.old) (F.may_open files.now)
+        (W.contents w.old) (W.contents w.new) result }
+    ensures errors { (given : Given)
+        → ErrorOutcome given (E.contents e.old) (E.contents e.new) result }
+    ensures unread { IsReadWhere (option_map string_bytes asked.input ≡ None)
+        (R.remaining r.old) (R.remaining r.new) result }
+{
+    let Asked {
+        method,
+        input,
+        progress,
+    } = asked;
+    watch.begin(progress, input.is_some());
+    match open_named(files, input) {
+        Ok(None) => solve(rt, alloc, options, method, start, r, w, e, watch),
+        Ok(Some(mut input)) => solve(rt, alloc, options, method, start, &mut input, w, e, watch),
+        Err(absent) => tell_absent(Named::Input, absent, e),
+    }
+}
+
+// Checks a report on the problem of the file that is named for it, or else of the stream.
+fn verify_named<F: Files, R: Read, W: Write, E: Write>(
+    alloc: Global,
+    sparse: bool,
+    wanted: Option<Sense>,
+    input: Option<String>,
+    report: F::File,
+    files: &F,
+    r: &mut R,
+    w: &mut W,
+    e: &mut E,
+) -> ProgramEnd
+    ensures output { (name : String Global)
+        → F.may_open files.now (string_bytes name) (Ok (F.File.remaining report))
+        → Does (Verify sparse wanted name input) (R.remaining r.old) (F.may_open files.now)
+        (W.contents w.old) (W.contents w.new) result }
+    ensures errors { (given : Given)
+        → ErrorOutcome given (E.contents e.old) (E.contents e.new) result }
+    ensures unread { IsReadWhere (option_map string_bytes input ≡ None)
+        (R.remaining r.old) (R.remaining r.new) result }
+{
+    match open_named(files, input) {
+        Ok(None) => verify(alloc, sparse, wanted, report, r, w, e),
+        Ok(Some(mut input)) => verify(alloc, sparse, wanted, report, &mut input, w, e),
+        Err(absent) => tell_absent(Named::Input, absent, e),
+    }
+}
+
+// Does what is asked for. The report is opened first that it names.
+fn run_asked<F: Files, R: Read, W: Write, E: Write, V: Watch + Sync>(
+    rt: &(impl Threads + Wait + Sync),
+    alloc: Global,
+    asked: Words,
+    files: &F,
+    r: &mut R,
+    w: &mut W,
+    e: &mut E,
+    watch: &V,
+) -> ProgramEnd
+    requires { IsInRanges asked }
+    ensures output { Does asked (R.remaining r.old) (F.may_open files.now)
+        (W.contents w.old) (W.contents w.new) result }
+    ensures errors { (given : Given)
+        → ErrorOutcome given (E.contents e.old) (E.contents e.new) result }
+    ensures unread { IsReadWhere (input_name asked ≡ None)
+        (R.remaining r.old) (R.remaining r.new) result }
+{
+    match asked {
+        Words::Solve {
+            options,
+            start,
+            asked,
+        } => match open_named(files, start) {
+            Ok(start) => solve_named(rt, alloc, options, asked, start, files, r, w, e, watch),
+            Err(absent) => tell_absent(Named::Report, absent, e),
+        },
+        Words::Verify {
+            sparse,
+            sense,
+            report,
+            input,
+        } => match files.open(report.as_str()) {
+            Ok(report) => verify_named(alloc, sparse, sense, input, report, files, r, w, e),
+            Err(absent) => tell_absent(Named::Report, absent, e),
+        },
+    }
+}
+
+// Does what the words ask for.
+fn run_words<S: AsStr, F: Files, R: Read, W: Write, E: Write, V: Watch + Sync>(
+    rt: &(impl Threads + Wait + Sync),
+    alloc: Global,
+    words: &[S],
+    files: &F,
+    r: &mut R,
+    w: &mut W,
+    e: &mut E,
+    watch: &V,
+) -> ProgramEnd
+    ensures output { ProgramOutcome (Ok (map S.text words.entry.now)) (R.remaining r.old)
+        (F.may_open files.now) (W.contents w.old) (W.contents w.new) result }
+    ensures errors { ErrorOutcome (Ok (map S.text words.entry.now))
+        (E.contents e.old) (E.contents e.new) result }
+    ensures unread { InputOutcome (Ok (map S.text words.entry.now))
+        (R.remaining r.old) (R.remaining r.new) result }
+{
+    match read_words(alloc, words) {
+        Ok(asked) => run_asked(rt, alloc, asked, files, r, w, e, watch),
+        Err(WordsFault::Mode) => {
+            ProgramEnd::Refused(tell(e, b"usage: mode is rounds or workers\n"))
+        }
+        Err(WordsFault::Sense) => { ProgramEnd::Refused(tell(e, b"usage: sense is min or max\n")) }
+        Err(WordsFault::Clap(error)) => refuse(alloc, error, w, e),
+        Err(WordsFault::Memory) => fail(e, CliFault::Memory),
+    }
+}
+
+/// Does what the words ask for, the program's own name first: opens the report that they name, and
+/// then the file that they name for the problem, both in `files`; reads the problem from this file,
+/// or from `r` where none is named, and then the report; writes the report, what a report was found
+/// to be, or help to `w`; and tells `e` what is wrong.
+///
+/// Nothing is written to `e` where the program ends with what was asked for on `w`, and nothing to
+/// `w` where it fails, but for a beginning of what was to be written where `w` itself fails. Nothing
+/// is read from `r` where the words are refused, ask for help, or name a file that can't be opened or
+/// a file for the problem.
+///
+/// The watch is told how far a run of `solve` is, and what the words say of that. Of what it is told,
+/// and of what it does, no clause speaks.
+pub fn run_program<S: AsStr + Drop, F: Files, R: Read, W: Write, E: Write, V: Watch + Sync>(
+    rt: &(impl Threads + Wait + Sync),
+    alloc: Global,
+    words: Result<Vec<S>, NoWords>,
+    files: &F,
+    r: &mut R,
+    w: &mut W,
+    e: &mut E,
+    watch: &V,
+) -> ProgramEnd
+    ensures output { ProgramOutcome (given_by (λ v. map S.text v.items) words) (R.remaining r.old)
+        (F.may_open files.now) (W.contents w.old) (W.contents w.new) result }
+    ensures errors { ErrorOutcome (given_by (λ v. map S.text v.items) words)
+        (E.contents e.old) (E.contents e.new) result }
+    ensures unread { InputOutcome (given_by (λ v. map S.text v.items) words)
+        (R.remaining r.old) (R.remaining r.new) result }
+{
+    match words {
+        Ok(words) => run_words(rt, alloc, words.as_slice(), files, r, w, e, watch),
+        Err(NoWords::NoText) => { ProgramEnd::Refused(tell(e, b"error: the words are no text\n")) }
+        Err(NoWords::Memory) => fail(e, CliFault::Memory),
+    }
+}

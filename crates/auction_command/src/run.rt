@@ -1,0 +1,488 @@
+// From the bytes that come in to the bytes that go out.
+ghost use Rattle.std.specs.Prelude.{◌≡◌, ◌<◌, ◌≤◌, All, List, None, Some, IfOk, IfErr, IfSome, length};
+ghost use Rattle.std.specs.Arc.{arc_value};
+ghost use Rattle.std.specs.Option.{option_map};
+ghost use Rattle.assign_core.specs.Rows.{Listing};
+ghost use Rattle.rounds.specs.Outcomes.{IsDecided, IsProof};
+ghost use Rattle.report.specs.Reports.{IsReport};
+ghost use Rattle.report.specs.SeenReports.{seen_report};
+ghost use Rattle.report.specs.Starts.{IsFirstPrice, IsStart};
+ghost use Rattle.auction_command.specs.Solve.{BeginsAt, IsOutcomeBy, IsOutcomeIn, IsSolution, problem_under};
+ghost use Rattle.auction_command.specs.Solve.{Reads, SolveOutcome, SolveOutcomeBy, end_of, end_status, status};
+ghost use Rattle.auction_command.specs.inside.Solve.{FailsToBegin, HasNoStart, Reports};
+
+use crate::progress::{CountedReader, Unwatched, Watch, WatchedGate, WatchedOffers, WatchedPaths};
+use crate::words::{Method, Mode, SolveOpts};
+use assign_core::{MOST_PERSONS, Outcome, Person, Prices, Problem, Sense, SolveFault};
+use async_workers::{Gate, solve_workers_from};
+use dual_checker::confirms;
+use orlib_reader::{InputFault, read_dense, read_sparse};
+use report::{
+    Report, ReportFault, StartFault, WriteFault, read_report, start_prices, write_report,
+};
+use rounds::solve_rounds_by;
+use scaled_values::{Scaled, scale};
+use shortest_paths::{solve_paths_from_watched, solve_paths_watched};
+use std::alloc::{AllocError, Global};
+use std::fmt;
+use std::io::{Read, Write};
+use std::sync::{Arc, Wait};
+use std::thread::Threads;
+
+/// How a run ended, where nothing failed.
+#[derive(Clone, Copy, PartialEq, Eq)]
+pub enum Ended {
+    /// A best assignment was reported.
+    Optimal,
+    /// A Hall set was reported: there is no assignment.
+    Infeasible,
+}
+
+/// Why a run failed. The `Display` text is the line for standard error.
+#[derive(Drop)]
+pub enum CliFault {
+    /// The input is refused, its device failed, or memory was refused in reading.
+    Input(InputFault),
+    /// The report that is read is refused, its device failed, or memory was refused in reading it.
+    Report(ReportFault),
+    /// No run begins at the prices of the report.
+    Start(StartFault),
+    /// The output's device failed.
+    Write,
+    /// Memory was refused.
+    Memory,
+    /// A person is stuck between a floor and an unowned object. Kept for callers; no run ends so.
+    Stuck(Person),
+}
+
+impl fmt::Display for CliFault {
+    ghost use Rattle.std.specs.Prelude.{Some};
+    ghost use Rattle.auction_command.specs.Solve.{fault_line};
+
+    ghost output = { λ fault. Some (fault_line fault) };
+
+    fn fmt<W: fmt::Write>(&self, f: &mut fmt::Formatter<W>) -> fmt::Result {
+        match self {
+            CliFault::Input(fault) => write!(f, "{fault}"),
+            CliFault::Report(fault) => write!(f, "{fault}"),
+            CliFault::Start(fault) => write!(f, "{fault}"),
+            CliFault::Write => write!(f, "device: write failed"),
+            CliFault::Memory => write!(f, "memory refused"),
+            CliFault::Stuck(person) => write!(f, "stuck at person {}", person.0),
+        }
+    }
+}
+
+impl From<AllocError> for CliFault {
+    ghost use Rattle.std.specs.Prelude.{◌≡◌};
+    ghost use Rattle.auction_command.specs.declared.run.CliFault.TheVariants.{Memory};
+
+    ghost from_gives = { λ _ fault. fault ≡ Memory };
+
+    fn from(_refused: AllocError) -> CliFault {
+        CliFault::Memory
+    }
+}
+
+impl From<InputFault> for CliFault {
+    ghost use Rattle.std.specs.Prelude.{◌≡◌};
+    ghost use Rattle.auction_command.specs.declared.run.CliFault.TheVariants.{Input};
+
+    ghost from_gives = { λ input fault. fault ≡ Input input };
+
+    fn from(input: InputFault) -> CliFault {
+        CliFault::Input(input)
+    }
+}
+
+impl From<ReportFault> for CliFault {
+    ghost use Rattle.std.specs.Prelude.{◌≡◌};
+    ghost use Rattle.auction_command.specs.declared.run.CliFault.TheVariants.{Report};
+
+    ghost from_gives = { λ report fault. fault ≡ Report report };
+
+    fn from(report: ReportFault) -> CliFault {
+        CliFault::Report(report)
+    }
+}
+
+impl From<StartFault> for CliFault {
+    ghost use Rattle.std.specs.Prelude.{◌≡◌};
+    ghost use Rattle.auction_command.specs.declared.run.CliFault.TheVariants.{Start};
+
+    ghost from_gives = { λ start fault. fault ≡ Start start };
+
+    fn from(start: StartFault) -> CliFault {
+        CliFault::Start(start)
+    }
+}
+
+impl From<WriteFault> for CliFault {
+    ghost use Rattle.std.specs.Prelude.{◌≡◌};
+    ghost use Rattle.auction_command.specs.declared.run.CliFault.TheVariants.{Write};
+
+    ghost from_gives = { λ _ fault. fault ≡ Write };
+
+    fn from(_failed: WriteFault) -> CliFault {
+        CliFault::Write
+    }
+}
+
+/// The exit status for a fault: 3 for a text that is refused, 4 for want of memory and for devices
+/// that fail, 5 where no answer was found.
+pub fn status_of(fault: &CliFault) -> u8
+    ensures { result ≡ status fault.now }
+{
+    match fault {
+        CliFault::Input(InputFault::Read | InputFault::Memory) => 4,
+        CliFault::Report(ReportFault::Read | ReportFault::Memory) => 4,
+        CliFault::Input(_) | CliFault::Report(_) | CliFault::Start(_) => 3,
+        CliFault::Write | CliFault::Memory => 4,
+        CliFault::Stuck(_) => 5,
+    }
+}
+
+/// The exit status of a run that reported: 0 for an assignment, 1 where there is none.
+pub fn end_status_of(ended: Ended) -> u8
+    ensures { result ≡ end_status ended }
+{
+    match ended {
+        Ended::Optimal => 0,
+        Ended::Infeasible => 1,
+    }
+}
+
+/// The problem of a sparse text or of a dense one.
+///
+/// # Errors
+/// The first fault of the text; `Read` where the reader fails; `Memory`.
+pub fn read_problem<R: Read>(alloc: Global, r: &mut R, sparse: bool) -> Result<Problem, InputFault>
+    ensures { IfSome (R.remaining r.old) (λ bytes. Reads sparse bytes result) }
+{
+    if sparse {
+        read_sparse(alloc, r)
+    } else {
+        read_dense(alloc, r)
+    }
+}
+
+// The problem of a text, while a watch is told how much of it is read.
+fn read_watched<R: Read, V: Watch>(
+    alloc: Global,
+    r: &mut R,
+    sparse: bool,
+    watch: &V,
+) -> Result<Problem, InputFault>
+    ensures { IfSome (R.remaining r.old) (λ bytes. Reads sparse bytes result) }
+{
+    let mut counted = CountedReader::new(r, watch);
+    read_problem(alloc, &mut counted, sparse)
+}
+
+// The problem with its benefits under a sense.
+fn shared(alloc: Global, problem: Problem, sense: Sense) -> Result<Arc<Scaled>, AllocError>
+    ensures { IfOk result (λ scaled. arc_value scaled ≡ problem_under sense problem) }
+{
+    let scaled = scale(alloc, problem, sense)?;
+    Ok(Arc::new(alloc, scaled)?)
+}
+
+// What the mode comes to from these first prices.
+fn solve_in_mode<G: Gate + Sync, T: Threads + Wait + Sync, V: Watch + Sync>(
+    rt: &T,
+    alloc: Global,
+    scaled: Arc<Scaled>,
+    prices: Prices,
+    options: SolveOpts,
+    gate: &G,
+    watch: &V,
+) -> Result<Outcome, SolveFault>
+    requires workers { 0 < options.workers }
+    requires long { length prices ≡ length (arc_value scaled).problem }
+    requires low { All IsFirstPrice prices }
+    ensures mode { IfOk result (IsOutcomeIn options.mode options.workers (arc_value scaled) prices) }
+    ensures proof { IfOk result (IsProof (arc_value scaled)) }
+{
+    match options.mode {
+        Mode::Rounds => {
+            let mut offering = WatchedOffers::new(rt, &scaled, watch);
+            solve_rounds_by(&mut offering, alloc, scaled, prices)
+        }
+        Mode::Workers => {
+            let (workers, refresh) = (options.workers, options.refresh);
+            let gate = WatchedGate::new(gate, &scaled, watch);
+            let (outcome, _) = solve_workers_from(
+                rt, alloc, scaled, prices, workers, refresh, &gate,
+            )?;
+            Ok(outcome)
+        }
+    }
+}
+
+// What shortest paths come to from these first prices. Prices that are all 0 tell nothing, so the
+// search then begins at its own.
+fn solve_by_paths<V: Watch>(
+    alloc: Global,
+    scaled: Arc<Scaled>,
+    prices: Prices,
+    watch: &V,
+) -> Result<Outcome, SolveFault>
+    requires { length prices ≡ length (arc_value scaled).problem }
+    ensures proof { IfOk result (IsProof (arc_value scaled)) }
+    ensures decided { IfOk result (IsDecided (arc_value scaled)) }
+{
+    let observer = WatchedPaths::new(&scaled, watch);
+    let found = if prices.as_slice().iter().all(|price| *price == 0) {
+        solve_paths_watched(alloc, scaled, &observer)
+    } else {
+        solve_paths_from_watched(alloc, scaled, prices, &observer)
+    };
+    Ok(found?)
+}
+
+// What the method comes to from these first prices.
+fn solve_by<G: Gate + Sync, T: Threads + Wait + Sync, V: Watch + Sync>(
+    rt: &T,
+    alloc: Global,
+    scaled: Arc<Scaled>,
+    prices: Prices,
+    options: SolveOpts,
+    method: Method,
+    gate: &G,
+    watch: &V,
+) -> Result<Outcome, SolveFault>
+    requires workers { 0 < options.workers }
+    requires long { length prices ≡ length (arc_value scaled).problem }
+    requires low { All IsFirstPrice prices }
+    ensures method { IfOk result (IsOutcomeBy method options (arc_value scaled) prices) }
+    ensures proof { IfOk result (IsProof (arc_value scaled)) }
+{
+    match method {
+        Method::Auction => solve_in_mode(rt, alloc, scaled, prices, options, gate, watch),
+        Method::Paths => solve_by_paths(alloc, scaled, prices, watch),
+    }
+}
+
+// A problem, and what its run came to.
+#[derive(Drop)]
+struct Solved {
+    scaled: Arc<Scaled>,
+    outcome: Outcome,
+}
+
+// Solves a problem by a run that begins at these prices, and checks the outcome.
+fn solve_checked<G: Gate + Sync, T: Threads + Wait + Sync, V: Watch + Sync>(
+    rt: &T,
+    alloc: Global,
+    problem: Problem,
+    prices: Prices,
+    options: SolveOpts,
+    method: Method,
+    gate: &G,
+    watch: &V,
+) -> Result<Solved, CliFault>
+    requires workers { 0 < options.workers }
+    requires long { length prices ≡ length problem }
+    requires low { All IsFirstPrice prices }
+    ensures problem { IfOk result (λ solved.
+        arc_value solved.scaled ≡ problem_under options.sense problem) }
+    ensures solution { IfOk result (λ solved.
+        IsSolution method options problem prices solved.outcome) }
+    ensures memory { IfErr result (λ fault. fault ≡ CliFault.Memory) }
+{
+    let scaled = shared(alloc, problem, options.sense)?;
+    let kept = scaled.clone()?;
+    let outcome = match solve_by(rt, alloc, scaled, prices, options, method, gate, watch) {
+        Ok(outcome) => outcome,
+        Err(_) => return Err(CliFault::Memory),
+    };
+    if !confirms(alloc, kept.problem(), options.sense, &outcome)? {
+        unreachable!();
+    }
+    Ok(Solved {
+        scaled: kept,
+        outcome,
+    })
+}
+
+// Which of the two an outcome is.
+fn ended_by(outcome: &Outcome) -> Ended
+    ensures { result ≡ end_of outcome.now }
+{
+    match outcome {
+        Outcome::Best(_) => Ended::Optimal,
+        Outcome::Hall(_) => Ended::Infeasible,
+    }
+}
+
+// Solves a problem by a run that begins at these prices, and writes the report.
+fn report_from<G: Gate + Sync, T: Threads + Wait + Sync, W: Write, V: Watch + Sync>(
+    rt: &T,
+    alloc: Global,
+    problem: Problem,
+    prices: Prices,
+    w: &mut W,
+    options: SolveOpts,
+    method: Method,
+    gate: &G,
+    watch: &V,
+) -> Result<Ended, CliFault>
+    requires workers { 0 < options.workers }
+    requires long { length prices ≡ length problem }
+    requires low { All IsFirstPrice prices }
+    ensures { Reports method options problem prices (W.contents w.old) (W.contents w.new) result }
+{
+    let solved = solve_checked(rt, alloc, problem, prices, options, method, gate, watch)?;
+    watch.over();
+    let problem = solved.scaled.problem();
+    write_report(w, problem, options.sense, &solved.outcome, options.prices)?;
+    Ok(ended_by(&solved.outcome))
+}
+
+// The prices of a report as the first of a run with `n` objects.
+fn report_prices(alloc: Global, report: &Report, n: u16) -> Result<Prices, CliFault>
+    requires few { n ≤ MOST_PERSONS }
+    requires report { IsReport (seen_report report.now) }
+    ensures start { IfOk result (IsStart (seen_report report.now) n) }
+    ensures fault { IfErr result (HasNoStart (seen_report report.now) n) }
+{
+    let prices = start_prices(report, n)?;
+    let prices = Vec::from_slice(alloc, prices)?;
+    Ok(Prices::new(alloc, prices)?)
+}
+
+// The first prices of a run with `n` objects: those of a report, or 0 where there is none.
+fn first_prices<Q: Read + Drop>(alloc: Global, start: Option<Q>, n: u16) -> Result<Prices, CliFault>
+    requires few { n ≤ MOST_PERSONS }
+    ensures begun { IfOk result (λ prices. (rows : List Listing) → length rows ≡ n
+        → BeginsAt (option_map Q.remaining start) rows prices) }
+    ensures long { IfOk result (λ prices. length prices ≡ n) }
+    ensures low { IfOk result (All IsFirstPrice) }
+    ensures fault { IfErr result (FailsToBegin (option_map Q.remaining start) n) }
+{
+    match start {
+        None => Ok(Prices::zeros(alloc, n)?),
+        Some(mut start) => {
+            let report = read_report(alloc, &mut start)?;
+            report_prices(alloc, &report, n)
+        }
+    }
+}
+
+/// Reads a problem, and a report of either version where there is one for its start, and solves the
+/// problem by a method. The auction is run as `run_solve` does and `run_solve_from` does; mode,
+/// workers and refresh are its options alone.
+///
+/// By shortest paths the report that is written is on an outcome that is a proof, best exactly where
+/// there is an assignment, from whatever prices it begins. Which of several best assignments it is,
+/// and at which prices, no clause says; nothing is drawn and no thread is started, so the same bytes
+/// come from the same bytes, as tests show.
+///
+/// # Errors
+/// As `run_solve_from`; `Report` and `Start` only where there is a report for the start.
+pub fn run_solve_by<G: Gate + Sync, T: Threads + Wait + Sync, R: Read, Q: Read + Drop, W: Write>(
+    rt: &T,
+    alloc: Global,
+    r: &mut R,
+    start: Option<Q>,
+    w: &mut W,
+    options: SolveOpts,
+    method: Method,
+    gate: &G,
+) -> Result<Ended, CliFault>
+    requires { 0 < options.workers }
+    ensures { SolveOutcomeBy method options (R.remaining r.old) (option_map Q.remaining start)
+        (W.contents w.old) (W.contents w.new) result }
+{
+    run_solve_watched(rt, alloc, r, start, w, options, method, gate, &Unwatched)
+}
+
+/// Does what `run_solve_by` does, and tells a watch how far the run is: while it reads, in rounds,
+/// while workers take turns and while shortest paths are looked for. No clause speaks of what the
+/// watch is told. It is told that the run is over before the report goes out; where the run fails,
+/// or nothing is written, it is for the caller to say so.
+///
+/// # Errors
+/// As `run_solve_by`.
+pub fn run_solve_watched<
+    G: Gate + Sync,
+    T: Threads + Wait + Sync,
+    R: Read,
+    Q: Read + Drop,
+    W: Write,
+    V: Watch + Sync,
+>(
+    rt: &T,
+    alloc: Global,
+    r: &mut R,
+    start: Option<Q>,
+    w: &mut W,
+    options: SolveOpts,
+    method: Method,
+    gate: &G,
+    watch: &V,
+) -> Result<Ended, CliFault>
+    requires { 0 < options.workers }
+    ensures { SolveOutcomeBy method options (R.remaining r.old) (option_map Q.remaining start)
+        (W.contents w.old) (W.contents w.new) result }
+{
+    let problem = read_watched(alloc, r, options.sparse, watch)?;
+    let prices = first_prices(alloc, start, problem.n())?;
+    report_from(rt, alloc, problem, prices, w, options, method, gate, watch)
+}
+
+/// Reads a problem, and writes the report on a best assignment, or on persons who list fewer
+/// objects than they are, and nothing else. There is at least one worker.
+///
+/// In rounds mode the report is on the outcome of plain rounds, so the bytes written depend on the
+/// bytes read and on the options alone, and on no number of threads. In workers mode it is on an
+/// outcome of the workers; the call may wait for their threads, and the gate is told of their steps.
+/// The report goes out once a checker has taken the outcome, and no other fault than `Write` leaves
+/// anything written.
+///
+/// # Errors
+/// `Input` for a text that is refused, `Write` with a beginning of the report written, and
+/// `Memory`; no other.
+pub fn run_solve<G: Gate + Sync, T: Threads + Wait + Sync, R: Read, W: Write>(
+    rt: &T,
+    alloc: Global,
+    r: &mut R,
+    w: &mut W,
+    options: SolveOpts,
+    gate: &G,
+) -> Result<Ended, CliFault>
+    requires { 0 < options.workers }
+    ensures { SolveOutcome options (R.remaining r.old) None
+        (W.contents w.old) (W.contents w.new) result }
+{
+    let start: Option<&[u8]> = None;
+    run_solve_by(rt, alloc, r, start, w, options, Method::Auction, gate)
+}
+
+/// Reads a problem and then a report, of either version, and solves the problem as `run_solve` does,
+/// but with the report's prices as the first prices. Nothing else of the report is looked at: it may
+/// be on another problem, and under another sense.
+///
+/// Prices that are far apart may cost very many rounds: three equal objects with the first prices 0, 0
+/// and P take P and more.
+///
+/// # Errors
+/// As `run_solve`, and `Report` for a report that is refused, `Start` for one without prices, with
+/// more or fewer than the problem has objects, or with one above `GREATEST_FIRST_PRICE`. A fault of
+/// the problem comes before those of the report.
+pub fn run_solve_from<G: Gate + Sync, T: Threads + Wait + Sync, R: Read, Q: Read, W: Write>(
+    rt: &T,
+    alloc: Global,
+    r: &mut R,
+    start: &mut Q,
+    w: &mut W,
+    options: SolveOpts,
+    gate: &G,
+) -> Result<Ended, CliFault>
+    requires { 0 < options.workers }
+    ensures { SolveOutcome options (R.remaining r.old) (Some (Q.remaining start.old))
+        (W.contents w.old) (W.contents w.new) result }
+{
+    let start = Some(start);
+    run_solve_by(rt, alloc, r, start, w, options, Method::Auction, gate)
+}

@@ -1,0 +1,239 @@
+// Holds a report against its problem. Whoever wrote it is not trusted.
+ghost use Rattle.std.specs.Prelude.{◌≡◌, ◌↔◌, ◌≤◌, None, Ok, Some, IfOk, IfSome, IsTrue, MatchOption, length};
+ghost use Rattle.assign_core.specs.Rows.{listed_in, row_of};
+ghost use Rattle.assign_core.specs.Assignment.{total};
+ghost use Rattle.dual_checker.specs.Faults.{IsFirst};
+ghost use Rattle.report.specs.SeenReports.{seen_report};
+ghost use Rattle.auction_command.specs.Findings.{HasOtherCost, HaveCosts, IsFoundInReport, IsFoundInBest, IsFoundInCosts, IsFoundUnder, IsOtherSense, objects_of, report_sense, sense_of};
+ghost use Rattle.auction_command.specs.Verify.{VerifyOutcome};
+
+use crate::finding::Finding;
+use crate::run::{CliFault, read_problem};
+use assign_core::{Cost, Object, Person, Price, Problem, Sense};
+use dual_checker::{Verdict, check, check_hall};
+use report::{Report, read_report, write_text};
+use std::alloc::{AllocError, Global};
+use std::io::{Read, Write};
+
+/// Whether a report is right.
+#[derive(Clone, Copy, PartialEq, Eq)]
+pub enum Verified {
+    Yes,
+    No,
+}
+
+// The object of each person.
+fn objects_in(alloc: Global, pairs: &[(Object, Cost)]) -> Result<Vec<Object>, AllocError>
+    ensures { IfOk result (λ objects. objects.items ≡ objects_of pairs.now) }
+{
+    let mut objects = Vec::with_capacity(alloc, pairs.len())?;
+    for (object, _) in pairs {
+        objects.push(*object)?;
+    }
+    Ok(objects)
+}
+
+// Whether a pair is listed at this cost.
+fn has_cost(problem: &Problem, person: Person, object: Object, cost: Cost) -> bool
+    ensures { IsTrue result ↔ (listed_in (row_of problem.now person) object ≡ Some cost) }
+{
+    match problem.cost_of(person, object) {
+        Some(listed) => listed == cost,
+        None => false,
+    }
+}
+
+// The lowest person whose cost isn't that of its pair.
+fn first_other_cost(problem: &Problem, pairs: &[(Object, Cost)]) -> Option<Person>
+    requires { length pairs.now ≡ length problem.now }
+    ensures { MatchOption result (HaveCosts problem.now pairs.now)
+        (λ i. IsFirst (HasOtherCost problem.now pairs.now) (length problem.now) i) }
+{
+    // That as many persons can be numbered follows from this call.
+    let _persons = problem.n();
+    for (i, (object, cost)) in pairs.iter().enumerate() {
+        let person = Person(i as u16 + 1);
+        if !has_cost(problem, person, *object, *cost) {
+            return Some(person);
+        }
+    }
+    None
+}
+
+// The sum of the costs that are given, which are those of the problem.
+fn sum_of(problem: &Problem, pairs: &[(Object, Cost)]) -> Cost
+    requires { HaveCosts problem.now pairs.now }
+    ensures { result ≡ total problem.now (objects_of pairs.now) }
+{
+    // That costs are in range, and their number, follows from this call.
+    let _persons = problem.n();
+    let mut sum: Cost = 0;
+    for (_, cost) in pairs {
+        sum += *cost;
+    }
+    sum
+}
+
+// What is found in the costs of an assignment that its prices prove best.
+fn found_in_costs(problem: &Problem, sense: Sense, cost: Cost, pairs: &[(Object, Cost)]) -> Finding
+    requires { length pairs.now ≡ length problem.now }
+    ensures { IsFoundInCosts sense problem.now cost pairs.now result }
+{
+    if let Some(person) = first_other_cost(problem, pairs) {
+        return Finding::OtherCost(person);
+    }
+    if cost != sum_of(problem, pairs) {
+        return Finding::OtherTotal;
+    }
+    Finding::Best(sense, cost)
+}
+
+// What is found in an assignment with prices.
+fn found_in_priced(
+    alloc: Global,
+    problem: &Problem,
+    sense: Sense,
+    cost: Cost,
+    pairs: &[(Object, Cost)],
+    prices: &[Price],
+) -> Result<Finding, AllocError>
+    ensures { IfOk result (λ finding.
+        IsFoundInBest sense problem.now cost pairs.now prices.now finding) }
+{
+    let objects = objects_in(alloc, pairs)?;
+    let verdict = check(alloc, problem, sense, objects.as_slice(), prices)?;
+    match verdict {
+        Verdict::Yes => Ok(found_in_costs(problem, sense, cost, pairs)),
+        fault => Ok(Finding::Unproved(fault)),
+    }
+}
+
+// A report without a sense is on the least cost.
+fn told_sense(sense: Option<Sense>) -> Sense
+    ensures { result ≡ sense_of sense }
+{
+    sense.unwrap_or(Sense::Min)
+}
+
+// What is found in a report.
+fn found_in(alloc: Global, problem: &Problem, report: &Report) -> Result<Finding, AllocError>
+    ensures { IfOk result (λ finding. IsFoundInReport problem.now (seen_report report.now) finding) }
+{
+    match report {
+        Report::Best {
+            sense,
+            cost,
+            rows,
+            prices,
+        } => match prices {
+            None => Ok(Finding::NoPrices),
+            Some(prices) => {
+                let sense = told_sense(*sense);
+                found_in_priced(
+                    alloc,
+                    problem,
+                    sense,
+                    *cost,
+                    rows.as_slice(),
+                    prices.as_slice(),
+                )
+            }
+        },
+        Report::Hall {
+            persons,
+            objects,
+            ..
+        } => {
+            let verdict = check_hall(alloc, problem, persons.as_slice(), objects.as_slice())?;
+            Ok(Finding::Hall(verdict))
+        }
+    }
+}
+
+// The sense that a report is on.
+fn sense_in(report: &Report) -> Sense
+    ensures { result ≡ report_sense (seen_report report.now) }
+{
+    match report {
+        Report::Best { sense, .. } => told_sense(*sense),
+        Report::Hall { sense, .. } => told_sense(*sense),
+    }
+}
+
+// Whether a sense is asked for, and not this one.
+fn is_other(wanted: Option<Sense>, sense: Sense) -> bool
+    ensures { IsTrue result ↔ IsOtherSense wanted sense }
+{
+    match wanted {
+        Some(wanted) => wanted != sense,
+        None => false,
+    }
+}
+
+// What is found in a report where this sense is asked for, or any.
+fn found_under(
+    alloc: Global,
+    problem: &Problem,
+    wanted: Option<Sense>,
+    report: &Report,
+) -> Result<Finding, AllocError>
+    ensures { IfOk result (λ finding.
+        IsFoundUnder wanted problem.now (seen_report report.now) finding) }
+{
+    if is_other(wanted, sense_in(report)) {
+        return Ok(Finding::OtherSense);
+    }
+    found_in(alloc, problem, report)
+}
+
+/// Reads a problem and then a report, of either version, holds the report against the problem, and
+/// writes one line: what is found, and nothing else.
+///
+/// `Yes` proves that what the report says is so: its assignment is best under its sense (that of
+/// the least cost where it names none), its costs are those of the pairs, and its cost is their
+/// sum; or it names a Hall set, so that there is no assignment. A report on an assignment is found
+/// wrong where it has no prices, since then nothing proves it best.
+///
+/// Beside reading, it goes over the listed pairs of the problem a few times.
+///
+/// # Errors
+/// `Input` for a problem that is refused; else `Report` for a report that is refused; `Write` with
+/// a beginning of the line written; and `Memory`. No other fault than `Write` leaves anything
+/// written. `Stuck` never.
+pub fn run_verify<P: Read, Q: Read, W: Write>(
+    alloc: Global,
+    problem: &mut P,
+    report: &mut Q,
+    sparse: bool,
+    w: &mut W,
+) -> Result<Verified, CliFault>
+    ensures { VerifyOutcome sparse None (P.remaining problem.old) (Q.remaining report.old)
+        (W.contents w.old) (W.contents w.new) result }
+{
+    run_verify_under(alloc, problem, report, sparse, None, w)
+}
+
+/// Does what `run_verify` does, but where this sense is asked for, it finds first of all that a
+/// report is on the other one, an infeasible report too. A report that names none is on the least
+/// cost.
+///
+/// # Errors
+/// As `run_verify`. A fault of the problem or of the report is told whatever sense is asked for.
+pub fn run_verify_under<P: Read, Q: Read, W: Write>(
+    alloc: Global,
+    problem: &mut P,
+    report: &mut Q,
+    sparse: bool,
+    wanted: Option<Sense>,
+    w: &mut W,
+) -> Result<Verified, CliFault>
+    ensures { VerifyOutcome sparse wanted (P.remaining problem.old) (Q.remaining report.old)
+        (W.contents w.old) (W.contents w.new) result }
+{
+    let problem = read_problem(alloc, problem, sparse)?;
+    let report = read_report(alloc, report)?;
+    let finding = found_under(alloc, &problem, wanted, &report)?;
+    let line = format!(in alloc; "{finding}\n")?;
+    write_text(w, line.as_bytes())?;
+    Ok(finding.verified())
+}

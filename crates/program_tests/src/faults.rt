@@ -1,0 +1,280 @@
+// Runs that fail, with the lines and the statuses that they are to give.
+use crate::watched::{assert_told, leaves, run_on, run_with, watched_run, whole_devices};
+use assign_core::{Object, Person};
+use auction_command::{CliFault, NoWords, status_of};
+use orlib_reader::InputFault;
+use report::{ReportFault, StartFault};
+use std::alloc::{AllocError, Global};
+use std::process::Abort;
+use std::sync::Wait;
+use std::test::Fail;
+use std::thread::Threads;
+use test_helpers::failing_writer;
+
+// Texts with the line that refuses each, with these words, in bytes and at once.
+fn assert_refused(
+    rt: &(impl Threads + Wait + Sync + Abort + AllocGlobal),
+    line: &str,
+    table: &[(&[u8], &str)],
+) -> Result<(), Fail> {
+    for (text, fault) in table {
+        for most in [1, 65536] {
+            let seen = run_with(rt, rt.alloc(), line, text, b"", most)?;
+            assert_told(rt, &seen, 3, fault);
+        }
+    }
+    Ok(())
+}
+
+#[test]
+fn refused_texts(rt: HostRuntime) -> Result<(), Fail> {
+    let dense: [(&[u8], &str); 11] = [
+        (b"", "input: empty\n"),
+        (b" \t\r\n\x0b\x0c", "input: empty\n"),
+        (b"8193 1", "input: size out of range\n"),
+        (b"0", "input: size out of range\n"),
+        (b"x", "input: bad number at byte 0\n"),
+        (b"1 3.0", "input: bad number at byte 2\n"),
+        (b"1 1000000000001", "input: cost out of range at byte 2\n"),
+        (b"2 1 2", "input: truncated after 3 numbers\n"),
+        (b"2 1 2 3", "input: truncated after 4 numbers\n"),
+        (b"1 7 8", "input: extra data at byte 4\n"),
+        (b"1 7 x", "input: extra data at byte 4\n"),
+    ];
+    assert_refused(&rt, "solve", &dense)?;
+    let sparse: [(&[u8], &str); 2] = [
+        (b"2 1 1 5 2 1", "input: truncated after 6 numbers\n"),
+        (b"2 3 1 5", "input: index out of range at byte 2\n"),
+    ];
+    assert_refused(&rt, "solve --sparse", &sparse)
+}
+
+#[test]
+fn input_that_fails(rt: HostRuntime) -> Result<(), Fail> {
+    let alloc = rt.alloc();
+    let texts: [&[u8]; 3] = [b"", b"2 1 2", b"2 1 2 3 5"];
+    for text in texts {
+        let mut devices = whole_devices(alloc, text, b"", 2);
+        devices.text.fails = true;
+        let seen = run_on(&rt, alloc, "solve", devices)?;
+        assert_told(&rt, &seen, 4, "device: read failed\n");
+    }
+    Ok(())
+}
+
+// The report is opened before the problem is read, and read behind it.
+#[test]
+fn reports_that_cannot_be_read(rt: HostRuntime) -> Result<(), Fail> {
+    let alloc = rt.alloc();
+    let unopened = "device: cannot open the report\n";
+    let cut_off = "input: truncated after 2 numbers\n";
+    let two: &[u8] = b"2 1 2 3 5";
+    let table: [(&str, &[u8], u8, &str); 11] = [
+        ("verify none", b"x", 4, unopened),
+        ("verify refused", b"x", 4, "memory refused\n"),
+        ("verify report", b"x", 3, "input: bad number at byte 0\n"),
+        ("verify report", two, 4, "device: read failed\n"),
+        ("verify ", b"x", 4, unopened),
+        ("verify report --sparse", b"2 1", 3, cut_off),
+        ("solve --start none", b"x", 4, unopened),
+        ("solve --start refused", b"x", 4, "memory refused\n"),
+        (
+            "solve --start report",
+            b"x",
+            3,
+            "input: bad number at byte 0\n",
+        ),
+        ("solve --start report", two, 4, "device: read failed\n"),
+        ("solve --sparse --start=report", b"2 1", 3, cut_off),
+    ];
+    for (line, text, status, told) in table {
+        let mut devices = whole_devices(alloc, text, b"cost 5\nass", 2);
+        devices.report.fails = true;
+        let seen = run_on(&rt, alloc, line, devices)?;
+        assert_told(&rt, &seen, status, told);
+    }
+    Ok(())
+}
+
+// Whether a run with room for these bytes alone writes just them, and tells that the write failed.
+fn is_cut_off(
+    rt: &(impl Threads + Wait + Sync),
+    alloc: Global,
+    line: &str,
+    front: &[u8],
+    most: usize,
+    fails: bool,
+) -> Result<bool, AllocError> {
+    let mut devices = whole_devices(
+        alloc,
+        b"2 1 2 3 5",
+        b"infeasible\npersons 1 1\nobjects 0\n",
+        100,
+    );
+    devices.out = failing_writer(alloc, front.len(), most, fails);
+    let seen = run_on(rt, alloc, line, devices)?;
+    Ok(leaves(&seen, 4, front, b"device: write failed\n"))
+}
+
+// With room for each count of bytes that is less than the text has, just its beginning goes out.
+fn assert_cut_off(
+    rt: &(impl Threads + Wait + Sync + Abort + AllocGlobal),
+    line: &str,
+    text: &[u8],
+) -> Result<(), Fail> {
+    for room in 0..text.len() {
+        let (front, _) = text.split_at(room);
+        for (most, fails) in [(1, true), (1, false), (100, true), (100, false)] {
+            assert!(rt;
+                is_cut_off(rt, rt.alloc(), line, front, most, fails)?,
+                "{line}"
+            );
+        }
+    }
+    Ok(())
+}
+
+#[test]
+fn output_that_fails(rt: HostRuntime) -> Result<(), Fail> {
+    assert_cut_off(
+        &rt,
+        "solve --prices",
+        b"sense min\ncost 5\nassign 1 2 2\nassign 2 1 3\nprice 1 14\nprice 2 12\n",
+    )?;
+    assert_cut_off(
+        &rt,
+        "verify report",
+        b"not verified: object 1 missing for person 1\n",
+    )?;
+    assert_cut_off(&rt, "--help", b"Solve as")
+}
+
+// Whether a run with room for these bytes alone on standard error tells just them, and ends as it would have.
+fn is_told_in_part(
+    rt: &(impl Threads + Wait + Sync),
+    alloc: Global,
+    line: &str,
+    status: u8,
+    front: &[u8],
+) -> Result<bool, AllocError> {
+    let mut devices = whole_devices(alloc, b"x", b"", 100);
+    devices.errors = failing_writer(alloc, front.len(), 3, false);
+    let seen = run_on(rt, alloc, line, devices)?;
+    Ok(leaves(&seen, status, b"", front) && !seen.whole)
+}
+
+// Where standard error fails, the status is what it would have been.
+#[test]
+fn errors_that_fail(rt: HostRuntime) -> Result<(), Fail> {
+    let table: [(&str, u8, &[u8]); 4] = [
+        ("solve", 3, b"input: bad"),
+        ("verify", 2, b"error: the"),
+        ("verify none", 4, b"device: ca"),
+        ("solve --fast", 2, b"error: une"),
+    ];
+    for (line, status, start) in table {
+        for room in [0, 10] {
+            let (front, _) = start.split_at(room);
+            assert!(rt;
+                is_told_in_part(&rt, rt.alloc(), line, status, front)?,
+                "{line}"
+            );
+        }
+    }
+    Ok(())
+}
+
+#[test]
+fn no_words(rt: HostRuntime) -> Result<(), Fail> {
+    let alloc = rt.alloc();
+    let table = [
+        (NoWords::NoText, 2, "error: the words are no text\n"),
+        (NoWords::Memory, 4, "memory refused\n"),
+    ];
+    for (none, status, line) in table {
+        let devices = whole_devices(alloc, b"1 7", b"", 100);
+        let seen = watched_run(&rt, alloc, Err(none), devices);
+        assert_told(&rt, &seen, status, line);
+    }
+    Ok(())
+}
+
+// Whether a fault has this status and this line.
+fn has_line(alloc: Global, fault: &CliFault, status: u8, line: &str) -> Result<bool, AllocError> {
+    let text = format!(in alloc; "{fault}")?;
+    Ok(status_of(fault) == status && text.as_str() == line)
+}
+
+#[test]
+fn lines_on_inputs(rt: HostRuntime) -> Result<(), Fail> {
+    let table = [
+        (InputFault::Empty, 3, "input: empty"),
+        (InputFault::BadToken(12), 3, "input: bad number at byte 12"),
+        (InputFault::Size, 3, "input: size out of range"),
+        (InputFault::Cost(7), 3, "input: cost out of range at byte 7"),
+        (
+            InputFault::Index(7),
+            3,
+            "input: index out of range at byte 7",
+        ),
+        (
+            InputFault::Truncated(3),
+            3,
+            "input: truncated after 3 numbers",
+        ),
+        (InputFault::Extra(9), 3, "input: extra data at byte 9"),
+        (
+            InputFault::TooLong,
+            3,
+            "input: longer than 1073741824 bytes",
+        ),
+        (InputFault::Read, 4, "device: read failed"),
+        (InputFault::Memory, 4, "memory refused"),
+    ];
+    for (fault, status, line) in table {
+        let fault = CliFault::Input(fault);
+        assert!(rt; has_line(rt.alloc(), &fault, status, line)?, "{line}");
+    }
+    Ok(())
+}
+
+#[test]
+fn lines_on_reports(rt: HostRuntime) -> Result<(), Fail> {
+    let table = [
+        (ReportFault::Line(12), 3, "report: bad line 12"),
+        (ReportFault::TooLong, 3, "report: longer than 1048576 bytes"),
+        (ReportFault::Ends(7), 3, "report: ends before line 7"),
+        (ReportFault::Read, 4, "device: read failed"),
+        (ReportFault::Memory, 4, "memory refused"),
+    ];
+    for (fault, status, line) in table {
+        let fault = CliFault::Report(fault);
+        assert!(rt; has_line(rt.alloc(), &fault, status, line)?, "{line}");
+    }
+    Ok(())
+}
+
+#[test]
+fn other_lines(rt: HostRuntime) -> Result<(), Fail> {
+    let great = StartFault::Price(Object(7));
+    let table = [
+        (CliFault::Start(StartFault::NoPrices), 3, "start: no prices"),
+        (
+            CliFault::Start(StartFault::Length(12)),
+            3,
+            "start: 12 prices",
+        ),
+        (
+            CliFault::Start(great),
+            3,
+            "start: price of object 7 too great",
+        ),
+        (CliFault::Write, 4, "device: write failed"),
+        (CliFault::Memory, 4, "memory refused"),
+        (CliFault::Stuck(Person(12)), 5, "stuck at person 12"),
+    ];
+    for (fault, status, line) in &table {
+        assert!(rt; has_line(rt.alloc(), fault, *status, line)?, "{line}");
+    }
+    Ok(())
+}

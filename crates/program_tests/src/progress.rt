@@ -1,0 +1,306 @@
+// What a watch is told of a run, and the lines that a teller makes of it.
+use assign_core::Sense;
+use async_workers::OpenGate;
+use auction_command::{
+    Console, Ended, Method, Mode, Progress, SolveOpts, Teller, Watch, run_solve_watched,
+};
+use std::alloc::Global;
+use std::cell::RefCell;
+use std::sync::Wait;
+use std::sync::atomic::{AtomicBool, AtomicU64, Ordering};
+use std::test::Fail;
+use std::thread::Threads;
+use test_helpers::{ample_writer, whole_text};
+
+// Follows a run: what it was told last and how often, and whether it was told something that can't be.
+#[derive(Drop)]
+struct Follower {
+    bytes: AtomicU64,
+    rounds: AtomicU64,
+    sessions: AtomicU64,
+    phase: AtomicU64,
+    phases: AtomicU64,
+    slackness: AtomicU64,
+    paths: AtomicU64,
+    assigned: AtomicU64,
+    overs: AtomicU64,
+    wrong: AtomicBool,
+}
+
+fn new_follower() -> Follower {
+    Follower {
+        bytes: AtomicU64::new(0),
+        rounds: AtomicU64::new(0),
+        sessions: AtomicU64::new(0),
+        phase: AtomicU64::new(0),
+        phases: AtomicU64::new(0),
+        slackness: AtomicU64::new(0),
+        paths: AtomicU64::new(0),
+        assigned: AtomicU64::new(0),
+        overs: AtomicU64::new(0),
+        wrong: AtomicBool::new(false),
+    }
+}
+
+// The number there.
+fn seen(number: &AtomicU64) -> u64 {
+    number.load(Ordering::SeqCst)
+}
+
+impl Follower {
+    fn follow(&self, progress: Progress) {
+        let slackness = u64::try_from(progress.slackness).unwrap_or(0);
+        self.phase
+            .store(u64::from(progress.phase), Ordering::SeqCst);
+        self.phases
+            .store(u64::from(progress.phases), Ordering::SeqCst);
+        self.slackness.store(slackness, Ordering::SeqCst);
+        if progress.phase > progress.phases
+            || progress.assigned > progress.persons
+            || slackness == 0
+            || seen(&self.overs) > 0
+        {
+            self.wrong.store(true, Ordering::SeqCst);
+        }
+    }
+}
+
+impl Watch for Follower {
+    fn begin(&self, _asked: bool, _named: bool) {}
+
+    fn bytes(&self, bytes: u64) {
+        if self.bytes.swap(bytes, Ordering::SeqCst) > bytes {
+            self.wrong.store(true, Ordering::SeqCst);
+        }
+    }
+
+    fn round(&self, progress: Progress) {
+        if seen(&self.phase) > u64::from(progress.phase) {
+            self.wrong.store(true, Ordering::SeqCst);
+        }
+        self.rounds.fetch_add(1, Ordering::SeqCst);
+        self.follow(progress);
+    }
+
+    fn sessions(&self, more: u64, _accepted: u128, progress: Progress) {
+        self.sessions.fetch_add(more, Ordering::SeqCst);
+        self.follow(progress);
+    }
+
+    fn paths(&self, assigned: u16, persons: u16) {
+        self.paths.fetch_add(1, Ordering::SeqCst);
+        let before = self.assigned.swap(u64::from(assigned), Ordering::SeqCst);
+        let fell = assigned > 0 && before > u64::from(assigned);
+        if fell || assigned > persons || seen(&self.overs) > 0 {
+            self.wrong.store(true, Ordering::SeqCst);
+        }
+    }
+
+    fn over(&self) {
+        self.overs.fetch_add(1, Ordering::SeqCst);
+    }
+}
+
+// Two unowned objects are bid up to the third one's price, by 1 or 2 a bid.
+const WAR: &[u8] = b"3 1 1 1 1 1 1 1 1 1";
+
+const FAR: &[u8] =
+    b"sense min\ncost 3\nassign 1 1 1\nassign 2 2 1\nassign 3 3 1\nprice 1 0\nprice 2 0\nprice 3 5000\n";
+
+// Whether a run that is followed writes such a report and ends well, and was told nothing that can't be.
+fn follows(
+    rt: &(impl Threads + Wait + Sync),
+    alloc: Global,
+    text: &[u8],
+    start: Option<&[u8]>,
+    mode: Mode,
+    method: Method,
+    follower: &Follower,
+) -> bool {
+    let options = SolveOpts {
+        sparse: false,
+        mode,
+        workers: 2,
+        refresh: 1,
+        prices: false,
+        sense: Sense::Min,
+    };
+    let mut writer = ample_writer(alloc);
+    let mut text_left = whole_text(text, 7);
+    let end = run_solve_watched(
+        rt,
+        alloc,
+        &mut text_left,
+        start,
+        &mut writer,
+        options,
+        method,
+        &OpenGate,
+        follower,
+    );
+    matches!(end, Ok(Ended::Optimal))
+        && writer.taken.as_slice().starts_with(b"sense min\ncost ")
+        && seen(&follower.bytes) == text.len() as u64
+        && seen(&follower.overs) == 1
+        && !follower.wrong.load(Ordering::SeqCst)
+}
+
+// How often such a run told of rounds, of sessions and of paths, and the last phase, how many phases there are and the
+// last slackness, if it is followed as it should be.
+fn told_of(
+    rt: &(impl Threads + Wait + Sync),
+    alloc: Global,
+    text: &[u8],
+    start: Option<&[u8]>,
+    mode: Mode,
+    method: Method,
+) -> Option<([u64; 3], [u64; 3])> {
+    let told = new_follower();
+    if !follows(rt, alloc, text, start, mode, method, &told) {
+        return None;
+    }
+    let counts = [&told.rounds, &told.sessions, &told.paths].map(seen);
+    Some((
+        counts,
+        [&told.phase, &told.phases, &told.slackness].map(seen),
+    ))
+}
+
+// The spread is 12, three times that of the costs, so the phases have slackness 2 and 1; each is told once.
+#[test]
+fn each_phase_is_told(rt: HostRuntime) -> Result<(), Fail> {
+    let (mode, method) = (Mode::Rounds, Method::Auction);
+    let told = told_of(&rt, rt.alloc(), b"2 1 2 3 5", None, mode, method);
+    assert_eq!(rt; told, Some(([2, 0, 0], [2, 2, 1])));
+    Ok(())
+}
+
+// Whether each count is 0 where the least is, and at least that elsewhere.
+fn is_told(counts: [u64; 3], least: [u64; 3]) -> bool {
+    counts.iter().zip(&least).all(|(count, least)| (*count == 0) == (*least == 0) && count >= least)
+}
+
+// Rounds are told now and then, each session of the workers counts, and paths are told in place of both.
+#[test]
+fn long_runs_are_told(rt: HostRuntime) -> Result<(), Fail> {
+    let table: [(Option<&[u8]>, Mode, Method, [u64; 3]); 3] = [
+        (Some(FAR), Mode::Rounds, Method::Auction, [11, 0, 0]),
+        (Some(FAR), Mode::Workers, Method::Auction, [0, 1001, 0]),
+        (None, Mode::Rounds, Method::Paths, [0, 0, 2]),
+    ];
+    for (start, mode, method, least) in table {
+        let told = told_of(&rt, rt.alloc(), WAR, start, mode, method);
+        assert!(rt;
+            told.is_some_and(|(counts, _)| is_told(counts, least)),
+            "{least:?}"
+        );
+    }
+    Ok(())
+}
+
+// A clock that goes on by a step each time it is asked, and a screen that takes so many texts and then fails.
+#[derive(Drop)]
+struct Screen<'a> {
+    time: AtomicU64,
+    step: u64,
+    writes: AtomicU64,
+    most: u64,
+    written: &'a RefCell<Vec<u8>>,
+}
+
+impl Console for Screen<'_> {
+    fn now(&self) -> Option<u64> {
+        Some(self.time.fetch_add(self.step, Ordering::SeqCst))
+    }
+
+    fn write(&self, text: &[u8]) -> bool {
+        if self.writes.fetch_add(1, Ordering::SeqCst) >= self.most {
+            return false;
+        }
+        match self.written.try_borrow_mut() {
+            Ok(mut written) => written.extend_from_slice(text).is_ok(),
+            Err(_) => false,
+        }
+    }
+}
+
+// A screen whose clock goes on by so many milliseconds a look, and which takes so many texts.
+fn new_screen(written: &RefCell<Vec<u8>>, step: u64, most: u64) -> Screen<'_> {
+    Screen {
+        time: AtomicU64::new(7),
+        step,
+        writes: AtomicU64::new(0),
+        most,
+        written,
+    }
+}
+
+// What some news of each kind leave on a screen.
+fn told(alloc: Global, step: u64, most: u64, in_place: bool, asked: bool, ends: bool) -> Vec<u8> {
+    let written = RefCell::new(Vec::new(alloc));
+    let teller = Teller::new(new_screen(&written, step, most), in_place, false);
+    let progress = Progress {
+        phase: 3,
+        phases: 8,
+        slackness: 125,
+        assigned: 812,
+        persons: 1000,
+    };
+    teller.begin(asked, false);
+    teller.bytes(12_345_678);
+    teller.round(progress);
+    teller.sessions(64, 50, progress);
+    teller.sessions(64, 99, progress);
+    teller.paths(731, 1000);
+    if ends {
+        teller.over();
+        teller.round(progress);
+    }
+    drop(teller);
+    written.into_inner()
+}
+
+const ALL: &str = "progress: 12.3 MB read, 0.6 s
+progress: phase 3 of 8, slackness 125, 812 of 1000 persons, 1.2 s
+progress: phase 3 of 8, 812 of 1000 persons, 64 sessions, 50 bids, 1.8 s
+progress: phase 3 of 8, 812 of 1000 persons, 128 sessions, 99 bids, 2.4 s
+progress: shortest paths, 731 of 1000 persons, 3.0 s
+";
+
+// The third and the fifth: no two lines come within half a second.
+const SOME: &str = "progress: phase 3 of 8, slackness 125, 812 of 1000 persons, 0.6 s
+progress: phase 3 of 8, 812 of 1000 persons, 128 sessions, 99 bids, 1.2 s
+";
+
+#[test]
+fn lines_on_a_file(rt: HostRuntime) -> Result<(), Fail> {
+    for (step, most, asked, wanted) in [
+        (600, 9, true, ALL),
+        (300, 9, true, SOME),
+        (600, 9, false, ""),
+        (600, 0, true, ""),
+    ] {
+        let lines = told(rt.alloc(), step, most, false, asked, true);
+        assert_eq!(rt; lines.as_slice(), wanted.as_bytes());
+    }
+    Ok(())
+}
+
+// The shorter line covers what stands behind it of the longer one.
+const LEFT: &str = "\rphase 3 of 8, 812 of 1000 persons, 128 sessions, 99 bids, 2.4 s\
+    \rshortest paths, 731 of 1000 persons, 3.0 s                     ";
+
+// The end erases the last line.
+const ERASED: &str = "\rphase 3 of 8, 812 of 1000 persons, 128 sessions, 99 bids, 2.4 s\
+    \rshortest paths, 731 of 1000 persons, 3.0 s                     \
+    \r                                          \r";
+
+// Unasked, the first line comes after two seconds.
+#[test]
+fn lines_on_a_terminal(rt: HostRuntime) -> Result<(), Fail> {
+    for (ends, wanted) in [(false, LEFT), (true, ERASED)] {
+        let lines = told(rt.alloc(), 600, 9, true, false, ends);
+        assert_eq!(rt; lines.as_slice(), wanted.as_bytes());
+    }
+    Ok(())
+}
