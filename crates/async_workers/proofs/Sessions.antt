@@ -93,31 +93,31 @@ released_over b left worker person caught free queue over = waiting (book_kept_u
 
 -- what stands where the next phase was refused memory
 judged_leaves : (refresh since w : ℕ) (b left : BookData) (bid : Bid) (answer : Result Accepted Refused) (told : Note) (caught : Bool) → Holds b w bid.person → answer ≢ Err Memory → IsSubmitted b w bid answer left → told ≡ note_of answer →
-    caught ≡ caught_in refresh since told → IsFree (book_kept_up caught left w) → is_over (book_kept_up caught left w) ≡ true → IsCutShort refresh since w (Some (made.Bid bid)) b left caught
-judged_leaves refresh since w b left bid (Ok a) told caught held not_memory s noted is free over = inl (a, s, is ∙ ap (caught_in refresh since) noted)
+    caught ≡ caught_in refresh since told → IsFree (book_kept_up caught left w) → is_over (book_kept_up caught left w) ≡ true → IsCutShort refresh since w (Some (made.Bid bid)) told b left caught
+judged_leaves refresh since w b left bid (Ok a) told caught held not_memory s noted is free over = inl (a, s, noted, is)
 judged_leaves refresh since w b left bid (Err NotClaimed) told caught held not_memory s noted is free over = absurd (s.0 held)
 judged_leaves refresh since w b left bid (Err WrongPhase) told caught held not_memory s noted is free over = absurd (released_over b left w bid.person caught free (ap (λ (b : BookData). b.queue) s.2) over)
 judged_leaves refresh since w b left bid (Err (TooLow price)) told caught held not_memory s noted is free over = absurd (released_over b left w bid.person caught free (ap (λ (b : BookData). b.queue) s.4) over)
 judged_leaves refresh since w b left bid (Err Memory) told caught held not_memory s noted is free over = absurd (not_memory refl)
 
 over_leaves : (refresh since : ℕ) (k : Known) (b left : BookData) (offer : Option Offer) (told : Note) (caught : Bool) → IsPrepared b k.number k.table k.version offer → IsNoted b k.number offer left told → caught ≡ caught_in refresh since told →
-    IsFree (book_kept_up caught left k.number) → is_over (book_kept_up caught left k.number) ≡ true → IsCutShort refresh since k.number offer b left caught
-over_leaves refresh since k b left None told caught prepared noted is free over = (noted.0, is ∙ ap (caught_in refresh since) noted.1)
+    IsFree (book_kept_up caught left k.number) → is_over (book_kept_up caught left k.number) ≡ true → IsCutShort refresh since k.number offer told b left caught
+over_leaves refresh since k b left None told caught prepared noted is free over = (noted.0, noted.1, is)
 over_leaves refresh since k b left (Some (made.Bid bid)) told caught prepared noted is free over =
     judged_leaves refresh since k.number b left bid noted.0 told caught (prepared.1 ∙ ap Some (sym prepared.2.0)) noted.1 noted.2 noted.3 is free over
 over_leaves refresh since k b left (Some (made.Below below)) told caught prepared noted is free over =
     absurd (released_over b left k.number below.person caught free (ap (λ (b : BookData). b.queue) noted.0.2) over)
 
 -- a session whose offer was refused memory
-undone_leaves : (refresh since w : ℕ) (b left : BookData) (offer : Option Offer) (told : Note) → IsUndone b w offer left told → IsCutShort refresh since w offer b left false
+undone_leaves : (refresh since w : ℕ) (b left : BookData) (offer : Option Offer) (told : Note) → IsUndone b w offer left told → IsCutShort refresh since w offer told b left false
 undone_leaves refresh since w b left None told undone = absurd undone
-undone_leaves refresh since w b left (Some (made.Bid bid)) told undone = inr (undone.0, refl)
-undone_leaves refresh since w b left (Some (made.Below below)) told undone = (undone.0, undone.1, refl)
+undone_leaves refresh since w b left (Some (made.Bid bid)) told undone = inr (undone.0, undone.1, refl)
+undone_leaves refresh since w b left (Some (made.Below below)) told undone = (undone.0, undone.1, undone.2, refl)
 
 pub ends_undone : {E : Type 0} (refresh since : ℕ) (k : Known) (b left : BookData) (offer : Option Offer) (told : Note) (outcome : Result (Unit {0}) E) (refused : E) (caught : Bool) → outcome ≡ Err refused → IsHandedIn b k.number offer left told outcome → numbered left.claims k.number None ≡ None → caught ≡ false →
-    EndsUndone refresh since k offer b k left caught
+    EndsUndone refresh since k offer told b k left caught
 ends_undone {E} refresh since k b left offer told outcome refused caught failed handed none fresh =
-    subst (λ c. EndsUndone refresh since k offer b k left c) (sym fresh) record {
+    subst (λ c. EndsUndone refresh since k offer told b k left c) (sym fresh) record {
       submitted = left;
       leaves = undone_leaves refresh since k.number b left offer told (subst (λ (o : Result (Unit {0}) E). IsHandedIn b k.number offer left told o) failed handed);
       none = none;

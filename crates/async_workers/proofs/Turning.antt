@@ -175,8 +175,9 @@ pub works_with_offer : (d k e : DeskData) (offer : Option Offer) → WorksOn d k
 works_with_offer d k e offer works is = subst (WorksOn d) (sym is) record { place = works.place; base = works.base; number = works.number; extends = works.extends }
 
 -- a turn that was refused memory
-pub faulted : (refresh : ℕ) (d k : DeskData) → Serves d k (EndsUndone refresh d.since d.known d.offer) → Faulted refresh d k
-faulted refresh d k s = record {
+pub faulted : (refresh : ℕ) (d k : DeskData) (told : Note) → Serves d k (EndsUndone refresh d.since d.known d.offer told) → Faulted refresh d k
+faulted refresh d k told s = record {
+  note = told;
   serves = s;
   no_claim = ap (λ (d : DeskData). d.known.claim) s.desk ∙ ap (claim_in s.put) s.number ∙ ap (λ c. claim_with c s.put.ask) s.ends.none;
 }

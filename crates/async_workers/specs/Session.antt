@@ -51,18 +51,20 @@ pub record EndsWell (refresh since : ℕ) (k : Known) (offer : Option Offer) (to
   pub known : left ≡ with_table caught submitted k
 
 -- the book that a refused growth leaves, but for catching up, which a refused offer leaves out: the accepted bid; the
--- refused one, whose person waits; after a search the claim given up; without an offer the book taken
-abbrev pub IsCutShort : ℕ → ℕ → ℕ → Option Offer → BookData → BookData → Bool → Type 0
-IsCutShort refresh since worker None b new caught = (new ≡ b) × (caught ≡ caught_in refresh since note.Nothing)
-IsCutShort refresh since worker (Some (made.Bid bid)) b new caught =
-    ((a : Accepted) × IsSubmitted b worker bid (Ok a) new × (caught ≡ caught_in refresh since note.Accepted))
-    ⊎ (IsSubmitted b worker bid (Err Memory) new × (caught ≡ false))
-IsCutShort refresh since worker (Some (made.Below below)) b new caught = Holds b worker below.person × (new ≡ released b worker below.person) × (caught ≡ false)
+-- refused one, whose person waits; after a search the claim given up; without an offer the book taken. What is told of
+-- the offer: that the bid was accepted, or refused for want of memory, and else nothing
+abbrev pub IsCutShort : ℕ → ℕ → ℕ → Option Offer → Note → BookData → BookData → Bool → Type 0
+IsCutShort refresh since worker None told b new caught = (new ≡ b) × (told ≡ note.Nothing) × (caught ≡ caught_in refresh since told)
+IsCutShort refresh since worker (Some (made.Bid bid)) told b new caught =
+    ((a : Accepted) × IsSubmitted b worker bid (Ok a) new × (told ≡ note.Accepted) × (caught ≡ caught_in refresh since told))
+    ⊎ (IsSubmitted b worker bid (Err Memory) new × (told ≡ note.Refused Memory) × (caught ≡ false))
+IsCutShort refresh since worker (Some (made.Below below)) told b new caught =
+    Holds b worker below.person × (new ≡ released b worker below.person) × (told ≡ note.Nothing) × (caught ≡ false)
 
 -- the session where a growth is refused: the worker has no claim
-pub record EndsUndone (refresh since : ℕ) (k : Known) (offer : Option Offer) (b : BookData) (left : Known) (new : BookData) (caught : Bool) : Type 0 where
+pub record EndsUndone (refresh since : ℕ) (k : Known) (offer : Option Offer) (told : Note) (b : BookData) (left : Known) (new : BookData) (caught : Bool) : Type 0 where
   pub submitted : BookData
-  pub leaves : IsCutShort refresh since k.number offer b submitted caught
+  pub leaves : IsCutShort refresh since k.number offer told b submitted caught
   pub none : numbered new.claims k.number None ≡ None
   pub book : new ≡ book_kept_up caught submitted k.number
   pub known : left ≡ with_table caught submitted k

@@ -74,7 +74,8 @@ pub record Turned (refresh : ℕ) (d after : DeskData) (answer : Turn) : Type 0 
 
 -- a turn that was refused memory: the desk has no claim, and no offer
 pub record Faulted (refresh : ℕ) (d after : DeskData) : Type 0 where
-  pub serves : Serves d after (EndsUndone refresh d.since d.known d.offer)
+  pub note : Note
+  pub serves : Serves d after (EndsUndone refresh d.since d.known d.offer note)
   pub no_claim : after.known.claim ≡ None
 
 -- a turn that ends a worker's run

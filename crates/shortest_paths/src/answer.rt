@@ -3,6 +3,8 @@ ghost use Rattle.std.specs.Prelude.{◌≤◌, IfOk, IfSome};
 ghost use Rattle.rounds.specs.Outcomes.{IsProof};
 
 use super::market::Market;
+use super::number::Number;
+use super::reach::least_in;
 use super::search::Search;
 use assign_core::{MOST_PERSONS, Numbered, Object, Outcome, Person, Price};
 use dual_checker::{confirm_best, confirm_hall};
@@ -10,7 +12,7 @@ use scaled_values::Scaled;
 use std::alloc::{AllocError, Global};
 
 // The objects of persons 1, 2, ..; where a person has none, one that there isn't.
-fn objects_of(alloc: Global, market: &Market) -> Result<Vec<Object>, AllocError> {
+fn objects_of<W: Number>(alloc: Global, market: &Market<W>) -> Result<Vec<Object>, AllocError> {
     let mut objects = Vec::with_capacity(alloc, market.objects.len())?;
     for place in &market.objects {
         let place = place
@@ -22,20 +24,20 @@ fn objects_of(alloc: Global, market: &Market) -> Result<Vec<Object>, AllocError>
 }
 
 // The prices, all as much higher as the least of them is below 0: the differences are what proves.
-fn prices_of(alloc: Global, market: &Market) -> Result<Vec<Price>, AllocError> {
-    let lift = Price::from(market.prices.iter().copied().min().unwrap_or(0)).min(0);
+fn prices_of<W: Number>(alloc: Global, market: &Market<W>) -> Result<Vec<Price>, AllocError> {
+    let least = least_in(market.prices.as_slice()).to_price().min(0);
     let mut prices = Vec::with_capacity(alloc, market.prices.len())?;
     for price in &market.prices {
-        prices.push(Price::from(*price).wrapping_sub(lift))?;
+        prices.push(price.to_price().wrapping_sub(least))?;
     }
     Ok(prices)
 }
 
 // The objects of all persons with the prices.
-pub fn best_of(
+pub fn best_of<W: Number>(
     alloc: Global,
     scaled: &Scaled,
-    market: &Market,
+    market: &Market<W>,
 ) -> Result<Option<Outcome>, AllocError>
     ensures { IfOk result (λ found. IfSome found (IsProof scaled.now)) }
 {
@@ -70,7 +72,11 @@ fn rising<T: Numbered + Drop>(alloc: Global, n: u16, places: &[usize]) -> Result
 }
 
 // The persons that a search scanned.
-fn persons_of(alloc: Global, n: u16, search: &Search) -> Result<Vec<Person>, AllocError>
+fn persons_of<W: Number>(
+    alloc: Global,
+    n: u16,
+    search: &Search<W>,
+) -> Result<Vec<Person>, AllocError>
     requires { n ≤ MOST_PERSONS }
 {
     let mut places = Vec::with_capacity(alloc, search.scanned.len())?;
@@ -81,10 +87,10 @@ fn persons_of(alloc: Global, n: u16, search: &Search) -> Result<Vec<Person>, All
 }
 
 // The persons that a search scanned with the objects that it passed.
-pub fn hall_of(
+pub fn hall_of<W: Number>(
     alloc: Global,
     scaled: &Scaled,
-    search: &Search,
+    search: &Search<W>,
 ) -> Result<Option<Outcome>, AllocError>
     ensures { IfOk result (λ found. IfSome found (IsProof scaled.now)) }
 {

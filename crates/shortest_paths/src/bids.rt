@@ -5,8 +5,8 @@
 ghost use Rattle.std.specs.Prelude.{◌≡◌, length, pos, ◌<ℤ◌};
 
 use super::market::Market;
+use super::number::Number;
 use super::observer::{Observer, Telling};
-use super::prices::rounded;
 use super::rows::{place_of, row_at};
 use assign_core::{Benefit, Object};
 use scaled_values::{Row, Scaled};
@@ -16,20 +16,23 @@ const BLOCK: usize = 32;
 
 // The best object of a person with its value, and the second best value.
 #[derive(Clone, Copy)]
-struct Two {
+struct Two<W> {
     object: Option<usize>,
-    best: i64,
-    second: i64,
+    best: W,
+    second: W,
 }
 
-const NOTHING: Two = Two {
-    object: None,
-    best: i64::MIN,
-    second: i64::MIN,
-};
+impl<W: Number> Two<W> {
+    // Of no object.
+    fn none() -> Two<W> {
+        Two {
+            object: None,
+            best: W::LEAST,
+            second: W::LEAST,
+        }
+    }
 
-impl Two {
-    fn with(self, object: usize, value: i64) -> Two {
+    fn with(self, object: usize, value: W) -> Two<W> {
         if value > self.best {
             Two {
                 object: Some(object),
@@ -38,33 +41,33 @@ impl Two {
             }
         } else {
             Two {
-                second: self.second.max(value),
+                second: self.second.greater(value),
                 ..self
             }
         }
     }
 
     // With the objects of a block, which begins at this place.
-    fn with_block(self, at: usize, benefits: &[Benefit], prices: &[i64]) -> Two {
+    fn with_block(self, at: usize, benefits: &[Benefit], prices: &[W]) -> Two<W> {
         let mut two = self;
         for (k, (benefit, price)) in benefits.iter().zip(prices).enumerate() {
-            two = two.with(at.wrapping_add(k), benefit.wrapping_sub(*price));
+            two = two.with(at.wrapping_add(k), W::of(*benefit).minus(*price));
         }
         two
     }
 }
 
 // The greatest value. Compilers make vectors of this loop.
-pub fn greatest_value(benefits: &[Benefit], prices: &[i64]) -> i64 {
-    let mut greatest = i64::MIN;
+pub fn greatest_value<W: Number>(benefits: &[Benefit], prices: &[W]) -> W {
+    let mut greatest = W::LEAST;
     for (benefit, price) in benefits.iter().zip(prices) {
-        greatest = greatest.max(benefit.wrapping_sub(*price));
+        greatest = greatest.greater(W::of(*benefit).minus(*price));
     }
     greatest
 }
 
-fn two_of_full(benefits: &[Benefit], prices: &[i64]) -> Two {
-    let mut two = NOTHING;
+fn two_of_full<W: Number>(benefits: &[Benefit], prices: &[W]) -> Two<W> {
+    let mut two = Two::none();
     let mut at = 0usize;
     for (benefits, prices) in benefits.chunks(BLOCK).zip(prices.chunks(BLOCK)) {
         if greatest_value(benefits, prices) > two.second {
@@ -75,23 +78,23 @@ fn two_of_full(benefits: &[Benefit], prices: &[i64]) -> Two {
     two
 }
 
-fn two_of_pairs(pairs: &[(Object, Benefit)], prices: &[i64]) -> Two {
-    let mut two = NOTHING;
+fn two_of_pairs<W: Number>(pairs: &[(Object, Benefit)], prices: &[W]) -> Two<W> {
+    let mut two = Two::none();
     for (object, benefit) in pairs {
         let place = place_of(*object);
         if let Some(price) = prices.get(place) {
-            two = two.with(place, benefit.wrapping_sub(*price));
+            two = two.with(place, W::of(*benefit).minus(*price));
         }
     }
     two
 }
 
 // The two best objects of the person at this place.
-fn two_of(scaled: &Scaled, prices: &[i64], person: usize) -> Two {
+fn two_of<W: Number>(scaled: &Scaled, prices: &[W], person: usize) -> Two<W> {
     match row_at(scaled, person) {
         Some(Row::Full(benefits)) => two_of_full(benefits, prices),
         Some(Row::Pairs(pairs)) => two_of_pairs(pairs, prices),
-        None => NOTHING,
+        None => Two::none(),
     }
 }
 
@@ -104,18 +107,18 @@ enum Came {
 }
 
 // How much a price is raised: to where the second best is as good, in steps, and by eps.
-fn raise_of(two: Two, eps: i64, step: i64) -> i64
+fn raise_of<W: Number>(two: Two<W>, eps: i64, step: i64) -> W
     requires { pos 0 <ℤ step }
 {
-    if two.second == i64::MIN {
-        return eps;
+    if two.second == W::LEAST {
+        return W::of(eps);
     }
-    let gap = two.best.wrapping_sub(two.second).wrapping_add(1);
-    rounded(gap, step).wrapping_add(eps)
+    let gap = two.best.minus(two.second).plus(W::of(1));
+    gap.rounded(step).plus(W::of(eps))
 }
 
 // One bid of a person that owns nothing. Where the price stays nobody is evicted.
-fn bid(market: &mut Market, two: Two, person: usize, eps: i64, step: i64) -> Came
+fn bid<W: Number>(market: &mut Market<W>, two: Two<W>, person: usize, eps: i64, step: i64) -> Came
     requires { pos 0 <ℤ step }
     ensures { length market.new.prices.items ≡ length market.old.prices.items }
 {
@@ -124,10 +127,10 @@ fn bid(market: &mut Market, two: Two, person: usize, eps: i64, step: i64) -> Cam
     };
     let raise = raise_of(two, eps, step);
     let owner = market.owner(object);
-    if raise == 0 && owner.is_some() {
+    if raise == W::of(0) && owner.is_some() {
         return Came::Done;
     }
-    market.set_price(object, market.price(object).wrapping_add(raise));
+    market.set_price(object, market.price(object).plus(raise));
     market.give(object, person);
     match owner {
         None => Came::Done,
@@ -139,7 +142,13 @@ fn bid(market: &mut Market, two: Two, person: usize, eps: i64, step: i64) -> Cam
 }
 
 // Bids of a person and of those that are evicted, at most so many. How many there were.
-fn bid_on(scaled: &Scaled, market: &mut Market, first: usize, eps: i64, most: usize) -> usize
+fn bid_on<W: Number>(
+    scaled: &Scaled,
+    market: &mut Market<W>,
+    first: usize,
+    eps: i64,
+    most: usize,
+) -> usize
     requires { length market.old.prices.items ≡ length scaled.now.problem }
     ensures { length market.new.prices.items ≡ length scaled.now.problem }
 {
@@ -164,9 +173,9 @@ pub struct Bids {
 }
 
 // Each person bids that owns nothing, and so do those that are evicted.
-pub fn bid_all<O: Observer>(
+pub fn bid_all<W: Number, O: Observer>(
     scaled: &Scaled,
-    market: &mut Market,
+    market: &mut Market<W>,
     eps: i64,
     most: Bids,
     telling: &mut Telling<'_, O>,

@@ -6,6 +6,7 @@ mod answer;
 mod bids;
 mod lowering;
 mod market;
+mod number;
 mod observer;
 mod path;
 mod plan;

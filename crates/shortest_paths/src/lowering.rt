@@ -9,7 +9,7 @@ use scaled_values::{Row, Scaled};
 use std::alloc::{AllocError, Global};
 
 // The places of the objects that nobody owns.
-fn unowned(alloc: Global, market: &Market) -> Result<Vec<usize>, AllocError> {
+fn unowned(alloc: Global, market: &Market<i64>) -> Result<Vec<usize>, AllocError> {
     let mut places = Vec::with_capacity(alloc, market.unserved())?;
     for (place, owner) in market.owners.iter().enumerate() {
         if owner.is_none() {
@@ -65,7 +65,7 @@ fn levels_of(
 pub fn lower_unowned(
     alloc: Global,
     scaled: &Scaled,
-    market: &mut Market,
+    market: &mut Market<i64>,
     values: &[i64],
 ) -> Result<(), AllocError>
     requires { length market.old.prices.items ≡ length scaled.now.problem }

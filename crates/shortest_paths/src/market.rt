@@ -1,14 +1,15 @@
 // Prices, and who owns what, while a search is under way.
 ghost use Rattle.std.specs.Prelude.{◌≡◌, length, IfOk};
 
+use super::number::Number;
 use std::alloc::{AllocError, Global};
 
 // The price and the owner of each object, and the object of each person, by places from 0. The price
 // of an object that nobody owns stands here less 1: benefits and prices are multiples of one number
 // above 1, so of objects that are alike to a person those come first that nobody owns.
 #[derive(Drop)]
-pub struct Market {
-    pub prices: Vec<i64>,
+pub struct Market<W> {
+    pub prices: Vec<W>,
     pub owners: Vec<Option<usize>>,
     pub objects: Vec<Option<usize>>,
     // How many objects somebody owns.
@@ -22,25 +23,25 @@ fn clear(places: &mut [Option<usize>]) {
 }
 
 // The prices of objects that nobody owns.
-fn lower(prices: &mut [i64]) {
+fn lower<W: Number>(prices: &mut [W]) {
     for price in prices.iter_mut() {
-        *price = price.wrapping_sub(1);
+        *price = price.minus(W::of(1));
     }
 }
 
 // Nobody owns an object any more.
-fn leave(owners: &mut [Option<usize>], prices: &mut [i64]) {
+fn leave<W: Number>(owners: &mut [Option<usize>], prices: &mut [W]) {
     for k in 0..owners.len() {
         if owners[k].is_some() && k < prices.len() {
-            prices[k] = prices[k].wrapping_sub(1);
+            prices[k] = prices[k].minus(W::of(1));
         }
         owners[k] = None;
     }
 }
 
-impl Market {
+impl<W: Number> Market<W> {
     // Nobody owns anything.
-    pub fn new(alloc: Global, prices: Vec<i64>) -> Result<Market, AllocError>
+    pub fn new(alloc: Global, prices: Vec<W>) -> Result<Market<W>, AllocError>
         ensures { IfOk result (λ m. length m.prices.items ≡ length prices.items) }
     {
         let n = prices.len();
@@ -56,8 +57,8 @@ impl Market {
         })
     }
 
-    pub fn price(&self, object: usize) -> i64 {
-        self.prices.get(object).copied().unwrap_or(0)
+    pub fn price(&self, object: usize) -> W {
+        self.prices.get(object).copied().unwrap_or(W::of(0))
     }
 
     pub fn owner(&self, object: usize) -> Option<usize> {
@@ -68,7 +69,7 @@ impl Market {
         self.objects.get(person).copied().flatten()
     }
 
-    pub fn set_price(&mut self, object: usize, price: i64)
+    pub fn set_price(&mut self, object: usize, price: W)
         ensures { length self.new.prices.items ≡ length self.old.prices.items }
     {
         if object < self.prices.len() {
@@ -81,7 +82,7 @@ impl Market {
         ensures { length self.new.prices.items ≡ length self.old.prices.items }
     {
         if self.owner(object).is_none() {
-            self.set_price(object, self.price(object).wrapping_add(1));
+            self.set_price(object, self.price(object).plus(W::of(1)));
             self.owned = self.owned.saturating_add(1);
         }
         if object < self.owners.len() {

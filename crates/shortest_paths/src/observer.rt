@@ -1,5 +1,6 @@
 // Who is told how many persons own an object, while paths are looked for. Nothing is proved of what is told.
 use super::market::Market;
+use super::number::Number;
 
 /// Is told how far paths are.
 pub trait Observer {
@@ -33,13 +34,13 @@ impl<'a, O: Observer> Telling<'a, O> {
         Telling { observer, steps: 0 }
     }
 
-    pub fn tell(&mut self, market: &Market) {
+    pub fn tell<W: Number>(&mut self, market: &Market<W>) {
         self.steps = 0;
         self.observer.assigned(market.owned);
     }
 
     // So many bids or scanned persons more.
-    pub fn count(&mut self, steps: usize, market: &Market) {
+    pub fn count<W: Number>(&mut self, steps: usize, market: &Market<W>) {
         self.steps = self.steps.saturating_add(steps);
         if self.steps >= STEPS_A_LOOK {
             self.tell(market);

@@ -2,6 +2,7 @@
 // all prices here.
 ghost use Rattle.std.specs.Prelude.{◌≡◌, pos, length, IfOk, ◌<ℤ◌};
 
+use super::number::Number;
 use super::rows::{place_of, row_at};
 use assign_core::{Benefit, Object, Price, Prices};
 use scaled_values::{Row, Scaled};
@@ -71,11 +72,15 @@ pub fn usual_prices(alloc: Global, scaled: &Scaled) -> Result<Vec<i64>, AllocErr
     Ok(prices)
 }
 
-// The next multiple of the step, towards 0.
-pub fn rounded(number: i64, step: i64) -> i64
-    requires { pos 0 <ℤ step }
+// The same prices in numbers of 128 bits.
+pub fn widened(alloc: Global, prices: &[i64]) -> Result<Vec<i128>, AllocError>
+    ensures { IfOk result (λ v. length v.items ≡ length prices.now) }
 {
-    number.wrapping_sub(number % step)
+    let mut wide = vec![in alloc; 0i128; prices.len()]?;
+    for k in 0..prices.len() {
+        wide[k] = i128::from(prices[k]);
+    }
+    Ok(wide)
 }
 
 // How far a price is above the least, cut and brought to a multiple of the step.
@@ -83,7 +88,7 @@ fn cut_price(price: Price, least: Price, step: i64) -> i64
     requires { pos 0 <ℤ step }
 {
     let above = i64::try_from(price.wrapping_sub(least)).unwrap_or(PRICE_CUT);
-    rounded(above.max(0).min(PRICE_CUT), step)
+    above.max(0).min(PRICE_CUT).rounded(step)
 }
 
 // Given prices, as far as a search can use them: it looks at differences alone.

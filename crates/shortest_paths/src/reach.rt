@@ -2,51 +2,46 @@
 // object is its cost, at which it is reached, and its key.
 ghost use Rattle.std.specs.Prelude.{◌≡◌, ◌≤◌, ◌<◌, length, IfSome};
 
+use super::number::Number;
 use super::rows::place_of;
 use assign_core::{Benefit, Object};
 use std::alloc::AllocError;
 use std::collections::BinaryHeap;
 
-// The cost of an object that isn't reached, and the key of one that was passed.
-pub const FAR: i64 = 1 << 61;
-
-// No object is reached at this distance.
-pub const END: i64 = 1 << 60;
-
 // How many objects make a block. Only blocks with an object that is nearest are looked at again.
 const BLOCK: usize = 64;
 
 // The objects of a full row from one place to another: the costs afterwards, and the least distance.
-fn reach_block(
+fn reach_block<W: Number>(
     benefits: &[Benefit],
-    base: i64,
-    costs: &mut [i64],
-    keys: &[i64],
+    base: W,
+    costs: &mut [W],
+    keys: &[W],
     from: usize,
     to: usize,
-) -> i64
+) -> W
     requires benefits { length benefits.now ≡ length costs.old }
     requires keys { length keys.now ≡ length costs.old }
     requires to { to ≤ length costs.old }
 {
-    let mut least = i64::MAX;
+    let mut least = W::GREATEST;
     for k in from..to {
-        let cost = costs[k].min(base.wrapping_sub(benefits[k]));
+        let cost = costs[k].lesser(base.minus(W::of(benefits[k])));
         costs[k] = cost;
-        least = least.min(cost.wrapping_add(keys[k]));
+        least = least.lesser(cost.plus(keys[k]));
     }
     least
 }
 
 // A full row: the costs afterwards, and the least distance of each block. With an object nearer than
 // `near` a search is at its end, and the blocks behind it are left as they are.
-pub fn reach_full(
+pub fn reach_full<W: Number>(
     benefits: &[Benefit],
-    base: i64,
-    costs: &mut [i64],
-    keys: &[i64],
-    near: i64,
-    blocks: &mut Vec<i64>,
+    base: W,
+    costs: &mut [W],
+    keys: &[W],
+    near: W,
+    blocks: &mut Vec<W>,
 ) -> Result<(), AllocError>
     requires benefits { length benefits.now ≡ length costs.old }
     requires keys { length keys.now ≡ length costs.old }
@@ -65,29 +60,29 @@ pub fn reach_full(
     Ok(())
 }
 
-pub fn reach_pairs(pairs: &[(Object, Benefit)], base: i64, costs: &mut [i64]) {
+pub fn reach_pairs<W: Number>(pairs: &[(Object, Benefit)], base: W, costs: &mut [W]) {
     for (object, benefit) in pairs {
         let place = place_of(*object);
         if place < costs.len() {
-            costs[place] = costs[place].min(base.wrapping_sub(*benefit));
+            costs[place] = costs[place].lesser(base.minus(W::of(*benefit)));
         }
     }
 }
 
 // The least distance.
-fn least_of(costs: &[i64], keys: &[i64]) -> i64 {
-    let mut least = i64::MAX;
+fn least_of<W: Number>(costs: &[W], keys: &[W]) -> W {
+    let mut least = W::GREATEST;
     for (cost, key) in costs.iter().zip(keys) {
-        least = least.min(cost.wrapping_add(*key));
+        least = least.lesser(cost.plus(*key));
     }
     least
 }
 
 // The least distance of each block.
-pub fn look_at_blocks(
-    costs: &[i64],
-    keys: &[i64],
-    blocks: &mut Vec<i64>,
+pub fn look_at_blocks<W: Number>(
+    costs: &[W],
+    keys: &[W],
+    blocks: &mut Vec<W>,
 ) -> Result<(), AllocError> {
     for (costs, keys) in costs.chunks(BLOCK).zip(keys.chunks(BLOCK)) {
         blocks.push(least_of(costs, keys))?;
@@ -96,24 +91,24 @@ pub fn look_at_blocks(
 }
 
 // The least of some distances.
-pub fn least_in(distances: &[i64]) -> i64 {
-    let mut least = i64::MAX;
+pub fn least_in<W: Number>(distances: &[W]) -> W {
+    let mut least = W::GREATEST;
     for distance in distances {
-        least = least.min(*distance);
+        least = least.lesser(*distance);
     }
     least
 }
 
 // The objects of a block at this distance, which begins at this place.
-fn gather_block(
-    costs: &[i64],
-    keys: &[i64],
+fn gather_block<W: Number>(
+    costs: &[W],
+    keys: &[W],
     at: usize,
-    least: i64,
+    least: W,
     places: &mut Vec<usize>,
 ) -> Result<(), AllocError> {
     for (k, (cost, key)) in costs.iter().zip(keys).enumerate() {
-        if cost.wrapping_add(*key) == least {
+        if cost.plus(*key) == least {
             places.push(at.wrapping_add(k))?;
         }
     }
@@ -121,11 +116,11 @@ fn gather_block(
 }
 
 // The objects at this distance, which is the least, in the blocks that were looked at.
-pub fn gather(
-    costs: &[i64],
-    keys: &[i64],
-    blocks: &[i64],
-    least: i64,
+pub fn gather<W: Number>(
+    costs: &[W],
+    keys: &[W],
+    blocks: &[W],
+    least: W,
     places: &mut Vec<usize>,
 ) -> Result<(), AllocError> {
     let mut at = 0usize;
@@ -139,76 +134,76 @@ pub fn gather(
 }
 
 // Objects from this one of a list on aren't found again.
-pub fn hide(keys: &mut [i64], places: &[usize], from: usize) {
+pub fn hide<W: Number>(keys: &mut [W], places: &[usize], from: usize) {
     for place in places.iter().skip(from) {
         if *place < keys.len() {
-            keys[*place] = FAR;
+            keys[*place] = W::FAR;
         }
     }
 }
 
 // Objects with their distances negated, the nearest first. One that got nearer stands there again.
-pub type Heap = BinaryHeap<(i64, usize)>;
+pub type Heap<W> = BinaryHeap<(W, usize)>;
 
 // One object of a short row.
-fn push(
-    heap: &mut Heap,
+fn push<W: Number>(
+    heap: &mut Heap<W>,
     place: usize,
-    cost: i64,
-    costs: &mut [i64],
-    keys: &[i64],
+    cost: W,
+    costs: &mut [W],
+    keys: &[W],
 ) -> Result<(), AllocError>
     requires { length keys.now ≡ length costs.old }
 {
     if place < costs.len() && cost < costs[place] {
         costs[place] = cost;
-        let distance = cost.wrapping_add(keys[place]);
-        heap.push((0i64.wrapping_sub(distance), place))?;
+        let distance = cost.plus(keys[place]);
+        heap.push((W::of(0).minus(distance), place))?;
     }
     Ok(())
 }
 
-pub fn push_full(
-    heap: &mut Heap,
+pub fn push_full<W: Number>(
+    heap: &mut Heap<W>,
     benefits: &[Benefit],
-    base: i64,
-    costs: &mut [i64],
-    keys: &[i64],
+    base: W,
+    costs: &mut [W],
+    keys: &[W],
 ) -> Result<(), AllocError>
     requires { length keys.now ≡ length costs.old }
 {
     for k in 0..benefits.len() {
-        push(heap, k, base.wrapping_sub(benefits[k]), costs, keys)?;
+        push(heap, k, base.minus(W::of(benefits[k])), costs, keys)?;
     }
     Ok(())
 }
 
-pub fn push_pairs(
-    heap: &mut Heap,
+pub fn push_pairs<W: Number>(
+    heap: &mut Heap<W>,
     pairs: &[(Object, Benefit)],
-    base: i64,
-    costs: &mut [i64],
-    keys: &[i64],
+    base: W,
+    costs: &mut [W],
+    keys: &[W],
 ) -> Result<(), AllocError>
     requires { length keys.now ≡ length costs.old }
 {
     for (object, benefit) in pairs {
-        let cost = base.wrapping_sub(*benefit);
+        let cost = base.minus(W::of(*benefit));
         push(heap, place_of(*object), cost, costs, keys)?;
     }
     Ok(())
 }
 
 // The nearest object that wasn't passed.
-pub fn pop(heap: &mut Heap, costs: &[i64], keys: &[i64]) -> Option<usize>
+pub fn pop<W: Number>(heap: &mut Heap<W>, costs: &[W], keys: &[W]) -> Option<usize>
     requires { length keys.now ≡ length costs.now }
     ensures { IfSome result (λ k. k < length costs.now) }
 {
     for _ in 0..heap.len() {
         let (negated, place) = heap.pop()?;
         if place < costs.len() {
-            let distance = costs[place].wrapping_add(keys[place]);
-            if 0i64.wrapping_sub(distance) == negated {
+            let distance = costs[place].plus(keys[place]);
+            if W::of(0).minus(distance) == negated {
                 return Some(place);
             }
         }

@@ -4,8 +4,9 @@ ghost use Rattle.std.specs.Prelude.{◌≡◌, length, IfOk};
 ghost use Rattle.scaled_values.specs.Held.{HasForm};
 
 use super::market::Market;
+use super::number::Number;
 use super::reach::{
-    END, FAR, Heap, gather, hide, least_in, look_at_blocks, pop, push_full, push_pairs, reach_full,
+    Heap, gather, hide, least_in, look_at_blocks, pop, push_full, push_pairs, reach_full,
     reach_pairs,
 };
 use super::rows::{benefit_at, place_of, row_at};
@@ -15,24 +16,24 @@ use std::collections::BinaryHeap;
 
 // A person that was scanned: its objects cost `base` less their benefits.
 #[derive(Clone, Copy)]
-pub struct Scanned {
+pub struct Scanned<W> {
     pub person: usize,
-    pub base: i64,
+    pub base: W,
 }
 
 // Costs and keys of the objects, whose sums are distances; who was scanned, and which objects were
 // passed or are to be.
 #[derive(Drop)]
-pub struct Search {
-    pub costs: Vec<i64>,
-    pub keys: Vec<i64>,
-    pub scanned: Vec<Scanned>,
+pub struct Search<W: Number> {
+    pub costs: Vec<W>,
+    pub keys: Vec<W>,
+    pub scanned: Vec<Scanned<W>>,
     pub passed: Vec<usize>,
     // The distance of the last of these.
-    pub level: i64,
+    pub level: W,
     // The least distance of each block of objects, of those that the last look at all objects saw.
-    pub blocks: Vec<i64>,
-    pub heap: Heap,
+    pub blocks: Vec<W>,
+    pub heap: Heap<W>,
     // Whether persons list so few objects that a heap finds the nearest sooner than a scan.
     pub by_heap: bool,
 }
@@ -51,16 +52,16 @@ pub enum End {
 }
 
 // An object isn't reached.
-fn restore(market: &Market, place: usize, costs: &mut [i64], keys: &mut [i64])
+fn restore<W: Number>(market: &Market<W>, place: usize, costs: &mut [W], keys: &mut [W])
     requires { length keys.old ≡ length costs.old }
 {
     if place < costs.len() {
-        costs[place] = FAR;
+        costs[place] = W::FAR;
         keys[place] = market.price(place);
     }
 }
 
-fn restore_all(market: &Market, costs: &mut [i64], keys: &mut [i64])
+fn restore_all<W: Number>(market: &Market<W>, costs: &mut [W], keys: &mut [W])
     requires { length keys.old ≡ length costs.old }
 {
     for k in 0..costs.len() {
@@ -68,7 +69,7 @@ fn restore_all(market: &Market, costs: &mut [i64], keys: &mut [i64])
     }
 }
 
-fn restore_row(row: Row<'_>, market: &Market, costs: &mut [i64], keys: &mut [i64])
+fn restore_row<W: Number>(row: Row<'_>, market: &Market<W>, costs: &mut [W], keys: &mut [W])
     requires { length keys.old ≡ length costs.old }
 {
     match row {
@@ -82,12 +83,12 @@ fn restore_row(row: Row<'_>, market: &Market, costs: &mut [i64], keys: &mut [i64
 }
 
 // The objects of these persons alone.
-fn restore_scanned(
-    scanned: &[Scanned],
+fn restore_scanned<W: Number>(
+    scanned: &[Scanned<W>],
     scaled: &Scaled,
-    market: &Market,
-    costs: &mut [i64],
-    keys: &mut [i64],
+    market: &Market<W>,
+    costs: &mut [W],
+    keys: &mut [W],
 )
     requires { length keys.old ≡ length costs.old }
 {
@@ -98,13 +99,13 @@ fn restore_scanned(
     }
 }
 
-impl Search {
-    pub fn new(alloc: Global, n: usize, by_heap: bool) -> Result<Search, AllocError>
+impl<W: Number> Search<W> {
+    pub fn new(alloc: Global, n: usize, by_heap: bool) -> Result<Search<W>, AllocError>
         ensures costs { IfOk result (λ s. length s.costs.items ≡ n) }
         ensures keys { IfOk result (λ s. length s.keys.items ≡ n) }
     {
-        let costs = vec![in alloc; FAR; n]?;
-        let keys = vec![in alloc; 0i64; n]?;
+        let costs = vec![in alloc; W::FAR; n]?;
+        let keys = vec![in alloc; W::of(0); n]?;
         let scanned = Vec::new(alloc);
         let passed = Vec::new(alloc);
         let blocks = Vec::new(alloc);
@@ -114,7 +115,7 @@ impl Search {
             keys,
             scanned,
             passed,
-            level: i64::MIN,
+            level: W::LEAST,
             blocks,
             heap,
             by_heap,
@@ -122,7 +123,7 @@ impl Search {
     }
 
     // Nothing is reached. With a heap, what no person of the last search lists is as it was.
-    fn clear(&mut self, scaled: &Scaled, market: &Market)
+    fn clear(&mut self, scaled: &Scaled, market: &Market<W>)
         requires { length self.old.keys.items ≡ length self.old.costs.items }
         ensures costs { length self.new.costs.items ≡ length self.old.costs.items }
         ensures keys { length self.new.keys.items ≡ length self.old.keys.items }
@@ -136,12 +137,12 @@ impl Search {
         }
         self.scanned.clear();
         self.passed.clear();
-        self.level = i64::MIN;
+        self.level = W::LEAST;
         self.heap.clear();
     }
 
     // By a heap: the nearest object is passed.
-    fn scan_by_heap(&mut self, row: Row<'_>, base: i64) -> Result<(), AllocError>
+    fn scan_by_heap(&mut self, row: Row<'_>, base: W) -> Result<(), AllocError>
         requires { length self.old.keys.items ≡ length self.old.costs.items }
         ensures costs { length self.new.costs.items ≡ length self.old.costs.items }
         ensures keys { length self.new.keys.items ≡ length self.old.keys.items }
@@ -153,7 +154,7 @@ impl Search {
             Row::Pairs(pairs) => push_pairs(&mut self.heap, pairs, base, costs, keys)?,
         }
         if let Some(at) = pop(&mut self.heap, costs, keys) {
-            self.keys[at] = FAR;
+            self.keys[at] = W::FAR;
             self.passed.push(at)?;
         }
         Ok(())
@@ -161,7 +162,7 @@ impl Search {
 
     // By looks at all objects: those that are nearest are to be passed, once none waits for it or they
     // are as near as those that wait.
-    fn scan_all(&mut self, row: Row<'_>, base: i64) -> Result<(), AllocError>
+    fn scan_all(&mut self, row: Row<'_>, base: W) -> Result<(), AllocError>
         requires costs { HasForm (length self.old.costs.items) row }
         requires keys { length self.old.keys.items ≡ length self.old.costs.items }
         ensures costs { length self.new.costs.items ≡ length self.old.costs.items }
@@ -170,7 +171,7 @@ impl Search {
         let from = self.passed.len();
         let waits = from >= self.scanned.len();
         // Only an object that nobody owns can be nearer than those that wait.
-        let near = if waits { self.level } else { i64::MIN };
+        let near = if waits { self.level } else { W::LEAST };
         let keys = self.keys.as_slice();
         let costs = self.costs.as_mut_slice();
         self.blocks.clear();
@@ -185,7 +186,7 @@ impl Search {
         }
         let blocks = self.blocks.as_slice();
         let least = least_in(blocks);
-        if least < END && (!waits || least <= self.level) {
+        if least < W::END && (!waits || least <= self.level) {
             self.level = least;
             gather(costs, keys, blocks, least, &mut self.passed)?;
             hide(self.keys.as_mut_slice(), self.passed.as_slice(), from);
@@ -194,7 +195,7 @@ impl Search {
     }
 
     // One person more is scanned.
-    fn scan(&mut self, scaled: &Scaled, one: Scanned) -> Result<(), AllocError>
+    fn scan(&mut self, scaled: &Scaled, one: Scanned<W>) -> Result<(), AllocError>
         requires costs { length self.old.costs.items ≡ length scaled.now.problem }
         requires keys { length self.old.keys.items ≡ length scaled.now.problem }
         ensures costs { length self.new.costs.items ≡ length scaled.now.problem }
@@ -214,19 +215,24 @@ impl Search {
     }
 
     // The owner of an object that was passed is scanned next.
-    fn next(&self, scaled: &Scaled, market: &Market, object: usize) -> Option<Scanned> {
+    fn next(&self, scaled: &Scaled, market: &Market<W>, object: usize) -> Option<Scanned<W>> {
         let person = market.owner(object)?;
         let benefit = row_at(scaled, person).and_then(|row| benefit_at(row, object))?;
         let cost = self.costs.get(object).copied()?;
         Some(Scanned {
             person,
-            base: cost.wrapping_add(benefit),
+            base: cost.plus(W::of(benefit)),
         })
     }
 
     // The search from a person. Objects at one distance are passed in the order in which they were
     // reached, which leads to an unowned one far sooner than the order of their numbers.
-    pub fn run(&mut self, scaled: &Scaled, market: &Market, first: usize) -> Result<End, AllocError>
+    pub fn run(
+        &mut self,
+        scaled: &Scaled,
+        market: &Market<W>,
+        first: usize,
+    ) -> Result<End, AllocError>
         requires costs { length self.old.costs.items ≡ length scaled.now.problem }
         requires keys { length self.old.keys.items ≡ length scaled.now.problem }
         ensures costs { length self.new.costs.items ≡ length scaled.now.problem }
@@ -235,7 +241,7 @@ impl Search {
         self.clear(scaled, market);
         let mut one = Scanned {
             person: first,
-            base: 0,
+            base: W::of(0),
         };
         for turn in 0..scaled.n() {
             self.scan(scaled, one)?;

@@ -7,10 +7,11 @@ use super::answer::{best_of, hall_of};
 use super::bids::bid_all;
 use super::lowering::lower_unowned;
 use super::market::Market;
+use super::number::Number;
 use super::observer::{Observer, Telling, Unobserved};
 use super::path::{raise, walk_back};
 use super::plan::{Plan, plan_of, started_plan};
-use super::prices::{given_prices, rounded, usual_prices};
+use super::prices::{given_prices, usual_prices, widened};
 use super::search::{End, Search};
 use super::ties::match_ties;
 use assign_core::{Outcome, Prices};
@@ -26,10 +27,10 @@ const BIDS_BEFORE: u16 = 4;
 const PHASES: usize = 24;
 
 // One person more gets an object, if it reaches one that nobody owns.
-fn augment(
+fn augment<W: Number>(
     scaled: &Scaled,
-    market: &mut Market,
-    search: &mut Search,
+    market: &mut Market<W>,
+    search: &mut Search<W>,
     person: usize,
 ) -> Result<End, AllocError>
     requires costs { length search.old.costs.items ≡ length scaled.now.problem }
@@ -39,8 +40,8 @@ fn augment(
 {
     let end = search.run(scaled, market, person)?;
     if let End::Free(object) = end {
-        let cost = search.costs.get(object).copied().unwrap_or(0);
-        let level = cost.wrapping_add(market.price(object)).wrapping_add(1);
+        let cost = search.costs.get(object).copied().unwrap_or(W::of(0));
+        let level = cost.plus(market.price(object)).plus(W::of(1));
         raise(market, search, level);
         if !walk_back(scaled, market, search, object) {
             return Ok(End::Lost);
@@ -51,10 +52,10 @@ fn augment(
 
 // Each person that owns nothing gets an object, up to one that reaches none, or up to so many scanned
 // persons. How the search of that one ended.
-fn augment_all<O: Observer>(
+fn augment_all<W: Number, O: Observer>(
     scaled: &Scaled,
-    market: &mut Market,
-    search: &mut Search,
+    market: &mut Market<W>,
+    search: &mut Search<W>,
     most: usize,
     telling: &mut Telling<'_, O>,
 ) -> Result<Option<End>, AllocError>
@@ -80,9 +81,9 @@ fn augment_all<O: Observer>(
 
 // Prices of an auction in phases of falling slackness, all multiples of n + 1. Nobody owns anything
 // afterwards.
-fn auction<O: Observer>(
+fn auction<W: Number, O: Observer>(
     scaled: &Scaled,
-    market: &mut Market,
+    market: &mut Market<W>,
     plan: Plan,
     telling: &mut Telling<'_, O>,
 )
@@ -97,7 +98,7 @@ fn auction<O: Observer>(
             bid_all(
                 scaled,
                 market,
-                rounded(eps, step),
+                eps.rounded(step),
                 plan.bids(plan.bids_a_phase),
                 telling,
             );
@@ -109,19 +110,19 @@ fn auction<O: Observer>(
 
 // What searches left: the last of them, and how it ended where it found no object.
 #[derive(Drop)]
-struct Searched {
-    search: Search,
+struct Searched<W: Number> {
+    search: Search<W>,
     end: Option<End>,
 }
 
 // Bids, and then searches for those who are left, as far as the plan goes.
-fn bid_and_search<O: Observer>(
+fn bid_and_search<W: Number, O: Observer>(
     alloc: Global,
     scaled: &Scaled,
-    market: &mut Market,
+    market: &mut Market<W>,
     plan: Plan,
     telling: &mut Telling<'_, O>,
-) -> Result<Searched, AllocError>
+) -> Result<Searched<W>, AllocError>
     requires { length market.old.prices.items ≡ length scaled.now.problem }
 {
     bid_all(scaled, market, 0, plan.bids(BIDS_BEFORE), telling);
@@ -135,11 +136,11 @@ fn bid_and_search<O: Observer>(
 }
 
 // What the searches found, if they found something.
-fn answer_of(
+fn answer_of<W: Number>(
     alloc: Global,
     scaled: &Scaled,
-    market: &Market,
-    searched: &Searched,
+    market: &Market<W>,
+    searched: &Searched<W>,
 ) -> Result<Option<Outcome>, AllocError>
     ensures { IfOk result (λ found. IfSome found (IsProof scaled.now)) }
 {
@@ -151,10 +152,10 @@ fn answer_of(
 }
 
 // Paths from the prices of an auction that begins at these.
-fn paths_after_auction<O: Observer>(
+fn paths_after_auction<W: Number, O: Observer>(
     alloc: Global,
     scaled: &Scaled,
-    prices: Vec<i64>,
+    prices: Vec<W>,
     plan: Plan,
     telling: &mut Telling<'_, O>,
 ) -> Result<Option<Outcome>, AllocError>
@@ -169,10 +170,10 @@ fn paths_after_auction<O: Observer>(
 
 // Paths from these prices, and where much is left to search for or the searches turn out long once
 // more after an auction.
-fn paths_from<O: Observer>(
+fn paths_from<W: Number, O: Observer>(
     alloc: Global,
     scaled: &Scaled,
-    prices: Vec<i64>,
+    prices: Vec<W>,
     plan: Plan,
     observer: &O,
 ) -> Result<Option<Outcome>, AllocError>
@@ -188,7 +189,21 @@ fn paths_from<O: Observer>(
     answer_of(alloc, scaled, &market, &searched)
 }
 
-// What is found from the usual prices, while an observer is told of it.
+// What is found from the usual prices in numbers of 128 bits, while an observer is told of it.
+fn find_in_wide<O: Observer>(
+    alloc: Global,
+    scaled: &Scaled,
+    observer: &O,
+) -> Result<Option<Outcome>, AllocError>
+    ensures { IfOk result (λ found. IfSome found (IsProof scaled.now)) }
+{
+    let prices = usual_prices(alloc, scaled)?;
+    let prices = widened(alloc, prices.as_slice())?;
+    paths_from(alloc, scaled, prices, plan_of(scaled), observer)
+}
+
+// What is found from the usual prices, while an observer is told of it. Where distances leave 64 bits
+// the first search finds no proof.
 fn find<O: Observer>(
     alloc: Global,
     scaled: &Scaled,
@@ -197,7 +212,10 @@ fn find<O: Observer>(
     ensures { IfOk result (λ found. IfSome found (IsProof scaled.now)) }
 {
     let prices = usual_prices(alloc, scaled)?;
-    paths_from(alloc, scaled, prices, plan_of(scaled), observer)
+    match paths_from(alloc, scaled, prices, plan_of(scaled), observer)? {
+        None => find_in_wide(alloc, scaled, observer),
+        found => Ok(found),
+    }
 }
 
 // Paths from first prices, if these tell something of the problem: where they do, most persons are

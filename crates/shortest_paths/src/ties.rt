@@ -184,7 +184,7 @@ impl Reach {
     fn reach(
         &mut self,
         ties: &Ties,
-        market: &Market,
+        market: &Market<i64>,
         person: usize,
     ) -> Result<Option<usize>, AllocError> {
         for k in ties.bound(person)..ties.bound(person.wrapping_add(1)) {
@@ -204,7 +204,7 @@ impl Reach {
     fn run(
         &mut self,
         ties: &Ties,
-        market: &Market,
+        market: &Market<i64>,
         first: usize,
     ) -> Result<Option<usize>, AllocError> {
         self.objects.clear();
@@ -223,7 +223,7 @@ impl Reach {
     }
 
     // Gives each person on the way back from an object the one that was reached from it.
-    fn walk_back(&self, scaled: &Scaled, market: &mut Market, end: usize)
+    fn walk_back(&self, scaled: &Scaled, market: &mut Market<i64>, end: usize)
         requires { length market.old.prices.items ≡ length scaled.now.problem }
         ensures { length market.new.prices.items ≡ length scaled.now.problem }
     {
@@ -256,7 +256,7 @@ impl Reach {
 pub fn match_ties(
     alloc: Global,
     scaled: &Scaled,
-    market: &mut Market,
+    market: &mut Market<i64>,
     most_unserved: usize,
 ) -> Result<Option<Vec<i64>>, AllocError>
     requires { length market.old.prices.items ≡ length scaled.now.problem }

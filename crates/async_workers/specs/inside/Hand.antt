@@ -28,4 +28,4 @@ IsInHand d taken b = HasInHand d.base d.view d.known taken b
 
 -- how a session ended: well, or with a growth refused
 abbrev pub Ends : {E : Type 0} → ℕ → ℕ → Known → Option Offer → Note → Result Claim E → BookData → Known → BookData → Bool → Type 0
-Ends refresh since k offer told outcome b left new caught = MatchResult outcome (λ answer. EndsWell refresh since k offer told answer b left new caught) (λ refused. EndsUndone refresh since k offer b left new caught)
+Ends refresh since k offer told outcome b left new caught = MatchResult outcome (λ answer. EndsWell refresh since k offer told answer b left new caught) (λ refused. EndsUndone refresh since k offer told b left new caught)

@@ -18,7 +18,7 @@ well g c =
     subst (λ (o : Result Claim AllocError). Serves d c.one_session-outcome.new.desk (Ends c.args.refresh d.since d.known d.offer c.one_session-outcome.result.0.note o)) c.in_ok-outcome.was c.one_session-outcome.ensures.serves
 
 -- and where one was
-undone : (g : given.Over) (c : In_err-outcome g) → (let d = c.args.desk.now in Serves d c.one_session-outcome.new.desk (EndsUndone c.args.refresh d.since d.known d.offer))
+undone : (g : given.Over) (c : In_err-outcome g) → (let d = c.args.desk.now in Serves d c.one_session-outcome.new.desk (EndsUndone c.args.refresh d.since d.known d.offer c.one_session-outcome.result.0.note))
 undone g c =
     let d = c.args.desk.now in
     subst (λ (o : Result Claim AllocError). Serves d c.one_session-outcome.new.desk (Ends c.args.refresh d.since d.known d.offer c.one_session-outcome.result.0.note o)) c.in_err-outcome.was c.one_session-outcome.ensures.serves
@@ -43,13 +43,13 @@ returns-clause-stops g c asked =
 pub returns-in_err-outcome-clause-can_turn : goal.returns-in_err-outcome-clause-can_turn
 returns-in_err-outcome-clause-can_turn g c =
     let s = undone g (goal.at.returns-in_err-outcome-clause-can_turn g c).In_err-outcome in
-    can_turn_without c.args.place.now _ c.args.desk.now c.one_session-outcome.new.desk s (faulted c.args.refresh c.args.desk.now c.one_session-outcome.new.desk s).no_claim c.requires.ready.0
+    can_turn_without c.args.place.now _ c.args.desk.now c.one_session-outcome.new.desk s (faulted c.args.refresh c.args.desk.now c.one_session-outcome.new.desk c.one_session-outcome.result.0.note s).no_claim c.requires.ready.0
 
 pub returns-in_err-outcome-clause-fault : goal.returns-in_err-outcome-clause-fault
 returns-in_err-outcome-clause-fault g c =
     let s = undone g (goal.at.returns-in_err-outcome-clause-fault g c).In_err-outcome in
     let memory = err_from_is_err_and c.from_residual.result c.from_residual.ensures.1 in
-    rw memory.1 (memory.2, faulted c.args.refresh c.args.desk.now c.one_session-outcome.new.desk s)
+    rw memory.1 (memory.2, faulted c.args.refresh c.args.desk.now c.one_session-outcome.new.desk c.one_session-outcome.result.0.note s)
 
 pub returns-in_err-outcome-clause-works : goal.returns-in_err-outcome-clause-works
 returns-in_err-outcome-clause-works g c = serves_on _ c.args.desk.now c.one_session-outcome.new.desk (undone g (goal.at.returns-in_err-outcome-clause-works g c).In_err-outcome)
