@@ -1,4 +1,5 @@
 // Verdicts on small tables, worked by hand.
+mod among;
 mod confirmed;
 mod hall;
 
