@@ -8,7 +8,7 @@ fn start_line(alloc: Global, text: &[u8], n: u16) -> Result<String, AllocError> 
     let mut reader = whole_text(text, 64);
     match read_report(alloc, &mut reader) {
         Ok(report) => match start_prices(&report, n) {
-            Ok(prices) => format!(in alloc; "{:?}", prices.as_slice()),
+            Ok(prices) => format!(in alloc; "{prices:?}"),
             Err(fault) => format!(in alloc; "{fault}"),
         },
         Err(fault) => format!(in alloc; "{fault}"),
