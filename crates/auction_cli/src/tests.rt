@@ -1,6 +1,8 @@
 // Runs of the program and of its parts, over streams that are watched.
 mod command;
+mod exact;
 mod faults;
+mod gates;
 mod inputs;
 mod methods;
 mod modes;
