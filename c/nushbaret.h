@@ -90,11 +90,11 @@ enum nushbaret_code {
     NUSHBARET_UNLISTED = 11,     /* told->person, the lowest such, doesn't list its object */
     NUSHBARET_TWICE = 12,        /* told->object, the lowest such, is given twice */
     NUSHBARET_PRICE_RANGE = 13,  /* the price of told->object, the lowest such, isn't from 0 to 10^22 - 1 */
-    NUSHBARET_SLACK = 14,        /* told->person, the lowest such, would gain more than 1 by told->object */
+    NUSHBARET_SLACK = 14,        /* told->person, the lowest such, would gain more than 1 by told->object, the lowest such */
 
     NUSHBARET_HALL_RANGE = 15,   /* a number isn't from 1 to n */
     NUSHBARET_HALL_ORDER = 16,   /* a list doesn't rise */
-    NUSHBARET_HALL_MISSING = 17, /* told->person, the lowest such, lists told->object, which isn't named */
+    NUSHBARET_HALL_MISSING = 17, /* told->person, the lowest such, lists told->object, the lowest such that isn't named */
     NUSHBARET_HALL_EXTRA = 18,   /* told->object, the lowest such, is named, and no named person lists it */
     NUSHBARET_HALL_COUNT = 19    /* there aren't fewer objects than persons */
 };
@@ -135,7 +135,8 @@ int32_t nushbaret_dense_from(uint32_t sense, size_t n,
     struct nushbaret_told *told);
 
 /* Solves a sparse problem: of_persons[k] lists of_objects[k] at costs[k]. These three lists are of one length, and a pair
-   that stands there several times counts once, at its least cost, under either sense. Each other list has n values. */
+   that stands there several times counts once, at its least cost, under either sense. Each other list has n values.
+   Three lists of length 0 are a problem in which nobody lists anything: NUSHBARET_HALL. */
 int32_t nushbaret_sparse(uint32_t sense, size_t n,
     const uint16_t *of_persons, size_t of_persons_count,
     const uint16_t *of_objects, size_t of_objects_count,
@@ -158,7 +159,8 @@ int32_t nushbaret_sparse_from(uint32_t sense, size_t n,
 
 /* Holds an assignment against a problem, whoever found it: NUSHBARET_BEST says that these prices prove that these objects
    are best. A sparse problem is given as above; a dense one by its costs, with of_persons_count and of_objects_count 0
-   (any two addresses but NULL will do). Objects and prices may be as many as they are, and any numbers. */
+   (any two addresses but NULL will do). With costs_count 0 too it is a sparse problem without pairs, not a dense one
+   whose costs were forgotten. Objects and prices may be as many as they are, and any numbers. */
 int32_t nushbaret_check(uint32_t sense, size_t n,
     const uint16_t *of_persons, size_t of_persons_count,
     const uint16_t *of_objects, size_t of_objects_count,
@@ -168,7 +170,7 @@ int32_t nushbaret_check(uint32_t sense, size_t n,
     struct nushbaret_told *told);
 
 /* Holds persons and objects against a problem, which is given as above: NUSHBARET_HALL says that they are a Hall set, so
-   that there is no assignment. */
+   that there is no assignment. In a problem without pairs any persons without objects are one: see to the counts. */
 int32_t nushbaret_check_hall(size_t n,
     const uint16_t *of_persons, size_t of_persons_count,
     const uint16_t *of_objects, size_t of_objects_count,

@@ -158,6 +158,26 @@ static void worked(void) {
     WANT(solve(&c) == NUSHBARET_BEST && c.told.total == -7);
 }
 
+/* Whether the prices of an answer are 6 and 0. */
+static int are_kept(const struct call *c) {
+    return c->prices[0].low == 6 && c->prices[0].high == 0 && c->prices[1].low == 0 && c->prices[1].high == 0;
+}
+
+/* First prices at which each person has a best object of its own stay, and others don't become these. */
+static void starts(void) {
+    struct call c = two(NUSHBARET_MIN, 1, 2, 3, 5);
+    int form;
+    for (form = 0; form < 2; form++) {
+        c.is_from = 0;
+        WANT(solve(&c) == NUSHBARET_BEST && !are_kept(&c));
+        c.is_from = 1, c.first[0].low = 306, c.first[1].low = 300;
+        WANT(solve(&c) == NUSHBARET_BEST && are_kept(&c));
+        c.first[0].low = 0, c.first[1].low = 0;
+        WANT(solve(&c) == NUSHBARET_BEST && !are_kept(&c));
+        list_pairs(&c);
+    }
+}
+
 /* The code of a spoilt call; what isn't told must be as it was. */
 static int32_t spoilt(struct call c) {
     struct call before;
@@ -385,6 +405,7 @@ int main(void) {
     pthread_attr_t attributes;
     unsigned seeds[8], t;
     worked();
+    starts();
     faults();
     verdicts();
     c = two(NUSHBARET_MIN, 1, 2, 3, 5);

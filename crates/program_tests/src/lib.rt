@@ -4,7 +4,11 @@
 #[cfg(test)]
 mod command;
 #[cfg(test)]
+mod exact;
+#[cfg(test)]
 mod faults;
+#[cfg(test)]
+mod gates;
 #[cfg(test)]
 mod inputs;
 #[cfg(test)]

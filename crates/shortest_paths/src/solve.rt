@@ -259,12 +259,14 @@ fn find_from<O: Observer>(
 }
 
 /// Looks for a proof by shortest augmenting paths: a best assignment with prices that prove it, or a
-/// Hall set. `None` where what was found is no proof, which is not known to happen but where distances
-/// go beyond 2^60: with costs near `GREATEST_COST`.
+/// Hall set. `None` where what was found is no proof, which is not known to happen.
+///
+/// The search is made in 64 bits, and once more in 128 where the checkers refuse what it found: with
+/// costs near `GREATEST_COST` distances may go beyond 2^60.
 ///
 /// The prices of a best assignment are multiples of `n + 1` under which each person has slackness 0.
-/// The time is at most that of twice `n` searches over all listed pairs and of an auction's bids, and
-/// mostly far less. None of this is proved.
+/// The time is at most that of four times `n` searches over all listed pairs and of two auctions'
+/// bids, and mostly far less. None of this is proved.
 ///
 /// # Errors
 /// Only where memory is refused.

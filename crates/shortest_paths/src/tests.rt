@@ -9,6 +9,7 @@ ghost use Rattle.scaled_values.specs.Scaled.{greatest_of};
 ghost use Rattle.rounds.specs.Outcomes.{IsProof};
 
 mod kinds;
+mod starts;
 mod wide;
 mod worked;
 
