@@ -127,6 +127,7 @@ pub struct WatchedOffers<'a, R, V> {
     rt: &'a R,
     watch: &'a V,
     phases: u16,
+    persons: u16,
     // The phase that was told last, and the offers since.
     phase: u16,
     offers: u64,
@@ -138,6 +139,7 @@ impl<'a, R, V: Watch> WatchedOffers<'a, R, V> {
             rt,
             watch,
             phases: phases_of(scaled),
+            persons: scaled.n(),
             phase: 0,
             offers: 0,
         }
@@ -150,15 +152,15 @@ impl<'a, R, V: Watch> WatchedOffers<'a, R, V> {
     }
 
     // Tells the watch of a round with so many offers.
-    fn tell(&mut self, persons: u16, ask: Ask, waiting: usize) {
+    fn tell(&mut self, ask: Ask, waiting: usize) {
         self.phase = ask.phase;
         self.offers = 0;
         self.watch.round(Progress {
             phase: ask.phase,
             phases: self.phases,
             slackness: ask.eps,
-            assigned: (persons as usize).saturating_sub(waiting) as u16,
-            persons,
+            assigned: (self.persons as usize).saturating_sub(waiting) as u16,
+            persons: self.persons,
         });
     }
 }
@@ -168,6 +170,12 @@ impl<R: Threads + Sync, V: Watch> Offering for WatchedOffers<'_, R, V> {
 
     ghost ready = { IsSync R.row };
 
+    fn begin(&mut self, ask: Ask, waiting: usize) {
+        if self.is_due(ask.phase, waiting) {
+            self.tell(ask, waiting);
+        }
+    }
+
     fn make(
         &mut self,
         scaled: &Scaled,
@@ -176,9 +184,6 @@ impl<R: Threads + Sync, V: Watch> Offering for WatchedOffers<'_, R, V> {
         persons: &[Person],
         offers: &mut Vec<Offer>,
     ) -> Result<(), AllocError> {
-        if self.is_due(ask.phase, persons.len()) {
-            self.tell(scaled.n(), ask, persons.len());
-        }
         make_offers(self.rt, LEAST_PAIRS, scaled, prices, ask, persons, offers)
     }
 }

@@ -19,6 +19,11 @@ const BETWEEN: u64 = 500;
 
 const UNASKED: u64 = 2000;
 
+// After so many milliseconds of an auction its lines say what may be faster.
+const SLOW: u64 = 10_000;
+
+const FASTER: &str = "; --method paths may be faster";
+
 // No time: nothing is told any more, or not yet.
 const NEVER: u64 = u64::MAX;
 
@@ -26,12 +31,26 @@ const NEVER: u64 = u64::MAX;
 const MOST_COLUMNS: usize = 79;
 
 // What a line says.
-#[derive(Drop)]
+#[derive(Clone, Copy)]
 enum News {
     Bytes(u64),
     Round(Progress),
     Sessions(u64, u128, Progress),
+    // What both tell, where a line has no room for more.
+    Auction(Progress),
     Paths(u16, u16),
+}
+
+impl News {
+    // The same of an auction with fewer figures.
+    fn of_auction(self) -> Option<News> {
+        match self {
+            News::Round(it) | News::Sessions(_, _, it) | News::Auction(it) => {
+                Some(News::Auction(it))
+            }
+            News::Bytes(_) | News::Paths(_, _) => None,
+        }
+    }
 }
 
 // The phase, as `phase 3 of 8`.
@@ -85,6 +104,10 @@ impl fmt::Display for News {
             News::Bytes(bytes) => write_bytes(f, *bytes),
             News::Round(it) => write_round(f, it),
             News::Sessions(sessions, accepted, it) => write_sessions(f, *sessions, *accepted, it),
+            News::Auction(it) => {
+                write_phase(f, it)?;
+                write_persons(f, it.assigned, it.persons)
+            }
             News::Paths(assigned, persons) => write_paths(f, *assigned, *persons),
         }
     }
@@ -93,11 +116,12 @@ impl fmt::Display for News {
 // Room for a line and what is put around it.
 type Line = ArrayString<256>;
 
-// The line of some news after so many milliseconds, behind this word. It takes no memory, and is cut where it is too long.
-fn line_of(word: &str, news: &News, passed: u64) -> Line {
+// The line of some news after so many milliseconds, between these words. It takes no memory, and is cut where it is too
+// long.
+fn line_of(word: &str, news: News, passed: u64, end: &str) -> Line {
     let mut line = Line::new();
     let tenths = passed / 100;
-    let _ = write!(line, "{word}{news}, {}.{} s", tenths / 10, tenths % 10);
+    let _ = write!(line, "{word}{news}, {}.{} s{end}", tenths / 10, tenths % 10);
     line
 }
 
@@ -120,6 +144,8 @@ pub struct Teller<C> {
     // The problem is in a file.
     named: AtomicBool,
     began: Option<u64>,
+    // The first time at which an auction was looked at.
+    auction: AtomicU64,
     // No line comes before this time.
     next: AtomicU64,
     busy: AtomicBool,
@@ -138,6 +164,7 @@ impl<C: Console> Teller<C> {
             typed,
             named: AtomicBool::new(false),
             began,
+            auction: AtomicU64::new(NEVER),
             next: AtomicU64::new(NEVER),
             busy: AtomicBool::new(false),
             columns: AtomicUsize::new(0),
@@ -145,13 +172,22 @@ impl<C: Console> Teller<C> {
         }
     }
 
-    // How many milliseconds have passed, where it is time for a line. Of several threads one is told so.
-    fn due(&self) -> Option<u64> {
+    // The time, where there may be news. The first one of an auction is kept.
+    fn looked_at(&self, news: News) -> Option<u64> {
+        let now = self.console.now()?;
+        if news.of_auction().is_some() && self.auction.load(Ordering::SeqCst) == NEVER {
+            self.auction.store(now, Ordering::SeqCst);
+        }
+        Some(now)
+    }
+
+    // The time, where it is one for a line. Of several threads one is told so.
+    fn due(&self, news: News) -> Option<u64> {
         let next = self.next.load(Ordering::SeqCst);
         if next == NEVER {
             return None;
         }
-        let now = self.console.now()?;
+        let now = self.looked_at(news)?;
         if now < next {
             return None;
         }
@@ -160,9 +196,15 @@ impl<C: Console> Teller<C> {
             .next
             .compare_exchange(next, later, Ordering::SeqCst, Ordering::SeqCst);
         match first {
-            Ok(_) => Some(now.saturating_sub(self.began?)),
+            Ok(_) => Some(now),
             Err(_) => None,
         }
+    }
+
+    // The news with fewer figures, where they are of an auction that has lasted long by this time.
+    fn slow(&self, news: News, now: u64) -> Option<News> {
+        let lasted = now.saturating_sub(self.auction.load(Ordering::SeqCst));
+        if lasted < SLOW { None } else { news.of_auction() }
     }
 
     // Writes a text, and nothing more from then on where that fails.
@@ -183,14 +225,18 @@ impl<C: Console> Teller<C> {
     }
 
     // Writes the line of some news, unless another thread is at it.
-    fn tell(&self, news: &News, passed: u64) {
+    fn tell(&self, news: News, now: u64) {
         if self.busy.swap(true, Ordering::SeqCst) {
             return;
         }
+        let passed = now.saturating_sub(self.began.unwrap_or(now));
+        let slow = self.slow(news, now);
+        let end = if slow.is_some() { FASTER } else { "" };
         if self.in_place {
-            self.put_in_place(line_of("", news, passed).as_str());
+            let news = slow.unwrap_or(news);
+            self.put_in_place(line_of("", news, passed, end).as_str());
         } else {
-            let mut line = line_of("progress: ", news, passed);
+            let mut line = line_of("progress: ", news, passed, end);
             let _ = line.try_push('\n');
             self.put(line.as_str());
         }
@@ -198,9 +244,9 @@ impl<C: Console> Teller<C> {
     }
 
     // Writes the line of some news, where it is time.
-    fn tell_if_due(&self, news: &News) {
-        if let Some(passed) = self.due() {
-            self.tell(news, passed);
+    fn tell_if_due(&self, news: News) {
+        if let Some(now) = self.due(news) {
+            self.tell(news, now);
         }
     }
 }
@@ -219,22 +265,22 @@ impl<C: Console> Watch for Teller<C> {
 
     fn bytes(&self, bytes: u64) {
         if !self.typed || self.named.load(Ordering::SeqCst) {
-            self.tell_if_due(&News::Bytes(bytes));
+            self.tell_if_due(News::Bytes(bytes));
         }
     }
 
     fn round(&self, progress: Progress) {
-        self.tell_if_due(&News::Round(progress));
+        self.tell_if_due(News::Round(progress));
     }
 
     fn sessions(&self, more: u64, accepted: u128, progress: Progress) {
         let before = self.sessions.fetch_add(more, Ordering::SeqCst);
         let sessions = before.wrapping_add(more);
-        self.tell_if_due(&News::Sessions(sessions, accepted, progress));
+        self.tell_if_due(News::Sessions(sessions, accepted, progress));
     }
 
     fn paths(&self, assigned: u16, persons: u16) {
-        self.tell_if_due(&News::Paths(assigned, persons));
+        self.tell_if_due(News::Paths(assigned, persons));
     }
 
     fn over(&self) {

@@ -272,6 +272,14 @@ const SOME: &str = "progress: phase 3 of 8, slackness 125, 812 of 1000 persons, 
 progress: phase 3 of 8, 812 of 1000 persons, 128 sessions, 99 bids, 1.2 s
 ";
 
+// Ten seconds after the first news of an auction its lines say what may be faster.
+const SLOW: &str = "progress: 12.3 MB read, 6.0 s
+progress: phase 3 of 8, slackness 125, 812 of 1000 persons, 12.0 s
+progress: phase 3 of 8, 812 of 1000 persons, 64 sessions, 50 bids, 18.0 s
+progress: phase 3 of 8, 812 of 1000 persons, 128 sessions, 99 bids, 24.0 s; --method paths may be faster
+progress: shortest paths, 731 of 1000 persons, 30.0 s
+";
+
 #[test]
 fn lines_on_a_file(rt: HostRuntime) -> Result<(), Fail> {
     for (step, most, asked, wanted) in [
@@ -279,6 +287,7 @@ fn lines_on_a_file(rt: HostRuntime) -> Result<(), Fail> {
         (300, 9, true, SOME),
         (600, 9, false, ""),
         (600, 0, true, ""),
+        (6000, 9, true, SLOW),
     ] {
         let lines = told(rt.alloc(), step, most, false, asked, true);
         assert_eq!(rt; lines.as_slice(), wanted.as_bytes());
@@ -300,6 +309,43 @@ const ERASED: &str = "\rphase 3 of 8, 812 of 1000 persons, 128 sessions, 99 bids
 fn lines_on_a_terminal(rt: HostRuntime) -> Result<(), Fail> {
     for (ends, wanted) in [(false, LEFT), (true, ERASED)] {
         let lines = told(rt.alloc(), 600, 9, true, false, ends);
+        assert_eq!(rt; lines.as_slice(), wanted.as_bytes());
+    }
+    Ok(())
+}
+
+// What a long auction leaves on a screen whose clock goes on by ten seconds a look.
+fn long_auction(alloc: Global, in_place: bool) -> Vec<u8> {
+    let written = RefCell::new(Vec::new(alloc));
+    let teller = Teller::new(new_screen(&written, 10_000, 9), in_place, false);
+    let progress = Progress {
+        phase: 3,
+        phases: 8,
+        slackness: 125,
+        assigned: 812,
+        persons: 1000,
+    };
+    teller.begin(!in_place, false);
+    teller.round(progress);
+    teller.round(progress);
+    teller.over();
+    drop(teller);
+    written.into_inner()
+}
+
+const LONG: &str = "progress: phase 3 of 8, slackness 125, 812 of 1000 persons, 10.0 s
+progress: phase 3 of 8, slackness 125, 812 of 1000 persons, 20.0 s; --method paths may be faster
+";
+
+// On a terminal there is no room for all figures.
+const LONG_IN_PLACE: &str = "\rphase 3 of 8, slackness 125, 812 of 1000 persons, 10.0 s\
+    \rphase 3 of 8, 812 of 1000 persons, 20.0 s; --method paths may be faster\
+    \r                                                                       \r";
+
+#[test]
+fn a_long_auction_is_told_what_is_faster(rt: HostRuntime) -> Result<(), Fail> {
+    for (in_place, wanted) in [(false, LONG), (true, LONG_IN_PLACE)] {
+        let lines = long_auction(rt.alloc(), in_place);
         assert_eq!(rt; lines.as_slice(), wanted.as_bytes());
     }
     Ok(())

@@ -1,4 +1,5 @@
 pub mod Filled
+pub mod Alike
 pub mod Runs
 pub mod Waiting
 pub mod Claiming

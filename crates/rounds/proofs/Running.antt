@@ -54,7 +54,7 @@ priced : (t : Bool) (b : BookData) → prices_of (cond t (phased b) b) ≡ price
 priced true b = refl
 priced false b = refl
 
-mid_base : (s : ScaledProblem) (b mid : BookData) → b.base ≡ s → mid ≡ next_if_over b → mid.base ≡ s
+pub mid_base : (s : ScaledProblem) (b mid : BookData) → b.base ≡ s → mid ≡ next_if_over b → mid.base ≡ s
 mid_base s b mid base e = ap (λ (x : BookData). x.base) e ∙ based (is_over b) b ∙ base
 
 -- one round more

@@ -4,6 +4,7 @@ use Rattle.assign_core.specs.Numbered.{IsNumber}
 use Rattle.scaled_values.specs.Scaled.{ScaledProblem}
 use Rattle.bidder.specs.declared.offers.Ask.{Ask}
 use Rattle.bidder.specs.declared.offers.Offer.{Offer}
+use Rattle.bidder.specs.declared.offers.Offer.TheVariants as made
 use Rattle.bidder.specs.Offers.{IsAsk, offer_of}
 
 -- what each of these persons offers, in their order, all from one table; rounds keep no versions, so each is 0
@@ -15,3 +16,8 @@ pub record CanOffer (s : ScaledProblem) (prices : List ℤ) (ask : Ask) (persons
   pub numbers : All (IsNumber (length s.problem)) persons
   pub priced : length prices ≡ length s.problem
   pub asked : IsAsk s ask
+
+-- an offer under another person's name
+abbrev pub named : ℕ → Offer → Offer
+named i (made.Bid bid) = made.Bid (record bid { person = i })
+named i (made.Below below) = made.Below (record below { person = i })

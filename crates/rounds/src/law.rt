@@ -2,8 +2,19 @@
 ghost use Rattle.std.specs.Prelude.{◌≡◌, ◌≤◌, ℕ, ℤ, List};
 ghost use Rattle.assign_core.specs.declared.outcome.Outcome.{Outcome};
 ghost use Rattle.scaled_values.specs.Scaled.{ScaledProblem};
+ghost use Rattle.bidder.specs.declared.offers.Ask.{Ask};
+ghost use Rattle.bidder.specs.Offers.{benefits_at, offer_of};
+ghost use Rattle.rounds.specs.Offers.{named};
 ghost use Rattle.rounds.specs.Outcomes.{IsOfRounds};
 ghost use Rattle.rounds.specs.Plain.{Plain, End, Ends, run};
+
+/// Persons who list the same objects with the same benefits have one offer under a table of prices,
+/// but for the name on it.
+pub fn like_persons_share_an_offer()
+    ensures { (s : ScaledProblem) (prices : List ℤ) (version : ℕ) (ask : Ask) (i k : ℕ)
+        → benefits_at s k ≡ benefits_at s i
+        → named i (offer_of s prices version ask k) ≡ offer_of s prices version ask i }
+{}
 
 /// Plain rounds end once: two ends of a run from the same start are one, and a run that has ended
 /// stays as it is.

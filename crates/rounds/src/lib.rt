@@ -1,13 +1,14 @@
 //! Rounds of offers: the solver whose answer is the same for any number of threads.
 #![tactic(auto)]
 
+mod kinds;
 mod law;
 mod offers;
 mod rounds;
 #[cfg(test)]
 mod tests;
 
-pub use law::{rounds_end_once, rounds_have_one_outcome};
+pub use law::{like_persons_share_an_offer, rounds_end_once, rounds_have_one_outcome};
 pub use offers::{Alone, InPieces, LEAST_PAIRS, Offering, make_offers};
 pub use rounds::{
     solve_rounds, solve_rounds_alone, solve_rounds_alone_from, solve_rounds_by, solve_rounds_from,

@@ -144,6 +144,10 @@ pub trait Offering {
     /// What lets it make them.
     ghost ready: { Type 0 };
 
+    /// A round begins in which so many persons wait. Of those who are known to have the same row one
+    /// makes the offer of all, so the offers of fewer may be asked for.
+    fn begin(&mut self, _ask: Ask, _waiting: usize) {}
+
     /// The offers of the persons from one table, in their order, into a buffer that is reused.
     fn make(
         &mut self,

@@ -11,8 +11,10 @@ ghost use Rattle.auction_book.specs.Phases.{is_over};
 ghost use Rattle.auction_book.specs.Submissions.{IsFitting};
 ghost use Rattle.rounds.specs.Plain.{Finished, Halted};
 ghost use Rattle.rounds.specs.inside.Books.{plain_of, AreSubmitted, HaveOffered, IsAtRest, IsBelowFloor, IsClaimed, IsGoing, IsRound, book_after_bid};
+ghost use Rattle.rounds.specs.inside.Kinds.{AreKinds};
 ghost use Rattle.rounds.specs.Outcomes.{IsDecided, IsOfRounds, IsOutcome, IsProof};
 
+use super::kinds::Kinds;
 use super::offers::{Alone, InPieces, LEAST_PAIRS, Offering};
 use assign_core::{GREATEST_FIRST_PRICE, Outcome, Person, Prices, SolveFault};
 use auction_book::{Book, Claim, Refused, begin_next_if_over};
@@ -106,7 +108,43 @@ fn submit_all(book: &mut Book, offers: &[Offer]) -> Result<Option<Person>, Alloc
 }
 
 // One round: all who wait make their offers from one table, and these are submitted one by one.
-// A person that finds nothing worth the floor ends it.
+// A person that finds nothing worth the floor ends it. Of those who are alike one makes the offer of all.
+fn run_shared_round<O: Offering>(
+    offering: &mut O,
+    kinds: &mut Kinds,
+    book: &mut Book,
+    persons: &mut Vec<Person>,
+    offers: &mut Vec<Offer>,
+) -> Result<Round, AllocError>
+    requires ready { O.ready }
+    requires rest { IsAtRest book.old }
+    requires kinds { AreKinds book.old.base kinds.old }
+    ensures round { IfOk result (λ came. IsRound book.old came book.new) }
+    ensures base { OnOk result (book.new.base ≡ book.old.base) }
+    ensures kinds { OnOk result (AreKinds book.old.base kinds.new) }
+{
+    claim_all(book, persons)?;
+    if persons.is_empty() {
+        return Ok(Round::Over);
+    }
+    let ask = book.ask();
+    offering.begin(ask, persons.len());
+    kinds.make(
+        offering,
+        book.scaled(),
+        book.prices(),
+        ask,
+        persons.as_slice(),
+        offers,
+    )?;
+    match submit_all(book, offers.as_slice())? {
+        Some(person) => Ok(Round::Halted(person)),
+        None => Ok(Round::More),
+    }
+}
+
+// One round, before which the persons are looked through for those who are alike.
+#[cfg(test)]
 pub(super) fn run_round<O: Offering>(
     offering: &mut O,
     book: &mut Book,
@@ -118,22 +156,8 @@ pub(super) fn run_round<O: Offering>(
     ensures round { IfOk result (λ came. IsRound book.old came book.new) }
     ensures base { OnOk result (book.new.base ≡ book.old.base) }
 {
-    claim_all(book, persons)?;
-    if persons.is_empty() {
-        return Ok(Round::Over);
-    }
-    let ask = book.ask();
-    offering.make(
-        book.scaled(),
-        book.prices(),
-        ask,
-        persons.as_slice(),
-        offers,
-    )?;
-    match submit_all(book, offers.as_slice())? {
-        Some(person) => Ok(Round::Halted(person)),
-        None => Ok(Round::More),
-    }
+    let mut kinds = Kinds::find(*persons.allocator(), book.scaled())?;
+    run_shared_round(offering, &mut kinds, book, persons, offers)
 }
 
 // What everybody owns in the last phase.
@@ -179,10 +203,11 @@ fn run_rounds<O: Offering>(
     ensures proof { IfOk result (IsProof (arc_value scaled)) }
 {
     let n = scaled.n();
+    let mut kinds = Kinds::find(alloc, &scaled)?;
     let mut book = Book::open_from(alloc, scaled, prices, n)?;
     'rounds: loop {
         begin_next_if_over(alloc, &mut book)?;
-        match run_round(offering, &mut book, persons, offers)? {
+        match run_shared_round(offering, &mut kinds, &mut book, persons, offers)? {
             Round::Over => return finish(alloc, &book),
             Round::Halted(person) => return halt(alloc, &book, person),
             Round::More => {}

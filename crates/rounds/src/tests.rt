@@ -8,6 +8,7 @@ ghost use Rattle.assign_core.specs.Sparse.{IsTriple};
 ghost use Rattle.scaled_values.specs.Scaled.{greatest_of};
 
 mod drawn;
+mod equal_rows;
 mod round_by_round;
 mod transcription;
 mod worked;

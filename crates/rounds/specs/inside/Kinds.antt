@@ -1,0 +1,31 @@
+-- Persons whose rows are the same, and the first ones of a round.
+use Rattle.std.specs.Prelude.{◌≡◌, ℕ, ◌<◌, ◌++◌, ◌⊎◌, List, [], ◌∷◌, All, length, slice_index_or}
+use Rattle.assign_core.specs.Numbered.{IsNumber, numbered}
+use Rattle.scaled_values.specs.Scaled.{ScaledProblem}
+use Rattle.bidder.specs.Offers.{benefits_at}
+use Rattle.rounds.specs.declared.kinds.Kinds.{Kinds}
+
+-- for each person a person with the same row; nothing says that it is the lowest of them
+pub record HasAlike (s : ScaledProblem) (alike : List ℕ) : Type 0 where
+  pub long : length alike ≡ length s.problem
+  pub numbers : All (IsNumber (length s.problem)) alike
+  pub same : (i : ℕ) → IsNumber (length s.problem) i → benefits_at s (numbered alike i 0) ≡ benefits_at s i
+
+-- and room for a mark for each person
+pub record AreKinds (s : ScaledProblem) (kinds : Kinds) : Type 0 where
+  pub alike : HasAlike s kinds.alike.items
+  pub marks : length kinds.marks.items ≡ length s.problem
+
+-- a person of a round was given a place among first ones, which may have got one more: who stands there is of its kind
+pub record IsPlaced (alike old new : List ℕ) (person place : ℕ) : Type 0 where
+  pub grown : (new ≡ old) ⊎ (new ≡ old ++ person ∷ [])
+  pub within : place < length new
+  pub same : (d : ℕ) → numbered alike (slice_index_or new place d) 0 ≡ numbered alike person 0
+
+-- for each of a round's persons the place of a first one of its kind
+pub record IsGathered (alike persons firsts places : List ℕ) : Type 0 where
+  pub long : length places ≡ length persons
+  pub numbers : All (IsNumber (length alike)) firsts
+  pub within : All (λ place. place < length firsts) places
+  pub same : (k d e f : ℕ) → k < length persons
+      → numbered alike (slice_index_or firsts (slice_index_or places k d) e) 0 ≡ numbered alike (slice_index_or persons k f) 0

@@ -1,0 +1,272 @@
+// Persons whose rows are the same have one offer, but for the name on it: in a round one of them bids.
+ghost use Rattle.std.specs.Prelude.{◌≡◌, ℕ, ◌<◌, ◌≤◌, length, All, IfOk, OnOk, IsTrue, slice_index_or};
+ghost use Rattle.assign_core.specs.Numbered.{IsNumber, numbered};
+ghost use Rattle.assign_core.specs.Rows.{IsSize};
+ghost use Rattle.bidder.specs.Offers.{benefits_at};
+ghost use Rattle.rounds.specs.Offers.{CanOffer, named, offers_of};
+ghost use Rattle.rounds.specs.inside.Kinds.{AreKinds, HasAlike, IsGathered, IsPlaced};
+
+use super::offers::Offering;
+use assign_core::{Benefit, Object, Person, Prices};
+use bidder::{Ask, BelowFloor, Bid, Offer};
+use scaled_values::{Row, Scaled};
+use std::alloc::{AllocError, Global};
+use std::hash::{FoldHasher, Hasher};
+
+// The hash of a row of benefits. It finds who may be alike, and a comparison decides.
+fn hash_of_benefits(benefits: &[Benefit]) -> u64 {
+    let mut hasher = FoldHasher::default();
+    for benefit in benefits {
+        hasher.write_i64(*benefit);
+    }
+    hasher.finish()
+}
+
+// The hash of objects with their benefits.
+fn hash_of_pairs(pairs: &[(Object, Benefit)]) -> u64 {
+    let mut hasher = FoldHasher::default();
+    for (object, benefit) in pairs {
+        hasher.write_u16(object.0);
+        hasher.write_i64(*benefit);
+    }
+    hasher.finish()
+}
+
+fn hash_of(row: Row<'_>) -> u64 {
+    match row {
+        Row::Full(benefits) => hash_of_benefits(benefits),
+        Row::Pairs(pairs) => hash_of_pairs(pairs),
+    }
+}
+
+// All persons, each with the hash of its row.
+fn hashed_persons(alloc: Global, scaled: &Scaled) -> Result<Vec<(u64, Person)>, AllocError>
+    ensures { IfOk result
+        (λ hashed. All (λ e. IsNumber (length scaled.now.problem) e.1) hashed.items) }
+{
+    let n = scaled.n();
+    let mut hashed = Vec::with_capacity(alloc, n as usize)?;
+    for i in 0..n {
+        let person = Person(i + 1);
+        hashed.push((hash_of(scaled.row(person)), person))?;
+    }
+    Ok(hashed)
+}
+
+// For each person its own number.
+fn all_apart(alloc: Global, scaled: &Scaled) -> Result<Vec<Person>, AllocError>
+    ensures { IfOk result (λ alike. HasAlike scaled.now alike.items) }
+{
+    let n = scaled.n();
+    let mut alike = Vec::with_capacity(alloc, n as usize)?;
+    for i in 0..n {
+        alike.push(Person(i + 1))?;
+    }
+    Ok(alike)
+}
+
+// Whether two lists of benefits are the same.
+fn are_same_benefits(first: &[Benefit], second: &[Benefit]) -> bool
+    ensures { IsTrue result → first.now ≡ second.now }
+{
+    first == second
+}
+
+// Whether two lists of objects with benefits are the same.
+fn are_same_pairs(first: &[(Object, Benefit)], second: &[(Object, Benefit)]) -> bool
+    ensures { IsTrue result → first.now ≡ second.now }
+{
+    first == second
+}
+
+// Whether two persons have the same row.
+fn are_alike(scaled: &Scaled, first: Person, second: Person) -> bool
+    requires first { IsNumber (length scaled.now.problem) first }
+    requires second { IsNumber (length scaled.now.problem) second }
+    ensures { IsTrue result → benefits_at scaled.now first ≡ benefits_at scaled.now second }
+{
+    match (scaled.row(first), scaled.row(second)) {
+        (Row::Full(first), Row::Full(second)) => are_same_benefits(first, second),
+        (Row::Pairs(first), Row::Pairs(second)) => are_same_pairs(first, second),
+        _ => false,
+    }
+}
+
+// Each person is compared with that of the person before it, where both have one hash. Whether some are alike.
+fn find_alike(scaled: &Scaled, hashed: &[(u64, Person)], alike: &mut [Person]) -> bool
+    requires numbers { All (λ e. IsNumber (length scaled.now.problem) e.1) hashed.now }
+    requires alike { HasAlike scaled.now alike.old }
+    ensures { HasAlike scaled.now alike.new }
+{
+    let mut some = false;
+    for i in 1..hashed.len() {
+        let (before, other) = hashed[i - 1];
+        let (hash, person) = hashed[i];
+        let first = alike[other.place()];
+        if hash == before && are_alike(scaled, first, person) {
+            alike[person.place()] = first;
+            some = true;
+        }
+    }
+    some
+}
+
+// The offer under another person's name.
+fn named(offer: Offer, person: Person) -> Offer
+    ensures { result ≡ named person offer }
+{
+    match offer {
+        Offer::Bid(bid) => Offer::Bid(Bid { person, ..bid }),
+        Offer::Below(below) => Offer::Below(BelowFloor { person, ..below }),
+    }
+}
+
+// The place of a person among the first ones of a round, which it joins where none of them is of its kind.
+fn place_of(
+    alike: &[Person],
+    marks: &mut [u16],
+    firsts: &mut Vec<Person>,
+    person: Person,
+) -> Result<u16, AllocError>
+    requires person { IsNumber (length alike.now) person }
+    requires within { All (IsNumber (length alike.now)) alike.now }
+    requires marks { length marks.old ≡ length alike.now }
+    requires firsts { All (IsNumber (length alike.now)) firsts.old.items }
+    requires few { length firsts.old.items < length alike.now }
+    requires size { IsSize (length alike.now) }
+    ensures place { IfOk result (λ place. IsPlaced alike.now firsts.old.items firsts.new.items person place) }
+{
+    let kind = alike[person.place()];
+    let place = marks[kind.place()];
+    if let Some(first) = firsts.get(place as usize) {
+        if alike[first.place()] == kind {
+            return Ok(place);
+        }
+    }
+    let place = firsts.len() as u16;
+    marks[kind.place()] = place;
+    firsts.push(person)?;
+    Ok(place)
+}
+
+// The first person of each kind among those of a round, and for each of these the place of its first one.
+fn gather(
+    alike: &[Person],
+    persons: &[Person],
+    marks: &mut [u16],
+    firsts: &mut Vec<Person>,
+    places: &mut Vec<u16>,
+) -> Result<(), AllocError>
+    requires persons { All (IsNumber (length alike.now)) persons.now }
+    requires within { All (IsNumber (length alike.now)) alike.now }
+    requires marks { length marks.old ≡ length alike.now }
+    requires few { length persons.now ≤ length alike.now }
+    requires size { IsSize (length alike.now) }
+    ensures { OnOk result (IsGathered alike.now persons.now firsts.new.items places.new.items) }
+{
+    firsts.clear();
+    places.clear();
+    for person in persons {
+        places.push(place_of(alike, marks, firsts, *person)?)?;
+    }
+    Ok(())
+}
+
+// Each person's offer is that at its place, under its own name.
+fn hand_out(
+    made: &[Offer],
+    places: &[u16],
+    persons: &[Person],
+    offers: &mut Vec<Offer>,
+) -> Result<(), AllocError>
+    requires long { length places.now ≡ length persons.now }
+    requires within { (k d : ℕ) → k < length persons.now → slice_index_or places.now k d < length made.now }
+    ensures long { OnOk result (length offers.new.items ≡ length persons.now) }
+    ensures each { OnOk result ((k : ℕ) (d e : Offer) (f g : ℕ) → k < length persons.now
+        → slice_index_or offers.new.items k d
+        ≡ named (slice_index_or persons.now k f) (slice_index_or made.now (slice_index_or places.now k g) e)) }
+{
+    offers.clear();
+    for i in 0..persons.len() {
+        offers.push(named(made[places[i] as usize], persons[i]))?;
+    }
+    Ok(())
+}
+
+/// Which persons of a problem have the same row, and what a round needs to let one of them bid for
+/// all: 4 bytes a person, and lists that grow with the rounds in which some are alike.
+#[derive(Drop)]
+pub struct Kinds {
+    // For each person one whose row is the same.
+    alike: Vec<Person>,
+    // Some two persons are known to be alike.
+    some: bool,
+    // Where the first person of a kind may stand in the list of them, by the person in `alike`: whoever reads it looks
+    // there, so it is never wiped.
+    marks: Vec<u16>,
+    firsts: Vec<Person>,
+    places: Vec<u16>,
+    made: Vec<Offer>,
+}
+
+impl Kinds {
+    /// The kinds of a problem's persons, in one pass over what they list and at most one comparison
+    /// a person.
+    pub fn find(alloc: Global, scaled: &Scaled) -> Result<Kinds, AllocError>
+        ensures { IfOk result (AreKinds scaled.now) }
+    {
+        let mut hashed = hashed_persons(alloc, scaled)?;
+        hashed.sort_unstable();
+        let mut alike = all_apart(alloc, scaled)?;
+        let some = find_alike(scaled, hashed.as_slice(), alike.as_mut_slice());
+        Ok(Kinds {
+            alike,
+            some,
+            marks: vec![in alloc; 0; scaled.n() as usize]?,
+            firsts: Vec::new(alloc),
+            places: Vec::new(alloc),
+            made: Vec::new(alloc),
+        })
+    }
+
+    /// The offers of the persons, of whom the first of each kind makes its own.
+    pub fn make<O: Offering>(
+        &mut self,
+        offering: &mut O,
+        scaled: &Scaled,
+        prices: &Prices,
+        ask: Ask,
+        persons: &[Person],
+        offers: &mut Vec<Offer>,
+    ) -> Result<(), AllocError>
+        requires ready { O.ready }
+        requires can { CanOffer scaled.now prices.now ask persons.now }
+        requires few { length persons.now ≤ length scaled.now.problem }
+        requires size { IsSize (length scaled.now.problem) }
+        requires kinds { AreKinds scaled.now self.old }
+        ensures made { OnOk result (offers.new.items ≡ offers_of scaled.now prices.now ask persons.now) }
+        ensures kinds { OnOk result (AreKinds scaled.now self.new) }
+    {
+        if !self.some || persons.len() < 2 {
+            return offering.make(scaled, prices, ask, persons, offers);
+        }
+        gather(
+            self.alike.as_slice(),
+            persons,
+            self.marks.as_mut_slice(),
+            &mut self.firsts,
+            &mut self.places,
+        )?;
+        if self.firsts.len() == persons.len() {
+            return offering.make(scaled, prices, ask, persons, offers);
+        }
+        offering.make(scaled, prices, ask, self.firsts.as_slice(), &mut self.made)?;
+        hand_out(
+            self.made.as_slice(),
+            self.places.as_slice(),
+            persons,
+            offers,
+        )?;
+        Ok(())
+    }
+}
