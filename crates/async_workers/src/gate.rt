@@ -3,7 +3,7 @@ pub use assign_core::SolveFault as TurnFault;
 use auction_book::Note;
 
 /// What a turn that met no fault answers.
-#[derive(Clone, Copy, Debug, PartialEq, Eq)]
+#[derive(Clone, Copy, PartialEq, Eq)]
 pub enum Turn {
     /// The worker claimed a person, whose offer is prepared.
     Claimed,
@@ -19,7 +19,7 @@ pub enum Turn {
 
 /// How far a run is, by the book as a worker left it. The fields are the book's own answers; no
 /// contract speaks of what a gate is told.
-#[derive(Clone, Copy, Debug, PartialEq, Eq)]
+#[derive(Clone, Copy, PartialEq, Eq)]
 pub struct Standing {
     /// The phase, from 1.
     pub phase: u16,

@@ -18,7 +18,7 @@ pub const SHORTEST_SLEEP: u64 = 50;
 pub const LONGEST_SLEEP: u64 = 12_800;
 
 /// What a worker does before its next turn, where it found nobody to claim.
-#[derive(Clone, Copy, Debug, PartialEq, Eq)]
+#[derive(Clone, Copy, PartialEq, Eq)]
 pub enum Pause {
     /// It lets other threads run, for the first, second, .. time in a row.
     Yield(u32),

@@ -45,7 +45,7 @@ impl Model for BookPlace {
 }
 
 /// A worker's claim, as its desk was told.
-#[derive(Clone, Copy, Debug, PartialEq, Eq)]
+#[derive(Clone, Copy, PartialEq, Eq)]
 pub struct Claimed {
     pub person: Person,
     /// What the phase of the claim asks of the person's bid.

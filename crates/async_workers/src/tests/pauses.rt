@@ -21,7 +21,7 @@ fn yields_and_then_sleeps_longer_and_longer(rt: HostRuntime) -> Result<(), Fail>
         Pause::Sleep(12_800),
         Pause::Sleep(12_800),
     ] {
-        assert_eq!(rt; pause, wanted);
+        assert!(rt; pause == wanted);
         pause = pause.longer();
     }
     Ok(())

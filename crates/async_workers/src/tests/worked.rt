@@ -219,7 +219,7 @@ fn a_claim_outlives_its_place(rt: HostRuntime) -> Result<(), Fail> {
     let Some((person, held)) = claimed_anew(&rt, rt.alloc(), "1t 2t")? else {
         panic!(rt; "no book");
     };
-    assert_eq!(rt; person, Some(Person(1)));
+    assert!(rt; person == Some(Person(1)));
     assert_eq!(rt; held.as_slice(), [1, 0].as_slice());
     Ok(())
 }
