@@ -1,5 +1,5 @@
 #!/usr/bin/env python3
-"""Compares the header for C, the names that the built library shows, and the crate: signatures, structs, codes, version.
+"""Compares the header for C, the names that the built library shows, and the crates: signatures, structs, codes, version.
 Prints what differs and ends with 1 then. Wants the built library (c/build.sh)."""
 import pathlib
 import re
@@ -7,7 +7,8 @@ import subprocess
 import sys
 
 TOP = pathlib.Path(__file__).resolve().parent.parent.parent
-CRATE = TOP / "crates/nushbaret"
+CALLS = TOP / "crates/nushbaret/src"
+LISTS = TOP / "crates/lent_lists/src"
 HEADER = re.sub(r"/\*.*?\*/", "", (TOP / "c/nushbaret.h").read_text(), flags=re.S)
 NUMBERS = {"u8": "uint8_t", "u16": "uint16_t", "u32": "uint32_t", "u64": "uint64_t", "usize": "size_t", "i32": "int32_t", "i64": "int64_t",
            "Halves": "struct nushbaret_price", "Told": "struct nushbaret_told"}
@@ -37,7 +38,7 @@ def parameters(text):
 
 
 def crate_calls():
-    for file in sorted((CRATE / "src").glob("*.rt")):
+    for file in sorted(CALLS.glob("*.rt")):
         for name, inside, result in re.findall(r'extern "C" fn (\w+)\((.*?)\) -> (\w+)', file.read_text(), flags=re.S):
             yield name, (NUMBERS[result], list(parameters(inside)))
 
@@ -49,7 +50,7 @@ def header_calls():
 
 def crate_codes():
     for file in ["end.rt", "check.rt"]:
-        text = (CRATE / "src" / file).read_text()
+        text = (LISTS / file).read_text()
         for kind, variant, number in re.findall(r"(Fault|End|HallVerdict|Verdict)::(\w+)(?:\([^)]*\))?\)? => (?:\{[^}]*?\n\s*)?(\d+)[,\n]", text):
             if variant != "Yes":
                 yield CALLED.get(f"{kind}::{variant}", variant.upper()), int(number)
@@ -61,7 +62,7 @@ def fields(struct):
 
 
 def crate_fields(file, struct):
-    text = (CRATE / "src" / file).read_text()
+    text = (LISTS / file).read_text()
     body = re.search(rf"#\[repr\(C\)\]\n(?:#\[.*\]\n)*pub struct {struct} \{{(.*?)\n\}}", text, flags=re.S)[1]
     return [(NUMBERS[kind], name) for name, kind in re.findall(r"pub (\w+): (\w+)", body)]
 

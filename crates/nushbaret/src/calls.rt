@@ -1,17 +1,14 @@
 // The calls, as `c/nushbaret.h` declares them.
 ghost use Rattle.std.specs.Prelude.{[], ◌∷◌, ◌⊎◌, length, map};
-ghost use Rattle.nushbaret.specs.Checks.{IsHallJudged, IsJudged, IsRefused};
-ghost use Rattle.nushbaret.specs.Ends.{IsTold, rooms};
-ghost use Rattle.nushbaret.specs.Given.{dense, either, sparse};
-ghost use Rattle.nushbaret.specs.Prices.{price_in};
+ghost use Rattle.lent_lists.specs.Checks.{IsHallJudged, IsJudged, IsRefused};
+ghost use Rattle.lent_lists.specs.Ends.{IsTold, rooms};
+ghost use Rattle.lent_lists.specs.Given.{dense, either, sparse};
+ghost use Rattle.lent_lists.specs.Prices.{price_in};
 
-use crate::check::{hall_verdict_on, tell_hall_verdict, tell_verdict, verdict_on};
-use crate::end::refuse;
-use crate::form::{Form, form_of};
-use crate::given::Given;
-use crate::halves::Halves;
-use crate::solve::solve_given;
-use crate::told::Told;
+use lent_lists::{
+    Form, Given, Halves, Told, form_of, hall_verdict_on, refuse, solve_given, tell_hall_verdict,
+    tell_verdict, verdict_on,
+};
 use std::alloc::Global;
 
 /// Solves a dense problem: `n` persons, `n` objects, and the cost of each pair, row by row.

@@ -2,23 +2,10 @@
 #![tactic(auto)]
 
 mod calls;
-mod check;
-mod end;
-mod fault;
-mod form;
-mod given;
-mod halves;
-mod judge;
-mod problem;
-mod rooms;
-mod solve;
-mod told;
 mod version;
 
 pub use calls::{
     nushbaret_check, nushbaret_check_hall, nushbaret_dense, nushbaret_dense_from, nushbaret_sparse,
     nushbaret_sparse_from,
 };
-pub use halves::Halves;
-pub use told::Told;
 pub use version::nushbaret_version;

@@ -1,0 +1,70 @@
+-- What a checking call tells.
+use Rattle.std.specs.Prelude.{◌≡◌, ℕ, ℤ, pos, List}
+use Rattle.dual_checker.specs.declared.verdict.Verdict.{Verdict}
+use Rattle.dual_checker.specs.declared.verdict.Verdict.TheVariants as verdict
+use Rattle.dual_checker.specs.declared.hall_verdict.HallVerdict.{HallVerdict}
+use Rattle.dual_checker.specs.declared.hall_verdict.HallVerdict.TheVariants as hall
+use Rattle.dual_checker.specs.Verdicts.{IsVerdict}
+use Rattle.dual_checker.specs.HallVerdicts.{IsHallVerdict}
+use Rattle.lent_lists.specs.declared.fault.Fault.{Fault}
+use Rattle.lent_lists.specs.declared.told.Told.{Told}
+use Rattle.lent_lists.specs.Given.{GivenLists}
+use Rattle.lent_lists.specs.Faults.{HasFault, IsOfGiven}
+use Rattle.lent_lists.specs.Ends.{fault_code, fault_place}
+
+-- the code of a verdict on an assignment and prices
+abbrev pub verdict_code : Verdict → ℤ
+verdict_code verdict.Yes = pos 0
+verdict_code verdict.Length = pos 10
+verdict_code (verdict.Unlisted i) = pos 11
+verdict_code (verdict.Twice j) = pos 12
+verdict_code (verdict.PriceRange j) = pos 13
+verdict_code (verdict.Slack i j) = pos 14
+
+-- what is told with the person and the object that a verdict names
+abbrev pub with_verdict : Verdict → Told → Told
+with_verdict verdict.Yes told = told
+with_verdict verdict.Length told = told
+with_verdict (verdict.Unlisted i) told = record told { person = i }
+with_verdict (verdict.Twice j) told = record told { object = j }
+with_verdict (verdict.PriceRange j) told = record told { object = j }
+with_verdict (verdict.Slack i j) told = record told { person = i; object = j }
+
+-- the code of a verdict on persons and objects
+abbrev pub hall_code : HallVerdict → ℤ
+hall_code hall.Yes = pos 1
+hall_code hall.Range = pos 15
+hall_code hall.Order = pos 16
+hall_code (hall.Missing i j) = pos 17
+hall_code (hall.Extra j) = pos 18
+hall_code hall.Count = pos 19
+
+-- what is told with the person and the object that such a verdict names
+abbrev pub with_hall_verdict : HallVerdict → Told → Told
+with_hall_verdict hall.Yes told = told
+with_hall_verdict hall.Range told = told
+with_hall_verdict hall.Order told = told
+with_hall_verdict (hall.Missing i j) told = record told { person = i; object = j }
+with_hall_verdict (hall.Extra j) told = record told { object = j }
+with_hall_verdict hall.Count told = told
+
+-- the first fault, with its code and its place
+pub record IsRefused (g : GivenLists) (before after : Told) (code : ℤ) : Type 0 where
+  pub fault : Fault
+  pub is : code ≡ fault_code fault
+  pub first : HasFault g fault
+  pub place : after ≡ record before { place = fault_place before.place fault }
+
+-- the verdict on an assignment and prices, with its code and what it names
+pub record IsJudged (g : GivenLists) (objects : List ℕ) (prices : List ℤ) (before after : Told) (code : ℤ) : Type 0 where
+  pub verdict : Verdict
+  pub is : code ≡ verdict_code verdict
+  pub names : after ≡ with_verdict verdict before
+  pub holds : IsOfGiven g (λ sense rows. IsVerdict sense rows objects prices verdict)
+
+-- the verdict on persons and objects, with its code and what it names
+pub record IsHallJudged (g : GivenLists) (persons objects : List ℕ) (before after : Told) (code : ℤ) : Type 0 where
+  pub verdict : HallVerdict
+  pub is : code ≡ hall_code verdict
+  pub names : after ≡ with_hall_verdict verdict before
+  pub holds : IsOfGiven g (λ sense rows. IsHallVerdict rows persons objects verdict)

@@ -1,0 +1,97 @@
+-- What a solving call tells, and what it leaves in the rooms.
+use Rattle.std.specs.Prelude.{◌≡◌, ℕ, ℤ, pos, List, Result, Ok, Err, length, map, drop, ◌++◌}
+use Rattle.assign_core.specs.declared.sense.Sense.{Sense}
+use Rattle.assign_core.specs.Rows.{Listing}
+use Rattle.assign_core.specs.Assignment.{IsBest, total}
+use Rattle.assign_core.specs.Slackness.{IsCertificate}
+use Rattle.assign_core.specs.Hall.{IsHallSet}
+use Rattle.lent_lists.specs.declared.fault.Fault.{Fault}
+use Rattle.lent_lists.specs.declared.fault.Fault.TheVariants as fault
+use Rattle.lent_lists.specs.declared.end.End.{End}
+use Rattle.lent_lists.specs.declared.end.End.TheVariants.{Best, Hall}
+use Rattle.lent_lists.specs.declared.told.Told.{Told}
+use Rattle.lent_lists.specs.declared.halves.Halves.{Halves}
+use Rattle.lent_lists.specs.Prices.{price_in}
+use Rattle.lent_lists.specs.Given.{GivenLists}
+use Rattle.lent_lists.specs.Faults.{HasFault, IsOfGiven}
+
+-- the code of a fault
+abbrev pub fault_code : Fault → ℤ
+fault_code fault.Sense = pos 2
+fault_code fault.Size = pos 3
+fault_code fault.Length = pos 4
+fault_code (fault.Person k) = pos 5
+fault_code (fault.Object k) = pos 6
+fault_code (fault.Cost k) = pos 7
+fault_code (fault.Price k) = pos 8
+fault_code fault.Memory = pos 9
+
+-- the place that a fault names, and the one that was told before where it names none
+abbrev pub fault_place : ℕ → Fault → ℕ
+fault_place before (fault.Person k) = k
+fault_place before (fault.Object k) = k
+fault_place before (fault.Cost k) = k
+fault_place before (fault.Price k) = k
+fault_place before fault.Sense = before
+fault_place before fault.Size = before
+fault_place before fault.Length = before
+fault_place before fault.Memory = before
+
+-- the code of an end
+abbrev pub end_code : Result End Fault → ℤ
+end_code (Ok Best) = pos 0
+end_code (Ok Hall) = pos 1
+end_code (Err f) = fault_code f
+
+-- the caller's rooms
+pub record Rooms : Type 0 where
+  pub objects : List ℕ
+  pub persons : List ℕ
+  pub prices : List Halves
+  pub told : Told
+
+abbrev pub rooms : List ℕ → List ℕ → List Halves → Told → Rooms
+rooms objects persons prices told =
+    record { objects = objects; persons = persons; prices = prices; told = told }
+
+-- a best assignment, with prices that prove it, and the sum of its costs
+pub record HoldsBest (sense : Sense) (rows : List Listing) (before after : Rooms) : Type 0 where
+  pub proof : IsCertificate sense rows after.objects (map price_in after.prices)
+  pub best : IsBest sense rows after.objects
+  pub sum : after.told ≡ record before.told { total = total rows after.objects }
+  pub persons : after.persons ≡ before.persons
+
+-- a Hall set, at the beginning of two rooms
+pub record HoldsHall (rows : List Listing) (before after : Rooms) : Type 0 where
+  pub some : List ℕ
+  pub few : List ℕ
+  pub proof : IsHallSet rows some few
+  pub persons : after.persons ≡ some ++ drop (length some) before.persons
+  pub objects : after.objects ≡ few ++ drop (length few) before.objects
+  pub counts : after.told ≡ record before.told { persons = length some; objects = length few }
+  pub prices : after.prices ≡ before.prices
+
+-- an answer to a problem
+abbrev pub HoldsEnd : Sense → List Listing → Rooms → Rooms → End → Type 0
+HoldsEnd sense rows before after Best = HoldsBest sense rows before after
+HoldsEnd sense rows before after Hall = HoldsHall rows before after
+
+-- an answer to the problem that is given
+abbrev pub IsAnswered : GivenLists → Rooms → Rooms → End → Type 0
+IsAnswered g before after end = IsOfGiven g (λ sense rows. HoldsEnd sense rows before after end)
+
+-- the rooms with the place of a fault, if it has one, and else as they were
+abbrev pub with_place : Fault → Rooms → Rooms
+with_place f before =
+    record before { told = record before.told { place = fault_place before.told.place f } }
+
+-- an answer, or the first fault
+abbrev pub IsSolved : GivenLists → Rooms → Rooms → Result End Fault → Type 0
+IsSolved g before after (Ok end) = IsAnswered g before after end
+IsSolved g before after (Err f) = HasFault g f × (after ≡ with_place f before)
+
+-- the end that a code tells
+pub record IsTold (g : GivenLists) (before after : Rooms) (code : ℤ) : Type 0 where
+  pub end : Result End Fault
+  pub is : code ≡ end_code end
+  pub solved : IsSolved g before after end

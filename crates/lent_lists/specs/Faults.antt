@@ -1,0 +1,55 @@
+-- What may be wrong with what a caller gives.
+use Rattle.std.specs.Prelude.{◌≡◌, ℕ, ◌<◌, List, None, Some, IsSome, length, All, slice_index_or}
+use Rattle.assign_core.specs.Numbered.{IsNumber}
+use Rattle.assign_core.specs.Rows.{Listing, IsCost, IsSize}
+use Rattle.assign_core.specs.declared.sense.Sense.{Sense as Wanted}
+use Rattle.lent_lists.specs.declared.fault.Fault.{Fault}
+use Rattle.lent_lists.specs.declared.fault.Fault.TheVariants.{Sense, Size, Length, Person, Object, Cost, Price, Memory}
+use Rattle.lent_lists.specs.Prices.{StandsForFirstPrice}
+use Rattle.lent_lists.specs.Given.{GivenLists, sense_of, HasLengths, HasRows}
+
+-- the element at place k lacks the property, and those before it have it
+pub record IsFirstWithout {A : Type 0} (P : A → Type 0) (xs : List A) (k : ℕ) : Type 0 where
+  pub within : k < length xs
+  pub lacks : (d : A) → ¬ P (slice_index_or xs k d)
+  pub before : (i : ℕ) (d : A) → i < k → P (slice_index_or xs i d)
+
+-- a sense, a size, and lists that are as long as they have to be
+pub record HasShape (g : GivenLists) : Type 0 where
+  pub sense : IsSome (sense_of g.sense)
+  pub size : IsSize g.n
+  pub lengths : HasLengths g
+
+-- the pairs are of persons and objects
+pub record AreNumbers (g : GivenLists) : Type 0 where
+  pub persons : All (IsNumber g.n) g.persons
+  pub objects : All (IsNumber g.n) g.objects
+
+-- nothing is wrong
+pub record IsWhole (g : GivenLists) : Type 0 where
+  pub shape : HasShape g
+  pub numbers : AreNumbers g
+  pub costs : All IsCost g.costs
+  pub first : All StandsForFirstPrice g.first
+
+-- the first fault in the order of the variants, by the first place that has it
+abbrev pub HasFault : GivenLists → Fault → Type 0
+HasFault g Sense = sense_of g.sense ≡ None
+HasFault g Size = IsSome (sense_of g.sense) × ¬ IsSize g.n
+HasFault g Length = IsSome (sense_of g.sense) × IsSize g.n × ¬ HasLengths g
+HasFault g (Person k) = HasShape g × IsFirstWithout (IsNumber g.n) g.persons k
+HasFault g (Object k) =
+    HasShape g × All (IsNumber g.n) g.persons × IsFirstWithout (IsNumber g.n) g.objects k
+HasFault g (Cost k) = HasShape g × AreNumbers g × IsFirstWithout IsCost g.costs k
+HasFault g (Price k) =
+    HasShape g × AreNumbers g × All IsCost g.costs × IsFirstWithout StandsForFirstPrice g.first k
+HasFault g Memory = IsWhole g
+
+-- what holds of the problem that is given, under the sense that is wanted
+pub record IsOfGiven (g : GivenLists) (Holds : Wanted → List Listing → Type 0) : Type 0 where
+  pub sense : Wanted
+  pub wanted : sense_of g.sense ≡ Some sense
+  pub whole : IsWhole g
+  pub rows : List Listing
+  pub given : HasRows g.form g rows
+  pub holds : Holds sense rows

@@ -1,0 +1,16 @@
+-- Prices in two halves.
+use Rattle.std.specs.Prelude.{ℤ, pos, ◌+ℤ◌, ◌*ℤ◌, ◌^◌, ◌≤ℤ◌}
+use Rattle.assign_core.specs.declared.numbers.TheConstants.{GREATEST_FIRST_PRICE}
+use Rattle.lent_lists.specs.declared.halves.Halves.{Halves}
+
+-- the upper half counts 2^64 times, and is below 0 where the price is
+abbrev pub price_in : Halves → ℤ
+price_in h = pos h.low +ℤ (pos (2 ^ 64) *ℤ h.high)
+
+-- a run may begin at this price
+pub record IsFirstPrice (p : ℤ) : Type 0 where
+  pub least : pos 0 ≤ℤ p
+  pub greatest : p ≤ℤ GREATEST_FIRST_PRICE
+
+abbrev pub StandsForFirstPrice : Halves → Type 0
+StandsForFirstPrice h = IsFirstPrice (price_in h)

@@ -1,0 +1,112 @@
+// Answers of any program, held against the problem that is given.
+ghost use Rattle.std.specs.Prelude.{◌≡◌, IfErr, IfOk, map};
+ghost use Rattle.dual_checker.specs.Verdicts.{IsVerdict};
+ghost use Rattle.dual_checker.specs.HallVerdicts.{IsHallVerdict};
+ghost use Rattle.lent_lists.specs.Checks.{hall_code, verdict_code, with_hall_verdict, with_verdict};
+ghost use Rattle.lent_lists.specs.Faults.{HasFault, IsOfGiven};
+ghost use Rattle.lent_lists.specs.Prices.{price_in};
+
+use crate::fault::Fault;
+use crate::given::Given;
+use crate::halves::Halves;
+use crate::judge::judge;
+use crate::problem::problem_of;
+use crate::rooms::{numbered, prices_of};
+use crate::told::Told;
+use assign_core::{Object, Person};
+use dual_checker::{HallVerdict, Verdict, check, check_hall};
+use std::alloc::Global;
+
+/// The verdict on these objects and prices.
+pub fn verdict_on(
+    alloc: Global,
+    given: &Given<'_>,
+    objects: &[u16],
+    prices: &[Halves],
+) -> Result<Verdict, Fault>
+    ensures verdict { IfOk result (λ v. IsOfGiven given.now
+        (λ sense rows. IsVerdict sense rows objects.now (map price_in prices.now) v)) }
+    ensures fault { IfErr result (HasFault given.now) }
+{
+    let sense = judge(given)?;
+    let problem = problem_of(alloc, given)?;
+    let objects: Vec<Object> = numbered(alloc, objects)?;
+    let prices = prices_of(alloc, prices)?;
+    let verdict = check(
+        alloc,
+        &problem,
+        sense,
+        objects.as_slice(),
+        prices.as_slice(),
+    )?;
+    Ok(verdict)
+}
+
+/// The verdict on these persons and objects.
+pub fn hall_verdict_on(
+    alloc: Global,
+    given: &Given<'_>,
+    persons: &[u16],
+    objects: &[u16],
+) -> Result<HallVerdict, Fault>
+    ensures verdict { IfOk result (λ v. IsOfGiven given.now
+        (λ sense rows. IsHallVerdict rows persons.now objects.now v)) }
+    ensures fault { IfErr result (HasFault given.now) }
+{
+    let _sense = judge(given)?;
+    let problem = problem_of(alloc, given)?;
+    let persons: Vec<Person> = numbered(alloc, persons)?;
+    let objects: Vec<Object> = numbered(alloc, objects)?;
+    let verdict = check_hall(alloc, &problem, persons.as_slice(), objects.as_slice())?;
+    Ok(verdict)
+}
+
+/// The code of a verdict, with what it names told.
+pub fn tell_verdict(verdict: Verdict, told: &mut Told) -> i32
+    ensures code { result ≡ verdict_code verdict }
+    ensures names { told.new ≡ with_verdict verdict told.old }
+{
+    match verdict {
+        Verdict::Yes => 0,
+        Verdict::Length => 10,
+        Verdict::Unlisted(person) => {
+            told.person = u64::from(person.0);
+            11
+        }
+        Verdict::Twice(object) => {
+            told.object = u64::from(object.0);
+            12
+        }
+        Verdict::PriceRange(object) => {
+            told.object = u64::from(object.0);
+            13
+        }
+        Verdict::Slack(person, object) => {
+            told.person = u64::from(person.0);
+            told.object = u64::from(object.0);
+            14
+        }
+    }
+}
+
+/// The code of a verdict on a Hall set, with what it names told.
+pub fn tell_hall_verdict(verdict: HallVerdict, told: &mut Told) -> i32
+    ensures code { result ≡ hall_code verdict }
+    ensures names { told.new ≡ with_hall_verdict verdict told.old }
+{
+    match verdict {
+        HallVerdict::Yes => 1,
+        HallVerdict::Range => 15,
+        HallVerdict::Order => 16,
+        HallVerdict::Missing(person, object) => {
+            told.person = u64::from(person.0);
+            told.object = u64::from(object.0);
+            17
+        }
+        HallVerdict::Extra(object) => {
+            told.object = u64::from(object.0);
+            18
+        }
+        HallVerdict::Count => 19,
+    }
+}

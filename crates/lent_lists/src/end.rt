@@ -1,0 +1,60 @@
+// How a solving call ends, and the codes of all ends.
+ghost use Rattle.std.specs.Prelude.{◌≡◌, IfErr, OnOk};
+ghost use Rattle.lent_lists.specs.Ends.{end_code, fault_code, fault_place};
+
+use crate::fault::Fault;
+use crate::told::Told;
+
+/// Which answer there is.
+#[derive(Clone, Copy, PartialEq, Eq)]
+pub enum End {
+    /// A best assignment.
+    Best,
+    /// A Hall set: there is no assignment.
+    Hall,
+}
+
+// The code of a fault.
+fn code_of(fault: Fault) -> i32
+    ensures { result ≡ fault_code fault }
+{
+    match fault {
+        Fault::Sense => 2,
+        Fault::Size => 3,
+        Fault::Length => 4,
+        Fault::Person(_) => 5,
+        Fault::Object(_) => 6,
+        Fault::Cost(_) => 7,
+        Fault::Price(_) => 8,
+        Fault::Memory => 9,
+    }
+}
+
+/// The code of a fault, whose place is told if it has one.
+pub fn refuse(fault: Fault, told: &mut Told) -> i32
+    ensures code { result ≡ fault_code fault }
+    ensures place { told.new ≡ record told.old { place = fault_place told.old.place fault } }
+{
+    if let Fault::Person(place)
+    | Fault::Object(place)
+    | Fault::Cost(place)
+    | Fault::Price(place) = fault
+    {
+        told.place = place as u64;
+    }
+    code_of(fault)
+}
+
+/// The code of an end.
+pub fn answer(end: Result<End, Fault>, told: &mut Told) -> i32
+    ensures code { result ≡ end_code end }
+    ensures ok { OnOk end (told.new ≡ told.old) }
+    ensures fault { IfErr end (λ fault.
+        told.new ≡ record told.old { place = fault_place told.old.place fault }) }
+{
+    match end {
+        Ok(End::Best) => 0,
+        Ok(End::Hall) => 1,
+        Err(fault) => refuse(fault, told),
+    }
+}

@@ -1,0 +1,25 @@
+// The two forms of a problem.
+ghost use Rattle.std.specs.Prelude.{◌≡◌};
+ghost use Rattle.lent_lists.specs.Given.{either_form};
+
+use assign_core::Cost;
+
+/// How a problem is given.
+#[derive(Clone, Copy, PartialEq, Eq)]
+pub enum Form {
+    /// Each person lists each object: the costs come row by row.
+    Dense,
+    /// The listed pairs come as three lists: their persons, their objects and their costs.
+    Sparse,
+}
+
+/// Dense where there is no list of pairs but there are costs, and else sparse.
+pub fn form_of(persons: &[u16], objects: &[u16], costs: &[Cost]) -> Form
+    ensures { result ≡ either_form persons.now objects.now costs.now }
+{
+    if persons.is_empty() && objects.is_empty() && !costs.is_empty() {
+        Form::Dense
+    } else {
+        Form::Sparse
+    }
+}

@@ -1,0 +1,61 @@
+// Answers into a caller's rooms, and lists out of them.
+ghost use Rattle.std.specs.Prelude.{◌≡◌, ◌≤◌, ◌++◌, All, IfOk, drop, length, map};
+ghost use Rattle.assign_core.specs.Prices.{IsPrice};
+ghost use Rattle.lent_lists.specs.Prices.{StandsForFirstPrice, price_in};
+
+use crate::halves::Halves;
+use assign_core::{MOST_PERSONS, Numbered, Price, Prices};
+use std::alloc::{AllocError, Global};
+
+/// Writes the numbers of persons or objects at the beginning of a room.
+pub fn put_numbers<T: Numbered>(room: &mut [u16], all: &[T])
+    requires { length all.now ≤ length room.old }
+    ensures { room.new ≡ map T.number_of all.now ++ drop (length all.now) room.old }
+{
+    for i in 0..all.len() {
+        room[i] = all[i].number();
+    }
+}
+
+/// Writes prices in halves.
+pub fn put_prices(room: &mut [Halves], prices: &[Price])
+    requires long { length room.old ≡ length prices.now }
+    requires range { All IsPrice prices.now }
+    ensures { map price_in room.new ≡ prices.now }
+{
+    for i in 0..prices.len() {
+        room[i] = Halves::of(prices[i]);
+    }
+}
+
+/// Persons or objects by their numbers.
+pub fn numbered<T: Numbered + Drop>(alloc: Global, numbers: &[u16]) -> Result<Vec<T>, AllocError>
+    ensures { IfOk result (λ all. map T.number_of all.items ≡ numbers.now) }
+{
+    let mut all = Vec::with_capacity(alloc, numbers.len())?;
+    for number in numbers {
+        all.push(T::with_number(*number))?;
+    }
+    Ok(all)
+}
+
+/// Prices by their halves.
+pub fn prices_of(alloc: Global, halves: &[Halves]) -> Result<Vec<Price>, AllocError>
+    ensures { IfOk result (λ prices. prices.items ≡ map price_in halves.now) }
+{
+    let mut prices = Vec::with_capacity(alloc, halves.len())?;
+    for half in halves {
+        prices.push(half.price())?;
+    }
+    Ok(prices)
+}
+
+/// First prices by their halves.
+pub fn first_prices(alloc: Global, first: &[Halves]) -> Result<Prices, AllocError>
+    requires few { length first.now ≤ MOST_PERSONS }
+    requires low { All StandsForFirstPrice first.now }
+    ensures { IfOk result (λ prices. length prices ≡ length first.now) }
+{
+    let values = prices_of(alloc, first)?;
+    Prices::new(alloc, values)
+}
