@@ -4,14 +4,14 @@ use bidder::Ask;
 use std::alloc::AllocError;
 
 /// A bid was accepted.
-#[derive(Clone, Copy, Debug, PartialEq, Eq)]
+#[derive(Clone, Copy, PartialEq, Eq)]
 pub struct Accepted {
     /// Who owned the object before.
     pub evicted: Option<Person>,
 }
 
 /// A bid, or what was found below the floor, was refused.
-#[derive(Clone, Copy, Debug, PartialEq, Eq)]
+#[derive(Clone, Copy, PartialEq, Eq)]
 pub enum Refused {
     /// The worker doesn't hold the person's claim.
     NotClaimed,
@@ -24,7 +24,7 @@ pub enum Refused {
 }
 
 /// What came of a worker's offer.
-#[derive(Clone, Copy, Debug, PartialEq, Eq)]
+#[derive(Clone, Copy, PartialEq, Eq)]
 pub enum Note {
     /// There was no bid.
     Nothing,
@@ -44,7 +44,7 @@ pub struct Submission {
 }
 
 /// What a worker that asks for a person gets.
-#[derive(Clone, Copy, Debug, PartialEq, Eq)]
+#[derive(Clone, Copy, PartialEq, Eq)]
 pub enum Claim {
     /// A Hall set is recorded: there is no assignment.
     Refuted,

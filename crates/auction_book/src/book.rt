@@ -11,8 +11,6 @@ ghost use Rattle.auction_book.specs.Free.{IsFree};
 mod answering;
 mod catching_up;
 mod claiming;
-#[cfg(test)]
-mod inside;
 mod opening;
 mod phases;
 mod reading;

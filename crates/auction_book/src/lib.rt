@@ -7,8 +7,6 @@ mod book;
 mod law;
 mod schedule;
 mod session;
-#[cfg(test)]
-mod tests;
 
 pub use answers::{Accepted, Claim, Note, Refused, Submission};
 pub use book::Book;

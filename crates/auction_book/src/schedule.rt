@@ -21,7 +21,7 @@ use std::alloc::{AllocError, Global};
 use std::sync::Arc;
 
 /// A worker's next session.
-#[derive(Clone, Copy, Debug, PartialEq, Eq)]
+#[derive(Clone, Copy, PartialEq, Eq)]
 pub struct Event {
     /// The worker's number, from 1. An event of a number that no worker has changes nothing.
     pub worker: u16,
@@ -30,7 +30,7 @@ pub struct Event {
 }
 
 /// What a worker has.
-#[derive(Debug, Drop)]
+#[derive(Drop)]
 pub struct Seat {
     /// Its own table of prices.
     pub table: Prices,

@@ -4,8 +4,6 @@
 mod law;
 mod log;
 mod raise;
-#[cfg(test)]
-mod tests;
 
 pub use law::{
     changes_are_versions, earlier_tables_are_below, earlier_tables_stay, log_limits, logs_continue,

@@ -18,7 +18,7 @@ pub const MOST_KEPT: usize = 65_536;
 /// are kept, so that a table of an older version becomes today's by what changed since.
 ///
 /// Seen as the table of the first version that the log still reaches and the raises after it.
-#[derive(Debug, Drop)]
+#[derive(Drop)]
 pub struct PriceLog {
     first_kept: u128,
     base: Prices,

@@ -7,7 +7,7 @@ use assign_core::{Object, Price, Prices};
 use std::collections::VecDeque;
 
 /// A price went up.
-#[derive(Clone, Copy, Debug, PartialEq, Eq)]
+#[derive(Clone, Copy, PartialEq, Eq)]
 pub struct Raise {
     pub object: Object,
     /// The new price.

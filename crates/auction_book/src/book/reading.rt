@@ -9,6 +9,7 @@ use super::Book;
 use assign_core::{HallSet, Person, Prices};
 use bidder::Ask;
 use scaled_values::Scaled;
+use std::collections::VecDeque;
 use std::sync::Arc;
 
 impl Book {
@@ -54,6 +55,27 @@ impl Book {
         ensures { result ≡ self.now.log.first_kept }
     {
         self.log.first_kept()
+    }
+
+    /// The prices at the phase's start.
+    pub fn start(&self) -> &Prices
+        ensures { result.now ≡ self.now.start }
+    {
+        &self.start
+    }
+
+    /// The version that each worker last took.
+    pub fn taken(&self) -> &[u128]
+        ensures { result.now ≡ self.now.taken }
+    {
+        self.taken.as_slice()
+    }
+
+    /// Who waits, the next one in front.
+    pub fn waiting(&self) -> &VecDeque<Person>
+        ensures { result.now.items ≡ self.now.queue }
+    {
+        &self.queue
     }
 
     /// Who owns objects 1, 2, ..

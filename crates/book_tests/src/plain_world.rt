@@ -1,0 +1,152 @@
+// A plain book and its workers, over lists of events.
+use super::drawn::Case;
+use super::plain::{PlainBook, at, offer, opened, prices, version};
+use super::plain_calls;
+use assign_core::{Person, Price};
+use auction_book::{Claim, Event};
+use bidder::{BelowFloor, Bid, Offer};
+use std::alloc::{AllocError, Global};
+
+// What a worker has.
+#[derive(Drop)]
+pub(crate) struct PlainSeat {
+    pub table: Vec<Price>,
+    pub version: u128,
+    pub offer: Option<Offer>,
+    pub accepted: u128,
+}
+
+// A seat with these prices.
+fn open_seat(alloc: Global, first: &[Price]) -> Result<PlainSeat, AllocError> {
+    Ok(PlainSeat {
+        table: first.to_vec(alloc)?,
+        version: 0,
+        offer: None,
+        accepted: 0,
+    })
+}
+
+// A seat more for each worker, with these prices.
+fn add_seats(
+    alloc: Global,
+    seats: &mut Vec<PlainSeat>,
+    first: &[Price],
+    workers: u16,
+) -> Result<(), AllocError> {
+    for _ in 0..workers {
+        seats.push(open_seat(alloc, first)?)?;
+    }
+    Ok(())
+}
+
+// The prepared offer is submitted. A person below the floor is searched, and where an unowned object
+// is found it waits again.
+fn submit(
+    alloc: Global,
+    plain: &mut PlainBook,
+    worker: u16,
+    offer: Option<Offer>,
+) -> Result<(), AllocError> {
+    match offer {
+        None => {}
+        Some(Offer::Bid(bid)) => {
+            let _answer = plain_calls::submit(
+                alloc, plain, worker, bid.person, bid.phase, bid.object, bid.level,
+            )?;
+        }
+        Some(Offer::Below(below)) => match plain_calls::search(alloc, plain, below.person)? {
+            Some(hall) => {
+                let _answer = plain_calls::below(plain, worker, below.person, below.phase, hall)?;
+            }
+            None => plain_calls::give_up(plain, worker)?,
+        },
+    }
+    Ok(())
+}
+
+// The offer of a person, from a table of this version.
+fn offer_from(plain: &PlainBook, table: &[Price], version: u128, person: Person) -> Offer {
+    let phase = plain.phase;
+    match offer(plain, table, person.0) {
+        Some((object, level)) => Offer::Bid(Bid {
+            person,
+            object,
+            level,
+            phase,
+            version,
+        }),
+        None => Offer::Below(BelowFloor { person, phase }),
+    }
+}
+
+// One event.
+fn happen(
+    alloc: Global,
+    plain: &mut PlainBook,
+    seats: &mut [PlainSeat],
+    event: Event,
+) -> Result<(), AllocError> {
+    let worker = event.worker;
+    let Some(seat) = seats.get_mut((worker as usize).wrapping_sub(1)) else {
+        return Ok(());
+    };
+    let offer = seat.offer.take();
+    submit(alloc, plain, worker, offer)?;
+    seat.accepted = at(plain.counts.as_slice(), worker).unwrap_or(0);
+    if event.catch_up {
+        plain_calls::catch_up(plain, worker);
+        seat.table = prices(plain).to_vec(alloc)?;
+        seat.version = version(plain);
+    }
+    if plain_calls::phase_over(plain) {
+        plain_calls::next_phase(alloc, plain)?;
+    }
+    seat.offer = match plain_calls::claim(plain, worker) {
+        Claim::Person(person, _) => {
+            Some(offer_from(plain, seat.table.as_slice(), seat.version, person))
+        }
+        _ => None,
+    };
+    Ok(())
+}
+
+// A plain book and what its workers have.
+#[derive(Drop)]
+pub(crate) struct PlainWorld {
+    pub book: PlainBook,
+    pub seats: Vec<PlainSeat>,
+}
+
+// The plain world of a case before the first event, without its workers' seats.
+fn open_world(alloc: Global, case: &Case) -> Result<PlainWorld, AllocError> {
+    let book = opened(alloc, case)?;
+    Ok(PlainWorld {
+        book,
+        seats: Vec::new(alloc),
+    })
+}
+
+// The workers of a case sit down, and these events happen.
+fn all_happen(
+    alloc: Global,
+    world: &mut PlainWorld,
+    case: &Case,
+    events: &[Event],
+) -> Result<(), AllocError> {
+    add_seats(alloc, &mut world.seats, case.first.as_slice(), case.workers)?;
+    for event in events {
+        happen(alloc, &mut world.book, world.seats.as_mut_slice(), *event)?;
+    }
+    Ok(())
+}
+
+// The plain world of a case after these events.
+pub(crate) fn plain_run(
+    alloc: Global,
+    case: &Case,
+    events: &[Event],
+) -> Result<PlainWorld, AllocError> {
+    let mut world = open_world(alloc, case)?;
+    all_happen(alloc, &mut world, case, events)?;
+    Ok(world)
+}
