@@ -77,7 +77,7 @@ compare("nushbaret_told", fields("nushbaret_told"), crate_fields("told.rt", "Tol
 text = (TOP / "crates/assign_core/src/numbers.rt").read_text().replace("_", "")
 for name in ["MOST_PERSONS", "GREATEST_COST"]:
     compare(name, int(re.search(rf"NUSHBARET_{name} (?:INT64_C\()?(\d+)", HEADER)[1]), int(re.search(rf"{name.replace('_', '')}: \w+ = (\d+)", text)[1]))
-judged = (CRATE / "src/judge.rt").read_text()
+judged = (LISTS / "judge.rt").read_text()
 for name in ["MIN", "MAX"]:
     number = re.search(rf"#define NUSHBARET_{name} (\d+)u", HEADER)[1]
     compare(name, number, re.search(rf"(\d+) => Some\(Sense::{name.title()}\)", judged)[1])

@@ -204,7 +204,11 @@ impl<C: Console> Teller<C> {
     // The news with fewer figures, where they are of an auction that has lasted long by this time.
     fn slow(&self, news: News, now: u64) -> Option<News> {
         let lasted = now.saturating_sub(self.auction.load(Ordering::SeqCst));
-        if lasted < SLOW { None } else { news.of_auction() }
+        if lasted < SLOW {
+            None
+        } else {
+            news.of_auction()
+        }
     }
 
     // Writes a text, and nothing more from then on where that fails.
