@@ -8,11 +8,11 @@
 plans from elsewhere. Every answer is found and held by Nushbaret's proved library; what this package adds, the reading of
 costs and the dummies of unequal numbers, is tested, not proved.
 """
-from .checking import Comparison, Verdict, check, compare
-from .errors import Infeasible, LibraryNotFound
-from .library import GREATEST_COST, MOST_PERSONS, VERSION as __version__
-from .result import Result
-from .solving import linear_sum_assignment, solve, solve_sparse
+from ._checking import Comparison, Verdict, check, compare
+from ._errors import Infeasible, LibraryNotFound
+from ._library import GREATEST_COST, MOST_PERSONS, VERSION as __version__
+from ._result import Result
+from ._solving import linear_sum_assignment, solve, solve_sparse
 
 __all__ = [
     "GREATEST_COST", "MOST_PERSONS", "Comparison", "Infeasible", "LibraryNotFound", "Result", "Verdict", "check", "compare",

@@ -2,9 +2,9 @@
 from array import array
 from typing import Dict, List, NamedTuple, Optional
 
-from .errors import Infeasible
+from ._errors import Infeasible
 from .roster import PlanLine, Roster
-from .solving import solve_sparse
+from ._solving import solve_sparse
 
 MOST_NAMES_SHOWN = 20
 
@@ -102,13 +102,13 @@ def answer_of(roster: Roster, fixed: List[PlanLine], maximize: bool, first: Opti
 
 def _solved(rest: Rest, maximize: bool, start, fullest: bool):
     return solve_sparse(len(rest.persons), len(rest.objects), rest.rows, rest.cols, rest.costs,
-                        maximize=maximize, start=start, as_many_as_can=fullest)
+                        maximize=maximize, start=start, partial=fullest)
 
 
 def short_of(rest: Rest, none: Infeasible) -> Short:
     """The shortage by the roster's numbers."""
     persons = [rest.persons[row] for row in none.rows]
-    objects = [rest.objects[col] for col in none.cols]
+    objects = [rest.objects[col] for col in none.columns]
     return Short(persons, objects, len(objects) > len(persons))
 
 

@@ -16,8 +16,8 @@ import tempfile
 from typing import Dict, List, NamedTuple, Optional, Sequence, TextIO
 
 from .answer import Answer, Plan, answer_of, listed, sentence
-from .exact import MOST_PLACES
-from .library import GREATEST_FIRST_PRICE, MOST_PERSONS
+from ._exact import MOST_PLACES
+from ._library import GREATEST_FIRST_PRICE, MOST_PERSONS
 from .page import page
 from .roster import LINES, MATRIX, SEPARATORS, PlanLine, Roster, RosterFault, decimal_text, quoted, read_plan, read_roster
 

@@ -10,8 +10,8 @@ import unicodedata
 from array import array
 from typing import Dict, Iterator, List, NamedTuple, NoReturn, Optional, Set, Tuple
 
-from .exact import MOST_PLACES
-from .library import GREATEST_COST, MOST_PERSONS
+from ._exact import MOST_PLACES
+from ._library import GREATEST_COST, MOST_PERSONS
 
 MOST_BYTES = 2**30
 

@@ -17,7 +17,7 @@ from unittest import mock
 TOP = pathlib.Path(__file__).resolve().parents[2]
 sys.path.insert(0, str(TOP / "python"))
 
-from nushbaret import answer, command, library
+from nushbaret import _library as library, answer, command
 from nushbaret.answer import Short, listed, plural, sentence
 from nushbaret.roster import read_roster
 

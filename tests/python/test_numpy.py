@@ -103,7 +103,7 @@ class Arrays(unittest.TestCase):
                 nushbaret.solve(costs)
         with self.assertRaises(nushbaret.Infeasible) as caught:
             nushbaret.solve(np.array([[1, np.inf], [2, np.inf]]))
-        self.assertEqual((caught.exception.rows.tolist(), caught.exception.cols.tolist()), ([0, 1], [0]))
+        self.assertEqual((caught.exception.rows.tolist(), caught.exception.columns.tolist()), ([0, 1], [0]))
         with self.assertRaisesRegex(ValueError, r"rows\[1\] is 2"):
             nushbaret.solve_sparse(2, 2, np.array([0, 2]), np.array([0, 1]), np.array([1, 1]))
 
@@ -116,8 +116,8 @@ class Arrays(unittest.TestCase):
         costs = np.array([[1, 2], [3, 5]])
         self.assertEqual(nushbaret.solve(costs).without(0, 1).cost, 6)
         self.assertEqual(nushbaret.compare(costs, np.array([0, 1])).worse, 1)
-        fullest = nushbaret.solve(np.array([[1, np.inf], [2, np.inf]]), as_many_as_can=True)
-        self.assertEqual((fullest.cost, fullest.unserved_rows.tolist(), fullest.unused_columns.tolist()), (1, [1], [1]))
+        fullest = nushbaret.solve(np.array([[1, np.inf], [2, np.inf]]), partial=True)
+        self.assertEqual((fullest.cost, fullest.unmatched_rows.tolist(), fullest.unmatched_columns.tolist()), (1, [1], [1]))
 
 
 @unittest.skipUnless(optimize, "SciPy isn't there")
@@ -153,7 +153,7 @@ class BesideScipy(unittest.TestCase):
                     found += 1
                 except nushbaret.Infeasible as fault:
                     self.assertIsNone(wanted)
-                    self.assertNotEqual(len(fault.rows), len(fault.cols))
+                    self.assertNotEqual(len(fault.rows), len(fault.columns))
         self.assertGreater(found, 300)
 
 

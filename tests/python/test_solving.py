@@ -6,7 +6,7 @@ from decimal import Decimal
 from fractions import Fraction
 
 import nushbaret
-from nushbaret import library
+from nushbaret import _library as library
 from drawn import best, drawing, matrix
 
 
@@ -19,8 +19,8 @@ def proves(costs, result, maximize):
     if any(pays[row][column] > min(cost for cost in pays[row] if cost is not None) for row, column in own.items()):
         return False
     dearest = max((pays[row][column] for row, column in own.items()), default=None)
-    out = [cost for row in result.unserved_rows for cost in pays[row] if cost is not None]
-    unused = [rents[column] for column in result.unused_columns]
+    out = [cost for row in result.unmatched_rows for cost in pays[row] if cost is not None]
+    unused = [rents[column] for column in result.unmatched_columns]
     return (dearest is None or all(cost >= dearest for cost in out)) and not any(unused) and min(rents, default=0) == 0
 
 
@@ -63,21 +63,21 @@ class Drawn(unittest.TestCase):
     def test_rectangles(self):
         draw = drawing(2)
         for _ in range(500):
-            n_rows, n_cols = draw.randint(1, 5), draw.randint(1, 5)
-            costs, maximize = matrix(draw, n_rows, n_cols, draw.choice([1, 9, 10**12])), draw.random() < 0.5
-            self.hold(costs, nushbaret.solve(costs, maximize), maximize, min(n_rows, n_cols))
+            n_rows, n_columns = draw.randint(1, 5), draw.randint(1, 5)
+            costs, maximize = matrix(draw, n_rows, n_columns, draw.choice([1, 9, 10**12])), draw.random() < 0.5
+            self.hold(costs, nushbaret.solve(costs, maximize), maximize, min(n_rows, n_columns))
 
     def test_sparse_and_infeasible(self):
         draw, found, short = drawing(3), 0, 0
         for _ in range(1000):
-            n_rows, n_cols = draw.randint(1, 5), draw.randint(1, 5)
-            costs = matrix(draw, n_rows, n_cols, draw.choice([1, 9, 10**12]), draw.choice([0.3, 0.6, 0.9]))
-            maximize, served = draw.random() < 0.5, min(n_rows, n_cols)
+            n_rows, n_columns = draw.randint(1, 5), draw.randint(1, 5)
+            costs = matrix(draw, n_rows, n_columns, draw.choice([1, 9, 10**12]), draw.choice([0.3, 0.6, 0.9]))
+            maximize, served = draw.random() < 0.5, min(n_rows, n_columns)
             listed = [(row, column, cost) for row, held in enumerate(costs) for column, cost in enumerate(held) if cost is not None]
             draw.shuffle(listed)
             lists = [list(part) for part in zip(*listed)] or [[], [], []]
             try:
-                result = nushbaret.solve_sparse(n_rows, n_cols, *lists, maximize=maximize)
+                result = nushbaret.solve_sparse(n_rows, n_columns, *lists, maximize=maximize)
             except nushbaret.Infeasible as fault:
                 self.assertIsNone(best(costs, maximize, served))
                 self.hold_proof(costs, fault)
@@ -86,37 +86,37 @@ class Drawn(unittest.TestCase):
                 continue
             self.hold(costs, result, maximize, served)
             self.assertTrue(result.verify(lists[2], lists[0], lists[1]))
-            self.assertEqual(nushbaret.solve(costs, maximize, as_many_as_can=True).cost, result.cost)
+            self.assertEqual(nushbaret.solve(costs, maximize, partial=True).cost, result.cost)
             found += 1
         self.assertGreater(min(found, short), 200)
 
     def hold_proof(self, costs, fault):
         pairs = {(row, column) for row, held in enumerate(costs) for column, cost in enumerate(held) if cost is not None}
-        if len(fault.rows) > len(fault.cols):
-            self.assertEqual({column for row, column in pairs if row in fault.rows}, set(fault.cols))
+        if len(fault.rows) > len(fault.columns):
+            self.assertEqual({column for row, column in pairs if row in fault.rows}, set(fault.columns))
         else:
-            self.assertLess(len(fault.rows), len(fault.cols))
-            self.assertEqual({row for row, column in pairs if column in fault.cols}, set(fault.rows))
+            self.assertLess(len(fault.rows), len(fault.columns))
+            self.assertEqual({row for row, column in pairs if column in fault.columns}, set(fault.rows))
         self.assertIn("cost matrix is infeasible", str(fault))
 
     def hold_fullest(self, costs, maximize, lists):
-        result = nushbaret.solve(costs, maximize, as_many_as_can=True)
+        result = nushbaret.solve(costs, maximize, partial=True)
         served = len(result.rows)
         self.assertIsNone(best(costs, maximize, served + 1))
         if served:
             self.hold(costs, result, maximize, served)
         else:
-            self.assertEqual((result.cost, result.unserved_rows), (0, list(range(len(costs)))))
-        n_cols = len(costs[0])
-        self.assertEqual(nushbaret.solve_sparse(len(costs), n_cols, *lists, maximize=maximize, as_many_as_can=True).cost, result.cost)
+            self.assertEqual((result.cost, result.unmatched_rows), (0, list(range(len(costs)))))
+        n_columns = len(costs[0])
+        self.assertEqual(nushbaret.solve_sparse(len(costs), n_columns, *lists, maximize=maximize, partial=True).cost, result.cost)
 
     def test_decimals(self):
         draw = drawing(4)
         for _ in range(500):
-            n_rows, n_cols, places = draw.randint(1, 4), draw.randint(1, 4), draw.randint(1, 6)
-            whole, maximize = matrix(draw, n_rows, n_cols, 10**draw.randint(1, 12)), draw.random() < 0.5
+            n_rows, n_columns, places = draw.randint(1, 4), draw.randint(1, 4), draw.randint(1, 6)
+            whole, maximize = matrix(draw, n_rows, n_columns, 10**draw.randint(1, 12)), draw.random() < 0.5
             exact = [[Decimal(f"{cost}E-{places}") for cost in row] for row in whole]
-            served = min(n_rows, n_cols)
+            served = min(n_rows, n_columns)
             wanted = best(exact, maximize, served)
             for costs in exact, [[float(cost) for cost in row] for row in exact]:
                 result = nushbaret.solve(costs, maximize)
@@ -130,19 +130,19 @@ class Drawn(unittest.TestCase):
     def test_first_prices(self):
         draw = drawing(5)
         for _ in range(300):
-            n_rows, n_cols = draw.randint(1, 5), draw.randint(1, 5)
-            costs, maximize = matrix(draw, n_rows, n_cols, 9, 0.8), draw.random() < 0.5
-            start = [draw.choice([0, draw.randint(-9, 9), draw.random(), Decimal("0.5")]) for _ in range(n_cols)]
-            result = nushbaret.solve(costs, maximize, start=start, as_many_as_can=True)
-            self.assertEqual(result.cost, nushbaret.solve(costs, maximize, as_many_as_can=True).cost)
-            self.assertEqual(nushbaret.solve(costs, maximize, start=result, as_many_as_can=True).cost, result.cost)
+            n_rows, n_columns = draw.randint(1, 5), draw.randint(1, 5)
+            costs, maximize = matrix(draw, n_rows, n_columns, 9, 0.8), draw.random() < 0.5
+            start = [draw.choice([0, draw.randint(-9, 9), draw.random(), Decimal("0.5")]) for _ in range(n_columns)]
+            result = nushbaret.solve(costs, maximize, start=start, partial=True)
+            self.assertEqual(result.cost, nushbaret.solve(costs, maximize, partial=True).cost)
+            self.assertEqual(nushbaret.solve(costs, maximize, start=result, partial=True).cost, result.cost)
 
     def test_without(self):
         draw = drawing(6)
         for _ in range(300):
-            n_rows, n_cols = draw.randint(1, 4), draw.randint(1, 4)
-            costs, maximize = matrix(draw, n_rows, n_cols, 9, draw.choice([0.7, 1.0])), draw.random() < 0.5
-            result = nushbaret.solve(costs, maximize, as_many_as_can=True)
+            n_rows, n_columns = draw.randint(1, 4), draw.randint(1, 4)
+            costs, maximize = matrix(draw, n_rows, n_columns, 9, draw.choice([0.7, 1.0])), draw.random() < 0.5
+            result = nushbaret.solve(costs, maximize, partial=True)
             if not result.rows:
                 continue
             row, column = result.rows[0], result.columns[0]
@@ -162,9 +162,9 @@ class Rents(unittest.TestCase):
         """Prices of rounds are no multiples: here each is raised by 0 or 1, as slackness 1 allows."""
         draw, settled = drawing(8), 0
         for _ in range(300):
-            n_rows, n_cols = draw.randint(1, 5), draw.randint(1, 5)
-            costs, maximize = matrix(draw, n_rows, n_cols, 9, draw.choice([0.6, 1.0])), draw.random() < 0.5
-            result = nushbaret.solve(costs, maximize, as_many_as_can=True)
+            n_rows, n_columns = draw.randint(1, 5), draw.randint(1, 5)
+            costs, maximize = matrix(draw, n_rows, n_columns, 9, draw.choice([0.6, 1.0])), draw.random() < 0.5
+            result = nushbaret.solve(costs, maximize, partial=True)
             if not result.rows:
                 continue
             answer = result._answer
@@ -178,23 +178,23 @@ class Rents(unittest.TestCase):
 
 class Results(unittest.TestCase):
     def test_empty_ones(self):
-        for costs, cols in ([], 0), ([[], []], 0):
+        for costs, columns in ([], 0), ([[], []], 0):
             result = nushbaret.solve(costs)
             self.assertEqual((result.rows, result.columns, result.cost, result.rents), ([], [], 0, []))
-            self.assertEqual(result.unserved_rows, list(range(len(costs))))
+            self.assertEqual(result.unmatched_rows, list(range(len(costs))))
             self.assertTrue(result.verify(costs))
         result = nushbaret.solve_sparse(0, 3, [], [], [])
-        self.assertEqual((result.unused_columns, result.rents, result.cost), ([0, 1, 2], [0, 0, 0], 0))
+        self.assertEqual((result.unmatched_columns, result.rents, result.cost), ([0, 1, 2], [0, 0, 0], 0))
         self.assertEqual(nushbaret.linear_sum_assignment([]), ([], []))
 
     def test_twelve_vehicles_by_twenty_jobs(self):
         costs = [[(7 * vehicle + 3 * job) % 19 + 1 for job in range(20)] for vehicle in range(12)]
         result = nushbaret.solve(costs)
-        self.assertEqual((len(result.rows), len(result.unused_columns)), (12, 8))
+        self.assertEqual((len(result.rows), len(result.unmatched_columns)), (12, 8))
         self.assertTrue(proves(costs, result, False))
         self.assertTrue(result.verify(costs))
         turned = nushbaret.solve([list(column) for column in zip(*costs)])
-        self.assertEqual((turned.cost, len(turned.unserved_rows)), (result.cost, 8))
+        self.assertEqual((turned.cost, len(turned.unmatched_rows)), (result.cost, 8))
 
     def test_a_plan_spoilt_is_not_verified(self):
         result = nushbaret.solve([[1, 2], [3, 5]])
@@ -209,7 +209,7 @@ class Results(unittest.TestCase):
         with self.assertRaises(nushbaret.Infeasible) as caught:
             nushbaret.solve([[1, None], [2, None]])
         again = pickle.loads(pickle.dumps(caught.exception))
-        self.assertEqual((again.rows, again.cols, str(again)), ([0, 1], [0], str(caught.exception)))
+        self.assertEqual((again.rows, again.columns, str(again)), ([0, 1], [0], str(caught.exception)))
 
     def test_eight_threads(self):
         draw, wrong = drawing(7), []

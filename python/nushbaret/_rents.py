@@ -4,20 +4,20 @@ import math
 import numbers
 from fractions import Fraction
 
-from .library import GREATEST_FIRST_PRICE, Halves
+from ._library import GREATEST_FIRST_PRICE, Halves
 
 
 def of_answer(problem, answer, served):
     """Rents of the columns in whole costs: the least is 0, and so are those of columns that nobody uses."""
     prices = answer.halves.prices()
     if not served:
-        return [0] * problem.n_cols
+        return [0] * problem.n_columns
     unit = answer.size + 1
-    lowest = min(prices[:problem.n_cols])
+    lowest = min(prices[:problem.n_columns])
     if any((price - lowest) % unit for price in prices):
         prices = _settled(problem, answer, prices, served)
-        lowest, unit = min(prices[:problem.n_cols]), 1
-    return [(price - lowest) // unit for price in prices[:problem.n_cols]]
+        lowest, unit = min(prices[:problem.n_columns]), 1
+    return [(price - lowest) // unit for price in prices[:problem.n_columns]]
 
 
 def _settled(problem, answer, prices, served):
@@ -26,7 +26,7 @@ def _settled(problem, answer, prices, served):
     With w the loss of an object's owner who takes another one, steps of (size + 1) * w + 1 are none below 0 when seen from the
     prices given, so that Dijkstra's search finds least ways, begun at 0 everywhere. A way has fewer than size + 1 steps, so
     the quotient is the least sum of w."""
-    from .square import squared
+    from ._square import squared
     unit, size = answer.size + 1, answer.size
     losses = _losses(problem, squared(problem, served), answer.objects, size)
     way, waiting = [0] * size, set(range(size))
@@ -78,8 +78,8 @@ def _whole(price, scale, place):
 def scaled(problem, given, size):
     """Prices in the unit of the costs, one for each column, become whole ones in the library's unit, the least 0."""
     given = list(given)
-    if len(given) != problem.n_cols:
-        raise ValueError(f"there are {len(given)} prices, and {problem.n_cols} columns")
+    if len(given) != problem.n_columns:
+        raise ValueError(f"there are {len(given)} prices, and {problem.n_columns} columns")
     unit = (size + 1) * 10**problem.places
     prices = [_whole(price, unit, place) for place, price in enumerate(given)]
     lowest = min(prices, default=0)
@@ -91,6 +91,6 @@ def scaled(problem, given, size):
 
 def first_prices(problem, given, served):
     """First prices for the library; dummies begin at 0."""
-    served = min(problem.n_rows, problem.n_cols) if served is None else served
-    size = problem.n_rows + problem.n_cols - served
-    return Halves(prices=scaled(problem, given, size) + [0] * (size - problem.n_cols))
+    served = min(problem.n_rows, problem.n_columns) if served is None else served
+    size = problem.n_rows + problem.n_columns - served
+    return Halves(prices=scaled(problem, given, size) + [0] * (size - problem.n_columns))

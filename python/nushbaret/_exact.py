@@ -9,7 +9,7 @@ from fractions import Fraction
 from itertools import chain
 from typing import NamedTuple
 
-from .library import GREATEST_COST
+from ._library import GREATEST_COST
 
 MOST_PLACES = 6
 # Up to so many numbers a copy costs less than a second look at them.

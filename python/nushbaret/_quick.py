@@ -1,8 +1,8 @@
 """SciPy's call on a square array of NumPy's, by a shorter way: around a small problem it's the steps in Python that take the time."""
 import sys
 
-from . import exact, library
-from .library import MOST_PERSONS
+from . import _exact as exact, _library as library
+from ._library import MOST_PERSONS
 
 _numbers = []
 
@@ -13,8 +13,8 @@ def assignment(costs, maximize):
     numpy = sys.modules.get("numpy")
     if numpy is None or type(costs) is not numpy.ndarray or costs.ndim != 2:
         return None
-    size, n_cols = costs.shape
-    if size != n_cols or not 0 < size <= MOST_PERSONS or not costs.flags.aligned:
+    size, n_columns = costs.shape
+    if size != n_columns or not 0 < size <= MOST_PERSONS or not costs.flags.aligned:
         return None
     numbers = _whole(numpy, costs)
     found = None if numbers is None else library.best_objects(size, numbers, maximize)

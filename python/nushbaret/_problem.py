@@ -3,8 +3,8 @@ import operator
 from array import array
 from typing import Any, NamedTuple
 
-from . import exact
-from .library import MOST_PERSONS, Lent
+from . import _exact as exact
+from ._library import MOST_PERSONS, Lent
 
 
 class Problem(NamedTuple):
@@ -12,7 +12,7 @@ class Problem(NamedTuple):
     objects[k] - 1 are a pair at costs[k]. `numpy` is the module where an array came in, else None."""
 
     n_rows: int
-    n_cols: int
+    n_columns: int
     maximize: bool
     costs: Any
     persons: Any
@@ -30,15 +30,15 @@ class Problem(NamedTuple):
         return values if self.numpy is None else self.numpy.array(values, self.numpy.intp)
 
 
-def _place_in(n_cols):
-    return lambda place: "row {}, column {}".format(*divmod(place, n_cols))
+def _place_in(n_columns):
+    return lambda place: "row {}, column {}".format(*divmod(place, n_columns))
 
 
-def _judge_size(n_rows, n_cols):
-    if n_rows < 0 or n_cols < 0:
-        raise ValueError(f"{n_rows} rows and {n_cols} columns: neither can be below 0")
-    if max(n_rows, n_cols) > MOST_PERSONS:
-        raise ValueError(f"{n_rows} rows and {n_cols} columns: at most {MOST_PERSONS} of each can be had")
+def _judge_size(n_rows, n_columns):
+    if n_rows < 0 or n_columns < 0:
+        raise ValueError(f"{n_rows} rows and {n_columns} columns: neither can be below 0")
+    if max(n_rows, n_columns) > MOST_PERSONS:
+        raise ValueError(f"{n_rows} rows and {n_columns} columns: at most {MOST_PERSONS} of each can be had")
 
 
 def _rows_of(costs):
@@ -60,21 +60,21 @@ def _of_view(view, maximize, decimals):
     """Of a memoryview of two dimensions: lent where it has just the numbers that the library wants."""
     if view.ndim != 2:
         raise ValueError(f"expected a matrix (2-D array), got a {view.ndim} array")
-    n_rows, n_cols = view.shape
-    _judge_size(n_rows, n_cols)
+    n_rows, n_columns = view.shape
+    _judge_size(n_rows, n_columns)
     own = view.format in ("q", "l") and view.itemsize == 8 and view.c_contiguous and not view.readonly
     if own and not decimals and view.nbytes:
-        return n_rows, n_cols, exact.Costs(Lent(view), (), 0, False), None
-    return n_rows, n_cols, exact.of_rows(view.tolist(), n_cols, maximize, decimals, _place_in(n_cols)), None
+        return n_rows, n_columns, exact.Costs(Lent(view), (), 0, False), None
+    return n_rows, n_columns, exact.of_rows(view.tolist(), n_columns, maximize, decimals, _place_in(n_columns)), None
 
 
 def _of_array(numpy, costs, maximize, decimals):
     costs = numpy.asarray(costs)
     if costs.ndim != 2:
         raise ValueError(f"expected a matrix (2-D array), got a {costs.ndim} array")
-    n_rows, n_cols = costs.shape
-    _judge_size(n_rows, n_cols)
-    return n_rows, n_cols, exact.of_array(numpy, costs, maximize, decimals, _place_in(n_cols)), numpy
+    n_rows, n_columns = costs.shape
+    _judge_size(n_rows, n_columns)
+    return n_rows, n_columns, exact.of_array(numpy, costs, maximize, decimals, _place_in(n_columns)), numpy
 
 
 def _read_matrix(costs, maximize, decimals):
@@ -86,33 +86,33 @@ def _read_matrix(costs, maximize, decimals):
             return _of_view(memoryview(costs), maximize, decimals)
         except TypeError:
             pass
-    rows, n_cols = _rows_of(costs)
-    _judge_size(len(rows), n_cols)
-    return len(rows), n_cols, exact.of_rows(rows, n_cols, maximize, decimals, _place_in(n_cols)), None
+    rows, n_columns = _rows_of(costs)
+    _judge_size(len(rows), n_columns)
+    return len(rows), n_columns, exact.of_rows(rows, n_columns, maximize, decimals, _place_in(n_columns)), None
 
 
 def of_matrix(costs, maximize, decimals):
     """The problem of a matrix. ValueError and TypeError name what is wrong, with row and column from 0."""
     maximize = bool(maximize)
-    n_rows, n_cols, read, numpy = _read_matrix(costs, maximize, exact.judged_decimals(decimals))
+    n_rows, n_columns, read, numpy = _read_matrix(costs, maximize, exact.judged_decimals(decimals))
     numbers, persons, objects = read.numbers, None, None
     if len(read.forbidden):
-        numbers, persons, objects = _without_forbidden(n_rows, n_cols, read, numpy)
-    return Problem(n_rows, n_cols, maximize, numbers, persons, objects, read.places, read.rounded, numpy)
+        numbers, persons, objects = _without_forbidden(n_rows, n_columns, read, numpy)
+    return Problem(n_rows, n_columns, maximize, numbers, persons, objects, read.places, read.rounded, numpy)
 
 
-def _without_forbidden(n_rows, n_cols, read, numpy):
+def _without_forbidden(n_rows, n_columns, read, numpy):
     """Costs, persons and objects of the pairs that aren't forbidden."""
     if numpy:
-        allowed = numpy.ones(n_rows * n_cols, bool)
+        allowed = numpy.ones(n_rows * n_columns, bool)
         allowed[read.forbidden] = False
         places = numpy.flatnonzero(allowed)
-        persons, objects = numpy.divmod(places, n_cols)
+        persons, objects = numpy.divmod(places, n_columns)
         return read.numbers[places], (persons + 1).astype(numpy.uint16), (objects + 1).astype(numpy.uint16)
     forbidden = set(read.forbidden)
-    places = [place for place in range(n_rows * n_cols) if place not in forbidden]
-    persons = array("H", [place // n_cols + 1 for place in places])
-    objects = array("H", [place % n_cols + 1 for place in places])
+    places = [place for place in range(n_rows * n_columns) if place not in forbidden]
+    persons = array("H", [place // n_columns + 1 for place in places])
+    objects = array("H", [place % n_columns + 1 for place in places])
     return array("q", [read.numbers[place] for place in places]), persons, objects
 
 
@@ -152,11 +152,11 @@ def _one_form(numpy, values, kind):
     return numpy.asarray(values, kind) if numpy else values
 
 
-def of_pairs(n_rows, n_cols, rows, cols, costs, maximize, decimals):
+def of_pairs(n_rows, n_columns, rows, columns, costs, maximize, decimals):
     """The problem of listed pairs, whose costs may be infinite or None to forbid a pair after all."""
-    n_rows, n_cols = operator.index(n_rows), operator.index(n_cols)
-    _judge_size(n_rows, n_cols)
-    persons, objects = _numbered(rows, n_rows, "rows"), _numbered(cols, n_cols, "cols")
+    n_rows, n_columns = operator.index(n_rows), operator.index(n_columns)
+    _judge_size(n_rows, n_columns)
+    persons, objects = _numbered(rows, n_rows, "rows"), _numbered(columns, n_columns, "columns")
 
     def where(place):
         pair = f" (row {persons[place] - 1}, column {objects[place] - 1})" if place < min(len(persons), len(objects)) else ""
@@ -164,15 +164,15 @@ def of_pairs(n_rows, n_cols, rows, cols, costs, maximize, decimals):
 
     read, numpy = _pair_costs(costs, bool(maximize), exact.judged_decimals(decimals), where)
     if not len(persons) == len(objects) == len(read.numbers):
-        raise ValueError(f"rows, cols and costs must be of one length: they have {len(persons)}, {len(objects)} and {len(read.numbers)}")
-    numpy = numpy or exact.numpy_of(rows) or exact.numpy_of(cols)
+        raise ValueError(f"rows, columns and costs must be of one length: they have {len(persons)}, {len(objects)} and {len(read.numbers)}")
+    numpy = numpy or exact.numpy_of(rows) or exact.numpy_of(columns)
     kinds = ("uint16", "uint16", "int64")
     lists = [_one_form(numpy, values, kind) for values, kind in zip((persons, objects, read.numbers), kinds)]
     if len(read.forbidden):
         forbidden = set(map(int, read.forbidden))
         kept = [place for place in range(len(persons)) if place not in forbidden]
         lists = [values[kept] if numpy else array(values.typecode, [values[place] for place in kept]) for values in lists]
-    return Problem(n_rows, n_cols, bool(maximize), lists[2], lists[0], lists[1], read.places, read.rounded, numpy)
+    return Problem(n_rows, n_columns, bool(maximize), lists[2], lists[0], lists[1], read.places, read.rounded, numpy)
 
 
 def of_sparse_matrix(matrix, maximize, decimals):

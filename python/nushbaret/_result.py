@@ -3,10 +3,10 @@ import decimal
 from functools import cached_property
 from typing import TYPE_CHECKING, Any, List, Union
 
-from . import rents as prices_and_rents
+from . import _rents as prices_and_rents
 
 if TYPE_CHECKING:
-    from . import checking
+    from ._checking import Verdict
 
 
 def in_unit(number, places):
@@ -21,18 +21,18 @@ def rows_and_columns(problem, answer):
 
 def _lists_of(problem, answer):
     columns = [item - 1 for item in answer.objects[:problem.n_rows]]
-    if answer.size == problem.n_cols:
+    if answer.size == problem.n_columns:
         return list(range(problem.n_rows)), columns
-    rows = [row for row, column in enumerate(columns) if column < problem.n_cols]
+    rows = [row for row, column in enumerate(columns) if column < problem.n_columns]
     return rows, [columns[row] for row in rows]
 
 
 def _arrays_of(numpy, problem, answer):
     columns = numpy.array(answer.objects[:problem.n_rows].tolist(), numpy.intp)
     columns -= 1
-    if answer.size == problem.n_cols:
+    if answer.size == problem.n_columns:
         return numpy.arange(problem.n_rows), columns
-    rows = numpy.flatnonzero(columns < problem.n_cols)
+    rows = numpy.flatnonzero(columns < problem.n_columns)
     return rows, columns[rows]
 
 
@@ -54,7 +54,7 @@ class Result:
         The same in the unit of the costs: no row would be better off with another column, where it pays the column's rent
         beside its cost (under maximize: where the rent is taken off). The least is 0, and so is that of unused columns.
         Other rents prove the same plan as well.
-    unserved_rows, unused_columns : list of int, or NumPy array
+    unmatched_rows, unmatched_columns : list of int, or NumPy array
         Who stays without, rising.
     scale : int
         What prices are divided by to be in the unit of the costs.
@@ -82,30 +82,30 @@ class Result:
         return _lists_of(self._problem, self._answer)
 
     @cached_property
-    def unserved_rows(self) -> Any:
+    def unmatched_rows(self) -> Any:
         return self._problem.numbers(sorted(set(range(self._problem.n_rows)).difference(self._pairs[0])))
 
     @cached_property
-    def unused_columns(self) -> Any:
-        return self._problem.numbers(sorted(set(range(self._problem.n_cols)).difference(self._pairs[1])))
+    def unmatched_columns(self) -> Any:
+        return self._problem.numbers(sorted(set(range(self._problem.n_columns)).difference(self._pairs[1])))
 
     @cached_property
     def prices(self) -> List[int]:
-        return self._answer.halves.prices()[:self._problem.n_cols]
+        return self._answer.halves.prices()[:self._problem.n_columns]
 
     @cached_property
     def rents(self) -> List[Union[int, decimal.Decimal]]:
         whole = prices_and_rents.of_answer(self._problem, self._answer, len(self._pairs[0]))
         return [in_unit(rent, self.decimals) for rent in whole]
 
-    def verify(self, costs: Any = None, rows: Any = None, cols: Any = None) -> "checking.Verdict":
+    def verify(self, costs: Any = None, rows: Any = None, columns: Any = None) -> "Verdict":
         """Holds the plan and its rents against a problem, by the library's proved checker.
 
         Parameters
         ----------
         costs : matrix or sparse matrix, optional
             The problem, of as many rows and columns; the one that was solved where it isn't given.
-        rows, cols : lists of int, optional
+        rows, columns : lists of int, optional
             Where they are given, `costs` is a list too, and these are its pairs, as in `solve_sparse`.
 
         Returns
@@ -113,10 +113,10 @@ class Result:
         Verdict
             True as a condition exactly where the rents prove that no plan of as many pairs is better.
         """
-        from .checking import check_problem, problem_of
+        from ._checking import check_problem, problem_of
         problem = self._problem
         if costs is not None:
-            problem = problem_of(costs, rows, cols, (problem.n_rows, problem.n_cols), self.maximize, self.decimals if self.rounded else None)
+            problem = problem_of(costs, rows, columns, (problem.n_rows, problem.n_columns), self.maximize, self.decimals if self.rounded else None)
         return check_problem(problem, *self._pairs, self.rents)
 
     def without(self, row: int, column: int) -> "Result":
@@ -141,5 +141,5 @@ class Result:
         IndexError
             Where the row or the column isn't one of the problem.
         """
-        from .solving import solve_without
+        from ._solving import solve_without
         return solve_without(self._problem, len(self._pairs[0]), row, column)
