@@ -5,10 +5,12 @@ Lines and columns are counted from 1, and a column is a cell of its line.
 """
 import csv
 import io
+import json
+import os
 import re
 import unicodedata
 from array import array
-from typing import Dict, Iterator, List, NamedTuple, NoReturn, Optional, Set, Tuple
+from typing import Dict, Iterator, List, NamedTuple, NoReturn, Optional, Set, Tuple, Union
 
 from ._exact import MOST_PLACES
 from ._library import GREATEST_COST, MOST_PERSONS
@@ -140,7 +142,8 @@ class Names:
         before = len(self.list)
         number = self.number(cell, line, column)
         if number < before:
-            self._sheet.refuse(f"the name {quoted(cell)} a second time", line, column)
+            hint = "--tasks" if self._kind == "persons" else "--places"
+            self._sheet.refuse(f"the name {quoted(cell)} a second time (list it once; {hint} says how many it takes)", line, column)
         return number
 
     def _add(self, name: str, line: int, column: int) -> int:
@@ -208,7 +211,8 @@ class Costs:
 
 class Roster(NamedTuple):
     """A problem by names. Pair k is of `persons[of_persons[k]]` and `objects[of_objects[k]]`, no pair twice; `costs[k]` is in
-    units of 10^-decimals. `titles` are the words for a person, an object and a cost."""
+    units of 10^-decimals. `titles` are the words for a person, an object and a cost. `tasks` and `places` say of persons and of
+    objects how many they take, where it isn't one; None where nothing was said."""
 
     persons: List[str]
     objects: List[str]
@@ -221,6 +225,21 @@ class Roster(NamedTuple):
     titles: Tuple[str, str, str]
     separator: str
     comma: bool
+    tasks: Optional[Dict[int, int]] = None
+    places: Optional[Dict[int, int]] = None
+
+    @property
+    def counts(self) -> bool:
+        """Whether names may count several times."""
+        return self.tasks is not None or self.places is not None
+
+    def tasks_of(self, person: int) -> int:
+        """How many objects a person takes."""
+        return 1 if self.tasks is None else self.tasks.get(person, 1)
+
+    def places_of(self, object_: int) -> int:
+        """How many persons an object takes."""
+        return 1 if self.places is None else self.places.get(object_, 1)
 
     def costs_of(self, wanted: Set[Tuple[int, int]]) -> Dict[Tuple[int, int], int]:
         """The costs of those of the wanted pairs that are allowed."""
@@ -347,21 +366,37 @@ class PlanLine(NamedTuple):
     cost: int
 
 
-def read_plan(path: str, roster: Roster) -> List[PlanLine]:
-    """Reads pairs that are to stand: a title line, and lines of a person and an object; further cells aren't read.
+def read_counts(path: str, roster: Roster, of_objects: bool) -> Dict[int, int]:
+    """Reads how many each object, or each person, takes: a title line, and lines of a name and a whole number.
 
-    Raises `RosterFault` for the first name that the roster doesn't have, then for the first name that stands twice, then
-    for the first pair that the roster forbids; and `OSError` where the file can't be read.
+    Raises `RosterFault` for the first name that the roster doesn't have or that stands twice, or count that is none from 0 to 8192.
     """
     sheet = Sheet(path)
     line, title = sheet.title()
     if len(title) < 2:
-        sheet.refuse("a person and an object are wanted in each line", line)
-    if title[0] in roster.person_numbers and title[1] in roster.object_numbers:
-        sheet.refuse(f"a title line is wanted first, and {title[0]}, {title[1]} is a pair", line)
-    places = [_plan_place(sheet, roster, line, cells) for line, cells in sheet.body(len(title))]
-    for column, kind in enumerate(("person", "object"), 1):
-        _refuse_twice(sheet, places, column, roster.persons if column == 1 else roster.objects)
+        sheet.refuse("a name and how many it takes are wanted in each line", line)
+    if looks_like_number(title[1]):
+        sheet.refuse(f"a title line is wanted first, and {quoted(title[1])} is a number", line, 2)
+    counts: Dict[int, int] = {}
+    for line, cells in sheet.body(len(title)):
+        number = _known(sheet, roster, cells[0], line, 2 if of_objects else 1, 1)
+        if number in counts:
+            sheet.refuse(f"the name {quoted(cells[0])} a second time", line, 1)
+        if re.fullmatch("[0-9]{1,9}", cells[1]) is None or int(cells[1]) > MOST_PERSONS:
+            sheet.refuse(f"{quoted(cells[1])} is no whole number from 0 to {MOST_PERSONS}", line, 2)
+        counts[number] = int(cells[1])
+    return counts
+
+
+def read_plan(path: str, roster: Roster) -> List[PlanLine]:
+    """Reads pairs that are to stand: a title line, and lines of a person and an object; further cells aren't read.
+
+    Raises `RosterFault` for the first name that the roster doesn't have, then for the first name that stands more often than it may,
+    then for the first pair that the roster forbids; and `OSError` where the file can't be read.
+    """
+    sheet = Sheet(path)
+    places = [(*_plan_place(sheet, roster, line, cells), line) for line, cells in _plan_cells(sheet, roster)]
+    _refuse_twice(sheet, roster, places)
     costs = roster.costs_of({(person, object_) for person, object_, _ in places})
     for person, object_, line in places:
         if (person, object_) not in costs:
@@ -369,19 +404,87 @@ def read_plan(path: str, roster: Roster) -> List[PlanLine]:
     return [PlanLine(person, object_, line, costs[person, object_]) for person, object_, line in places]
 
 
-def _plan_place(sheet: Sheet, roster: Roster, line: int, cells: List[str]) -> Tuple[int, int, int]:
-    found = []
-    for column, (cell, numbers) in enumerate(zip(cells, (roster.person_numbers, roster.object_numbers)), 1):
-        name = sheet.name(cell, line, column)
-        if name not in numbers:
-            sheet.refuse(f"the roster has no {'person' if column == 1 else 'object'} {quoted(name)}", line, column)
-        found.append(numbers[name])
-    return found[0], found[1], line
+class OldPlan(NamedTuple):
+    """An earlier plan: its pairs by names, those that the roster allows, the names that the roster doesn't have, and the pairs of known
+    names that it forbids, each with its line."""
+
+    pairs: List[Tuple[str, str]]
+    known: List[PlanLine]
+    gone: List[str]
+    forbidden: List[Tuple[int, int, int]]
 
 
-def _refuse_twice(sheet: Sheet, places: List[Tuple[int, int, int]], column: int, names: List[str]) -> None:
-    lines: Dict[int, int] = {}
-    for place in places:
-        first = lines.setdefault(place[column - 1], place[2])
-        if first != place[2]:
-            sheet.refuse(f"{quoted(names[place[column - 1]])} a second time, after line {first}", place[2], column)
+def read_old_plan(path: str, roster: Roster) -> OldPlan:
+    """Reads an earlier plan, a CSV file as `read_plan` reads it or a plan in JSON. Its names may be gone, and its pairs forbidden.
+
+    Raises `RosterFault` for the first name that stands more often than it may.
+    """
+    if os.path.splitext(path)[1].lower() == ".json":
+        named = _plan_of_json(path)
+    else:
+        sheet = Sheet(path)
+        named = [(sheet.name(cells[0], line, 1), sheet.name(cells[1], line, 2), line) for line, cells in _plan_cells(sheet, roster)]
+    gone: Dict[str, None] = {}
+    places = []
+    for person, object_, line in named:
+        gone.update({person: None} if person not in roster.person_numbers else {})
+        gone.update({object_: None} if object_ not in roster.object_numbers else {})
+        if person in roster.person_numbers and object_ in roster.object_numbers:
+            places.append((roster.person_numbers[person], roster.object_numbers[object_], line))
+    _refuse_twice(path, roster, places)
+    costs = roster.costs_of({(person, object_) for person, object_, _ in places})
+    known = [PlanLine(person, object_, line, costs[person, object_]) for person, object_, line in places if (person, object_) in costs]
+    return OldPlan([(person, object_) for person, object_, _ in named], known, list(gone),
+                   [place for place in places if place[:2] not in costs])
+
+
+def _plan_of_json(path: str) -> List[Tuple[str, str, int]]:
+    with open(path, "rb") as file:
+        data = file.read(MOST_BYTES)
+    try:
+        plan = json.loads(data.decode("utf-8-sig"))
+        return [(str(pair["person"]), str(pair["object"]), number) for number, pair in enumerate(plan["pairs"], 1)]
+    except (ValueError, RecursionError, KeyError, TypeError) as fault:
+        raise RosterFault(path, f"no plan with pairs in JSON: {fault}") from fault
+
+
+def _plan_cells(sheet: Sheet, roster: Roster) -> Iterator[Tuple[int, List[str]]]:
+    line, title = sheet.title()
+    if len(title) < 2:
+        sheet.refuse("a person and an object are wanted in each line", line)
+    if title[0] in roster.person_numbers and title[1] in roster.object_numbers:
+        sheet.refuse(f"a title line is wanted first, and {title[0]}, {title[1]} is a pair", line)
+    return sheet.body(len(title))
+
+
+def _plan_place(sheet: Sheet, roster: Roster, line: int, cells: List[str]) -> Tuple[int, int]:
+    return _known(sheet, roster, cells[0], line, 1, 1), _known(sheet, roster, cells[1], line, 2, 2)
+
+
+def _known(sheet: Sheet, roster: Roster, cell: str, line: int, side: int, column: int) -> int:
+    """The number of a person (side 1) or an object that the roster must have."""
+    name = sheet.name(cell, line, column)
+    numbers = roster.person_numbers if side == 1 else roster.object_numbers
+    if name not in numbers:
+        sheet.refuse(f"the roster has no {'person' if side == 1 else 'object'} {quoted(name)}", line, column)
+    return numbers[name]
+
+
+def _refuse_twice(place: Union[Sheet, str], roster: Roster, places: List[Tuple[int, int, int]]) -> None:
+    """Refuses a name that stands more often than it may, and a pair that stands twice."""
+    path = place if isinstance(place, str) else place.path
+    for column, names, most in ((1, roster.persons, roster.tasks_of), (2, roster.objects, roster.places_of)):
+        lines: Dict[int, List[int]] = {}
+        for found in places:
+            number = found[column - 1]
+            before = lines.setdefault(number, [])
+            if len(before) == most(number):
+                often = "a second time" if before[:1] and most(number) == 1 else f"more than {most(number)} times"
+                after = f", after line {before[0]}" if before else ""
+                raise RosterFault(path, f"{quoted(names[number])} {often}{after}", found[2], column)
+            before.append(found[2])
+    pairs: Dict[Tuple[int, int], int] = {}
+    for person, object_, line in places:
+        first = pairs.setdefault((person, object_), line)
+        if first != line:
+            raise RosterFault(path, f"the pair {roster.persons[person]}, {roster.objects[object_]} a second time, after line {first}", line)
