@@ -121,7 +121,7 @@ def plan_of(roster: Roster, rest: Rest, fixed: List[PlanLine], result) -> Plan:
     pairs.sort()
     used = {pair.object for pair in pairs}
     served = {pair.person for pair in pairs}
-    rents = {} if result is None else dict(zip(rest.objects, result.rents))
+    rents = {} if result is None else dict(zip(rest.objects, result._rents))
     return Plan(
         pairs, sum(pair.cost for pair in pairs),
         [person for person in range(len(roster.persons)) if person not in served],
