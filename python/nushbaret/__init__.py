@@ -2,7 +2,7 @@
 
     import nushbaret
     result = nushbaret.solve([[1, 2], [3, 5]])
-    result.columns, result.cost, result.rents
+    result.columns, result.cost, result.column_duals
 
 `solve` takes a matrix, `solve_sparse` listed pairs, and `linear_sum_assignment` is SciPy's call. `check` and `compare` judge
 plans from elsewhere. Every answer is found and held by Nushbaret's proved library; what this package adds, the reading of

@@ -18,14 +18,9 @@ class Face(NamedTuple):
     columns: List[int]
 
 
-def rents_of(result: Any) -> List[int]:
-    """What columns cost beside their pairs: the least is 0, as is that of a column that stays unmatched."""
-    return result._rents if hasattr(result, "_rents") else result.rents
-
-
 def face_of(nodes: Nodes, costs: List[int], result: Any) -> Face:
     """All plans as good as a result for these costs, which are to be least."""
-    rents = rents_of(result)
+    rents = result._rents
     paid = [cost + rents[column] for cost, column in zip(costs, nodes.columns)]
     least: List[Optional[int]] = [None] * len(nodes.of_rows)
     for row, cost in zip(nodes.rows, paid):

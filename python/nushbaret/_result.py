@@ -1,12 +1,17 @@
 """A best assignment as the caller sees it."""
 import decimal
 from functools import cached_property
-from typing import TYPE_CHECKING, Any, List, Union
+from typing import TYPE_CHECKING, Any, List, Tuple, Union
 
-from . import _rents as prices_and_rents
+from . import _duals
+from ._exact import manner
+from ._problem import costs_of_pairs
 
 if TYPE_CHECKING:
     from ._checking import Verdict
+
+
+Number = Union[int, decimal.Decimal]
 
 
 def in_unit(number, places):
@@ -48,12 +53,16 @@ class Result:
         The pairs. With unequal numbers there are as many as the fewer of rows and columns.
     cost : int or decimal.Decimal
         The sum of their costs, exactly; a Decimal where costs have decimal places.
+    pairs : list of tuple
+        The pairs by the labels of a DataFrame, or else by numbers.
+    row_duals, column_duals : list of int or of decimal.Decimal
+        The proof, exactly: u[i] + v[j] <= costs[i][j] for each pair that is allowed, with equality in the plan; v[j] <= 0, and 0
+        where a column is unmatched; the sum of all is the cost. Where rows are more and all columns are matched, this holds for
+        u in place of v. Under maximize all of these signs are turned. (In a partial plan that leaves out rows and columns, all
+        unmatched rows have one dual, none is greater, and it is the sum over the matched that is the cost.) Other duals prove
+        the same plan as well.
     prices : list of int
-        The proof, one price for each column, in the unit of the costs divided by `scale`.
-    rents : list of int or of decimal.Decimal
-        The same in the unit of the costs: no row would be better off with another column, where it pays the column's rent
-        beside its cost (under maximize: where the rent is taken off). The least is 0, and so is that of unused columns.
-        Other rents prove the same plan as well.
+        The library's own proof, one price for each column, in the unit of the costs divided by `scale`.
     unmatched_rows, unmatched_columns : list of int, or NumPy array
         Who stays without, rising.
     scale : int
@@ -62,6 +71,8 @@ class Result:
         How many decimal places were counted.
     rounded : bool
         Whether any cost was changed by rounding to `decimals` places: then the plan is best for the rounded costs.
+    error_bound : int or decimal.Decimal
+        By how much at most the plan is worse than the best one for the costs before they were rounded; 0 where none was.
     maximize : bool
         Whether the greatest sum was wanted.
     """
@@ -73,6 +84,7 @@ class Result:
         self.cost = in_unit(answer.total, problem.places)
         self.scale = (answer.size + 1) * 10**problem.places
         self.decimals, self.rounded, self.maximize = problem.places, problem.rounded, problem.maximize
+        self.error_bound = in_unit(len(self.rows), problem.places) if problem.rounded else 0
 
     def __repr__(self):
         return f"<nushbaret.Result: cost {self.cost}, {len(self.rows)} pairs>"
@@ -80,6 +92,13 @@ class Result:
     @cached_property
     def _pairs(self):
         return _lists_of(self._problem, self._answer)
+
+    @cached_property
+    def pairs(self) -> List[Tuple[Any, Any]]:
+        if self._problem.labels is None:
+            return list(zip(*self._pairs))
+        rows, columns = self._problem.labels
+        return [(rows[row], columns[column]) for row, column in zip(*self._pairs)]
 
     @cached_property
     def unmatched_rows(self) -> Any:
@@ -94,12 +113,39 @@ class Result:
         return self._answer.halves.prices()[:self._problem.n_columns]
 
     @cached_property
-    def rents(self) -> List[Union[int, decimal.Decimal]]:
-        whole = prices_and_rents.of_answer(self._problem, self._answer, len(self._pairs[0]))
-        return [in_unit(rent, self.decimals) for rent in whole]
+    def _whole_duals(self):
+        return _duals.of_answer(self._problem, self._answer, *self._pairs)
+
+    def _in_unit(self, numbers):
+        return [in_unit(number, self.decimals) for number in numbers]
+
+    @cached_property
+    def row_duals(self) -> List[Number]:
+        return self._in_unit(-dual if self.maximize else dual for dual in self._whole_duals.rows)
+
+    @cached_property
+    def column_duals(self) -> List[Number]:
+        return self._in_unit(-dual if self.maximize else dual for dual in self._whole_duals.columns)
+
+    @cached_property
+    def _rents(self):
+        return self._in_unit(_duals.rents(self._whole_duals))
+
+    def to_frame(self) -> Any:
+        """The pairs as a DataFrame of pandas, which must be installed.
+
+        Returns
+        -------
+        pandas.DataFrame
+            With columns row, column and cost: labels where the costs had such, numbers elsewhere.
+        """
+        import pandas
+        costs = self._in_unit(costs_of_pairs(self._problem, list(zip(*self._pairs))))
+        rows, columns = zip(*self.pairs) if self.pairs else ((), ())
+        return pandas.DataFrame({"row": list(rows), "column": list(columns), "cost": costs})
 
     def verify(self, costs: Any = None, rows: Any = None, columns: Any = None) -> "Verdict":
-        """Holds the plan and its rents against a problem, by the library's proved checker.
+        """Holds the plan and its duals against a problem, by the library's proved checker.
 
         Parameters
         ----------
@@ -111,13 +157,14 @@ class Result:
         Returns
         -------
         Verdict
-            True as a condition exactly where the rents prove that no plan of as many pairs is better.
+            True as a condition exactly where the duals prove that no plan of as many pairs is better.
         """
         from ._checking import check_problem, problem_of
         problem = self._problem
         if costs is not None:
-            problem = problem_of(costs, rows, columns, (problem.n_rows, problem.n_columns), self.maximize, self.decimals if self.rounded else None)
-        return check_problem(problem, *self._pairs, self.rents)
+            how = manner(self.maximize, self.decimals if self.rounded else None)
+            problem = problem_of(costs, rows, columns, (problem.n_rows, problem.n_columns), how)
+        return check_problem(problem, *self._pairs, self._rents)
 
     def without(self, row: int, column: int) -> "Result":
         """The best plan where this pair is forbidden; what it costs more is what the pair is worth.

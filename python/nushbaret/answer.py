@@ -4,7 +4,7 @@ from typing import Any, Dict, List, NamedTuple, Optional, Sequence, Set, Tuple
 
 from ._errors import Infeasible
 from ._groups import Group, groups_of
-from ._keep import fewest_changes, rents_of
+from ._keep import fewest_changes
 from ._nodes import Listed, Nodes, changed, least_costs, nodes_of
 from .roster import PlanLine, Roster
 from ._solving import solve_sparse
@@ -101,7 +101,7 @@ def _plan(roster: Roster, wish: Wish, nodes: Nodes, costs: List[int], result: An
         chosen = nodes.pairs(result.rows, result.columns)
     else:
         chosen = fewest_changes(nodes, costs, result, wish.kept)
-    rents = {} if roster.counts else dict(zip(nodes.of_columns, rents_of(result)))
+    rents = {} if roster.counts else dict(zip(nodes.of_columns, result._rents))
     return plan_of(roster, wish.fixed, chosen, rents)
 
 

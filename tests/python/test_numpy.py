@@ -46,12 +46,10 @@ class Arrays(unittest.TestCase):
         self.assertEqual([part.tolist() for part in nushbaret.linear_sum_assignment(np.eye(2))], [[0, 1], [1, 0]])
 
     def test_what_is_not_whole_goes_the_longer_way(self):
-        for wrong, words in ((10**12 + 1, "row 1, column 0: the cost is beyond"), (1e300, "row 1, column 0: the cost is beyond"),
-                             (-np.inf, "contains invalid numeric entries"), (np.nan, "nan at row 1, column 0"),
-                             (1 / 3, "row 1, column 0: .* has more than 6 decimal places")):
+        for wrong, words in (-np.inf, "contains invalid numeric entries"), (np.nan, "nan at row 1, column 0: None or an infinite"):
             with self.assertRaisesRegex(ValueError, words):
                 nushbaret.linear_sum_assignment(np.array([[1.0, 2.0], [wrong, 4.0]]))
-        for kept, wanted in ((np.inf, [1, 0]), (2.5, [1, 0]), (0.5, [0, 1]), (-0.0, [0, 1])):
+        for kept, wanted in ((10**12 + 1, [1, 0]), (1e300, [1, 0]), (5e-324, [0, 1]), (1 / 3, [0, 1]), (np.inf, [1, 0]), (2.5, [1, 0]), (0.5, [0, 1]), (-0.0, [0, 1])):
             columns = nushbaret.linear_sum_assignment(np.array([[kept, -0.0], [2.0, 1.0]]))[1]
             self.assertEqual(columns.tolist(), wanted)
 

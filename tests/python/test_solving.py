@@ -11,17 +11,23 @@ from drawn import best, drawing, matrix
 
 
 def proves(costs, result, maximize):
-    """Whether the rents alone, looked at here and not by the library, prove the plan best among those of as many pairs."""
+    """Whether the duals alone, looked at here and not by the library, prove the plan best among those of as many pairs."""
     sign = -1 if maximize else 1
-    rents = list(result.rents)
-    pays = [[None if cost is None else sign * cost + rents[column] for column, cost in enumerate(row)] for row in costs]
-    own = dict(zip(result.rows, result.columns))
-    if any(pays[row][column] > min(cost for cost in pays[row] if cost is not None) for row, column in own.items()):
+    rows, columns = ([sign * dual for dual in duals] for duals in (result.row_duals, result.column_duals))
+    own = set(zip(result.rows, result.columns))
+    slack = {(row, column): sign * cost - rows[row] - columns[column]
+             for row, held in enumerate(costs) for column, cost in enumerate(held) if cost is not None}
+    if min(slack.values(), default=0) < 0 or any(slack[pair] for pair in own):
         return False
-    dearest = max((pays[row][column] for row, column in own.items()), default=None)
-    out = [cost for row in result.unmatched_rows for cost in pays[row] if cost is not None]
-    unused = [rents[column] for column in result.unmatched_columns]
-    return (dearest is None or all(cost >= dearest for cost in out)) and not any(unused) and min(rents, default=0) == 0
+    out_rows, out_columns = [rows[row] for row in result.unmatched_rows], [columns[column] for column in result.unmatched_columns]
+    both = sum(rows[row] for row, _ in own) + sum(columns[column] for _, column in own)
+    if both != sign * result.cost:
+        return False
+    if out_rows and not out_columns:
+        return max(rows) == 0 and not any(out_rows) and sum(rows) + sum(columns) == both
+    if out_rows and own:
+        return set(out_rows) == {max(rows)} and max(columns) == 0 and not any(out_columns)
+    return max(columns, default=0) == 0 and not any(out_columns) and sum(rows) + sum(columns) == both
 
 
 class Drawn(unittest.TestCase):
@@ -157,8 +163,8 @@ class Drawn(unittest.TestCase):
                 self.hold(less, result.without(row, column), maximize, len(result.rows))
 
 
-class Rents(unittest.TestCase):
-    def test_prices_of_any_slack_that_proves_give_whole_rents(self):
+class Duals(unittest.TestCase):
+    def test_prices_of_any_slack_that_proves_give_whole_duals(self):
         """Prices of rounds are no multiples: here each is raised by 0 or 1, as slackness 1 allows."""
         draw, settled = drawing(8), 0
         for _ in range(300):
@@ -180,11 +186,11 @@ class Results(unittest.TestCase):
     def test_empty_ones(self):
         for costs, columns in ([], 0), ([[], []], 0):
             result = nushbaret.solve(costs)
-            self.assertEqual((result.rows, result.columns, result.cost, result.rents), ([], [], 0, []))
+            self.assertEqual((result.rows, result.columns, result.cost, result.column_duals), ([], [], 0, []))
             self.assertEqual(result.unmatched_rows, list(range(len(costs))))
             self.assertTrue(result.verify(costs))
         result = nushbaret.solve_sparse(0, 3, [], [], [])
-        self.assertEqual((result.unmatched_columns, result.rents, result.cost), ([0, 1, 2], [0, 0, 0], 0))
+        self.assertEqual((result.unmatched_columns, result.column_duals, result.cost), ([0, 1, 2], [0, 0, 0], 0))
         self.assertEqual(nushbaret.linear_sum_assignment([]), ([], []))
 
     def test_twelve_vehicles_by_twenty_jobs(self):
