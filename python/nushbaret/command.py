@@ -56,7 +56,7 @@ def _parser() -> argparse.ArgumentParser:
         description="Find the plan of least cost for a roster of names in a CSV file, or who is short of what.",
         epilog="Status 0: a plan; 1: there is none; 2: these words are refused; 3: a file's content is; 4: a file can't be "
                "read or written, an output exists, the library isn't there, or memory was refused.")
-    parser.add_argument("roster", metavar="ROSTER", help="a CSV file with a title line: a person, an object and a cost in each "
+    parser.add_argument("roster", metavar="ROSTER", help="a CSV file, or - for standard input, with a title line: a person, an object and a cost in each "
                         "line, or a matrix with names in the first line and column, where an empty cell forbids a pair")
     form = parser.add_mutually_exclusive_group()
     form.add_argument("--lines", dest="form", action="store_const", const=LINES, help="the roster has lines")
@@ -90,6 +90,8 @@ def _words(words: Optional[Sequence[str]]) -> argparse.Namespace:
     if options.rents and (options.places or options.tasks):
         parser.error("--rents are of single places and tasks: not with --places or --tasks")
     read = (options.roster, options.fixed, options.compare, options.keep, options.places, options.tasks)
+    if read.count("-") > 1 or "-" in read[1:]:
+        parser.error("only the roster can come from standard input")
     seen = {os.path.realpath(path) for path in read if path}
     for output in options.outputs:
         place = os.path.realpath(output.path)

@@ -8,8 +8,10 @@ import io
 import json
 import os
 import re
+import sys
 import unicodedata
 from array import array
+from decimal import Decimal
 from typing import Dict, Iterator, List, NamedTuple, NoReturn, Optional, Set, Tuple, Union
 
 from ._exact import MOST_PLACES
@@ -42,6 +44,14 @@ def quoted(cell: str) -> str:
     return repr(cell if len(cell) <= 40 else cell[:37] + "...")
 
 
+def _held(path: str) -> bytes:
+    """What a file holds, or standard input where the path is `-`; no more than one byte too many."""
+    if path == "-":
+        return sys.stdin.buffer.read(MOST_BYTES + 1)
+    with open(path, "rb") as file:
+        return file.read(MOST_BYTES + 1)
+
+
 class Sheet:
     """The records of a CSV file: UTF-8 or UTF-16, with `;`, TAB or `,` between cells, whichever its first line has most of.
 
@@ -50,8 +60,9 @@ class Sheet:
 
     def __init__(self, path: str) -> None:
         self.path = path
-        with open(path, "rb") as file:
-            data = file.read(MOST_BYTES + 1)
+        data = _held(path)
+        if path == "-":
+            self.path = "standard input"
         if len(data) > MOST_BYTES:
             self.refuse(f"longer than {MOST_BYTES} bytes")
         self.text = self._decoded(data)
@@ -169,7 +180,7 @@ class Costs:
 
     def take(self, cell: str, line: int, column: int) -> None:
         """Takes a cell, or refuses it."""
-        found = self._plain.fullmatch(cell)
+        found = self._plain.fullmatch(cell) or self._plain.fullmatch(self._without_power(cell))
         if found is None:
             self._sheet.refuse(f"{quoted(cell)} is no number{self._hint(cell)}", line, column)
         sign, whole, part = found.groups("")
@@ -181,6 +192,13 @@ class Costs:
                 self._out_of_range(0, line, column)
             self._greatest, self._greatest_place = size, (line, column)
         self._millionths.append(-size if sign == "-" else size)
+
+    def _without_power(self, cell: str) -> str:
+        """A cell such as 1.2E+03 as a plain number, and any other as it is."""
+        point, other = (",", ".") if self._comma else (".", ",")
+        if other in cell or re.fullmatch(r"[+-]?[0-9]+(?:[.,][0-9]*)?[eE][+-]?[0-9]{1,2}", cell) is None:
+            return cell
+        return format(Decimal(cell.replace(",", ".")), "f").replace(".", point)
 
     def _more_places(self, cell: str, places: int, line: int, column: int) -> None:
         if places > self._most:
@@ -202,6 +220,8 @@ class Costs:
             return " with a decimal comma"
         if not self._comma and re.fullmatch("[+-]?[0-9]+,[0-9]+", cell):
             return "; with --decimal-comma it may be"
+        if cell.lower() in ("x", "-", "n/a"):
+            return "; what forbids a pair is an empty cell of a matrix, or no line"
         return ""
 
     def _out_of_range(self, decimals: int, line: int, column: int) -> NoReturn:
@@ -315,7 +335,8 @@ def read_roster(path: str, form: Optional[str], decimals: Optional[int], comma: 
 def _read_lines(sheet: Sheet, costs: Costs):
     line, title = sheet.title()
     if len(title) != 3:
-        sheet.refuse(f"{len(title)} titles, where a person, an object and a cost are wanted", line)
+        fourth = f" ({quoted(title[3])} is a fourth column)" if len(title) > 3 else ""
+        sheet.refuse(f"{len(title)} titles, where a person, an object and a cost are wanted{fourth}", line)
     if looks_like_number(title[2]):
         sheet.refuse(f"a title line is wanted first, and {quoted(title[2])} is a number", line, 3)
     titles = tuple(sheet.name(cell, line, column) if cell else TITLES[column - 1] for column, cell in enumerate(title, 1))

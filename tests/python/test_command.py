@@ -168,6 +168,19 @@ class Plans(Runs):
         self.assertIn("Ada: night, 5 (fixed)", self.run_words("r.csv", "--places", "c.csv", "--fixed", "f.csv")[1])
         self.refused(2, "not with --places", "r.csv", "--places", "c.csv", "--rents")
 
+    def test_standard_input_and_powers_of_ten(self):
+        text = ",x,y\nAda,1.2E+03,1e1\nBen,25e-1,7\n"
+        with mock.patch("sys.stdin", io.TextIOWrapper(io.BytesIO(text.encode()))):
+            self.expect(0, "least cost: 12.5\nAda: y, 10.0\nBen: x, 2.5\n", "", "-")
+        with mock.patch("sys.stdin", io.TextIOWrapper(io.BytesIO(b",x\nAda,-\n"))):
+            self.refused(3, "standard input, line 2, column 2: '-' is no number; what forbids a pair is an empty cell", "-")
+        self.file("r.csv", SQUARE)
+        self.refused(2, "only the roster can come from standard input", "r.csv", "--fixed", "-")
+        self.file("r.csv", "a,b,c,note\nAda,x,1,y\n")
+        self.refused(3, "'note' is a fourth column", "r.csv", "--lines")
+        status, out, _ = self.run_words("--version")
+        self.assertEqual((status, out), (0, f"nushbaret {library.VERSION}\n"))
+
     def test_refused_places(self):
         self.file("r.csv", SQUARE)
         for content, text in (("a,b\nnoon,1\n", "c.csv, line 2, column 1: the roster has no object 'noon'"),
