@@ -113,7 +113,23 @@ def shortages(roster: Roster, nodes: Nodes) -> List[Short]:
         groups = groups_of(columns, rows, nodes.columns, nodes.rows)
     else:
         groups = groups_of(rows, columns, nodes.rows, nodes.columns)
-    return [_short(nodes, group, of_objects) for group in groups]
+    own = nodes.of_columns if of_objects else nodes.of_rows
+    return [_short(nodes, group, of_objects) for group in _joined(groups, own)]
+
+
+def _joined(groups: List[Group], own: List[int]) -> List[Group]:
+    """The groups, in which the nodes of one owner that list nothing are one group."""
+    joined: List[Group] = []
+    alone: Dict[int, Group] = {}
+    for group in groups:
+        owner = own[group.many[0]]
+        if not group.few and owner in alone:
+            alone[owner].many.extend(group.many)
+            continue
+        joined.append(group)
+        if not group.few:
+            alone[owner] = group
+    return joined
 
 
 def _short(nodes: Nodes, group: Group, of_objects: bool) -> Short:

@@ -75,6 +75,8 @@ class PlacesAndTasks(unittest.TestCase):
                 if answer.groups:
                     lack = sum(group.wanted - group.had for group in answer.groups)
                     self.assertEqual(lack, min(sum(tasks), sum(places)) - most)
+                    names = [name for group in answer.groups for name in (group.objects if group.of_objects else group.persons)]
+                    self.assertEqual(len(names), len(set(names)))
 
 
 class Kept(unittest.TestCase):
