@@ -6,7 +6,7 @@ import time
 from array import array
 
 import nushbaret
-from nushbaret import library
+from nushbaret import _library as library
 
 try:
     import numpy as np

@@ -2,17 +2,17 @@
 
     import nushbaret
     result = nushbaret.solve([[1, 2], [3, 5]])
-    result.columns, result.cost, result.rents
+    result.columns, result.cost, result.column_duals
 
 `solve` takes a matrix, `solve_sparse` listed pairs, and `linear_sum_assignment` is SciPy's call. `check` and `compare` judge
 plans from elsewhere. Every answer is found and held by Nushbaret's proved library; what this package adds, the reading of
 costs and the dummies of unequal numbers, is tested, not proved.
 """
-from .checking import Comparison, Verdict, check, compare
-from .errors import Infeasible, LibraryNotFound
-from .library import GREATEST_COST, MOST_PERSONS, VERSION as __version__
-from .result import Result
-from .solving import linear_sum_assignment, solve, solve_sparse
+from ._checking import Comparison, Verdict, check, compare
+from ._errors import Infeasible, LibraryNotFound
+from ._library import GREATEST_COST, MOST_PERSONS, VERSION as __version__
+from ._result import Result
+from ._solving import linear_sum_assignment, solve, solve_sparse
 
 __all__ = [
     "GREATEST_COST", "MOST_PERSONS", "Comparison", "Infeasible", "LibraryNotFound", "Result", "Verdict", "check", "compare",

@@ -12,7 +12,7 @@ import tempfile
 import unittest
 import zipfile
 
-from nushbaret import library
+from nushbaret import _library as library
 
 PYTHON = pathlib.Path(__file__).resolve().parent.parent.parent / "python"
 SOLVES = "import sys; sys.path.insert(0, sys.argv[1]); import nushbaret; print(nushbaret.__file__, nushbaret.solve([[1, 2], [3, 5]]).cost)"

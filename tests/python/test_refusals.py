@@ -12,7 +12,7 @@ from decimal import Decimal
 from fractions import Fraction
 
 import nushbaret
-from nushbaret import library
+from nushbaret import _library as library
 
 TOP = pathlib.Path(__file__).resolve().parent.parent.parent
 MOST = nushbaret.GREATEST_COST
@@ -53,10 +53,9 @@ class Refused(unittest.TestCase):
 
     def test_places(self):
         solve = nushbaret.solve
-        line = "round the costs, as by nushbaret.solve(costs, decimals=6)"
+        line = "round the costs, as by nushbaret.solve(costs, decimals=6), or decimals=\"fit\" for as many places as fit"
         for value in 0.1 + 0.2, 1e-7, Decimal("0.1234567"), Fraction(1, 3), Decimal("1E-999999"):
             self.refused(ValueError, line, solve, [[value]])
-            self.refused(ValueError, "row 0, column 1", nushbaret.linear_sum_assignment, [[1, value]])
             self.assertTrue(solve([[value]], decimals=6).rounded)
         self.assertEqual(solve([[0.1 + 0.2]], decimals=6).cost, Decimal("0.3"))
         self.assertEqual(solve([[Fraction(1, 3)]], decimals=2).cost, Decimal("0.33"))
@@ -64,7 +63,7 @@ class Refused(unittest.TestCase):
             self.assertEqual(solve([[value]], decimals=2).cost, Decimal(wanted), value)
         self.assertEqual((solve([[2.5]]).cost, solve([[2.0]]).cost, type(solve([[2.0]]).cost)), (Decimal("2.5"), 2, int))
         self.assertEqual(type(solve([[2]], decimals=2).cost), Decimal)
-        self.refused(ValueError, "decimals is 7: 0 to 6", solve, [[1]], decimals=7)
+        self.refused(ValueError, "decimals is 7: 0 to 6 or 'fit' can be had", solve, [[1]], decimals=7)
         self.refused(TypeError, "", solve, [[1]], decimals=0.5)
 
     def test_kinds(self):
@@ -89,14 +88,14 @@ class Refused(unittest.TestCase):
         self.assertEqual(nushbaret.solve([[1, None], [Decimal("Infinity"), 9]]).cost, 10)
         with self.assertRaises(nushbaret.Infeasible) as caught:
             nushbaret.solve([[1, 5, None], [2, 6, None], [3, 7, None]])
-        self.assertEqual((caught.exception.rows, caught.exception.cols), ([0, 1, 2], [0, 1]))
+        self.assertEqual((caught.exception.rows, caught.exception.columns), ([0, 1, 2], [0, 1]))
         with self.assertRaisesRegex(ValueError, "columns 1 may go to no row"):
             nushbaret.solve([[1, None], [2, None], [3, None]])
 
     def test_pairs(self):
         solve = nushbaret.solve_sparse
         self.refused(ValueError, "rows[1] is 2: it must be from 0 to 1", solve, 2, 2, [0, 2], [0, 1], [1, 1])
-        self.refused(ValueError, "cols[0] is -1", solve, 2, 2, [0, 1], [-1, 1], [1, 1])
+        self.refused(ValueError, "columns[0] is -1", solve, 2, 2, [0, 1], [-1, 1], [1, 1])
         self.refused(ValueError, "they have 2, 2 and 1", solve, 2, 2, [0, 1], [0, 1], [1])
         self.refused(TypeError, "", solve, 2, 2, [0.0, 1.0], [0, 1], [1, 1])
         self.refused(TypeError, "costs are wanted", solve, 2, 2)
@@ -137,18 +136,18 @@ class Limits(unittest.TestCase):
         """Dummies cost nothing, so that the greatest costs are served as the small ones are."""
         costs = [[MOST, None, -MOST], [None, None, MOST], [None, None, -MOST]]
         for maximize, wanted in (False, 0), (True, 2 * MOST):
-            result = nushbaret.solve(costs, maximize, as_many_as_can=True)
+            result = nushbaret.solve(costs, maximize, partial=True)
             self.assertEqual((len(result.rows), result.cost), (2, wanted))
         costs[0][0] += 1
         with self.assertRaisesRegex(ValueError, "row 0, column 0: the cost is beyond"):
-            nushbaret.solve(costs, as_many_as_can=True)
+            nushbaret.solve(costs, partial=True)
 
     def test_size_with_dummies(self):
         rows = list(range(4097))
         result = nushbaret.solve_sparse(4097, 4096, rows[:4096], rows[:4096], [1] * 4096)
-        self.assertEqual((result.cost, result.unserved_rows), (4096, [4096]))
+        self.assertEqual((result.cost, result.unmatched_rows), (4096, [4096]))
         with self.assertRaisesRegex(ValueError, "of which 1 can be paired, want 8193"):
-            nushbaret.solve_sparse(4097, 4097, [0] * 4097, rows, [1] * 4097, as_many_as_can=True)
+            nushbaret.solve_sparse(4097, 4097, [0] * 4097, rows, [1] * 4097, partial=True)
 
     @unittest.skipUnless(sys.platform == "linux", "limits of memory are Linux's here")
     def test_memory_refused(self):
@@ -178,7 +177,7 @@ class Library(unittest.TestCase):
         self.assertIn(str(library.GREATEST_FIRST_PRICE), numbers)
 
     def test_no_library(self):
-        code = ("import pathlib, nushbaret, nushbaret.library as library\nlibrary.PLACES = (pathlib.Path('/nowhere.so'),)\n"
+        code = ("import pathlib, nushbaret, nushbaret._library as library\nlibrary.PLACES = (pathlib.Path('/nowhere.so'),)\n"
                 "try:\n    nushbaret.solve([[1]])\nexcept OSError as fault:\n    print(type(fault).__name__, fault)\n")
         told = subprocess.run([sys.executable, "-c", code], capture_output=True, text=True, check=True, env=os.environ)
         self.assertEqual(told.stdout, "LibraryNotFound libnushbaret.so isn't there: c/build.sh makes it, at the top of a checkout of Nushbaret\n")

@@ -6,22 +6,28 @@ from decimal import Decimal
 from fractions import Fraction
 
 import nushbaret
-from nushbaret import library
+from nushbaret import _library as library
 from drawn import best, drawing, matrix
 
 
 def proves(costs, result, maximize):
-    """Whether the rents alone, looked at here and not by the library, prove the plan best among those of as many pairs."""
+    """Whether the duals alone, looked at here and not by the library, prove the plan best among those of as many pairs."""
     sign = -1 if maximize else 1
-    rents = list(result.rents)
-    pays = [[None if cost is None else sign * cost + rents[column] for column, cost in enumerate(row)] for row in costs]
-    own = dict(zip(result.rows, result.columns))
-    if any(pays[row][column] > min(cost for cost in pays[row] if cost is not None) for row, column in own.items()):
+    rows, columns = ([sign * dual for dual in duals] for duals in (result.row_duals, result.column_duals))
+    own = set(zip(result.rows, result.columns))
+    slack = {(row, column): sign * cost - rows[row] - columns[column]
+             for row, held in enumerate(costs) for column, cost in enumerate(held) if cost is not None}
+    if min(slack.values(), default=0) < 0 or any(slack[pair] for pair in own):
         return False
-    dearest = max((pays[row][column] for row, column in own.items()), default=None)
-    out = [cost for row in result.unserved_rows for cost in pays[row] if cost is not None]
-    unused = [rents[column] for column in result.unused_columns]
-    return (dearest is None or all(cost >= dearest for cost in out)) and not any(unused) and min(rents, default=0) == 0
+    out_rows, out_columns = [rows[row] for row in result.unmatched_rows], [columns[column] for column in result.unmatched_columns]
+    both = sum(rows[row] for row, _ in own) + sum(columns[column] for _, column in own)
+    if both != sign * result.cost:
+        return False
+    if out_rows and not out_columns:
+        return max(rows) == 0 and not any(out_rows) and sum(rows) + sum(columns) == both
+    if out_rows and own:
+        return set(out_rows) == {max(rows)} and max(columns) == 0 and not any(out_columns)
+    return max(columns, default=0) == 0 and not any(out_columns) and sum(rows) + sum(columns) == both
 
 
 class Drawn(unittest.TestCase):
@@ -63,21 +69,21 @@ class Drawn(unittest.TestCase):
     def test_rectangles(self):
         draw = drawing(2)
         for _ in range(500):
-            n_rows, n_cols = draw.randint(1, 5), draw.randint(1, 5)
-            costs, maximize = matrix(draw, n_rows, n_cols, draw.choice([1, 9, 10**12])), draw.random() < 0.5
-            self.hold(costs, nushbaret.solve(costs, maximize), maximize, min(n_rows, n_cols))
+            n_rows, n_columns = draw.randint(1, 5), draw.randint(1, 5)
+            costs, maximize = matrix(draw, n_rows, n_columns, draw.choice([1, 9, 10**12])), draw.random() < 0.5
+            self.hold(costs, nushbaret.solve(costs, maximize), maximize, min(n_rows, n_columns))
 
     def test_sparse_and_infeasible(self):
         draw, found, short = drawing(3), 0, 0
         for _ in range(1000):
-            n_rows, n_cols = draw.randint(1, 5), draw.randint(1, 5)
-            costs = matrix(draw, n_rows, n_cols, draw.choice([1, 9, 10**12]), draw.choice([0.3, 0.6, 0.9]))
-            maximize, served = draw.random() < 0.5, min(n_rows, n_cols)
+            n_rows, n_columns = draw.randint(1, 5), draw.randint(1, 5)
+            costs = matrix(draw, n_rows, n_columns, draw.choice([1, 9, 10**12]), draw.choice([0.3, 0.6, 0.9]))
+            maximize, served = draw.random() < 0.5, min(n_rows, n_columns)
             listed = [(row, column, cost) for row, held in enumerate(costs) for column, cost in enumerate(held) if cost is not None]
             draw.shuffle(listed)
             lists = [list(part) for part in zip(*listed)] or [[], [], []]
             try:
-                result = nushbaret.solve_sparse(n_rows, n_cols, *lists, maximize=maximize)
+                result = nushbaret.solve_sparse(n_rows, n_columns, *lists, maximize=maximize)
             except nushbaret.Infeasible as fault:
                 self.assertIsNone(best(costs, maximize, served))
                 self.hold_proof(costs, fault)
@@ -86,37 +92,37 @@ class Drawn(unittest.TestCase):
                 continue
             self.hold(costs, result, maximize, served)
             self.assertTrue(result.verify(lists[2], lists[0], lists[1]))
-            self.assertEqual(nushbaret.solve(costs, maximize, as_many_as_can=True).cost, result.cost)
+            self.assertEqual(nushbaret.solve(costs, maximize, partial=True).cost, result.cost)
             found += 1
         self.assertGreater(min(found, short), 200)
 
     def hold_proof(self, costs, fault):
         pairs = {(row, column) for row, held in enumerate(costs) for column, cost in enumerate(held) if cost is not None}
-        if len(fault.rows) > len(fault.cols):
-            self.assertEqual({column for row, column in pairs if row in fault.rows}, set(fault.cols))
+        if len(fault.rows) > len(fault.columns):
+            self.assertEqual({column for row, column in pairs if row in fault.rows}, set(fault.columns))
         else:
-            self.assertLess(len(fault.rows), len(fault.cols))
-            self.assertEqual({row for row, column in pairs if column in fault.cols}, set(fault.rows))
+            self.assertLess(len(fault.rows), len(fault.columns))
+            self.assertEqual({row for row, column in pairs if column in fault.columns}, set(fault.rows))
         self.assertIn("cost matrix is infeasible", str(fault))
 
     def hold_fullest(self, costs, maximize, lists):
-        result = nushbaret.solve(costs, maximize, as_many_as_can=True)
+        result = nushbaret.solve(costs, maximize, partial=True)
         served = len(result.rows)
         self.assertIsNone(best(costs, maximize, served + 1))
         if served:
             self.hold(costs, result, maximize, served)
         else:
-            self.assertEqual((result.cost, result.unserved_rows), (0, list(range(len(costs)))))
-        n_cols = len(costs[0])
-        self.assertEqual(nushbaret.solve_sparse(len(costs), n_cols, *lists, maximize=maximize, as_many_as_can=True).cost, result.cost)
+            self.assertEqual((result.cost, result.unmatched_rows), (0, list(range(len(costs)))))
+        n_columns = len(costs[0])
+        self.assertEqual(nushbaret.solve_sparse(len(costs), n_columns, *lists, maximize=maximize, partial=True).cost, result.cost)
 
     def test_decimals(self):
         draw = drawing(4)
         for _ in range(500):
-            n_rows, n_cols, places = draw.randint(1, 4), draw.randint(1, 4), draw.randint(1, 6)
-            whole, maximize = matrix(draw, n_rows, n_cols, 10**draw.randint(1, 12)), draw.random() < 0.5
+            n_rows, n_columns, places = draw.randint(1, 4), draw.randint(1, 4), draw.randint(1, 6)
+            whole, maximize = matrix(draw, n_rows, n_columns, 10**draw.randint(1, 12)), draw.random() < 0.5
             exact = [[Decimal(f"{cost}E-{places}") for cost in row] for row in whole]
-            served = min(n_rows, n_cols)
+            served = min(n_rows, n_columns)
             wanted = best(exact, maximize, served)
             for costs in exact, [[float(cost) for cost in row] for row in exact]:
                 result = nushbaret.solve(costs, maximize)
@@ -130,19 +136,19 @@ class Drawn(unittest.TestCase):
     def test_first_prices(self):
         draw = drawing(5)
         for _ in range(300):
-            n_rows, n_cols = draw.randint(1, 5), draw.randint(1, 5)
-            costs, maximize = matrix(draw, n_rows, n_cols, 9, 0.8), draw.random() < 0.5
-            start = [draw.choice([0, draw.randint(-9, 9), draw.random(), Decimal("0.5")]) for _ in range(n_cols)]
-            result = nushbaret.solve(costs, maximize, start=start, as_many_as_can=True)
-            self.assertEqual(result.cost, nushbaret.solve(costs, maximize, as_many_as_can=True).cost)
-            self.assertEqual(nushbaret.solve(costs, maximize, start=result, as_many_as_can=True).cost, result.cost)
+            n_rows, n_columns = draw.randint(1, 5), draw.randint(1, 5)
+            costs, maximize = matrix(draw, n_rows, n_columns, 9, 0.8), draw.random() < 0.5
+            start = [draw.choice([0, draw.randint(-9, 9), draw.random(), Decimal("0.5")]) for _ in range(n_columns)]
+            result = nushbaret.solve(costs, maximize, start=start, partial=True)
+            self.assertEqual(result.cost, nushbaret.solve(costs, maximize, partial=True).cost)
+            self.assertEqual(nushbaret.solve(costs, maximize, start=result, partial=True).cost, result.cost)
 
     def test_without(self):
         draw = drawing(6)
         for _ in range(300):
-            n_rows, n_cols = draw.randint(1, 4), draw.randint(1, 4)
-            costs, maximize = matrix(draw, n_rows, n_cols, 9, draw.choice([0.7, 1.0])), draw.random() < 0.5
-            result = nushbaret.solve(costs, maximize, as_many_as_can=True)
+            n_rows, n_columns = draw.randint(1, 4), draw.randint(1, 4)
+            costs, maximize = matrix(draw, n_rows, n_columns, 9, draw.choice([0.7, 1.0])), draw.random() < 0.5
+            result = nushbaret.solve(costs, maximize, partial=True)
             if not result.rows:
                 continue
             row, column = result.rows[0], result.columns[0]
@@ -157,14 +163,14 @@ class Drawn(unittest.TestCase):
                 self.hold(less, result.without(row, column), maximize, len(result.rows))
 
 
-class Rents(unittest.TestCase):
-    def test_prices_of_any_slack_that_proves_give_whole_rents(self):
+class Duals(unittest.TestCase):
+    def test_prices_of_any_slack_that_proves_give_whole_duals(self):
         """Prices of rounds are no multiples: here each is raised by 0 or 1, as slackness 1 allows."""
         draw, settled = drawing(8), 0
         for _ in range(300):
-            n_rows, n_cols = draw.randint(1, 5), draw.randint(1, 5)
-            costs, maximize = matrix(draw, n_rows, n_cols, 9, draw.choice([0.6, 1.0])), draw.random() < 0.5
-            result = nushbaret.solve(costs, maximize, as_many_as_can=True)
+            n_rows, n_columns = draw.randint(1, 5), draw.randint(1, 5)
+            costs, maximize = matrix(draw, n_rows, n_columns, 9, draw.choice([0.6, 1.0])), draw.random() < 0.5
+            result = nushbaret.solve(costs, maximize, partial=True)
             if not result.rows:
                 continue
             answer = result._answer
@@ -178,23 +184,23 @@ class Rents(unittest.TestCase):
 
 class Results(unittest.TestCase):
     def test_empty_ones(self):
-        for costs, cols in ([], 0), ([[], []], 0):
+        for costs, columns in ([], 0), ([[], []], 0):
             result = nushbaret.solve(costs)
-            self.assertEqual((result.rows, result.columns, result.cost, result.rents), ([], [], 0, []))
-            self.assertEqual(result.unserved_rows, list(range(len(costs))))
+            self.assertEqual((result.rows, result.columns, result.cost, result.column_duals), ([], [], 0, []))
+            self.assertEqual(result.unmatched_rows, list(range(len(costs))))
             self.assertTrue(result.verify(costs))
         result = nushbaret.solve_sparse(0, 3, [], [], [])
-        self.assertEqual((result.unused_columns, result.rents, result.cost), ([0, 1, 2], [0, 0, 0], 0))
+        self.assertEqual((result.unmatched_columns, result.column_duals, result.cost), ([0, 1, 2], [0, 0, 0], 0))
         self.assertEqual(nushbaret.linear_sum_assignment([]), ([], []))
 
     def test_twelve_vehicles_by_twenty_jobs(self):
         costs = [[(7 * vehicle + 3 * job) % 19 + 1 for job in range(20)] for vehicle in range(12)]
         result = nushbaret.solve(costs)
-        self.assertEqual((len(result.rows), len(result.unused_columns)), (12, 8))
+        self.assertEqual((len(result.rows), len(result.unmatched_columns)), (12, 8))
         self.assertTrue(proves(costs, result, False))
         self.assertTrue(result.verify(costs))
         turned = nushbaret.solve([list(column) for column in zip(*costs)])
-        self.assertEqual((turned.cost, len(turned.unserved_rows)), (result.cost, 8))
+        self.assertEqual((turned.cost, len(turned.unmatched_rows)), (result.cost, 8))
 
     def test_a_plan_spoilt_is_not_verified(self):
         result = nushbaret.solve([[1, 2], [3, 5]])
@@ -209,7 +215,7 @@ class Results(unittest.TestCase):
         with self.assertRaises(nushbaret.Infeasible) as caught:
             nushbaret.solve([[1, None], [2, None]])
         again = pickle.loads(pickle.dumps(caught.exception))
-        self.assertEqual((again.rows, again.cols, str(again)), ([0, 1], [0], str(caught.exception)))
+        self.assertEqual((again.rows, again.columns, str(again)), ([0, 1], [0], str(caught.exception)))
 
     def test_eight_threads(self):
         draw, wrong = drawing(7), []

@@ -1,18 +1,19 @@
 """A problem of rows and columns, as the caller gave it, with its costs in whole numbers."""
 import operator
+import sys
 from array import array
-from typing import Any, NamedTuple
+from typing import Any, List, NamedTuple, Optional, Tuple
 
-from . import exact
-from .library import MOST_PERSONS, Lent
+from . import _exact as exact
+from ._library import MOST_PERSONS, Lent
 
 
 class Problem(NamedTuple):
     """Costs are times 10**places. Dense: all costs in order, and `persons` is None. Sparse: row persons[k] - 1 and column
-    objects[k] - 1 are a pair at costs[k]. `numpy` is the module where an array came in, else None."""
+    objects[k] - 1 are a pair at costs[k]. `numpy` is the module where an array came in, else None; `labels` are those of the rows and columns of a frame of pandas."""
 
     n_rows: int
-    n_cols: int
+    n_columns: int
     maximize: bool
     costs: Any
     persons: Any
@@ -20,6 +21,7 @@ class Problem(NamedTuple):
     places: int
     rounded: bool
     numpy: Any
+    labels: Optional[Tuple[List[Any], List[Any]]] = None
 
     def place(self, place):
         """Row and column of a place in the lists of pairs."""
@@ -30,15 +32,15 @@ class Problem(NamedTuple):
         return values if self.numpy is None else self.numpy.array(values, self.numpy.intp)
 
 
-def _place_in(n_cols):
-    return lambda place: "row {}, column {}".format(*divmod(place, n_cols))
+def _place_in(n_columns):
+    return lambda place: "row {}, column {}".format(*divmod(place, n_columns))
 
 
-def _judge_size(n_rows, n_cols):
-    if n_rows < 0 or n_cols < 0:
-        raise ValueError(f"{n_rows} rows and {n_cols} columns: neither can be below 0")
-    if max(n_rows, n_cols) > MOST_PERSONS:
-        raise ValueError(f"{n_rows} rows and {n_cols} columns: at most {MOST_PERSONS} of each can be had")
+def _judge_size(n_rows, n_columns):
+    if n_rows < 0 or n_columns < 0:
+        raise ValueError(f"{n_rows} rows and {n_columns} columns: neither can be below 0")
+    if max(n_rows, n_columns) > MOST_PERSONS:
+        raise ValueError(f"{n_rows} rows and {n_columns} columns: at most {MOST_PERSONS} of each can be had")
 
 
 def _rows_of(costs):
@@ -56,63 +58,89 @@ def _rows_of(costs):
     return rows, lengths.pop() if rows else 0
 
 
-def _of_view(view, maximize, decimals):
+def _of_view(view, manner):
     """Of a memoryview of two dimensions: lent where it has just the numbers that the library wants."""
     if view.ndim != 2:
         raise ValueError(f"expected a matrix (2-D array), got a {view.ndim} array")
-    n_rows, n_cols = view.shape
-    _judge_size(n_rows, n_cols)
+    n_rows, n_columns = view.shape
+    _judge_size(n_rows, n_columns)
     own = view.format in ("q", "l") and view.itemsize == 8 and view.c_contiguous and not view.readonly
-    if own and not decimals and view.nbytes:
-        return n_rows, n_cols, exact.Costs(Lent(view), (), 0, False), None
-    return n_rows, n_cols, exact.of_rows(view.tolist(), n_cols, maximize, decimals, _place_in(n_cols)), None
+    if own and manner.whole and manner.decimals != exact.DOUBLES and view.nbytes:
+        return n_rows, n_columns, exact.Costs(Lent(view), (), 0, False), None
+    return n_rows, n_columns, exact.of_rows(view.tolist(), n_columns, manner, _place_in(n_columns)), None
 
 
-def _of_array(numpy, costs, maximize, decimals):
+def _of_array(numpy, costs, manner):
     costs = numpy.asarray(costs)
     if costs.ndim != 2:
         raise ValueError(f"expected a matrix (2-D array), got a {costs.ndim} array")
-    n_rows, n_cols = costs.shape
-    _judge_size(n_rows, n_cols)
-    return n_rows, n_cols, exact.of_array(numpy, costs, maximize, decimals, _place_in(n_cols)), numpy
+    n_rows, n_columns = costs.shape
+    _judge_size(n_rows, n_columns)
+    return n_rows, n_columns, exact.of_array(numpy, costs, manner, _place_in(n_columns)), numpy
 
 
-def _read_matrix(costs, maximize, decimals):
+def _read_matrix(costs, manner):
     numpy = exact.numpy_of(costs)
     if numpy:
-        return _of_array(numpy, costs, maximize, decimals)
+        return _of_array(numpy, costs, manner)
     if not isinstance(costs, (list, tuple, str)):
         try:
-            return _of_view(memoryview(costs), maximize, decimals)
+            return _of_view(memoryview(costs), manner)
         except TypeError:
             pass
-    rows, n_cols = _rows_of(costs)
-    _judge_size(len(rows), n_cols)
-    return len(rows), n_cols, exact.of_rows(rows, n_cols, maximize, decimals, _place_in(n_cols)), None
+    rows, n_columns = _rows_of(costs)
+    _judge_size(len(rows), n_columns)
+    return len(rows), n_columns, exact.of_rows(rows, n_columns, manner, _place_in(n_columns)), None
 
 
-def of_matrix(costs, maximize, decimals):
+def of_matrix(costs, manner):
     """The problem of a matrix. ValueError and TypeError name what is wrong, with row and column from 0."""
-    maximize = bool(maximize)
-    n_rows, n_cols, read, numpy = _read_matrix(costs, maximize, exact.judged_decimals(decimals))
+    labels = (list(costs.index), list(costs.columns)) if is_frame(costs) else None
+    n_rows, n_columns, read, numpy = _read_matrix(costs.to_numpy() if labels else costs, manner)
     numbers, persons, objects = read.numbers, None, None
     if len(read.forbidden):
-        numbers, persons, objects = _without_forbidden(n_rows, n_cols, read, numpy)
-    return Problem(n_rows, n_cols, maximize, numbers, persons, objects, read.places, read.rounded, numpy)
+        numbers, persons, objects = _without_forbidden(n_rows, n_columns, read, numpy)
+    return Problem(n_rows, n_columns, manner.maximize, numbers, persons, objects, read.places, read.rounded, numpy, labels)
 
 
-def _without_forbidden(n_rows, n_cols, read, numpy):
+def is_frame(costs):
+    """Whether this is a DataFrame of pandas."""
+    pandas = sys.modules.get("pandas")
+    return pandas is not None and isinstance(costs, pandas.DataFrame)
+
+
+def plain(values):
+    """A list of the problem's as one whose items are had one by one."""
+    if hasattr(values, "held"):
+        return memoryview(values.held).cast("B").cast("q")
+    return values.reshape(-1) if hasattr(values, "reshape") else values
+
+
+def costs_of_pairs(problem, pairs):
+    """The whole costs of some pairs, None where one is forbidden; of a pair that is given several times the least."""
+    if problem.persons is None:
+        costs = plain(problem.costs)
+        return [int(costs[row * problem.n_columns + column]) for row, column in pairs]
+    wanted = {(row + 1, column + 1): None for row, column in pairs}
+    for person, item, cost in zip(problem.persons.tolist(), problem.objects.tolist(), problem.costs.tolist()):
+        if (person, item) in wanted:
+            least = wanted[person, item]
+            wanted[person, item] = cost if least is None else min(cost, least)
+    return [wanted[row + 1, column + 1] for row, column in pairs]
+
+
+def _without_forbidden(n_rows, n_columns, read, numpy):
     """Costs, persons and objects of the pairs that aren't forbidden."""
     if numpy:
-        allowed = numpy.ones(n_rows * n_cols, bool)
+        allowed = numpy.ones(n_rows * n_columns, bool)
         allowed[read.forbidden] = False
         places = numpy.flatnonzero(allowed)
-        persons, objects = numpy.divmod(places, n_cols)
+        persons, objects = numpy.divmod(places, n_columns)
         return read.numbers[places], (persons + 1).astype(numpy.uint16), (objects + 1).astype(numpy.uint16)
     forbidden = set(read.forbidden)
-    places = [place for place in range(n_rows * n_cols) if place not in forbidden]
-    persons = array("H", [place // n_cols + 1 for place in places])
-    objects = array("H", [place % n_cols + 1 for place in places])
+    places = [place for place in range(n_rows * n_columns) if place not in forbidden]
+    persons = array("H", [place // n_columns + 1 for place in places])
+    objects = array("H", [place % n_columns + 1 for place in places])
     return array("q", [read.numbers[place] for place in places]), persons, objects
 
 
@@ -137,14 +165,14 @@ def _numbered(values, most, what):
     return array("H", [number + 1 for number in numbers])
 
 
-def _pair_costs(costs, maximize, decimals, where):
+def _pair_costs(costs, manner, where):
     numpy = exact.numpy_of(costs)
     if numpy:
         costs = numpy.asarray(costs)
         if costs.ndim != 1:
             raise ValueError(f"costs must be a list of numbers, not an array of {costs.ndim} dimensions")
-        return exact.of_array(numpy, costs, maximize, decimals, where), numpy
-    return exact.of_list(list(costs), maximize, decimals, where), None
+        return exact.of_array(numpy, costs, manner, where), numpy
+    return exact.of_list(list(costs), manner, where), None
 
 
 def _one_form(numpy, values, kind):
@@ -152,31 +180,31 @@ def _one_form(numpy, values, kind):
     return numpy.asarray(values, kind) if numpy else values
 
 
-def of_pairs(n_rows, n_cols, rows, cols, costs, maximize, decimals):
+def of_pairs(n_rows, n_columns, rows, columns, costs, manner):
     """The problem of listed pairs, whose costs may be infinite or None to forbid a pair after all."""
-    n_rows, n_cols = operator.index(n_rows), operator.index(n_cols)
-    _judge_size(n_rows, n_cols)
-    persons, objects = _numbered(rows, n_rows, "rows"), _numbered(cols, n_cols, "cols")
+    n_rows, n_columns = operator.index(n_rows), operator.index(n_columns)
+    _judge_size(n_rows, n_columns)
+    persons, objects = _numbered(rows, n_rows, "rows"), _numbered(columns, n_columns, "columns")
 
     def where(place):
         pair = f" (row {persons[place] - 1}, column {objects[place] - 1})" if place < min(len(persons), len(objects)) else ""
         return f"costs[{place}]{pair}"
 
-    read, numpy = _pair_costs(costs, bool(maximize), exact.judged_decimals(decimals), where)
+    read, numpy = _pair_costs(costs, manner, where)
     if not len(persons) == len(objects) == len(read.numbers):
-        raise ValueError(f"rows, cols and costs must be of one length: they have {len(persons)}, {len(objects)} and {len(read.numbers)}")
-    numpy = numpy or exact.numpy_of(rows) or exact.numpy_of(cols)
+        raise ValueError(f"rows, columns and costs must be of one length: they have {len(persons)}, {len(objects)} and {len(read.numbers)}")
+    numpy = numpy or exact.numpy_of(rows) or exact.numpy_of(columns)
     kinds = ("uint16", "uint16", "int64")
     lists = [_one_form(numpy, values, kind) for values, kind in zip((persons, objects, read.numbers), kinds)]
     if len(read.forbidden):
         forbidden = set(map(int, read.forbidden))
         kept = [place for place in range(len(persons)) if place not in forbidden]
         lists = [values[kept] if numpy else array(values.typecode, [values[place] for place in kept]) for values in lists]
-    return Problem(n_rows, n_cols, bool(maximize), lists[2], lists[0], lists[1], read.places, read.rounded, numpy)
+    return Problem(n_rows, n_columns, manner.maximize, lists[2], lists[0], lists[1], read.places, read.rounded, numpy)
 
 
-def of_sparse_matrix(matrix, maximize, decimals):
+def of_sparse_matrix(matrix, manner):
     """The problem of a sparse matrix of SciPy's, whose stored entries are its pairs, also those that are 0."""
     entries = matrix.tocoo(copy=True)
     entries.sum_duplicates()
-    return of_pairs(*matrix.shape, entries.row, entries.col, entries.data, maximize, decimals)
+    return of_pairs(*matrix.shape, entries.row, entries.col, entries.data, manner)

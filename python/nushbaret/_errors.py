@@ -8,28 +8,28 @@ def _listed(numbers):
 
 
 class Infeasible(ValueError):
-    """There is no assignment, and `rows` and `cols` prove it.
+    """There is no assignment, and `rows` and `columns` prove it.
 
-    Where there are more of `rows`, these rows may have columns of `cols` alone. Where there are more of `cols` (in a
+    Where there are more of `rows`, these rows may have columns of `columns` alone. Where there are more of `columns` (in a
     problem of more rows than columns, whose columns all want a row), these columns may go to rows of `rows` alone.
 
     Attributes
     ----------
-    rows, cols : list of int, or NumPy arrays where an array came in
+    rows, columns : list of int, or NumPy arrays where an array came in
         Numbers of the caller's rows and columns, from 0, rising.
     """
 
-    def __init__(self, rows, cols):
-        if len(rows) > len(cols):
-            why = f"rows {_listed(rows)} may have " + (f"columns {_listed(cols)} only" if len(cols) else "no column")
+    def __init__(self, rows, columns):
+        if len(rows) > len(columns):
+            why = f"rows {_listed(rows)} may have " + (f"columns {_listed(columns)} only" if len(columns) else "no column")
         else:
-            why = f"columns {_listed(cols)} may go to " + (f"rows {_listed(rows)} only" if len(rows) else "no row")
+            why = f"columns {_listed(columns)} may go to " + (f"rows {_listed(rows)} only" if len(rows) else "no row")
         super().__init__(f"cost matrix is infeasible: {why}")
         self.rows = rows
-        self.cols = cols
+        self.columns = columns
 
     def __reduce__(self):
-        return type(self), (self.rows, self.cols)
+        return type(self), (self.rows, self.columns)
 
 
 class LibraryNotFound(OSError):

@@ -6,10 +6,10 @@ pairs stand in each assignment, and the sum of costs is theirs."""
 from array import array
 from typing import Any, NamedTuple
 
-from . import library
-from .errors import Infeasible
-from .exact import refuse_range
-from .library import MOST_PERSONS
+from . import _library as library
+from ._errors import Infeasible
+from ._exact import refuse_range
+from ._library import MOST_PERSONS
 
 
 class Square(NamedTuple):
@@ -25,45 +25,45 @@ NONE = array("H")
 
 
 def _dense(problem):
-    n_rows, n_cols = problem.n_rows, problem.n_cols
-    size = max(n_rows, n_cols)
-    if n_rows == n_cols:
+    n_rows, n_columns = problem.n_rows, problem.n_columns
+    size = max(n_rows, n_columns)
+    if n_rows == n_columns:
         return Square(size, NONE, NONE, problem.costs)
     if problem.numpy:
         costs = problem.numpy.zeros((size, size), problem.numpy.int64)
-        costs[:n_rows, :n_cols] = problem.costs.reshape(n_rows, n_cols)
+        costs[:n_rows, :n_columns] = problem.costs.reshape(n_rows, n_columns)
         return Square(size, NONE, NONE, costs)
     given = problem.costs if isinstance(problem.costs, array) else array("q", bytes(problem.costs.held))
     costs = array("q", bytes(8 * size * size))
     for row in range(n_rows):
-        costs[row * size:row * size + n_cols] = given[row * n_cols:(row + 1) * n_cols]
+        costs[row * size:row * size + n_columns] = given[row * n_columns:(row + 1) * n_columns]
     return Square(size, NONE, NONE, costs)
 
 
-def _dummies(n_rows, n_cols, size):
+def _dummies(n_rows, n_columns, size):
     """Persons and objects of the pairs that dummies are in."""
     persons, objects = array("H"), array("H")
-    for column in range(n_cols + 1, size + 1):
+    for column in range(n_columns + 1, size + 1):
         persons.extend(range(1, n_rows + 1))
         objects.extend(array("H", [column]) * n_rows)
-    columns = array("H", range(1, n_cols + 1))
+    columns = array("H", range(1, n_columns + 1))
     for row in range(n_rows + 1, size + 1):
-        persons.extend(array("H", [row]) * n_cols)
+        persons.extend(array("H", [row]) * n_columns)
         objects.extend(columns)
     return persons, objects
 
 
 def squared(problem, served=None):
     """The square problem in whose assignments `served` rows have a column, the lesser of rows and columns where it isn't given."""
-    n_rows, n_cols = problem.n_rows, problem.n_cols
-    served = min(n_rows, n_cols) if served is None else served
-    size = n_rows + n_cols - served
+    n_rows, n_columns = problem.n_rows, problem.n_columns
+    served = min(n_rows, n_columns) if served is None else served
+    size = n_rows + n_columns - served
     if size > MOST_PERSONS:
-        raise ValueError(f"{n_rows} rows and {n_cols} columns, of which {served} can be paired, want {size} with dummies: "
+        raise ValueError(f"{n_rows} rows and {n_columns} columns, of which {served} can be paired, want {size} with dummies: "
                          f"at most {MOST_PERSONS} can be had")
     if problem.persons is None:
         return _dense(problem)
-    persons, objects = _dummies(n_rows, n_cols, size)
+    persons, objects = _dummies(n_rows, n_columns, size)
     if not persons:
         return Square(size, problem.persons, problem.objects, problem.costs)
     costs = array("q", bytes(8 * len(persons)))
@@ -116,13 +116,13 @@ def answer(problem, square, first=None):
 
 def infeasible(problem, short, served):
     """The proof in the caller's rows and columns that no plan serves so many rows."""
-    n_rows, n_cols = problem.n_rows, problem.n_cols
-    if served < n_cols or n_rows == n_cols:
-        rows, cols = [person - 1 for person in short.persons], [item - 1 for item in short.objects if item <= n_cols]
+    n_rows, n_columns = problem.n_rows, problem.n_columns
+    if served < n_columns or n_rows == n_columns:
+        rows, columns = [person - 1 for person in short.persons], [item - 1 for item in short.objects if item <= n_columns]
     else:
         # The columns that the named rows don't list: whoever lists one is none of them, and such rows are fewer.
         listed = set(short.objects)
-        wanting = {item for item in range(1, n_cols + 1) if item not in listed}
-        cols = [item - 1 for item in sorted(wanting)]
+        wanting = {item for item in range(1, n_columns + 1) if item not in listed}
+        columns = [item - 1 for item in sorted(wanting)]
         rows = sorted({int(person) - 1 for person, item in zip(problem.persons, problem.objects) if int(item) in wanting})
-    return Infeasible(problem.numbers(rows), problem.numbers(cols))
+    return Infeasible(problem.numbers(rows), problem.numbers(columns))

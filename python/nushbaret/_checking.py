@@ -3,9 +3,10 @@ import operator
 from array import array
 from typing import Any, NamedTuple, Optional
 
-from . import library, problem as reading, rents, square
-from .result import Result, in_unit
-from .solving import solve_problem
+from . import _library as library, _duals, _exact as exact, _problem as reading, _square as square
+from ._problem import costs_of_pairs
+from ._result import Result, in_unit
+from ._solving import solve_problem
 
 
 class Verdict:
@@ -41,16 +42,16 @@ class Comparison(NamedTuple):
     result: Result
 
 
-def problem_of(costs, rows, cols, sizes, maximize, decimals):
+def problem_of(costs, rows, columns, sizes, manner):
     """The problem of a matrix, of a sparse matrix, or of listed pairs; it must be of these sizes, where they are given."""
-    if rows is not None or cols is not None:
-        found = reading.of_pairs(*sizes, rows, cols, costs, maximize, decimals)
+    if rows is not None or columns is not None:
+        found = reading.of_pairs(*sizes, rows, columns, costs, manner)
     elif hasattr(costs, "tocsr"):
-        found = reading.of_sparse_matrix(costs, maximize, decimals)
+        found = reading.of_sparse_matrix(costs, manner)
     else:
-        found = reading.of_matrix(costs, maximize, decimals)
-    if sizes not in (None, (found.n_rows, found.n_cols)):
-        raise ValueError(f"the costs have {found.n_rows} rows and {found.n_cols} columns, the plan was made for {sizes[0]} and {sizes[1]}")
+        found = reading.of_matrix(costs, manner)
+    if sizes not in (None, (found.n_rows, found.n_columns)):
+        raise ValueError(f"the costs have {found.n_rows} rows and {found.n_columns} columns, the plan was made for {sizes[0]} and {sizes[1]}")
     return found
 
 
@@ -65,25 +66,12 @@ def _pairs_of(problem, columns, rows):
     for row, column in pairs:
         if not 0 <= row < problem.n_rows:
             raise ValueError(f"row {row} of the plan isn't from 0 to {problem.n_rows - 1}")
-        if not 0 <= column < problem.n_cols:
-            raise ValueError(f"row {row} of the plan has column {column}, which isn't from 0 to {problem.n_cols - 1}")
+        if not 0 <= column < problem.n_columns:
+            raise ValueError(f"row {row} of the plan has column {column}, which isn't from 0 to {problem.n_columns - 1}")
         if row in seen:
             raise ValueError(f"row {row} stands twice in the plan")
         seen.add(row)
     return pairs
-
-
-def _cost_by_pair(problem, pairs):
-    """The whole costs of some pairs, None where one is forbidden; of a pair that is given several times the least."""
-    if problem.persons is None:
-        costs = rents.plain(problem.costs)
-        return [int(costs[row * problem.n_cols + column]) for row, column in pairs]
-    wanted = {(row + 1, column + 1): None for row, column in pairs}
-    for person, item, cost in zip(problem.persons.tolist(), problem.objects.tolist(), problem.costs.tolist()):
-        if (person, item) in wanted:
-            least = wanted[person, item]
-            wanted[person, item] = cost if least is None else min(cost, least)
-    return [wanted[row + 1, column + 1] for row, column in pairs]
 
 
 def _filled_up(problem, pairs, size):
@@ -92,8 +80,8 @@ def _filled_up(problem, pairs, size):
     for row, column in pairs:
         objects[row] = column + 1
     used = {column for _, column in pairs}
-    unused = iter([column + 1 for column in range(problem.n_cols) if column not in used])
-    dummies = iter(range(problem.n_cols + 1, size + 1))
+    unused = iter([column + 1 for column in range(problem.n_columns) if column not in used])
+    dummies = iter(range(problem.n_columns + 1, size + 1))
     for row in range(size):
         if not objects[row]:
             objects[row] = next(dummies if row < problem.n_rows else unused, 0)
@@ -112,7 +100,7 @@ def check_problem(problem, rows, columns, given):
     served = len(pairs)
     if not served:
         return _verdict_on_none(problem)
-    costs = _cost_by_pair(problem, pairs)
+    costs = costs_of_pairs(problem, pairs)
     for (row, column), cost in zip(pairs, costs):
         if cost is None:
             return Verdict(f"row {row} may not have column {column}", row, column)
@@ -121,19 +109,19 @@ def check_problem(problem, rows, columns, given):
         if column in given_columns:
             return Verdict(f"column {column} is given twice", row, column)
         given_columns.add(column)
-    if problem.persons is None and served < min(problem.n_rows, problem.n_cols):
-        return Verdict(f"{served} rows have a column, and {min(problem.n_rows, problem.n_cols)} can")
+    if problem.persons is None and served < min(problem.n_rows, problem.n_columns):
+        return Verdict(f"{served} rows have a column, and {min(problem.n_rows, problem.n_columns)} can")
     given_square = square.squared(problem, served)
-    prices = rents.scaled(problem, given, given_square.size)
-    if given_square.size > problem.n_cols:
+    prices = _duals.scaled(problem, given, given_square.size)
+    if given_square.size > problem.n_columns:
         dummy = _price_of_dummies(problem, pairs, costs, prices, given_square.size + 1)
         lowest = min(dummy, 0)
-        prices = [price - lowest for price in prices] + [dummy - lowest] * (given_square.size - problem.n_cols)
+        prices = [price - lowest for price in prices] + [dummy - lowest] * (given_square.size - problem.n_columns)
     return _judged(problem, given_square, _filled_up(problem, pairs, given_square.size), prices)
 
 
 def _verdict_on_none(problem):
-    if not min(problem.n_rows, problem.n_cols) or problem.persons is not None and not len(problem.persons):
+    if not min(problem.n_rows, problem.n_columns) or problem.persons is not None and not len(problem.persons):
         return Verdict()
     return Verdict("no row has a column")
 
@@ -155,7 +143,7 @@ def _slack(problem, objects, row, column):
     if row >= problem.n_rows:
         unused = objects[row] - 1
         return Verdict(f"column {unused} stays unused, and column {column} is cheaper", None, column)
-    if column >= problem.n_cols:
+    if column >= problem.n_columns:
         return Verdict(f"row {row} would be better off without a column", row, None)
     return Verdict(f"row {row} would be better off with column {column}, at these prices", row, column)
 
@@ -171,9 +159,9 @@ def check(costs: Any, columns: Any, prices: Any, rows: Any = None, maximize: boo
     columns : list of int
         The column of each row, from 0; None for a row that stays out.
     prices : list of numbers
-        One for each column, in the unit of the costs, as `Result.rents`: a solver's dual values (of the columns, with the sign
-        with which they are added to costs that are to be little). They are rounded to the nearest part of the library's unit,
-        so that floats will do.
+        One for each column, in the unit of the costs: what is added to the column's costs where they are to be little, and taken
+        off where much is wanted. So these are a solver's column duals, under minimize with their signs turned. They are rounded
+        to the nearest part of the library's unit, so that floats will do.
     rows : list of int, optional
         The row of each of `columns`, where they aren't 0, 1, 2 ...
     maximize, decimals
@@ -191,7 +179,7 @@ def check(costs: Any, columns: Any, prices: Any, rows: Any = None, maximize: boo
         As in `solve`, or where a number of the plan is none of the problem's, a row stands twice in it, or there aren't as
         many prices as columns.
     """
-    problem = problem_of(costs, None, None, None, maximize, decimals)
+    problem = problem_of(costs, None, None, None, exact.manner(maximize, decimals))
     pairs = _pairs_of(problem, columns, rows)
     return check_problem(problem, [row for row, _ in pairs], [column for _, column in pairs], prices)
 
@@ -214,9 +202,9 @@ def compare(costs: Any, columns: Any, rows: Any = None, maximize: bool = False,
     ValueError, TypeError
         As in `check`, or where the plan uses a forbidden pair or a column twice, or pairs fewer rows than can be paired.
     """
-    problem = problem_of(costs, None, None, None, maximize, decimals)
+    problem = problem_of(costs, None, None, None, exact.manner(maximize, decimals))
     pairs = _pairs_of(problem, columns, rows)
-    held = _cost_by_pair(problem, pairs)
+    held = costs_of_pairs(problem, pairs)
     seen = set()
     for (row, column), cost in zip(pairs, held):
         if cost is None:

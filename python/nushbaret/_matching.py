@@ -37,6 +37,6 @@ def _augment(columns, owner, start, seen):
 def most_served(problem):
     """The greatest number of rows that can have a column each."""
     columns = _listed(problem)
-    owner = [None] * problem.n_cols
+    owner = [None] * problem.n_columns
     seen = set()
     return sum(_augment(columns, owner, row, seen) for row in range(problem.n_rows))

@@ -4,7 +4,7 @@ import pathlib
 import threading
 from array import array
 
-from .errors import LibraryNotFound
+from ._errors import LibraryNotFound
 
 VERSION = "1.0.0"
 MOST_PERSONS = 8192

@@ -3,29 +3,30 @@ import operator
 from array import array
 from typing import Any, Optional, Sequence, Tuple, Union
 
-from . import matching, problem as reading, quick, rents, square
-from .library import Halves
-from .result import Result, rows_and_columns
+from . import _duals, _exact as exact, _matching as matching, _problem as reading, _quick as quick, _square as square
+from ._library import Halves
+from ._result import Result, rows_and_columns
 
 Start = Union[Result, Sequence[Any], None]
+Decimals = Union[int, str, None]
 
 
 def _no_pairs(problem):
-    """The answer where there is no pair to make: all that there is stays out, at rents of 0."""
-    objects = array("H", (problem.n_cols + 1,)) * problem.n_rows
-    return square.Answer(problem.n_rows + problem.n_cols, 0, objects, Halves(problem.n_cols))
+    """The answer where there is no pair to make: all that there is stays out, at duals of 0."""
+    objects = array("H", (problem.n_columns + 1,)) * problem.n_rows
+    return square.Answer(problem.n_rows + problem.n_columns, 0, objects, Halves(problem.n_columns))
 
 
 def _solved(problem, start=None, served=None):
     """An answer or a Short of the square problem that stands for this one."""
-    if served == 0 or not min(problem.n_rows, problem.n_cols):
+    if served == 0 or not min(problem.n_rows, problem.n_columns):
         return _no_pairs(problem)
     first = None if start is None else _first(problem, start, served)
     return square.answer(problem, square.squared(problem, served), first)
 
 
 def _first(problem, start, served):
-    return rents.first_prices(problem, start.rents if isinstance(start, Result) else start, served)
+    return _duals.first_prices(problem, start._rents if isinstance(start, Result) else start, served)
 
 
 def _most(problem, start):
@@ -37,21 +38,21 @@ def _most(problem, start):
     return answer
 
 
-def _answer(problem, start, as_many_as_can):
+def _answer(problem, start, partial):
     answer = _solved(problem, start)
     if not isinstance(answer, square.Short):
         return answer
-    if not as_many_as_can:
-        raise square.infeasible(problem, answer, min(problem.n_rows, problem.n_cols))
+    if not partial:
+        raise square.infeasible(problem, answer, min(problem.n_rows, problem.n_columns))
     return _most(problem, start)
 
 
-def solve_problem(problem, start=None, as_many_as_can=False) -> Result:
-    return Result(problem, _answer(problem, start, as_many_as_can))
+def solve_problem(problem, start=None, partial=False) -> Result:
+    return Result(problem, _answer(problem, start, partial))
 
 
-def solve(costs: Any, maximize: bool = False, decimals: Optional[int] = None, start: Start = None,
-          as_many_as_can: bool = False) -> Result:
+def solve(costs: Any, maximize: bool = False, decimals: Decimals = None, start: Start = None,
+          partial: bool = False, missing: str = "refuse") -> Result:
     """A best assignment of the rows and columns of a matrix, with prices that prove it.
 
     Each row gets a column, no column twice; with unequal numbers as many pairs are made as can be, and some rows or columns
@@ -60,19 +61,22 @@ def solve(costs: Any, maximize: bool = False, decimals: Optional[int] = None, st
     Parameters
     ----------
     costs : matrix
-        A list of rows, a NumPy array, or a buffer of two dimensions. Whole numbers, floats, Decimals or Fractions; a float is
-        the decimal that it prints as. None or infinity (under maximize -infinity) forbids a pair. At most 8192 rows and
-        columns; each cost, times 10**decimals, is at most 10**12 either way.
+        A list of rows, a NumPy array, a DataFrame of pandas, or a buffer of two dimensions. Whole numbers, floats, Decimals or
+        Fractions; a float is the decimal that it prints as. None or infinity (under maximize -infinity) forbids a pair. At most
+        8192 rows and columns; each cost, times 10**decimals, is at most 10**12 either way.
     maximize : bool, optional
         Whether the greatest sum is wanted, not the least.
-    decimals : int, optional
-        Rounds each cost to so many places first, 0 to 6, halves to even ones (`Result.rounded` says whether that changed any).
-        Where it isn't given, costs are taken exactly, and there may be up to 6 places.
+    decimals : int or "fit", optional
+        Rounds each cost to so many places first, 0 to 6, halves to even ones; "fit" to as many as fit into the range
+        (`Result.rounded` says whether that changed any, `Result.error_bound` by how much it may matter). Where it isn't given,
+        costs are taken exactly, and there may be up to 6 places.
     start : Result or list of numbers, optional
-        First prices, those of a solved neighbour: one for each column, in the unit of the costs. The sum is the same
-        whatever they are.
-    as_many_as_can : bool, optional
+        A solved neighbour, or first prices: one for each column, in the unit of the costs, as those of `check`. The sum is the
+        same whatever they are.
+    partial : bool, optional
         Where not all can be paired, makes as many pairs as can be, at the best sum among such plans, in place of raising.
+    missing : {"refuse", "forbid"}, optional
+        Whether NaN is refused, or forbids its pair.
 
     Returns
     -------
@@ -81,7 +85,7 @@ def solve(costs: Any, maximize: bool = False, decimals: Optional[int] = None, st
     Raises
     ------
     Infeasible
-        There is no assignment; `rows` and `cols` prove it. A ValueError.
+        There is no assignment; `rows` and `columns` prove it. A ValueError.
     ValueError
         No matrix; too large; a cost that is out of range, NaN, or has too many places. The text says where.
     TypeError
@@ -96,23 +100,23 @@ def solve(costs: Any, maximize: bool = False, decimals: Optional[int] = None, st
     Takes time that grows as the cube of the size at worst, and 16 bytes a pair beside the costs. Runs without the interpreter's
     lock, and can't be interrupted while it does.
     """
-    return solve_problem(reading.of_matrix(costs, maximize, decimals), start, as_many_as_can)
+    return solve_problem(reading.of_matrix(costs, exact.manner(maximize, decimals, missing)), start, partial)
 
 
-def solve_sparse(n_rows: Any, n_cols: Optional[int] = None, rows: Any = None, cols: Any = None, costs: Any = None,
-                 maximize: bool = False, decimals: Optional[int] = None, start: Start = None,
-                 as_many_as_can: bool = False) -> Result:
+def solve_sparse(n_rows: Any, n_columns: Optional[int] = None, rows: Any = None, columns: Any = None, costs: Any = None,
+                 maximize: bool = False, decimals: Decimals = None, start: Start = None, partial: bool = False,
+                 missing: str = "refuse") -> Result:
     """A best assignment where only the listed pairs may be used.
 
     Parameters
     ----------
-    n_rows, n_cols : int
+    n_rows, n_columns : int
         How many rows and columns there are, 0 to 8192 each. Or one sparse matrix of SciPy's in place of these and of the three
         lists; its stored entries are the pairs, also those that are 0.
-    rows, cols, costs : lists or NumPy arrays of one length
-        Row rows[k] may have column cols[k] at costs[k]; numbers from 0. A pair that is given several times counts once, at its
+    rows, columns, costs : lists or NumPy arrays of one length
+        Row rows[k] may have column columns[k] at costs[k]; numbers from 0. A pair that is given several times counts once, at its
         least cost, also under maximize. Costs are as those of `solve`.
-    maximize, decimals, start, as_many_as_can
+    maximize, decimals, start, partial, missing
         As in `solve`.
 
     Returns
@@ -124,15 +128,16 @@ def solve_sparse(n_rows: Any, n_cols: Optional[int] = None, rows: Any = None, co
     Infeasible, ValueError, TypeError, MemoryError, LibraryNotFound
         As in `solve`.
     """
+    manner = exact.manner(maximize, decimals, missing)
     if hasattr(n_rows, "tocsr"):
-        if any(value is not None for value in (n_cols, rows, cols, costs)):
+        if any(value is not None for value in (n_columns, rows, columns, costs)):
             raise TypeError("a sparse matrix has rows, columns and costs of its own: give the other words by name")
-        problem = reading.of_sparse_matrix(n_rows, maximize, decimals)
-    elif any(value is None for value in (n_cols, rows, cols, costs)):
-        raise TypeError("n_rows, n_cols, rows, cols and costs are wanted, or one sparse matrix")
+        problem = reading.of_sparse_matrix(n_rows, manner)
+    elif any(value is None for value in (n_columns, rows, columns, costs)):
+        raise TypeError("n_rows, n_columns, rows, columns and costs are wanted, or one sparse matrix")
     else:
-        problem = reading.of_pairs(n_rows, n_cols, rows, cols, costs, maximize, decimals)
-    return solve_problem(problem, start, as_many_as_can)
+        problem = reading.of_pairs(n_rows, n_columns, rows, columns, costs, manner)
+    return solve_problem(problem, start, partial)
 
 
 def linear_sum_assignment(cost_matrix: Any, maximize: bool = False) -> Tuple[Any, Any]:
@@ -141,7 +146,7 @@ def linear_sum_assignment(cost_matrix: Any, maximize: bool = False) -> Tuple[Any
     Parameters
     ----------
     cost_matrix : matrix
-        As `costs` of `solve`; NumPy's infinity (under maximize -infinity) or None forbids a pair.
+        Any that SciPy takes, and None to forbid a pair, as infinity does (under maximize -infinity).
     maximize : bool, optional
         Whether the greatest sum is wanted.
 
@@ -154,19 +159,24 @@ def linear_sum_assignment(cost_matrix: Any, maximize: bool = False) -> Tuple[Any
     ------
     ValueError, TypeError
         As in `solve`, in SciPy's words where it has such an error.
+
+    Notes
+    -----
+    Floats are multiplied by the greatest power of two that leaves all within 10**12, and rounded. Where that makes all whole
+    the answer is best for these very doubles; else it costs at most n times that unit more, some 12 digits below the greatest.
     """
     found = quick.assignment(cost_matrix, maximize)
     if found:
         return found
-    problem = reading.of_matrix(cost_matrix, maximize, None)
+    problem = reading.of_matrix(cost_matrix, exact.manner(maximize, exact.DOUBLES))
     return rows_and_columns(problem, _answer(problem, None, False))
 
 
 def solve_without(problem, served, row, column):
     """Solves anew with one pair forbidden."""
     row, column = operator.index(row), operator.index(column)
-    if not (0 <= row < problem.n_rows and 0 <= column < problem.n_cols):
-        raise IndexError(f"row {row}, column {column}: there are {problem.n_rows} rows and {problem.n_cols} columns")
+    if not (0 <= row < problem.n_rows and 0 <= column < problem.n_columns):
+        raise IndexError(f"row {row}, column {column}: there are {problem.n_rows} rows and {problem.n_columns} columns")
     less = _leave_out(problem, row, column)
     answer = _solved(less, served=served)
     if isinstance(answer, square.Short):
@@ -190,12 +200,12 @@ def _leave_out(problem, row, column):
 
 def _listed(problem):
     """A dense problem as a sparse one."""
-    n_rows, n_cols, numpy = problem.n_rows, problem.n_cols, problem.numpy
+    n_rows, n_columns, numpy = problem.n_rows, problem.n_columns, problem.numpy
     if numpy:
-        persons = numpy.repeat(numpy.arange(1, n_rows + 1, dtype=numpy.uint16), n_cols)
-        return problem._replace(persons=persons, objects=numpy.tile(numpy.arange(1, n_cols + 1, dtype=numpy.uint16), n_rows))
-    persons, objects = array("H"), array("H", range(1, n_cols + 1)) * n_rows
+        persons = numpy.repeat(numpy.arange(1, n_rows + 1, dtype=numpy.uint16), n_columns)
+        return problem._replace(persons=persons, objects=numpy.tile(numpy.arange(1, n_columns + 1, dtype=numpy.uint16), n_rows))
+    persons, objects = array("H"), array("H", range(1, n_columns + 1)) * n_rows
     for row in range(1, n_rows + 1):
-        persons.extend(array("H", [row]) * n_cols)
+        persons.extend(array("H", [row]) * n_columns)
     costs = problem.costs if isinstance(problem.costs, array) else array("q", bytes(problem.costs.held))
     return problem._replace(costs=costs, persons=persons, objects=objects)

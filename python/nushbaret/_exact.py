@@ -1,4 +1,5 @@
-"""Costs of any kind become whole numbers, exactly: each is multiplied by one power of ten."""
+"""Costs of any kind become whole numbers: each is multiplied by one power of ten, exactly or rounded to the places that are
+asked for; or, for SciPy's call, by one power of two."""
 import decimal
 import math
 import operator
@@ -7,14 +8,37 @@ import sys
 from array import array
 from fractions import Fraction
 from itertools import chain
-from typing import NamedTuple
+from typing import NamedTuple, Union
 
-from .library import GREATEST_COST
+from ._library import GREATEST_COST
 
 MOST_PLACES = 6
+# In place of a number of decimals: as many as fit; and a power of two, for costs that are taken as doubles.
+FIT, DOUBLES = "fit", "doubles"
+FORBID = "forbid"
 # Up to so many numbers a copy costs less than a second look at them.
 FEW = 1024
+# Digits behind the point that are kept of a fraction before it is rounded.
+STICKY = 30
 _PLAIN = frozenset((int, float, bool, type(None)))
+
+
+class Manner(NamedTuple):
+    """How costs are read: `decimals` is None for exactly, a number of places, FIT or DOUBLES; `forbid_nan` takes NaN as forbidden."""
+
+    maximize: bool
+    decimals: Union[None, int, str] = None
+    forbid_nan: bool = False
+
+    @property
+    def forbids(self):
+        """The infinity that forbids a pair."""
+        return -math.inf if self.maximize else math.inf
+
+    @property
+    def whole(self):
+        """Whether whole numbers stay as they are."""
+        return not self.decimals or isinstance(self.decimals, str)
 
 
 class Costs(NamedTuple):
@@ -34,35 +58,50 @@ def numpy_of(value):
     return numpy if isinstance(value, numpy.ndarray) or hasattr(value, "__array__") else None
 
 
-def judged_decimals(decimals):
-    if decimals is None:
-        return None
+def manner(maximize, decimals=None, missing="refuse"):
+    """The words of a call, judged."""
+    if missing not in ("refuse", FORBID):
+        raise ValueError(f"missing is {missing!r}: 'refuse' or 'forbid' can be had")
+    return Manner(bool(maximize), _judged_decimals(decimals), missing == FORBID)
+
+
+def _judged_decimals(decimals):
+    if decimals is None or isinstance(decimals, str) and decimals in (FIT, DOUBLES):
+        return decimals
+    if isinstance(decimals, str):
+        raise ValueError(f"decimals is {decimals!r}: 0 to {MOST_PLACES} or 'fit' can be had")
     decimals = operator.index(decimals)
     if not 0 <= decimals <= MOST_PLACES:
-        raise ValueError(f"decimals is {decimals}: 0 to {MOST_PLACES} can be had")
+        raise ValueError(f"decimals is {decimals}: 0 to {MOST_PLACES} or 'fit' can be had")
     return decimals
 
 
 def refuse_range(where, places):
-    scaled = f", with {places} decimal places" if places else ""
+    scaled = f", with {places} decimal places: decimals=0 to {places - 1} takes fewer, decimals=\"fit\" as many as fit" if places else ""
     raise ValueError(f"{where}: the cost is beyond {GREATEST_COST // 10**places}{scaled}")
 
 
 def _refuse_places(where, value):
-    raise ValueError(f"{where}: {value} has more than {MOST_PLACES} decimal places: "
-                     f"round the costs, as by nushbaret.solve(costs, decimals={MOST_PLACES})")
+    raise ValueError(f"{where}: {value} has more than {MOST_PLACES} decimal places: round the costs, as by "
+                     f"nushbaret.solve(costs, decimals={MOST_PLACES}), or decimals=\"fit\" for as many places as fit")
 
 
-def _refuse_invalid(where, value):
-    raise ValueError(f"matrix contains invalid numeric entries: {value} at {where}")
+def refuse_invalid(where, value):
+    hint = ": None or an infinite cost forbids a pair, and missing=\"forbid\" takes nan so" if "nan" in str(value).lower() else ""
+    raise ValueError(f"matrix contains invalid numeric entries: {value} at {where}{hint}")
+
+
+def is_nan(value):
+    """Whether a value is NaN, or what pandas has in its place."""
+    return isinstance(value, (float, decimal.Decimal)) and value != value or type(value).__name__ in ("NAType", "NaTType")
 
 
 class _Decimals:
     """Reads numbers of a list one after the other; each is a whole number times a power of ten."""
 
-    def __init__(self, maximize, decimals, where):
-        self.maximize = maximize
-        self.decimals = decimals
+    def __init__(self, manner, where):
+        self.manner = manner
+        self.decimals = manner.decimals
         self.where = where
         self.places = 0
         self.rounded = False
@@ -73,7 +112,7 @@ class _Decimals:
         if not value:
             return 0, 0
         if value.adjusted() > 13:
-            refuse_range(self.where(place), self.decimals or 0)
+            refuse_range(self.where(place), 0 if self.manner.whole else self.decimals)
         whole = int("".join(map(str, digits))) * (-1 if sign else 1)
         if exponent >= 0:
             return whole * 10**exponent, 0
@@ -105,12 +144,13 @@ class _Decimals:
             return int(value * 10**MOST_PLACES), -MOST_PLACES
         if self.decimals is None:
             _refuse_places(self.where(place), value)
-        self.rounded = True
-        return round(value * 10**self.decimals), -self.decimals
+        # The last digit says whether there is more, so that a later rounding knows on which side of a half it stands.
+        whole, rest = divmod(value.numerator * 10**STICKY, value.denominator)
+        return whole * 10 + (rest != 0), -STICKY - 1
 
     def pair(self, place, value):
         """(whole, exponent), or None where the pair is forbidden."""
-        if value is None:
+        if value is None or self.manner.forbid_nan and is_nan(value):
             return None
         if isinstance(value, Fraction):
             return self.of_digits_of_fraction(place, value)
@@ -125,9 +165,9 @@ class _Decimals:
     def of_decimal(self, place, number):
         if number.is_finite():
             return self.of_digits(place, number)
-        if number.is_infinite() and (number < 0) == self.maximize:
+        if number.is_infinite() and (number < 0) == self.manner.maximize:
             return None
-        return _refuse_invalid(self.where(place), str(number).lower().replace("infinity", "inf"))
+        return refuse_invalid(self.where(place), str(number).lower().replace("infinity", "inf"))
 
     def of_digits_of_fraction(self, place, value):
         whole, exponent = self.of_fraction(place, value)
@@ -139,7 +179,16 @@ class _Decimals:
         try:
             return operator.index(value), 0
         except TypeError:
-            raise TypeError(f"Cannot cast array data: {self.where(place)} is {value!r}, which is no number") from None
+            if is_nan(value):
+                refuse_invalid(self.where(place), "nan")
+            refuse_kind(self.where(place), value)
+
+    def fitting(self, pairs):
+        """As many places as the costs have, as far as these fit."""
+        least = min(MOST_PLACES, max((-pair[1] for pair in pairs if pair), default=0))
+        while least and any(abs(pair[0]) * 10**least > GREATEST_COST * 10**-pair[1] for pair in pairs if pair):
+            least -= 1
+        return least
 
     def scaled(self, place, pair):
         """The number times 10**places, rounded to the nearest, halves to even ones."""
@@ -156,19 +205,24 @@ class _Decimals:
         return number
 
 
-def of_rows(rows, length, maximize, decimals, where):
+def refuse_kind(where, value):
+    raise TypeError(f"Cannot cast array data: {where} is {value!r}, which is no number") from None
+
+
+def of_rows(rows, length, manner, where):
     """The costs of rows of one length. `where(place)` names a place for the caller."""
     if length * len(rows) <= FEW:
         rows, length = [list(chain.from_iterable(rows))], length * len(rows)
-    numbers = None if decimals else _packed(rows, length)
-    if numbers is not None:
+    numbers = _packed(rows, length) if manner.whole else None
+    if numbers is not None and (manner.decimals != DOUBLES or not numbers or max(max(numbers), -min(numbers)) <= GREATEST_COST):
         return Costs(numbers, (), 0, False)
-    return _of_numbers(list(chain.from_iterable(rows)), maximize, decimals, where)
+    values = list(chain.from_iterable(rows))
+    return doubles_of_list(values, manner, where) if manner.decimals == DOUBLES else _of_numbers(values, manner, where)
 
 
-def of_list(values, maximize, decimals, where):
+def of_list(values, manner, where):
     """The costs of a list."""
-    return of_rows([values], len(values), maximize, decimals, where)
+    return of_rows([values], len(values), manner, where)
 
 
 def _packed(rows, length):
@@ -194,10 +248,11 @@ def _pack(pack, numbers, place, row):
         pack(numbers, place, *map(int, row))
 
 
-def _of_plain(values, maximize):
+def _of_plain(values, manner):
     """The costs of a list of ints, floats and None; None where they have too many places, or one is out of range or NaN."""
-    forbids = -math.inf if maximize else math.inf
-    forbidden = [place for place, value in enumerate(values) if value is None or value == forbids]
+    forbids = manner.forbids
+    forbidden = [place for place, value in enumerate(values)
+                 if value is None or value == forbids or manner.forbid_nan and value != value]
     for place in forbidden:
         values[place] = 0
     try:
@@ -231,32 +286,67 @@ def _block_scaled(block, least):
     raise ValueError(f"more than {MOST_PLACES} decimal places")
 
 
-def _of_numbers(values, maximize, decimals, where):
+def _of_numbers(values, manner, where):
     """The costs of a list of numbers of any kind."""
-    if decimals is None and _PLAIN.issuperset(map(type, values)):
-        read = _of_plain(values.copy(), maximize)
+    if manner.decimals in (None, FIT) and _PLAIN.issuperset(map(type, values)):
+        read = _of_plain(values.copy(), manner)
         if read is not None:
             return read
-    reader = _Decimals(maximize, decimals, where)
+    reader = _Decimals(manner, where)
     pairs = [(value, 0) if type(value) is int
              else (int(value), 0) if type(value) is float and value.is_integer()
              else reader.pair(place, value) for place, value in enumerate(values)]
     least = min((pair[1] for pair in pairs if pair), default=0)
-    reader.places = -least if decimals is None else decimals
+    reader.places = -least if manner.decimals is None else reader.fitting(pairs) if manner.decimals == FIT else manner.decimals
     forbidden = [place for place, pair in enumerate(pairs) if pair is None]
     numbers = array("q", [reader.scaled(place, pair) if pair else 0 for place, pair in enumerate(pairs)])
     return Costs(numbers, forbidden, reader.places, reader.rounded)
 
 
-def of_array(numpy, values, maximize, decimals, where):
+def doubles_of_list(values, manner, where):
+    """Costs as doubles, times the greatest power of two that leaves all within range."""
+    doubles = [_double(place, value, manner, where) for place, value in enumerate(values)]
+    most = max((abs(value) for value in doubles if value is not None), default=0.0)
+    shift = shift_of(most)
+    numbers = array("q", [0 if value is None else round(math.ldexp(value, shift)) for value in doubles])
+    return Costs(numbers, [place for place, value in enumerate(doubles) if value is None], 0, False)
+
+
+def _double(place, value, manner, where):
+    """A finite float; None where the pair is forbidden."""
+    kind = getattr(getattr(value, "dtype", None), "kind", "f")
+    if value is None or isinstance(value, (str, bytes, complex)) or kind not in "biuf":
+        return None if value is None else refuse_kind(where(place), value)
+    try:
+        double = float(value)
+    except TypeError:
+        return refuse_invalid(where(place), "nan") if is_nan(value) else refuse_kind(where(place), value)
+    except OverflowError:
+        raise ValueError(f"{where(place)}: the cost is beyond the range of floats") from None
+    except ValueError:
+        return refuse_invalid(where(place), "nan")
+    if math.isfinite(double):
+        return double
+    return None if double == manner.forbids else refuse_invalid(where(place), double)
+
+
+def shift_of(most):
+    """The greatest power of two that leaves a float within the library's range."""
+    shift = 40 - math.frexp(most)[1]
+    return shift if math.ldexp(most, shift) <= GREATEST_COST else shift - 1
+
+
+def of_array(numpy, values, manner, where):
     """The costs of a NumPy array, whatever its shape, in the order of C."""
     kind = values.dtype.kind
-    if kind in "biu":
-        return _of_whole_array(numpy, values, decimals or 0, where)
-    if kind == "f" and values.dtype.itemsize <= 8:
-        return _of_float_array(numpy, values, maximize, decimals, where)
+    if kind in "biu" or kind == "f" and values.dtype.itemsize <= 8:
+        if manner.decimals == DOUBLES:
+            return doubles_of_array(numpy, values, manner, where)
+        if kind == "f":
+            return _of_float_array(numpy, values, manner, where)
+        return _of_whole_array(numpy, values, 0 if manner.whole else manner.decimals, where)
     if kind in "Of":
-        costs = of_list([*values.ravel()], maximize, decimals, where)
+        costs = of_list([*values.ravel()], manner, where)
         return costs._replace(numbers=numpy.array(costs.numbers, numpy.int64))
     raise TypeError(f"Cannot cast array data from {values.dtype!r} to costs: they must be numbers")
 
@@ -277,35 +367,62 @@ def _of_whole_array(numpy, values, places, where):
     return Costs(numbers * 10**places if places else numbers, (), places, False)
 
 
-def _of_float_array(numpy, values, maximize, decimals, where):
+def doubles_of_array(numpy, values, manner, where):
+    """Costs as doubles, times the greatest power of two that leaves all within range; whole numbers within it stay."""
+    flat = values.ravel()
+    if flat.dtype.kind != "f" and (not flat.size or flat.max() <= GREATEST_COST and flat.min() >= -GREATEST_COST):
+        return Costs(flat.astype(numpy.int64, copy=not flat.flags.aligned), (), 0, False)
+    flat, forbidden = _finite(numpy, flat.astype(numpy.float64), manner, where)
+    most = float(numpy.abs(flat).max()) if flat.size else 0.0
+    return Costs(numpy.rint(numpy.ldexp(flat, shift_of(most))).astype(numpy.int64), forbidden, 0, False)
+
+
+def _finite(numpy, flat, manner, where):
+    """The costs with 0 for those that forbid their pair, and the places of these."""
+    infinite = ~numpy.isfinite(flat)
+    if not infinite.any():
+        return flat, ()
+    wrong = infinite & (flat != manner.forbids)
+    if manner.forbid_nan:
+        wrong &= flat == flat
+    if wrong.any():
+        place = int(numpy.flatnonzero(wrong)[0])
+        refuse_invalid(where(place), flat[place])
+    return numpy.where(infinite, 0.0, flat), numpy.flatnonzero(infinite)
+
+
+def _of_float_array(numpy, values, manner, where):
     flat = values.ravel()
     wide = flat.astype(numpy.float64, copy=False)
-    numbers = None if decimals else whole_numbers(numpy, wide)
+    numbers = whole_numbers(numpy, wide) if manner.whole else None
     if numbers is not None:
         return Costs(numbers, (), 0, False)
     if flat.dtype.itemsize < 8 and not (numpy.rint(flat) == flat).all():
         wide = flat.astype("U32").astype(numpy.float64)
-    flat = wide
-    forbidden = ()
-    infinite = ~numpy.isfinite(flat)
-    if infinite.any():
-        wrong = infinite & (flat != (-math.inf if maximize else math.inf))
-        if wrong.any():
-            place = int(numpy.flatnonzero(wrong)[0])
-            _refuse_invalid(where(place), flat[place])
-        forbidden = numpy.flatnonzero(infinite)
-        flat = numpy.where(infinite, 0.0, flat)
-    if decimals is None:
-        places = _least_places(numpy, flat, where)
-    else:
-        places = decimals
+    flat, forbidden = _finite(numpy, wide, manner, where)
+    places = _places_of(numpy, flat, manner, where)
     scaled = numpy.rint(flat * 10.0**places)
     beyond = numpy.abs(scaled) > GREATEST_COST
     if beyond.any():
         _refuse_first(numpy, beyond, where, places)
     numbers = scaled.astype(numpy.int64)
-    rounded = decimals is not None and _round_halves(numpy, flat, numbers, places)
+    rounded = manner.decimals is not None and _round_halves(numpy, flat, numbers, places)
     return Costs(numbers, forbidden, places, rounded)
+
+
+def _places_of(numpy, flat, manner, where):
+    if manner.decimals is None:
+        return _least_places(numpy, flat, where)
+    if manner.decimals != FIT:
+        return manner.decimals
+    try:
+        places = _least_places(numpy, flat, where)
+    except ValueError:
+        places = MOST_PLACES
+    most = float(numpy.abs(flat).max()) if flat.size else 0.0
+    while places and Fraction(repr(most)) * 10**places > GREATEST_COST:
+        places -= 1
+    return places
 
 
 def whole_numbers(numpy, flat):

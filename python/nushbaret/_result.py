@@ -1,0 +1,192 @@
+"""A best assignment as the caller sees it."""
+import decimal
+from functools import cached_property
+from typing import TYPE_CHECKING, Any, List, Tuple, Union
+
+from . import _duals
+from ._exact import manner
+from ._problem import costs_of_pairs
+
+if TYPE_CHECKING:
+    from ._checking import Verdict
+
+
+Number = Union[int, decimal.Decimal]
+
+
+def in_unit(number, places):
+    """number / 10**places, exactly: an int where places is 0, else a Decimal."""
+    return decimal.Decimal(f"{number}E-{places}") if places else number
+
+
+def rows_and_columns(problem, answer):
+    """The numbers of the pairs of an answer, in the form that the caller wants: dummies stand in none."""
+    return _arrays_of(problem.numpy, problem, answer) if problem.numpy else _lists_of(problem, answer)
+
+
+def _lists_of(problem, answer):
+    columns = [item - 1 for item in answer.objects[:problem.n_rows]]
+    if answer.size == problem.n_columns:
+        return list(range(problem.n_rows)), columns
+    rows = [row for row, column in enumerate(columns) if column < problem.n_columns]
+    return rows, [columns[row] for row in rows]
+
+
+def _arrays_of(numpy, problem, answer):
+    columns = numpy.array(answer.objects[:problem.n_rows].tolist(), numpy.intp)
+    columns -= 1
+    if answer.size == problem.n_columns:
+        return numpy.arange(problem.n_rows), columns
+    rows = numpy.flatnonzero(columns < problem.n_columns)
+    return rows, columns[rows]
+
+
+class Result:
+    """A best assignment, with prices that prove it.
+
+    Row `rows[k]` has column `columns[k]`; numbers are from 0, and rows rise. They are NumPy arrays where the costs came in
+    as one, and lists elsewhere.
+
+    Attributes
+    ----------
+    rows, columns : list of int, or NumPy array
+        The pairs. With unequal numbers there are as many as the fewer of rows and columns.
+    cost : int or decimal.Decimal
+        The sum of their costs, exactly; a Decimal where costs have decimal places.
+    pairs : list of tuple
+        The pairs by the labels of a DataFrame, or else by numbers.
+    row_duals, column_duals : list of int or of decimal.Decimal
+        The proof, exactly: u[i] + v[j] <= costs[i][j] for each pair that is allowed, with equality in the plan; v[j] <= 0, and 0
+        where a column is unmatched; the sum of all is the cost. Where rows are more and all columns are matched, this holds for
+        u in place of v. Under maximize all of these signs are turned. (In a partial plan that leaves out rows and columns, all
+        unmatched rows have one dual, none is greater, and it is the sum over the matched that is the cost.) Other duals prove
+        the same plan as well.
+    prices : list of int
+        The library's own proof, one price for each column, in the unit of the costs divided by `scale`.
+    unmatched_rows, unmatched_columns : list of int, or NumPy array
+        Who stays without, rising.
+    scale : int
+        What prices are divided by to be in the unit of the costs.
+    decimals : int
+        How many decimal places were counted.
+    rounded : bool
+        Whether any cost was changed by rounding to `decimals` places: then the plan is best for the rounded costs.
+    error_bound : int or decimal.Decimal
+        By how much at most the plan is worse than the best one for the costs before they were rounded; 0 where none was.
+    maximize : bool
+        Whether the greatest sum was wanted.
+    """
+
+    def __init__(self, problem, answer):
+        self._problem = problem
+        self._answer = answer
+        self.rows, self.columns = rows_and_columns(problem, answer)
+        self.cost = in_unit(answer.total, problem.places)
+        self.scale = (answer.size + 1) * 10**problem.places
+        self.decimals, self.rounded, self.maximize = problem.places, problem.rounded, problem.maximize
+        self.error_bound = in_unit(len(self.rows), problem.places) if problem.rounded else 0
+
+    def __repr__(self):
+        return f"<nushbaret.Result: cost {self.cost}, {len(self.rows)} pairs>"
+
+    @cached_property
+    def _pairs(self):
+        return _lists_of(self._problem, self._answer)
+
+    @cached_property
+    def pairs(self) -> List[Tuple[Any, Any]]:
+        if self._problem.labels is None:
+            return list(zip(*self._pairs))
+        rows, columns = self._problem.labels
+        return [(rows[row], columns[column]) for row, column in zip(*self._pairs)]
+
+    @cached_property
+    def unmatched_rows(self) -> Any:
+        return self._problem.numbers(sorted(set(range(self._problem.n_rows)).difference(self._pairs[0])))
+
+    @cached_property
+    def unmatched_columns(self) -> Any:
+        return self._problem.numbers(sorted(set(range(self._problem.n_columns)).difference(self._pairs[1])))
+
+    @cached_property
+    def prices(self) -> List[int]:
+        return self._answer.halves.prices()[:self._problem.n_columns]
+
+    @cached_property
+    def _whole_duals(self):
+        return _duals.of_answer(self._problem, self._answer, *self._pairs)
+
+    def _in_unit(self, numbers):
+        return [in_unit(number, self.decimals) for number in numbers]
+
+    @cached_property
+    def row_duals(self) -> List[Number]:
+        return self._in_unit(-dual if self.maximize else dual for dual in self._whole_duals.rows)
+
+    @cached_property
+    def column_duals(self) -> List[Number]:
+        return self._in_unit(-dual if self.maximize else dual for dual in self._whole_duals.columns)
+
+    @cached_property
+    def _rents(self):
+        return self._in_unit(_duals.rents(self._whole_duals))
+
+    def to_frame(self) -> Any:
+        """The pairs as a DataFrame of pandas, which must be installed.
+
+        Returns
+        -------
+        pandas.DataFrame
+            With columns row, column and cost: labels where the costs had such, numbers elsewhere.
+        """
+        import pandas
+        costs = self._in_unit(costs_of_pairs(self._problem, list(zip(*self._pairs))))
+        rows, columns = zip(*self.pairs) if self.pairs else ((), ())
+        return pandas.DataFrame({"row": list(rows), "column": list(columns), "cost": costs})
+
+    def verify(self, costs: Any = None, rows: Any = None, columns: Any = None) -> "Verdict":
+        """Holds the plan and its duals against a problem, by the library's proved checker.
+
+        Parameters
+        ----------
+        costs : matrix or sparse matrix, optional
+            The problem, of as many rows and columns; the one that was solved where it isn't given.
+        rows, columns : lists of int, optional
+            Where they are given, `costs` is a list too, and these are its pairs, as in `solve_sparse`.
+
+        Returns
+        -------
+        Verdict
+            True as a condition exactly where the duals prove that no plan of as many pairs is better.
+        """
+        from ._checking import check_problem, problem_of
+        problem = self._problem
+        if costs is not None:
+            how = manner(self.maximize, self.decimals if self.rounded else None)
+            problem = problem_of(costs, rows, columns, (problem.n_rows, problem.n_columns), how)
+        return check_problem(problem, *self._pairs, self._rents)
+
+    def without(self, row: int, column: int) -> "Result":
+        """The best plan where this pair is forbidden; what it costs more is what the pair is worth.
+
+        Solves again, and looks at the costs again: leave an array that was solved as it was until then.
+
+        Parameters
+        ----------
+        row, column : int
+            A pair, by numbers from 0.
+
+        Returns
+        -------
+        Result
+            A best assignment of as many rows.
+
+        Raises
+        ------
+        Infeasible
+            Where there is none without the pair.
+        IndexError
+            Where the row or the column isn't one of the problem.
+        """
+        from ._solving import solve_without
+        return solve_without(self._problem, len(self._pairs[0]), row, column)

@@ -1,0 +1,157 @@
+"""Floats: SciPy's call takes all that SciPy takes, and costs as SciPy's plans do; `solve` rounds where it is asked to."""
+import math
+import unittest
+from decimal import Decimal
+from fractions import Fraction
+
+import nushbaret
+from drawn import best, drawing
+
+try:
+    import numpy as np
+except ImportError:
+    np = None
+try:
+    from scipy import optimize
+except ImportError:
+    optimize = None
+
+
+def unit_of(costs):
+    """The power of two to which doubles are rounded: the least at which the greatest is within the library's range."""
+    most = max((abs(Fraction(cost)) for row in costs for cost in row if math.isfinite(cost)), default=Fraction(0))
+    unit = Fraction(1)
+    while most and most / unit <= nushbaret.GREATEST_COST:
+        unit /= 2
+    while most / unit > nushbaret.GREATEST_COST:
+        unit *= 2
+    return unit
+
+
+def cost_of(costs, rows, columns):
+    return sum(Fraction(float(costs[row][column])) for row, column in zip(rows, columns))
+
+
+class Lists(unittest.TestCase):
+    def test_drawn(self):
+        draw = drawing(21)
+        for _ in range(500):
+            n_rows, n_columns, maximize = draw.randint(1, 4), draw.randint(1, 4), draw.random() < 0.5
+            scale = 2.0**draw.choice([-1060, -300, -40, 0, 10, 40, 300, 1000])
+            costs = [[draw.choice([draw.random(), draw.randint(-9, 9), draw.gauss(0, 1)]) * scale for _ in range(n_columns)]
+                     for _ in range(n_rows)]
+            rows, columns = nushbaret.linear_sum_assignment(costs, maximize)
+            served = min(n_rows, n_columns)
+            self.assertEqual(len(set(columns)), served)
+            wanted = best([[Fraction(cost) for cost in row] for row in costs], maximize, served)
+            self.assertLessEqual(abs(cost_of(costs, rows, columns) - wanted), served * unit_of(costs))
+
+    def test_best_for_these_very_doubles(self):
+        """Where a power of two makes all whole within range, nothing is rounded."""
+        draw = drawing(22)
+        for _ in range(500):
+            n, maximize = draw.randint(1, 4), draw.random() < 0.5
+            scale = 2.0**draw.choice([-1030, -300, -40, 0, 10, 40, 300, 900])
+            costs = [[draw.randint(-10**12, 10**12) * scale for _ in range(n)] for _ in range(n)]
+            wanted = best([[Fraction(cost) for cost in row] for row in costs], maximize, n)
+            self.assertEqual(cost_of(costs, *nushbaret.linear_sum_assignment(costs, maximize)), wanted)
+
+    def test_numbers_of_every_kind(self):
+        for other, wanted in ((10**300, [0, 1]), (Decimal("1e-300"), [1, 0]), (Fraction(1, 3), [1, 0]), (True, [0, 1]), (False, [1, 0]),
+                              (2.5, [0, 1]), (2**63, [0, 1]), (-2**63, [1, 0]), (None, [0, 1]), (math.inf, [0, 1])):
+            self.assertEqual(nushbaret.linear_sum_assignment([[0.5, other], [0.25, 0.5]])[1], wanted, other)
+        for wrong, kind, words in (("1", TypeError, "Cannot cast array data: row 0, column 1 is '1'"), (1j, TypeError, "is 1j"),
+                                   (10**400, ValueError, "row 0, column 1: the cost is beyond the range of floats"),
+                                   (Decimal("sNaN"), ValueError, "nan at row 0, column 1"), (object(), TypeError, "which is no number"),
+                                   (-math.inf, ValueError, "-inf at row 0, column 1"), (math.nan, ValueError, "nan at row 0, column 1")):
+            with self.assertRaisesRegex(kind, words):
+                nushbaret.linear_sum_assignment([[0.5, wrong], [1, 1]])
+
+
+class Fitting(unittest.TestCase):
+    def test_drawn(self):
+        draw = drawing(23)
+        rounded = 0
+        for _ in range(500):
+            n_rows, n_columns, maximize = draw.randint(1, 4), draw.randint(1, 4), draw.random() < 0.5
+            scale = 10.0**draw.randint(-8, 11)
+            costs = [[draw.choice([draw.random(), draw.randint(-9, 9) / 8]) * scale for _ in range(n_columns)] for _ in range(n_rows)]
+            exact = [[Fraction(repr(cost)) for cost in row] for row in costs]
+            forms = [costs, [[Fraction(repr(cost)) for cost in row] for row in costs], [[Decimal(repr(cost)) for cost in row] for row in costs]]
+            told = set()
+            for form in forms + ([np.array(costs)] if np else []):
+                result = nushbaret.solve(form, maximize, decimals="fit")
+                own = sum(exact[row][column] for row, column in zip(result.rows, result.columns))
+                wanted = best(exact, maximize, min(n_rows, n_columns))
+                self.assertLessEqual(abs(own - wanted), Fraction(result.error_bound))
+                told.add((result.cost, result.decimals, result.rounded, result.error_bound))
+            self.assertEqual(len(told), 1)
+            most = max(abs(cost) for row in exact for cost in row)
+            if result.rounded:
+                rounded += 1
+                self.assertTrue(result.decimals == 6 or most * 10**(result.decimals + 1) > nushbaret.GREATEST_COST)
+            else:
+                self.assertEqual((own, result.error_bound), (wanted, 0))
+        self.assertGreater(rounded, 100)
+
+    def test_refusals(self):
+        for decimals, words in (("fits", "decimals is 'fits': 0 to 6 or 'fit' can be had"), (7, "decimals is 7: 0 to 6 or 'fit'")):
+            with self.assertRaisesRegex(ValueError, words):
+                nushbaret.solve([[1]], decimals=decimals)
+        with self.assertRaisesRegex(ValueError, "row 0, column 0: the cost is beyond 1000000000000$"):
+            nushbaret.solve([[1e13]], decimals="fit")
+        with self.assertRaisesRegex(ValueError, 'more than 6 decimal places: round the costs, as by .*decimals=6.*decimals="fit"'):
+            nushbaret.solve([[1 / 3]])
+        with self.assertRaisesRegex(ValueError, 'with 2 decimal places: decimals=0 to 1 takes fewer, decimals="fit" as many as fit'):
+            nushbaret.solve([[10**11, 0.25]])
+
+
+@unittest.skipUnless(optimize, "SciPy isn't there")
+class BesideScipy(unittest.TestCase):
+    KINDS = ("float64", "float32", "float16", "longdouble", "object", "bool", "int8", "uint8", "int16", "uint16", "int32", "uint32",
+             "int64", "uint64", ">f8", "list")
+
+    def drawn(self, rng, kind):
+        shape = tuple(int(side) for side in rng.integers(1, 9, 2))
+        if kind == "bool":
+            return rng.random(shape) < 0.5
+        if kind.lstrip("u").startswith("int"):
+            limits = np.iinfo(kind)
+            span = (9, limits.max)[int(rng.integers(2))]
+            return rng.integers(max(-span, limits.min), span, shape, dtype=kind, endpoint=True)
+        scale = 1.0 if kind == "float16" else 2.0**int(rng.choice([-20, 0, 30] if kind == "float32" else [-1000, -300, -20, 0, 30, 300, 1000]))
+        costs = np.where(rng.random(shape) < 0.5, rng.normal(0, 1, shape), rng.integers(-9, 10, shape)) * scale
+        if rng.random() < 0.3:
+            costs[rng.random(shape) < 0.2] = np.inf
+        if rng.random() < 0.05:
+            costs[int(rng.integers(shape[0]))] = np.inf
+        return costs.tolist() if kind == "list" else costs.astype(kind)
+
+    def test_drawn(self):
+        rng, infeasible = np.random.default_rng(24), 0
+        for turn in range(2000):
+            kind = self.KINDS[turn % len(self.KINDS)]
+            costs, maximize = self.drawn(rng, kind), bool(rng.integers(2))
+            if maximize and np.asarray(costs, float).size and np.isinf(np.asarray(costs, float)).any():
+                costs = [[-cost for cost in row] for row in costs] if isinstance(costs, list) else -costs
+            doubles = np.asarray(costs, float)
+            try:
+                theirs = optimize.linear_sum_assignment(doubles if kind in ("longdouble", "object") else costs, maximize)
+            except ValueError as fault:
+                with self.assertRaisesRegex(ValueError, str(fault)):
+                    nushbaret.linear_sum_assignment(costs, maximize)
+                infeasible += 1
+                continue
+            rows, columns = nushbaret.linear_sum_assignment(costs, maximize)
+            self.assertEqual(len(rows), min(doubles.shape))
+            self.assertEqual((list(rows), len(set(columns))), (sorted(rows), len(rows)))
+            own, wanted = cost_of(doubles, rows, columns), cost_of(doubles, *theirs)
+            better = own - wanted if maximize else wanted - own
+            most = max(abs(Fraction(float(cost))) for cost in doubles[np.isfinite(doubles)])
+            self.assertGreaterEqual(better, -len(rows) * unit_of(doubles.tolist()))
+            self.assertLessEqual(better, len(rows) * most / 2**45)
+        self.assertGreater(infeasible, 20)
+
+
+if __name__ == "__main__":
+    unittest.main()
