@@ -1,8 +1,11 @@
 """Answers by names: the plan of a roster, or who is short of what."""
-from array import array
-from typing import Dict, List, NamedTuple, Optional
+from collections import Counter
+from typing import Any, Dict, List, NamedTuple, Optional, Sequence, Set, Tuple
 
 from ._errors import Infeasible
+from ._groups import Group, groups_of
+from ._keep import fewest_changes
+from ._nodes import Listed, Nodes, changed, least_costs, nodes_of
 from .roster import PlanLine, Roster
 from ._solving import solve_sparse
 
@@ -19,17 +22,20 @@ class Pair(NamedTuple):
 
 
 class Short(NamedTuple):
-    """Why there is no plan. Where `of_objects` is false these persons can take these objects alone, which are fewer; where it
-    is true these objects can go to these persons alone, who are fewer."""
+    """Why there is no plan. Where `of_objects` is false these persons want `wanted` and can have no more than `had`, of these objects
+    alone, and of those in `once` one for each pair; where it is true it is the other way round."""
 
     persons: List[int]
     objects: List[int]
     of_objects: bool
+    wanted: int
+    had: int
+    once: List[int]
 
 
 class Plan(NamedTuple):
-    """Pairs in the order of the persons, their cost, who and what stays out, and the rent of each object that isn't fixed. Costs
-    and rents are in the roster's units."""
+    """Pairs in the order of the persons, their cost, who and what gets less than it should, and the rent of each object that isn't
+    fixed, where nobody counts several times. Costs and rents are in the roster's units."""
 
     pairs: List[Pair]
     cost: int
@@ -39,93 +45,121 @@ class Plan(NamedTuple):
 
 
 class Answer(NamedTuple):
-    """A best plan; or what is short, then with the fullest plan where it was asked for."""
+    """A best plan; or the groups that are short, then with the fullest plan where it was asked for."""
 
     plan: Optional[Plan]
-    short: Optional[Short]
+    groups: List[Short]
 
 
-class Rest(NamedTuple):
-    """What is left to solve beside the fixed pairs: the numbers of persons and objects, and the pairs among these."""
+class Wish(NamedTuple):
+    """What is asked of a roster: pairs that stand, whatever they cost; the greatest cost, not the least; where there is no plan for all
+    the fullest one; pairs to be kept where that costs nothing, or where it costs no more than `change` for each pair."""
 
-    persons: List[int]
-    objects: List[int]
-    rows: array
-    cols: array
-    costs: array
+    fixed: Sequence[PlanLine] = ()
+    maximize: bool = False
+    fullest: bool = False
+    kept: Optional[Set[Tuple[int, int]]] = None
+    change: Optional[int] = None
 
 
-def rest_of(roster: Roster, fixed: List[PlanLine]) -> Rest:
-    """A roster without the persons and objects of the fixed pairs."""
-    taken_persons, taken_objects = {pair.person for pair in fixed}, {pair.object for pair in fixed}
-    persons = [person for person in range(len(roster.persons)) if person not in taken_persons]
-    objects = [object_ for object_ in range(len(roster.objects)) if object_ not in taken_objects]
+def nodes_beside(roster: Roster, fixed: Sequence[PlanLine]) -> Nodes:
+    """What is left to solve beside the fixed pairs."""
+    tasks, places = [roster.tasks_of(person) for person in range(len(roster.persons))], [
+        roster.places_of(object_) for object_ in range(len(roster.objects))]
+    for pair in fixed:
+        tasks[pair.person] -= 1
+        places[pair.object] -= 1
     if not fixed:
-        return Rest(persons, objects, roster.of_persons, roster.of_objects, roster.costs)
-    row_of = {person: row for row, person in enumerate(persons)}
-    col_of = {object_: col for col, object_ in enumerate(objects)}
-    rows, cols, costs = array("q"), array("q"), array("q")
-    for person, object_, cost in zip(roster.of_persons, roster.of_objects, roster.costs):
-        if person in row_of and object_ in col_of:
-            rows.append(row_of[person])
-            cols.append(col_of[object_])
-            costs.append(cost)
-    return Rest(persons, objects, rows, cols, costs)
+        return nodes_of(Listed(tasks, places, roster.of_persons, roster.of_objects, roster.costs))
+    taken = {(pair.person, pair.object) for pair in fixed}
+    triples = [triple for triple in zip(roster.of_persons, roster.of_objects, roster.costs) if triple[:2] not in taken]
+    persons, objects, costs = zip(*triples) if triples else ((), (), ())
+    return nodes_of(Listed(tasks, places, persons, objects, costs))
 
 
-def answer_of(roster: Roster, fixed: List[PlanLine], maximize: bool, first: Optional[Dict[int, int]], fullest: bool) -> Answer:
-    """The answer to a roster.
-
-    Parameters
-    ----------
-    fixed : list of PlanLine
-        Pairs that stand, whatever they cost.
-    maximize : bool
-        Whether the greatest cost is wanted.
-    first : dict or None
-        Rents of objects, by number, where the search begins; of others 0.
-    fullest : bool
-        Whether a plan of as many pairs as can be is wanted where there is no whole one.
-    """
-    rest = rest_of(roster, fixed)
-    if not rest.persons or not rest.objects:
-        return Answer(plan_of(roster, rest, fixed, None), None)
-    start = None if first is None else [first.get(object_, 0) for object_ in rest.objects]
+def answer_of(roster: Roster, wish: Wish) -> Answer:
+    """The answer to a roster; ValueError where it is too large for the library."""
+    nodes = nodes_beside(roster, wish.fixed)
+    costs = least_costs(nodes, wish.maximize)
+    if wish.kept is not None and wish.change:
+        costs = changed(costs, nodes.edges, wish.kept, wish.change)
     try:
-        return Answer(plan_of(roster, rest, fixed, _solved(rest, maximize, start, False)), None)
-    except Infeasible as none:
-        short = short_of(rest, none)
-    if not fullest:
-        return Answer(None, short)
-    return Answer(plan_of(roster, rest, fixed, _solved(rest, maximize, start, True)), short)
+        return Answer(_plan(roster, wish, nodes, costs, _solved(nodes, costs, False)), [])
+    except Infeasible:
+        groups = shortages(roster, nodes)
+    if not wish.fullest:
+        return Answer(None, groups)
+    return Answer(_plan(roster, wish, nodes, costs, _solved(nodes, costs, True)), groups)
 
 
-def _solved(rest: Rest, maximize: bool, start, fullest: bool):
-    return solve_sparse(len(rest.persons), len(rest.objects), rest.rows, rest.cols, rest.costs,
-                        maximize=maximize, start=start, partial=fullest)
+def _solved(nodes: Nodes, costs: List[int], fullest: bool) -> Any:
+    return solve_sparse(len(nodes.of_rows), len(nodes.of_columns), nodes.rows, nodes.columns, costs, partial=fullest)
 
 
-def short_of(rest: Rest, none: Infeasible) -> Short:
-    """The shortage by the roster's numbers."""
-    persons = [rest.persons[row] for row in none.rows]
-    objects = [rest.objects[col] for col in none.columns]
-    return Short(persons, objects, len(objects) > len(persons))
+def _plan(roster: Roster, wish: Wish, nodes: Nodes, costs: List[int], result: Any) -> Plan:
+    if wish.kept is None or wish.change is not None:
+        chosen = nodes.pairs(result.rows, result.columns)
+    else:
+        chosen = fewest_changes(nodes, costs, result, wish.kept)
+    rents = {} if roster.counts else dict(zip(nodes.of_columns, result._rents))
+    return plan_of(roster, wish.fixed, chosen, rents)
 
 
-def plan_of(roster: Roster, rest: Rest, fixed: List[PlanLine], result) -> Plan:
-    """A plan of the fixed pairs and of a result for the others."""
-    chosen = {} if result is None else {rest.persons[row]: rest.objects[col] for row, col in zip(result.rows, result.columns)}
-    costs = roster.costs_of(set(chosen.items()))
+def shortages(roster: Roster, nodes: Nodes) -> List[Short]:
+    """All groups that are short, by the roster's numbers."""
+    rows, columns = len(nodes.of_rows), len(nodes.of_columns)
+    of_objects = rows > columns
+    if of_objects:
+        groups = groups_of(columns, rows, nodes.columns, nodes.rows)
+    else:
+        groups = groups_of(rows, columns, nodes.rows, nodes.columns)
+    own = nodes.of_columns if of_objects else nodes.of_rows
+    return [_short(nodes, group, of_objects) for group in _joined(groups, own)]
+
+
+def _joined(groups: List[Group], own: List[int]) -> List[Group]:
+    """The groups, in which the nodes of one owner that list nothing are one group."""
+    joined: List[Group] = []
+    alone: Dict[int, Group] = {}
+    for group in groups:
+        owner = own[group.many[0]]
+        if not group.few and owner in alone:
+            alone[owner].many.extend(group.many)
+            continue
+        joined.append(group)
+        if not group.few:
+            alone[owner] = group
+    return joined
+
+
+def _short(nodes: Nodes, group: Group, of_objects: bool) -> Short:
+    own, others = (nodes.of_columns, nodes.of_rows) if of_objects else (nodes.of_rows, nodes.of_columns)
+    many = [own[node] for node in group.many if own[node] >= 0]
+    few = [others[node] for node in group.few]
+    whole = {number for number in few if number >= 0}
+    side = 0 if of_objects else 1
+    # A pair whose other node the group doesn't hold lets one of the group have its end once.
+    bridges = [nodes.joined[~number][side] for number in few if number < 0]
+    once = sorted(number for number in bridges if number not in whole)
+    had = sum(number >= 0 for number in few) + len(once)
+    persons, objects = sorted(set(many)), sorted(whole)
+    if of_objects:
+        persons, objects = objects, persons
+    return Short(persons, objects, of_objects, len(many), had, once)
+
+
+def plan_of(roster: Roster, fixed: Sequence[PlanLine], chosen: List[Tuple[int, int]], rents: Dict[int, int]) -> Plan:
+    """A plan of the fixed pairs and of those chosen for the others."""
+    costs = roster.costs_of(set(chosen))
     pairs = [Pair(pair.person, pair.object, pair.cost, True) for pair in fixed]
-    pairs += [Pair(person, object_, costs[person, object_], False) for person, object_ in chosen.items()]
+    pairs += [Pair(person, object_, costs[person, object_], False) for person, object_ in chosen]
     pairs.sort()
-    used = {pair.object for pair in pairs}
-    served = {pair.person for pair in pairs}
-    rents = {} if result is None else dict(zip(rest.objects, result._rents))
+    had = Counter(pair.person for pair in pairs)
+    used = Counter(pair.object for pair in pairs)
     return Plan(
         pairs, sum(pair.cost for pair in pairs),
-        [person for person in range(len(roster.persons)) if person not in served],
-        [object_ for object_ in range(len(roster.objects)) if object_ not in used], rents)
+        [person for person in range(len(roster.persons)) if had[person] < roster.tasks_of(person)],
+        [object_ for object_ in range(len(roster.objects)) if used[object_] < roster.places_of(object_)], rents)
 
 
 def counted(count: int, word: str) -> str:
@@ -154,14 +188,36 @@ def listed(names: List[str], numbers: List[int]) -> str:
 
 
 def sentence(roster: Roster, short: Short, some_fixed: bool) -> str:
-    """What a manager reads where there is no plan."""
+    """What a manager reads of a group that is short."""
     person, object_ = roster.titles[0], roster.titles[1]
-    persons, objects = named(short.persons, person, roster.persons), named(short.objects, object_, roster.objects)
-    if short.of_objects:
-        said = f"{objects} can go to {_only(short.persons, person, roster.persons)}: {_advice_on_objects(short)}"
+    if roster.counts:
+        said = _sentence_of_counts(roster, short)
+    elif short.of_objects:
+        said = (f"{named(short.objects, object_, roster.objects)} can go to {_only(short.persons, person, roster.persons)}: "
+                + _advice_on_objects(short))
     else:
-        said = f"{persons} can take {_only(short.objects, object_, roster.objects)}: {_advice_on_persons(roster, short)}"
+        said = (f"{named(short.persons, person, roster.persons)} can take {_only(short.objects, object_, roster.objects)}: "
+                + _advice_on_persons(roster, short))
     return "beside the fixed pairs, " + said if some_fixed else said
+
+
+def _sentence_of_counts(roster: Roster, short: Short) -> str:
+    """The sentence where names count several times."""
+    person, object_ = roster.titles[0], roster.titles[1]
+    if short.of_objects:
+        many, few = named(short.objects, object_, roster.objects), _once(short.persons, short.once, roster.persons)
+    else:
+        many, few = named(short.persons, person, roster.persons), _once(short.objects, short.once, roster.objects)
+    want = "wants" if len(short.objects if short.of_objects else short.persons) == 1 else "want"
+    return f"{many} {want} {short.wanted}, and no more than {short.had} can be had{few}: {short.wanted - short.had} too few"
+
+
+def _once(numbers: List[int], once: List[int], names: List[str]) -> str:
+    """Where what can be had is: (night, late once)."""
+    listed_once = [f"{names[number]} " + ("once" if count == 1 else f"{count} times, once each")
+                   for number, count in sorted(Counter(once).items())]
+    parts = ([listed(names, numbers)] if numbers else []) + listed_once[:MOST_NAMES_SHOWN]
+    return f" ({', '.join(parts)})" if parts else ""
 
 
 def named(numbers: List[int], word: str, names: List[str]) -> str:
@@ -176,7 +232,7 @@ def _only(numbers: List[int], word: str, names: List[str]) -> str:
 
 
 def _few(short: Short) -> str:
-    lack = abs(len(short.persons) - len(short.objects))
+    lack = short.wanted - short.had
     return "one" if lack == 1 else str(lack)
 
 

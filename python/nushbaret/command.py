@@ -1,6 +1,6 @@
 """The command: a roster of names in a CSV file, and its plan.
 
-Status 0: a plan; 1: there is none; 2: the words are refused; 3: something is wrong in a roster, a plan or a start; 4: a file
+Status 0: a plan; 1: there is none; 2: the words are refused; 3: something is wrong in a roster, a plan or a list of counts; 4: a file
 can't be read or written, an output exists, the library isn't there, or memory was refused.
 """
 import argparse
@@ -13,19 +13,19 @@ import re
 import stat
 import sys
 import tempfile
+from collections import Counter
 from typing import Dict, List, NamedTuple, Optional, Sequence, TextIO
 
-from .answer import Answer, Plan, answer_of, listed, sentence
 from ._exact import MOST_PLACES
-from ._library import GREATEST_FIRST_PRICE, MOST_PERSONS
+from ._library import VERSION
+from .answer import Answer, Plan, Wish, answer_of, listed, sentence
 from .page import page
-from .roster import LINES, MATRIX, SEPARATORS, PlanLine, Roster, RosterFault, decimal_text, quoted, read_plan, read_roster
+from .roster import (LINES, MATRIX, SEPARATORS, OldPlan, PlanLine, Roster, RosterFault, decimal_text, quoted, read_counts, read_old_plan,
+                     read_plan, read_roster)
 
 PLANNED, NONE, WORDS, REFUSED, DEVICE = range(5)
 KINDS = ("csv", "json", "html")
 FORMAT = 1
-# In units of the roster: the most that is a first price of a problem of any size.
-GREATEST_RENT = GREATEST_FIRST_PRICE // (MOST_PERSONS + 1)
 
 
 class Output(NamedTuple):
@@ -52,11 +52,11 @@ def _page(path: str) -> Output:
 
 def _parser() -> argparse.ArgumentParser:
     parser = argparse.ArgumentParser(
-        prog="python3 -m nushbaret", allow_abbrev=False,
+        prog="nushbaret", allow_abbrev=False,
         description="Find the plan of least cost for a roster of names in a CSV file, or who is short of what.",
         epilog="Status 0: a plan; 1: there is none; 2: these words are refused; 3: a file's content is; 4: a file can't be "
                "read or written, an output exists, the library isn't there, or memory was refused.")
-    parser.add_argument("roster", metavar="ROSTER", help="a CSV file with a title line: a person, an object and a cost in each "
+    parser.add_argument("roster", metavar="ROSTER", help="a CSV file, or - for standard input, with a title line: a person, an object and a cost in each "
                         "line, or a matrix with names in the first line and column, where an empty cell forbids a pair")
     form = parser.add_mutually_exclusive_group()
     form.add_argument("--lines", dest="form", action="store_const", const=LINES, help="the roster has lines")
@@ -67,7 +67,11 @@ def _parser() -> argparse.ArgumentParser:
     parser.add_argument("--decimal-comma", action="store_true", help="costs are written as 2,50")
     parser.add_argument("--fixed", metavar="PLAN.csv", help="lines of a person and an object that stand")
     parser.add_argument("--compare", metavar="PLAN.csv", help="tell by how much this plan is worse than the best")
-    parser.add_argument("--start", metavar="PLAN.json", help="begin at the rents of an earlier plan")
+    parser.add_argument("--keep", metavar="PLAN", help="of all best plans take one with the fewest changes from this one (.csv or .json)")
+    parser.add_argument("--change-cost", metavar="C", help="weigh each change from the kept plan as a cost of C")
+    parser.add_argument("--places", metavar="FILE.csv", help="lines of an object and how many persons it takes (else one)")
+    parser.add_argument("--tasks", metavar="FILE.csv", help="lines of a person and how many objects it takes (else one)")
+    parser.add_argument("--version", action="version", version=f"nushbaret {VERSION}")
     parser.add_argument("--as-many-as-can", action="store_true", help="where there is no plan for all, find the fullest")
     parser.add_argument("--rents", action="store_true", help="print the rents of the objects too")
     parser.add_argument("--output", metavar="FILE", type=_output, action="append", default=[],
@@ -81,7 +85,14 @@ def _words(words: Optional[Sequence[str]]) -> argparse.Namespace:
     parser = _parser()
     options = parser.parse_args(words)
     options.outputs = options.output + options.html
-    seen = {os.path.realpath(path) for path in (options.roster, options.fixed, options.compare, options.start) if path}
+    if options.change_cost is not None and not options.keep:
+        parser.error("--change-cost wants --keep")
+    if options.rents and (options.places or options.tasks):
+        parser.error("--rents are of single places and tasks: not with --places or --tasks")
+    read = (options.roster, options.fixed, options.compare, options.keep, options.places, options.tasks)
+    if read.count("-") > 1 or "-" in read[1:]:
+        parser.error("only the roster can come from standard input")
+    seen = {os.path.realpath(path) for path in read if path}
     for output in options.outputs:
         place = os.path.realpath(output.path)
         if place in seen:
@@ -134,20 +145,52 @@ def _run(options: argparse.Namespace) -> int:
     for output in options.outputs:
         if not options.force and os.path.lexists(output.path):
             raise OutputFault(f"{output.path} exists: --force overwrites it")
-    roster = read_roster(options.roster, options.form, options.decimals, options.decimal_comma)
+    roster = _read(options)
     fixed = read_plan(options.fixed, roster) if options.fixed else []
     hand = read_hand(options.compare, roster, fixed) if options.compare else None
-    first = read_start(options.start, roster) if options.start else None
+    kept = read_old_plan(options.keep, roster) if options.keep else None
+    pairs = None if kept is None else {(pair.person, pair.object) for pair in kept.known}
+    wish = Wish(fixed, options.max, options.as_many_as_can, pairs, _change_cost(options.change_cost, roster))
     try:
-        answer = answer_of(roster, fixed, options.max, first, options.as_many_as_can)
+        answer = answer_of(roster, wish)
     except ValueError as fault:
         raise RosterFault(options.roster, str(fault)) from fault
     if hand is not None and answer.plan is not None:
         judge_hand(options.compare, roster, hand, answer.plan)
     lines = told(roster, answer, options.max, bool(fixed))
+    _tell_gone(options.keep, kept)
+    _tell_gone(options.compare, hand)
     skipped = write_outputs(roster, answer, lines, options)
-    _print(lines + printed(roster, answer, options, hand) + skipped)
-    return PLANNED if answer.short is None else NONE
+    _print(lines + printed(roster, answer, options, kept, hand) + skipped)
+    return PLANNED if not answer.groups else NONE
+
+
+def _read(options: argparse.Namespace) -> Roster:
+    """The roster, with how many each name takes."""
+    roster = read_roster(options.roster, options.form, options.decimals, options.decimal_comma)
+    tasks = read_counts(options.tasks, roster, False) if options.tasks else None
+    places = read_counts(options.places, roster, True) if options.places else None
+    return roster._replace(tasks=tasks, places=places)
+
+
+def _tell_gone(path: str, plan: Optional[OldPlan]) -> None:
+    """Names on standard error what an earlier plan has and the roster has no more."""
+    if plan is not None and plan.gone and sys.stderr is not None:
+        print(f"{path}: the roster has no {', '.join(plan.gone)}", file=sys.stderr)
+
+
+def _change_cost(text: Optional[str], roster: Roster) -> Optional[int]:
+    """What a change costs, in units of the roster."""
+    if text is None:
+        return None
+    point = "," if roster.comma else r"\."
+    found = re.fullmatch(rf"([0-9]{{1,13}})(?:{point}([0-9]*))?", text)
+    if found is None:
+        raise RosterFault("--change-cost", f"{quoted(text)} is no cost from 0 on")
+    part = (found[2] or "").rstrip("0")
+    if len(part) > roster.decimals:
+        raise RosterFault("--change-cost", f"{quoted(text)} has more decimal places than the roster's {roster.decimals}")
+    return int(found[1] + part.ljust(roster.decimals, "0"))
 
 
 def _print(lines: List[str]) -> None:
@@ -162,96 +205,113 @@ def _print(lines: List[str]) -> None:
         raise OutputFault(f"standard output: {fault.strerror}") from fault
 
 
-def read_hand(path: str, roster: Roster, fixed: List[PlanLine]) -> List[PlanLine]:
-    """A plan made by hand, refused where it leaves out a fixed pair."""
-    hand = read_plan(path, roster)
-    pairs = {(pair.person, pair.object) for pair in hand}
+def read_hand(path: str, roster: Roster, fixed: List[PlanLine]) -> OldPlan:
+    """A plan made by hand, refused where it leaves out a fixed pair or has one that is forbidden."""
+    hand = read_old_plan(path, roster)
+    for person, object_, line in hand.forbidden:
+        raise RosterFault(path, f"{roster.persons[person]}, {roster.objects[object_]} is a forbidden pair", line)
+    pairs = {(pair.person, pair.object) for pair in hand.known}
     for pair in fixed:
         if (pair.person, pair.object) not in pairs:
             raise RosterFault(path, f"the fixed pair {roster.persons[pair.person]}, {roster.objects[pair.object]} is missing")
     return hand
 
 
-def judge_hand(path: str, roster: Roster, hand: List[PlanLine], plan: Plan) -> None:
-    """Refuses a plan made by hand that has fewer pairs than there can be: its cost says nothing beside a whole plan's."""
-    if len(hand) == len(plan.pairs):
+def judge_hand(path: str, roster: Roster, hand: OldPlan, plan: Plan) -> None:
+    """Refuses a plan made by hand that has fewer pairs than there can be, unless names are gone: its cost says nothing beside a whole
+    plan's."""
+    if hand.gone or len(hand.known) == len(plan.pairs):
         return
-    names, side = (roster.persons, 0) if len(roster.persons) <= len(roster.objects) else (roster.objects, 1)
-    had = {pair[side] for pair in hand}
-    missing = listed(names, [number for number in range(len(names)) if number not in had])
-    raise RosterFault(path, f"{len(hand)} pairs, where {len(plan.pairs)} can be: none has {missing}")
-
-
-def read_start(path: str, roster: Roster) -> Dict[int, int]:
-    """The rents of an earlier plan, for those objects that this roster has too, in units of the roster."""
-    with open(path, "rb") as file:
-        data = file.read()
-    try:
-        plan = json.loads(data.decode("utf-8-sig"))
-    except (ValueError, RecursionError) as fault:
-        raise RosterFault(path, f"no JSON: {fault}") from fault
-    rents = plan.get("rents") if isinstance(plan, dict) else None
-    if not isinstance(rents, dict) or plan.get("format") != FORMAT:
-        raise RosterFault(path, f"no plan of format {FORMAT} with rents")
-    numbers = roster.object_numbers
-    return {numbers[name]: _rent(path, name, text, roster.decimals) for name, text in rents.items() if name in numbers}
-
-
-def _rent(path: str, name: str, text: object, decimals: int) -> int:
-    found = re.fullmatch(r"([0-9]{1,18})(?:\.([0-9]{1,6}))?", text) if isinstance(text, str) else None
-    if found is None:
-        raise RosterFault(path, f"the rent of {quoted(name)} is no number in quotes, of at most 18 digits and 6 places")
-    rent = int(found[1] + (found[2] or "").ljust(MOST_PLACES, "0")) // 10 ** (MOST_PLACES - decimals)
-    if rent > GREATEST_RENT:
-        raise RosterFault(path, f"the rent of {quoted(name)} is beyond {decimal_text(GREATEST_RENT, decimals, '.')}")
-    return rent
+    missing = ""
+    if not roster.counts:
+        names, side = (roster.persons, 0) if len(roster.persons) <= len(roster.objects) else (roster.objects, 1)
+        had = {pair[side] for pair in hand.known}
+        missing = ": none has " + listed(names, [number for number in range(len(names)) if number not in had])
+    raise RosterFault(path, f"{len(hand.known)} pairs, where {len(plan.pairs)} can be{missing}")
 
 
 def told(roster: Roster, answer: Answer, maximize: bool, some_fixed: bool) -> List[str]:
-    """What stands first: the sentence where there is no plan for all, and the cost of the plan."""
-    lines = [] if answer.short is None else [sentence(roster, answer.short, some_fixed)]
+    """What stands first: a sentence for each group that is short, and the cost of the plan."""
+    lines = [sentence(roster, short, some_fixed) for short in answer.groups]
     if answer.plan is not None:
         which = "greatest" if maximize else "least"
-        fullest = f" of {len(answer.plan.pairs)} pairs" if answer.short is not None else ""
+        fullest = f" of {len(answer.plan.pairs)} pairs" if answer.groups else ""
         lines.append(f"{which} {roster.titles[2]}{fullest}: {roster.shown(answer.plan.cost)}")
     return lines
 
 
-def printed(roster: Roster, answer: Answer, options: argparse.Namespace, hand: Optional[List[PlanLine]]) -> List[str]:
-    """The plan by names, who and what stays out, the rents, and how a plan made by hand compares."""
+def printed(roster: Roster, answer: Answer, options: argparse.Namespace, kept: Optional[OldPlan], hand: Optional[OldPlan]) -> List[str]:
+    """The plan by names, who and what stays out, the rents, and how it compares with plans that were read."""
     if answer.plan is None:
         return []
     plan = answer.plan
-    lines = [f"{roster.persons[pair.person]}: {roster.objects[pair.object]}, {roster.shown(pair.cost)}"
-             + (" (fixed)" if pair.fixed else "") for pair in plan.pairs]
-    lines += outside(roster, plan)
+    lines = rows_of(roster, plan) + outside(roster, plan)
     if options.rents:
         lines += [f"rent of {roster.objects[number]}: {roster.shown(rent)}" for number, rent in plan.rents.items()]
+    if kept is not None:
+        lines += changes(roster, plan, kept, options.keep)
     if hand is not None:
         lines += compared(roster, plan, hand, options.compare, options.max)
     return lines
 
 
-def outside(roster: Roster, plan: Plan) -> List[str]:
-    """Who stays without, and what stays unused."""
-    lines = []
-    if plan.without:
-        lines.append(f"without: {', '.join(roster.persons[number] for number in plan.without)}")
-    if plan.unused:
-        lines.append(f"unused: {', '.join(roster.objects[number] for number in plan.unused)}")
+def rows_of(roster: Roster, plan: Plan) -> List[str]:
+    """Each person with all of its own, then each object of several places with all of its own."""
+    own: Dict[int, List[str]] = {}
+    for pair in plan.pairs:
+        text = f"{roster.objects[pair.object]}, {roster.shown(pair.cost)}" + (" (fixed)" if pair.fixed else "")
+        own.setdefault(pair.person, []).append(text)
+    lines = [f"{roster.persons[person]}: {'; '.join(texts)}" for person, texts in own.items()]
+    for object_ in range(len(roster.objects)):
+        who = [roster.persons[pair.person] for pair in plan.pairs if pair.object == object_] if roster.places_of(object_) > 1 else []
+        if who:
+            lines.append(f"at {roster.objects[object_]}: {', '.join(who)}")
     return lines
 
 
-def compared(roster: Roster, plan: Plan, hand: List[PlanLine], path: str, maximize: bool) -> List[str]:
+def outside(roster: Roster, plan: Plan) -> List[str]:
+    """Who gets less than it should, and what has places left."""
+    lines = []
+    had, used = Counter(pair.person for pair in plan.pairs), Counter(pair.object for pair in plan.pairs)
+    if plan.without:
+        names = (_part(roster.persons[number], had[number], roster.tasks_of(number)) for number in plan.without)
+        lines.append(f"without: {', '.join(names)}")
+    if plan.unused:
+        names = (_part(roster.objects[number], used[number], roster.places_of(number)) for number in plan.unused)
+        lines.append(f"unused: {', '.join(names)}")
+    return lines
+
+
+def _part(name: str, had: int, wanted: int) -> str:
+    return name if wanted == 1 else f"{name} ({had} of {wanted})"
+
+
+def changes(roster: Roster, plan: Plan, kept: OldPlan, path: str) -> List[str]:
+    """How many pairs the kept plan didn't have, and what these persons had there."""
+    before = set(kept.pairs)
+    new = [pair for pair in plan.pairs if (roster.persons[pair.person], roster.objects[pair.object]) not in before]
+    lines = [f"{path}: {len(new)} of {len(plan.pairs)} pairs changed"]
+    now = {(roster.persons[pair.person], roster.objects[pair.object]) for pair in plan.pairs}
+    for pair in new:
+        name = roster.persons[pair.person]
+        had = [object_ for person, object_ in kept.pairs if person == name and (person, object_) not in now]
+        lines.append(f"  {name}: {roster.objects[pair.object]}" + (f", before {', '.join(had)}" if had else ""))
+    return lines
+
+
+def compared(roster: Roster, plan: Plan, hand: OldPlan, path: str, maximize: bool) -> List[str]:
     """By how much a plan made by hand is worse than the best, and where the two differ."""
-    cost = sum(pair.cost for pair in hand)
+    cost = sum(pair.cost for pair in hand.known)
     more = plan.cost - cost if maximize else cost - plan.cost
-    if more == 0:
-        return [f"{path}: {roster.shown(cost)}, as good as the best"]
-    lines = [f"{path}: {roster.shown(cost)}, {roster.shown(more)} {'less' if maximize else 'more'} than the best"]
-    own = {pair.person: pair.object for pair in plan.pairs}
-    for pair in sorted(hand):
-        if own.get(pair.person) != pair.object:
+    if len(hand.known) != len(plan.pairs):
+        lines = [f"{path}: {roster.shown(cost)} for {len(hand.known)} pairs that the roster allows, where {len(plan.pairs)} can be"]
+    elif more == 0:
+        lines = [f"{path}: {roster.shown(cost)}, as good as the best"]
+    else:
+        lines = [f"{path}: {roster.shown(cost)}, {roster.shown(more)} {'less' if maximize else 'more'} than the best"]
+    own = {(pair.person, pair.object) for pair in plan.pairs}
+    for pair in sorted(hand.known):
+        if (pair.person, pair.object) not in own:
             lines.append(f"  there {roster.persons[pair.person]}: {roster.objects[pair.object]}, {roster.shown(pair.cost)}")
     return lines
 
@@ -297,16 +357,17 @@ def _title_quoting(roster: Roster) -> int:
 
 def as_json(roster: Roster, answer: Answer, lines: List[str], maximize: bool) -> str:
     """All of the answer; numbers stand in quotes, exactly."""
-    plan, short = answer.plan, answer.short
+    plan = answer.plan
 
     def text(units: int) -> str:
         return decimal_text(units, roster.decimals, ".")
 
     content: Dict[str, object] = {"format": FORMAT, "sense": "max" if maximize else "min"}
-    if short is not None:
-        content["short"] = {
-            "persons": [roster.persons[number] for number in short.persons],
-            "objects": [roster.objects[number] for number in short.objects], "sentence": lines[0]}
+    if answer.groups:
+        content["short"] = [
+            {"persons": [roster.persons[number] for number in short.persons],
+             "objects": [roster.objects[number] for number in short.objects], "sentence": line}
+            for short, line in zip(answer.groups, lines)]
     if plan is not None:
         content["cost"] = text(plan.cost)
         content["pairs"] = [

@@ -48,7 +48,7 @@ class Frame(NamedTuple):
 
 def frame_of(roster: Roster, short: Optional[Short]) -> Frame:
     """The short group first, so that its cells stand in one block."""
-    group = short or Short([], [], False)
+    group = short or Short([], [], False, 0, 0, [])
     return Frame(
         _first(group.persons, len(roster.persons)), _first(group.objects, len(roster.objects)),
         len(group.persons), len(group.objects))
@@ -73,7 +73,7 @@ def _parts(roster: Roster, answer: Answer, heading: str, lines: List[str]) -> It
         "<meta http-equiv=\"Content-Security-Policy\" content=\"default-src 'none'; style-src 'unsafe-inline'\">\n"
         f"<title>{escape(heading)}</title>\n<style>{STYLE}{_shades()}</style>\n</head>\n<body>\n<h1>{escape(heading)}</h1>\n")
     for place, line in enumerate(lines):
-        kind = ' class="short"' if answer.short is not None and place == 0 else ""
+        kind = ' class="short"' if place < len(answer.groups) else ""
         yield f"<p{kind}>{escape(line)}</p>\n"
     if len(roster.persons) * len(roster.objects) > MOST_CELLS:
         yield f"<p>The matrix has more than {MOST_CELLS} cells and isn't drawn.</p>\n"
@@ -91,7 +91,7 @@ def _shades() -> str:
 
 
 def _matrix(roster: Roster, answer: Answer) -> Iterator[str]:
-    frame = frame_of(roster, answer.short)
+    frame = frame_of(roster, answer.groups[0] if answer.groups else None)
     chosen = {} if answer.plan is None else {(pair.person, pair.object): pair.fixed for pair in answer.plan.pairs}
     costs = _costs_by_person(roster)
     span = (min(roster.costs, default=0), max(roster.costs, default=0))

@@ -5,10 +5,14 @@ Lines and columns are counted from 1, and a column is a cell of its line.
 """
 import csv
 import io
+import json
+import os
 import re
+import sys
 import unicodedata
 from array import array
-from typing import Dict, Iterator, List, NamedTuple, NoReturn, Optional, Set, Tuple
+from decimal import Decimal
+from typing import Dict, Iterator, List, NamedTuple, NoReturn, Optional, Set, Tuple, Union
 
 from ._exact import MOST_PLACES
 from ._library import GREATEST_COST, MOST_PERSONS
@@ -40,6 +44,14 @@ def quoted(cell: str) -> str:
     return repr(cell if len(cell) <= 40 else cell[:37] + "...")
 
 
+def _held(path: str) -> bytes:
+    """What a file holds, or standard input where the path is `-`; no more than one byte too many."""
+    if path == "-":
+        return sys.stdin.buffer.read(MOST_BYTES + 1)
+    with open(path, "rb") as file:
+        return file.read(MOST_BYTES + 1)
+
+
 class Sheet:
     """The records of a CSV file: UTF-8 or UTF-16, with `;`, TAB or `,` between cells, whichever its first line has most of.
 
@@ -48,8 +60,9 @@ class Sheet:
 
     def __init__(self, path: str) -> None:
         self.path = path
-        with open(path, "rb") as file:
-            data = file.read(MOST_BYTES + 1)
+        data = _held(path)
+        if path == "-":
+            self.path = "standard input"
         if len(data) > MOST_BYTES:
             self.refuse(f"longer than {MOST_BYTES} bytes")
         self.text = self._decoded(data)
@@ -140,7 +153,8 @@ class Names:
         before = len(self.list)
         number = self.number(cell, line, column)
         if number < before:
-            self._sheet.refuse(f"the name {quoted(cell)} a second time", line, column)
+            hint = "--tasks" if self._kind == "persons" else "--places"
+            self._sheet.refuse(f"the name {quoted(cell)} a second time (list it once; {hint} says how many it takes)", line, column)
         return number
 
     def _add(self, name: str, line: int, column: int) -> int:
@@ -166,7 +180,7 @@ class Costs:
 
     def take(self, cell: str, line: int, column: int) -> None:
         """Takes a cell, or refuses it."""
-        found = self._plain.fullmatch(cell)
+        found = self._plain.fullmatch(cell) or self._plain.fullmatch(self._without_power(cell))
         if found is None:
             self._sheet.refuse(f"{quoted(cell)} is no number{self._hint(cell)}", line, column)
         sign, whole, part = found.groups("")
@@ -178,6 +192,13 @@ class Costs:
                 self._out_of_range(0, line, column)
             self._greatest, self._greatest_place = size, (line, column)
         self._millionths.append(-size if sign == "-" else size)
+
+    def _without_power(self, cell: str) -> str:
+        """A cell such as 1.2E+03 as a plain number, and any other as it is."""
+        point, other = (",", ".") if self._comma else (".", ",")
+        if other in cell or re.fullmatch(r"[+-]?[0-9]+(?:[.,][0-9]*)?[eE][+-]?[0-9]{1,2}", cell) is None:
+            return cell
+        return format(Decimal(cell.replace(",", ".")), "f").replace(".", point)
 
     def _more_places(self, cell: str, places: int, line: int, column: int) -> None:
         if places > self._most:
@@ -199,6 +220,8 @@ class Costs:
             return " with a decimal comma"
         if not self._comma and re.fullmatch("[+-]?[0-9]+,[0-9]+", cell):
             return "; with --decimal-comma it may be"
+        if cell.lower() in ("x", "-", "n/a"):
+            return "; what forbids a pair is an empty cell of a matrix, or no line"
         return ""
 
     def _out_of_range(self, decimals: int, line: int, column: int) -> NoReturn:
@@ -208,7 +231,8 @@ class Costs:
 
 class Roster(NamedTuple):
     """A problem by names. Pair k is of `persons[of_persons[k]]` and `objects[of_objects[k]]`, no pair twice; `costs[k]` is in
-    units of 10^-decimals. `titles` are the words for a person, an object and a cost."""
+    units of 10^-decimals. `titles` are the words for a person, an object and a cost. `tasks` and `places` say of persons and of
+    objects how many they take, where it isn't one; None where nothing was said."""
 
     persons: List[str]
     objects: List[str]
@@ -221,6 +245,21 @@ class Roster(NamedTuple):
     titles: Tuple[str, str, str]
     separator: str
     comma: bool
+    tasks: Optional[Dict[int, int]] = None
+    places: Optional[Dict[int, int]] = None
+
+    @property
+    def counts(self) -> bool:
+        """Whether names may count several times."""
+        return self.tasks is not None or self.places is not None
+
+    def tasks_of(self, person: int) -> int:
+        """How many objects a person takes."""
+        return 1 if self.tasks is None else self.tasks.get(person, 1)
+
+    def places_of(self, object_: int) -> int:
+        """How many persons an object takes."""
+        return 1 if self.places is None else self.places.get(object_, 1)
 
     def costs_of(self, wanted: Set[Tuple[int, int]]) -> Dict[Tuple[int, int], int]:
         """The costs of those of the wanted pairs that are allowed."""
@@ -296,7 +335,8 @@ def read_roster(path: str, form: Optional[str], decimals: Optional[int], comma: 
 def _read_lines(sheet: Sheet, costs: Costs):
     line, title = sheet.title()
     if len(title) != 3:
-        sheet.refuse(f"{len(title)} titles, where a person, an object and a cost are wanted", line)
+        fourth = f" ({quoted(title[3])} is a fourth column)" if len(title) > 3 else ""
+        sheet.refuse(f"{len(title)} titles, where a person, an object and a cost are wanted{fourth}", line)
     if looks_like_number(title[2]):
         sheet.refuse(f"a title line is wanted first, and {quoted(title[2])} is a number", line, 3)
     titles = tuple(sheet.name(cell, line, column) if cell else TITLES[column - 1] for column, cell in enumerate(title, 1))
@@ -347,21 +387,37 @@ class PlanLine(NamedTuple):
     cost: int
 
 
-def read_plan(path: str, roster: Roster) -> List[PlanLine]:
-    """Reads pairs that are to stand: a title line, and lines of a person and an object; further cells aren't read.
+def read_counts(path: str, roster: Roster, of_objects: bool) -> Dict[int, int]:
+    """Reads how many each object, or each person, takes: a title line, and lines of a name and a whole number.
 
-    Raises `RosterFault` for the first name that the roster doesn't have, then for the first name that stands twice, then
-    for the first pair that the roster forbids; and `OSError` where the file can't be read.
+    Raises `RosterFault` for the first name that the roster doesn't have or that stands twice, or count that is none from 0 to 8192.
     """
     sheet = Sheet(path)
     line, title = sheet.title()
     if len(title) < 2:
-        sheet.refuse("a person and an object are wanted in each line", line)
-    if title[0] in roster.person_numbers and title[1] in roster.object_numbers:
-        sheet.refuse(f"a title line is wanted first, and {title[0]}, {title[1]} is a pair", line)
-    places = [_plan_place(sheet, roster, line, cells) for line, cells in sheet.body(len(title))]
-    for column, kind in enumerate(("person", "object"), 1):
-        _refuse_twice(sheet, places, column, roster.persons if column == 1 else roster.objects)
+        sheet.refuse("a name and how many it takes are wanted in each line", line)
+    if looks_like_number(title[1]):
+        sheet.refuse(f"a title line is wanted first, and {quoted(title[1])} is a number", line, 2)
+    counts: Dict[int, int] = {}
+    for line, cells in sheet.body(len(title)):
+        number = _known(sheet, roster, cells[0], line, 2 if of_objects else 1, 1)
+        if number in counts:
+            sheet.refuse(f"the name {quoted(cells[0])} a second time", line, 1)
+        if re.fullmatch("[0-9]{1,9}", cells[1]) is None or int(cells[1]) > MOST_PERSONS:
+            sheet.refuse(f"{quoted(cells[1])} is no whole number from 0 to {MOST_PERSONS}", line, 2)
+        counts[number] = int(cells[1])
+    return counts
+
+
+def read_plan(path: str, roster: Roster) -> List[PlanLine]:
+    """Reads pairs that are to stand: a title line, and lines of a person and an object; further cells aren't read.
+
+    Raises `RosterFault` for the first name that the roster doesn't have, then for the first name that stands more often than it may,
+    then for the first pair that the roster forbids; and `OSError` where the file can't be read.
+    """
+    sheet = Sheet(path)
+    places = [(*_plan_place(sheet, roster, line, cells), line) for line, cells in _plan_cells(sheet, roster)]
+    _refuse_twice(sheet, roster, places)
     costs = roster.costs_of({(person, object_) for person, object_, _ in places})
     for person, object_, line in places:
         if (person, object_) not in costs:
@@ -369,19 +425,87 @@ def read_plan(path: str, roster: Roster) -> List[PlanLine]:
     return [PlanLine(person, object_, line, costs[person, object_]) for person, object_, line in places]
 
 
-def _plan_place(sheet: Sheet, roster: Roster, line: int, cells: List[str]) -> Tuple[int, int, int]:
-    found = []
-    for column, (cell, numbers) in enumerate(zip(cells, (roster.person_numbers, roster.object_numbers)), 1):
-        name = sheet.name(cell, line, column)
-        if name not in numbers:
-            sheet.refuse(f"the roster has no {'person' if column == 1 else 'object'} {quoted(name)}", line, column)
-        found.append(numbers[name])
-    return found[0], found[1], line
+class OldPlan(NamedTuple):
+    """An earlier plan: its pairs by names, those that the roster allows, the names that the roster doesn't have, and the pairs of known
+    names that it forbids, each with its line."""
+
+    pairs: List[Tuple[str, str]]
+    known: List[PlanLine]
+    gone: List[str]
+    forbidden: List[Tuple[int, int, int]]
 
 
-def _refuse_twice(sheet: Sheet, places: List[Tuple[int, int, int]], column: int, names: List[str]) -> None:
-    lines: Dict[int, int] = {}
-    for place in places:
-        first = lines.setdefault(place[column - 1], place[2])
-        if first != place[2]:
-            sheet.refuse(f"{quoted(names[place[column - 1]])} a second time, after line {first}", place[2], column)
+def read_old_plan(path: str, roster: Roster) -> OldPlan:
+    """Reads an earlier plan, a CSV file as `read_plan` reads it or a plan in JSON. Its names may be gone, and its pairs forbidden.
+
+    Raises `RosterFault` for the first name that stands more often than it may.
+    """
+    if os.path.splitext(path)[1].lower() == ".json":
+        named = _plan_of_json(path)
+    else:
+        sheet = Sheet(path)
+        named = [(sheet.name(cells[0], line, 1), sheet.name(cells[1], line, 2), line) for line, cells in _plan_cells(sheet, roster)]
+    gone: Dict[str, None] = {}
+    places = []
+    for person, object_, line in named:
+        gone.update({person: None} if person not in roster.person_numbers else {})
+        gone.update({object_: None} if object_ not in roster.object_numbers else {})
+        if person in roster.person_numbers and object_ in roster.object_numbers:
+            places.append((roster.person_numbers[person], roster.object_numbers[object_], line))
+    _refuse_twice(path, roster, places)
+    costs = roster.costs_of({(person, object_) for person, object_, _ in places})
+    known = [PlanLine(person, object_, line, costs[person, object_]) for person, object_, line in places if (person, object_) in costs]
+    return OldPlan([(person, object_) for person, object_, _ in named], known, list(gone),
+                   [place for place in places if place[:2] not in costs])
+
+
+def _plan_of_json(path: str) -> List[Tuple[str, str, int]]:
+    with open(path, "rb") as file:
+        data = file.read(MOST_BYTES)
+    try:
+        plan = json.loads(data.decode("utf-8-sig"))
+        return [(str(pair["person"]), str(pair["object"]), number) for number, pair in enumerate(plan["pairs"], 1)]
+    except (ValueError, RecursionError, KeyError, TypeError) as fault:
+        raise RosterFault(path, f"no plan with pairs in JSON: {fault}") from fault
+
+
+def _plan_cells(sheet: Sheet, roster: Roster) -> Iterator[Tuple[int, List[str]]]:
+    line, title = sheet.title()
+    if len(title) < 2:
+        sheet.refuse("a person and an object are wanted in each line", line)
+    if title[0] in roster.person_numbers and title[1] in roster.object_numbers:
+        sheet.refuse(f"a title line is wanted first, and {title[0]}, {title[1]} is a pair", line)
+    return sheet.body(len(title))
+
+
+def _plan_place(sheet: Sheet, roster: Roster, line: int, cells: List[str]) -> Tuple[int, int]:
+    return _known(sheet, roster, cells[0], line, 1, 1), _known(sheet, roster, cells[1], line, 2, 2)
+
+
+def _known(sheet: Sheet, roster: Roster, cell: str, line: int, side: int, column: int) -> int:
+    """The number of a person (side 1) or an object that the roster must have."""
+    name = sheet.name(cell, line, column)
+    numbers = roster.person_numbers if side == 1 else roster.object_numbers
+    if name not in numbers:
+        sheet.refuse(f"the roster has no {'person' if side == 1 else 'object'} {quoted(name)}", line, column)
+    return numbers[name]
+
+
+def _refuse_twice(place: Union[Sheet, str], roster: Roster, places: List[Tuple[int, int, int]]) -> None:
+    """Refuses a name that stands more often than it may, and a pair that stands twice."""
+    path = place if isinstance(place, str) else place.path
+    for column, names, most in ((1, roster.persons, roster.tasks_of), (2, roster.objects, roster.places_of)):
+        lines: Dict[int, List[int]] = {}
+        for found in places:
+            number = found[column - 1]
+            before = lines.setdefault(number, [])
+            if len(before) == most(number):
+                often = "a second time" if before[:1] and most(number) == 1 else f"more than {most(number)} times"
+                after = f", after line {before[0]}" if before else ""
+                raise RosterFault(path, f"{quoted(names[number])} {often}{after}", found[2], column)
+            before.append(found[2])
+    pairs: Dict[Tuple[int, int], int] = {}
+    for person, object_, line in places:
+        first = pairs.setdefault((person, object_), line)
+        if first != line:
+            raise RosterFault(path, f"the pair {roster.persons[person]}, {roster.objects[object_]} a second time, after line {first}", line)
