@@ -8,13 +8,15 @@
 plans from elsewhere. Every answer is found and held by Nushbaret's proved library; what this package adds, the reading of
 costs and the dummies of unequal numbers, is tested, not proved.
 """
+from ._bottleneck import bottleneck
 from ._checking import Comparison, Verdict, check, compare
 from ._errors import Infeasible, LibraryNotFound
 from ._library import GREATEST_COST, MOST_PERSONS, VERSION as __version__
-from ._result import Result
+from ._ranking import k_best
+from ._result import Plan, Result
 from ._solving import linear_sum_assignment, solve, solve_sparse
 
 __all__ = [
-    "GREATEST_COST", "MOST_PERSONS", "Comparison", "Infeasible", "LibraryNotFound", "Result", "Verdict", "check", "compare",
-    "linear_sum_assignment", "solve", "solve_sparse",
+    "GREATEST_COST", "MOST_PERSONS", "Comparison", "Infeasible", "LibraryNotFound", "Plan", "Result", "Verdict", "bottleneck",
+    "check", "compare", "k_best", "linear_sum_assignment", "solve", "solve_sparse",
 ]

@@ -129,6 +129,21 @@ def costs_of_pairs(problem, pairs):
     return [wanted[row + 1, column + 1] for row, column in pairs]
 
 
+def listed(problem):
+    """A dense problem as a sparse one."""
+    if problem.persons is not None:
+        return problem
+    n_rows, n_columns, numpy = problem.n_rows, problem.n_columns, problem.numpy
+    if numpy:
+        persons = numpy.repeat(numpy.arange(1, n_rows + 1, dtype=numpy.uint16), n_columns)
+        return problem._replace(persons=persons, objects=numpy.tile(numpy.arange(1, n_columns + 1, dtype=numpy.uint16), n_rows))
+    persons, objects = array("H"), array("H", range(1, n_columns + 1)) * n_rows
+    for row in range(1, n_rows + 1):
+        persons.extend(array("H", [row]) * n_columns)
+    costs = problem.costs if isinstance(problem.costs, array) else array("q", bytes(problem.costs.held))
+    return problem._replace(costs=costs, persons=persons, objects=objects)
+
+
 def _without_forbidden(n_rows, n_columns, read, numpy):
     """Costs, persons and objects of the pairs that aren't forbidden."""
     if numpy:

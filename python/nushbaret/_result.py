@@ -1,7 +1,7 @@
 """A best assignment as the caller sees it."""
 import decimal
 from functools import cached_property
-from typing import TYPE_CHECKING, Any, List, Tuple, Union
+from typing import TYPE_CHECKING, Any, List, NamedTuple, Optional, Tuple, Union
 
 from . import _duals
 from ._exact import manner
@@ -41,6 +41,14 @@ def _arrays_of(numpy, problem, answer):
     return rows, columns[rows]
 
 
+class Plan(NamedTuple):
+    """A plan without its proof: row rows[k] has column columns[k], and all cost so much."""
+
+    rows: Any
+    columns: Any
+    cost: Number
+
+
 class Result:
     """A best assignment, with prices that prove it.
 
@@ -75,6 +83,8 @@ class Result:
         By how much at most the plan is worse than the best one for the costs before they were rounded; 0 where none was.
     maximize : bool
         Whether the greatest sum was wanted.
+    is_unique : bool
+        Whether no other plan of as many pairs is as good.
     """
 
     def __init__(self, problem, answer):
@@ -130,6 +140,22 @@ class Result:
     @cached_property
     def _rents(self):
         return self._in_unit(_duals.rents(self._whole_duals))
+
+    @cached_property
+    def is_unique(self) -> bool:
+        from ._ranking import Ranking
+        return not Ranking(self).has_other()
+
+    def next_best(self) -> Optional[Plan]:
+        """The best plan beside this one, with as many pairs; where this is one of several best plans it is another of these.
+
+        Returns
+        -------
+        Plan or None
+            None where there is no other plan. Of several, the one that comes first in the order of `k_best`.
+        """
+        from ._ranking import next_best
+        return next_best(self)
 
     def to_frame(self) -> Any:
         """The pairs as a DataFrame of pandas, which must be installed.

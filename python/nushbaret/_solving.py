@@ -11,6 +11,12 @@ Start = Union[Result, Sequence[Any], None]
 Decimals = Union[int, str, None]
 
 
+def solve_served(problem, served):
+    """The best plan of so many pairs; None where the library proves that there is none."""
+    answer = _solved(problem, served=served)
+    return None if isinstance(answer, square.Short) else Result(problem, answer)
+
+
 def _no_pairs(problem):
     """The answer where there is no pair to make: all that there is stays out, at duals of 0."""
     objects = array("H", (problem.n_columns + 1,)) * problem.n_rows
@@ -186,26 +192,11 @@ def solve_without(problem, served, row, column):
 
 def _leave_out(problem, row, column):
     """The problem with one pair less."""
-    if problem.persons is None:
-        problem = _listed(problem)
-    numpy = problem.numpy
+    problem, numpy = reading.listed(problem), problem.numpy
     if numpy:
         kept = (problem.persons != row + 1) | (problem.objects != column + 1)
         return problem._replace(costs=problem.costs[kept], persons=problem.persons[kept], objects=problem.objects[kept])
     kept = [place for place, pair in enumerate(zip(problem.persons, problem.objects)) if pair != (row + 1, column + 1)]
     costs, persons, objects = (array(values.typecode, [values[place] for place in kept])
                                for values in (problem.costs, problem.persons, problem.objects))
-    return problem._replace(costs=costs, persons=persons, objects=objects)
-
-
-def _listed(problem):
-    """A dense problem as a sparse one."""
-    n_rows, n_columns, numpy = problem.n_rows, problem.n_columns, problem.numpy
-    if numpy:
-        persons = numpy.repeat(numpy.arange(1, n_rows + 1, dtype=numpy.uint16), n_columns)
-        return problem._replace(persons=persons, objects=numpy.tile(numpy.arange(1, n_columns + 1, dtype=numpy.uint16), n_rows))
-    persons, objects = array("H"), array("H", range(1, n_columns + 1)) * n_rows
-    for row in range(1, n_rows + 1):
-        persons.extend(array("H", [row]) * n_columns)
-    costs = problem.costs if isinstance(problem.costs, array) else array("q", bytes(problem.costs.held))
     return problem._replace(costs=costs, persons=persons, objects=objects)

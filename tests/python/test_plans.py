@@ -1,0 +1,125 @@
+"""The k best plans, the next best one, whether a plan is the only one, and bottlenecks, beside all plans."""
+import itertools
+import unittest
+from decimal import Decimal
+
+import nushbaret
+from drawn import drawing, matrix
+
+try:
+    import numpy as np
+except ImportError:
+    np = None
+
+
+def ordered(costs, maximize, served):
+    """All plans with so many pairs, in order: their cost, the columns of the rows, those that are out behind all."""
+    n_rows, n_columns = len(costs), len(costs[0]) if costs else 0
+    found = []
+    for rows in itertools.combinations(range(n_rows), served):
+        for columns in itertools.permutations(range(n_columns), served):
+            own = dict(zip(rows, columns))
+            pairs = [costs[row][column] for row, column in own.items()]
+            if None not in pairs:
+                found.append((sum(pairs), [own.get(row, n_columns) for row in range(n_rows)]))
+    return sorted(found, key=lambda plan: (-plan[0] if maximize else plan[0], plan[1]))
+
+
+def told(plan, n_rows, n_columns):
+    own = dict(zip(map(int, plan.rows), map(int, plan.columns)))
+    return plan.cost, [own.get(row, n_columns) for row in range(n_rows)]
+
+
+def drawn(draw, turn):
+    n_rows, n_columns = draw.randint(1, 5), draw.randint(1, 5)
+    costs = matrix(draw, n_rows, n_columns, draw.choice([0, 1, 9, 10**12]), draw.choice([0.3, 0.5, 0.8, 1.0]))
+    forms = [costs, [[float("nan") if cost is None else cost for cost in row] for row in costs]]
+    if np:
+        forms.append(np.array([[np.nan if cost is None else cost for cost in row] for row in costs], float))
+    return costs, draw.random() < 0.5, forms[turn % len(forms)]
+
+
+class Plans(unittest.TestCase):
+    def test_k_best_beside_all_plans(self):
+        draw, ties, partial = drawing(31), 0, 0
+        for turn in range(500):
+            costs, maximize, form = drawn(draw, turn)
+            n_rows, n_columns, k = len(costs), len(costs[0]), draw.choice([1, 3, 10, 1000])
+            whole = nushbaret.solve(form, maximize, partial=True, missing="forbid")
+            wanted = ordered(costs, maximize, len(whole.rows))
+            found = list(nushbaret.k_best(form, k, maximize, partial=True, missing="forbid"))
+            self.assertEqual([told(plan, n_rows, n_columns) for plan in found], wanted[:k])
+            ties += len({cost for cost, _ in wanted[:k]}) < len(wanted[:k])
+            partial += 0 < len(whole.rows) < min(n_rows, n_columns)
+        self.assertGreater(min(ties, partial), 60)
+
+    def test_next_best_and_whether_there_is_one(self):
+        draw, unique = drawing(32), 0
+        for turn in range(500):
+            costs, maximize, form = drawn(draw, turn)
+            n_rows, n_columns = len(costs), len(costs[0])
+            result = nushbaret.solve(form, maximize, partial=True, missing="forbid")
+            own = told(result, n_rows, n_columns)
+            others = [plan for plan in ordered(costs, maximize, len(result.rows)) if plan[1] != own[1]]
+            plan = result.next_best()
+            self.assertEqual(None if plan is None else told(plan, n_rows, n_columns), others[0] if others else None)
+            self.assertEqual(result.is_unique, not others or others[0][0] != result.cost)
+            unique += result.is_unique
+        self.assertGreater(min(unique, 500 - unique), 100)
+
+    def test_decimals_and_forms(self):
+        plans = list(nushbaret.k_best([[0.5, 0.25], [0.125, 1]], 5))
+        self.assertEqual(plans, [([0, 1], [1, 0], Decimal("0.375")), ([0, 1], [0, 1], Decimal("1.5"))])
+        self.assertEqual(list(nushbaret.k_best([[1, 2], [3, 4]], 0)), [])
+        self.assertEqual([plan.cost for plan in nushbaret.k_best([], 3)], [0])
+        with self.assertRaisesRegex(ValueError, "k is -1: it must be 0 or more"):
+            nushbaret.k_best([[1]], -1)
+        with self.assertRaises(nushbaret.Infeasible):
+            nushbaret.k_best([[1, None], [2, None]], 3)
+        self.assertEqual([plan.cost for plan in nushbaret.k_best([[1, None], [2, None]], 3, partial=True)], [1, 2])
+
+    def test_a_hundred_rows(self):
+        """Each plan is one, costs what it says, and is no better than the one before."""
+        draw = drawing(33)
+        costs = matrix(draw, 100, 100, 10**6)
+        plans = list(nushbaret.k_best(costs, 10))
+        self.assertEqual(len({tuple(plan.columns) for plan in plans}), 10)
+        for plan in plans:
+            self.assertEqual(sorted(plan.columns), list(range(100)))
+            self.assertEqual(plan.cost, sum(costs[row][column] for row, column in zip(plan.rows, plan.columns)))
+        self.assertEqual([plan.cost for plan in plans], sorted(plan.cost for plan in plans))
+        result = nushbaret.solve(costs)
+        self.assertEqual((plans[0].cost, plans[1]), (result.cost, result.next_best()))
+        self.assertEqual(plans[1].cost, min(result.without(*pair).cost for pair in result.pairs))
+
+
+class Bottlenecks(unittest.TestCase):
+    def test_beside_all_plans(self):
+        draw, partial = drawing(34), 0
+        for turn in range(500):
+            costs, maximize, form = drawn(draw, turn)
+            n_rows, n_columns = len(costs), len(costs[0])
+            served = len(nushbaret.solve(form, maximize, partial=True, missing="forbid").rows)
+            sign = -1 if maximize else 1
+            wanted = min((max((sign * costs[row][column] for row, column in enumerate(own) if column < n_columns), default=0), sign * cost)
+                         for cost, own in ordered(costs, maximize, served))
+            result = nushbaret.bottleneck(form, maximize, partial=True, missing="forbid")
+            worst = max((sign * costs[row][column] for row, column in result.pairs), default=0)
+            self.assertEqual((worst, sign * result.cost, len(result.rows)), (*wanted, served))
+            self.assertTrue(result.verify())
+            if served < min(n_rows, n_columns):
+                partial += 1
+                with self.assertRaises(nushbaret.Infeasible):
+                    nushbaret.bottleneck(form, maximize, missing="forbid")
+        self.assertGreater(partial, 60)
+
+    def test_refusals(self):
+        with self.assertRaisesRegex(ValueError, 'nan at row 0, column 1: None or an infinite cost forbids a pair, and missing="forbid"'):
+            nushbaret.bottleneck([[1, float("nan")]])
+        with self.assertRaisesRegex(ValueError, "missing is 'drop': 'refuse' or 'forbid' can be had"):
+            nushbaret.bottleneck([[1]], missing="drop")
+        self.assertEqual(nushbaret.bottleneck([]).cost, 0)
+
+
+if __name__ == "__main__":
+    unittest.main()
