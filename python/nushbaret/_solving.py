@@ -5,8 +5,8 @@ import sys
 from array import array
 from typing import Any, List, Optional, Sequence, Tuple, Union
 
-from . import _duals, _exact as exact, _matching as matching, _problem as reading, _square as square
-from . import _library as library
+from . import _duals, _exact as exact, _library as library, _matching as matching, _problem as reading, _square as square
+from ._groups import infeasible
 from ._library import MOST_PERSONS, Halves
 from ._result import Result, rows_and_columns
 
@@ -55,7 +55,7 @@ def _answer(problem, start, partial):
     if not isinstance(answer, square.Short):
         return answer
     if not partial:
-        raise square.infeasible(problem, answer, min(problem.n_rows, problem.n_columns))
+        raise infeasible(problem)
     return _most(problem, start)
 
 
@@ -255,7 +255,7 @@ def solve_without(problem, served, row, column):
     less = _leave_out(problem, row, column)
     answer = _solved(less, served=served)
     if isinstance(answer, square.Short):
-        raise square.infeasible(less, answer, served)
+        raise infeasible(less)
     return Result(less, answer)
 
 

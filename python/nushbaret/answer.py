@@ -3,7 +3,7 @@ from collections import Counter
 from typing import Any, Dict, List, NamedTuple, Optional, Sequence, Set, Tuple
 
 from ._errors import Infeasible
-from ._groups import Group, groups_of
+from ._groups import Group
 from ._keep import fewest_changes
 from ._nodes import Listed, Nodes, changed, least_costs, nodes_of
 from .roster import PlanLine, Roster
@@ -85,8 +85,8 @@ def answer_of(roster: Roster, wish: Wish) -> Answer:
         costs = changed(costs, nodes.edges, wish.kept, wish.change)
     try:
         return Answer(_plan(roster, wish, nodes, costs, _solved(nodes, costs, False)), [])
-    except Infeasible:
-        groups = shortages(roster, nodes)
+    except Infeasible as found:
+        groups = shortages(nodes, found)
     if not wish.fullest:
         return Answer(None, groups)
     return Answer(_plan(roster, wish, nodes, costs, _solved(nodes, costs, True)), groups)
@@ -105,14 +105,10 @@ def _plan(roster: Roster, wish: Wish, nodes: Nodes, costs: List[int], result: An
     return plan_of(roster, wish.fixed, chosen, rents)
 
 
-def shortages(roster: Roster, nodes: Nodes) -> List[Short]:
+def shortages(nodes: Nodes, found: Infeasible) -> List[Short]:
     """All groups that are short, by the roster's numbers."""
-    rows, columns = len(nodes.of_rows), len(nodes.of_columns)
-    of_objects = rows > columns
-    if of_objects:
-        groups = groups_of(columns, rows, nodes.columns, nodes.rows)
-    else:
-        groups = groups_of(rows, columns, nodes.rows, nodes.columns)
+    of_objects = len(nodes.of_rows) > len(nodes.of_columns)
+    groups = [Group(columns, rows) if of_objects else Group(rows, columns) for rows, columns in found.groups]
     own = nodes.of_columns if of_objects else nodes.of_rows
     return [_short(nodes, group, of_objects) for group in _joined(groups, own)]
 
