@@ -180,7 +180,7 @@ def linear_sum_assignment(cost_matrix: Any, maximize: bool = False) -> Tuple[Any
     found = _quick_assignment(cost_matrix, maximize)
     if found:
         return found
-    problem = reading.of_matrix(cost_matrix, exact.manner(maximize, exact.DOUBLES))
+    problem = reading.of_matrix(cost_matrix, exact.Manner(bool(maximize), exact.DOUBLES))
     return rows_and_columns(problem, _answer(problem, None, False))
 
 
