@@ -63,6 +63,11 @@ class Runs(unittest.TestCase):
         self.assertEqual(sorted(os.listdir()), before)
 
 
+class Terminal(io.StringIO):
+    def isatty(self):
+        return True
+
+
 class Plans(Runs):
     def test_least_and_greatest(self):
         self.file("r.csv", SQUARE)
@@ -88,6 +93,32 @@ class Plans(Runs):
             f"vehicle {number}," + ",".join(str(drawn.randrange(100)) for _ in range(20)) + "\n" for number in range(12)))
         status, out, _ = self.run_words("r.csv")
         self.assertEqual((status, out.count("vehicle"), len(out.splitlines()[-1].split(", "))), (0, 12, 8))
+
+    def test_rounded(self):
+        self.file("r.csv", ",x,y\nAda,1.25,2\nBen,1.5,1\n")
+        self.expect(0, "least cost: 2.2\ncosts were rounded: before that another plan may be better, by 0.2 at most\n"
+                    "Ada: x, 1.2\nBen: y, 1.0\n", "", "r.csv", "--round", "1")
+        self.file("r.csv", ",x,y\nAda,1.5,2\nBen,1.5,1\n")
+        self.expect(0, "least cost: 2.5\nAda: x, 1.5\nBen: y, 1.0\n", "", "r.csv", "--round", "1")
+        self.refused(2, "not allowed with argument", "r.csv", "--round", "1", "--decimals", "1")
+
+    def test_what_was_read(self):
+        self.file("r.csv", "nurse,shift,hours\nAda,day,1\nada,night,2\nada,N ight,2\n")
+        alike = "r.csv: 'Ada', 'ada' differ in case or spaces alone\nr.csv: 'night', 'N ight' differ in case or spaces alone\n"
+        out = "least hours: 3\nAda: day, 1\nada: night, 2\nunused: N ight\n"
+        self.expect(0, out, alike, "r.csv")
+        with contextlib.redirect_stdout(io.StringIO()), contextlib.redirect_stderr(Terminal()) as err:
+            self.assertEqual(command.main(["r.csv"]), 0)
+        self.assertEqual(err.getvalue(), "2 nurses, 3 shifts, 3 pairs\n" + alike)
+        self.file("r.csv", "," + ",".join(f"x{number},X{number}" for number in range(22)) + "\nAda" + ",1" * 44 + "\n")
+        self.assertTrue(self.run_words("r.csv")[2].endswith("r.csv: and 2 more such names\n"))
+
+    def test_bom(self):
+        for encoding, bom in (("utf-8", ""), ("utf-8-sig", "\ufeff"), ("utf-16", "\ufeff")):
+            pathlib.Path("r.csv").write_text("a,b,c\nAd\u00e4,x,1\n", encoding=encoding)
+            self.run_words("r.csv", "--output", "p.csv", "--force")
+            self.assertEqual(self.read("p.csv"), bom + "a,b,c\nAd\u00e4,x,1\n")
+            self.assertEqual(self.run_words("p.csv")[:2], self.run_words("r.csv")[:2])
 
     def test_fixed(self):
         self.file("r.csv", SQUARE)
