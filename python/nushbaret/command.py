@@ -13,12 +13,11 @@ import re
 import stat
 import sys
 import tempfile
-from collections import Counter
 from typing import Dict, List, NamedTuple, Optional, Sequence, TextIO
 
 from ._exact import MOST_PLACES
 from ._library import VERSION
-from .answer import MOST_NAMES_SHOWN, Answer, Plan, Wish, answer_of, counted, listed, sentence
+from .answer import MOST_NAMES_SHOWN, Answer, Plan, Wish, answer_of, counted, left_out, listed, sentence
 from .page import page
 from .roster import (LINES, MATRIX, SEPARATORS, OldPlan, PlanLine, Roster, RosterFault, alike, decimal_text, quoted, read_counts,
                      read_old_plan, read_plan, read_roster)
@@ -292,19 +291,7 @@ def rows_of(roster: Roster, plan: Plan) -> List[str]:
 
 def outside(roster: Roster, plan: Plan) -> List[str]:
     """Who gets less than it should, and what has places left."""
-    lines = []
-    had, used = Counter(pair.person for pair in plan.pairs), Counter(pair.object for pair in plan.pairs)
-    if plan.without:
-        names = (_part(roster.persons[number], had[number], roster.tasks_of(number)) for number in plan.without)
-        lines.append(f"without: {', '.join(names)}")
-    if plan.unused:
-        names = (_part(roster.objects[number], used[number], roster.places_of(number)) for number in plan.unused)
-        lines.append(f"unused: {', '.join(names)}")
-    return lines
-
-
-def _part(name: str, had: int, wanted: int) -> str:
-    return name if wanted == 1 else f"{name} ({had} of {wanted})"
+    return [f"{out.how}: {', '.join(out.names)}" for out in left_out(roster, plan)]
 
 
 def changes(roster: Roster, plan: Plan, kept: OldPlan, path: str) -> List[str]:
@@ -357,8 +344,7 @@ def rendered(roster: Roster, answer: Answer, lines: List[str], options: argparse
         return as_csv(roster, answer.plan)
     if kind == "json":
         return as_json(roster, answer, lines, options.max)
-    more = outside(roster, answer.plan) if answer.plan is not None else []
-    return page(roster, answer, os.path.splitext(os.path.basename(options.roster))[0], lines + more)
+    return page(roster, answer, os.path.splitext(os.path.basename(options.roster))[0], lines)
 
 
 def as_csv(roster: Roster, plan: Plan) -> str:

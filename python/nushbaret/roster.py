@@ -265,7 +265,7 @@ class Roster(NamedTuple):
     """A problem by names. Pair k is of `persons[of_persons[k]]` and `objects[of_objects[k]]`, no pair twice; `costs[k]` is in
     units of 10^-decimals. `titles` are the words for a person, an object and a cost. `tasks` and `places` say of persons and of
     objects how many they take, where it isn't one; None where nothing was said. `rounded` says whether any cost was changed by
-    rounding, and `has_bom` whether the file began with a BOM."""
+    rounding, `has_bom` whether the file began with a BOM, and `is_matrix` whether it is a matrix."""
 
     persons: List[str]
     objects: List[str]
@@ -282,6 +282,7 @@ class Roster(NamedTuple):
     places: Optional[Dict[int, int]] = None
     rounded: bool = False
     has_bom: bool = False
+    is_matrix: bool = False
 
     @property
     def counts(self) -> bool:
@@ -370,11 +371,12 @@ def read_roster(path: str, form: Optional[str], decimals: Optional[int], comma: 
     """
     sheet = Sheet(path, comma)
     costs = Costs(sheet, decimals, comma, rounds)
-    read = _read_lines if (form or form_of(sheet)) == LINES else _read_matrix
+    is_matrix = (form or form_of(sheet)) == MATRIX
+    read = _read_matrix if is_matrix else _read_lines
     titles, persons, objects, of_persons, of_objects = read(sheet, costs)
     used, scaled = costs.scaled()
     return Roster(persons.list, objects.list, persons.numbers, objects.numbers, of_persons, of_objects, scaled,
-                  used, titles, sheet.separator, comma, rounded=costs.rounded, has_bom=sheet.has_bom)
+                  used, titles, sheet.separator, comma, rounded=costs.rounded, has_bom=sheet.has_bom, is_matrix=is_matrix)
 
 
 def _read_lines(sheet: Sheet, costs: Costs):

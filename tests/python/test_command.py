@@ -459,6 +459,35 @@ class Outputs(Runs):
         self.assertEqual(edges, [2, 2, 3, 3])
         self.assertNotIn("b", page.tags)
 
+    def test_page_of_several_shortages(self):
+        self.file("r.csv", ",a,b,c,d,e\nAda,1,,,,\nBen,1,,,,\nCleo,,1,,,\nDan,,1,,,\nEve,,,1,1,1\n")
+        self.run_words("r.csv", "--html", "p.html")
+        page = parsed(self.read("p.html"))
+        self.assertEqual(page.short, ["a", "b", "Ada", "Ben", "Cleo", "Dan"])
+        framed = [place for place, (_, kinds) in enumerate(page.cells) if "left" in kinds and "right" in kinds]
+        self.assertEqual(framed, [0, 5, 11, 16])
+        self.assertEqual([place for place, (_, kinds) in enumerate(page.cells) if "top" in kinds], [0, 11])
+
+    def test_page_of_places(self):
+        self.file("r.csv", "nurse,shift,hours\nAda,S10,1\nAda,S2,2\nBen,S2,4\nBen,S1,9\n")
+        self.file("c.csv", "a,b\nS2,2\n")
+        self.file("t.csv", "a,b\nAda,2\n")
+        self.run_words("r.csv", "--places", "c.csv", "--tasks", "t.csv", "--html", "p.html")
+        page = parsed(self.read("p.html"))
+        self.assertEqual([cell for cell, _ in page.cells[:8]], ["Ada", "S10\nS2", "1\n2", "Ben", "S2", "4", "S2", "Ada, Ben"])
+        self.assertEqual([cell for cell, _ in page.cells[8:]], ["", "2", "1", "9", "4", ""])
+        self.assertIn("<details><summary>unused: 1 shift</summary><p>S1</p></details>", self.read("p.html"))
+
+    def test_wide_page(self):
+        drawn = random.Random(3)
+        self.file("r.csv", "," + ",".join(f"S{number}" for number in range(3000)) + "\n" + "".join(
+            f"p{number}," + ",".join(str(drawn.randrange(1000)) for _ in range(3000)) + "\n" for number in range(80)))
+        self.run_words("r.csv", "--html", "p.html")
+        self.assertLess(os.path.getsize("p.html"), 10**6)
+        page = parsed(self.read("p.html"))
+        self.assertEqual(len(page.cells), 80 * 80 + 3 * 80)
+        self.assertIn("unused: 2920 objects", self.read("p.html"))
+
     def test_large_page(self):
         for size in (30, 500):
             self.file("r.csv", square(size))
