@@ -158,6 +158,26 @@ def plan_of(roster: Roster, fixed: Sequence[PlanLine], chosen: List[Tuple[int, i
         [object_ for object_ in range(len(roster.objects)) if used[object_] < roster.places_of(object_)], rents)
 
 
+class Out(NamedTuple):
+    """Names of persons (side 0) or of objects (side 1) that take less than they may, and how that is called."""
+
+    how: str
+    side: int
+    names: List[str]
+
+
+def left_out(roster: Roster, plan: Plan) -> List[Out]:
+    """Who gets less than it should, and what has places left, as far as there are such."""
+    had, used = Counter(pair.person for pair in plan.pairs), Counter(pair.object for pair in plan.pairs)
+    without = [_part_of(roster.persons[number], had[number], roster.tasks_of(number)) for number in plan.without]
+    unused = [_part_of(roster.objects[number], used[number], roster.places_of(number)) for number in plan.unused]
+    return [out for out in (Out("without", 0, without), Out("unused", 1, unused)) if out.names]
+
+
+def _part_of(name: str, had: int, wanted: int) -> str:
+    return name if wanted == 1 else f"{name} ({had} of {wanted})"
+
+
 def counted(count: int, word: str) -> str:
     """A count of things, in English: 1 shift, 2 shifts, 3 people."""
     return f"{count} {word if count == 1 else plural(word)}"
