@@ -1,8 +1,10 @@
 """Every group that is short: from one fullest matching, all whom somebody unmatched reaches, cut into connected parts."""
-from typing import Dict, List, NamedTuple, Sequence
+from array import array
+from typing import Any, Dict, List, NamedTuple
 
+from . import _exact as exact, _problem as reading, _square as square
 from ._errors import Infeasible
-from ._solving import solve_sparse
+from ._matching import fullest
 
 
 class Group(NamedTuple):
@@ -12,26 +14,34 @@ class Group(NamedTuple):
     few: List[int]
 
 
-def groups_of(count: int, other: int, nodes: Sequence[int], others: Sequence[int]) -> List[Group]:
-    """The groups that are short on the first side, in the order of their first nodes, each proved by the library.
+def infeasible(problem: Any) -> Infeasible:
+    """The proof that a problem which lists its pairs can't be solved: of its rows, or of its columns where these are fewer."""
+    of_columns = problem.n_rows > problem.n_columns
+    count, other = sorted((problem.n_rows, problem.n_columns))
+    nodes, others = (problem.objects, problem.persons) if of_columns else (problem.persons, problem.objects)
+    listed: List[List[int]] = [[] for _ in range(count)]
+    for node, item in zip(nodes.tolist(), others.tolist()):
+        listed[node - 1].append(item - 1)
+    groups = [tuple(map(problem.numbers, group)) for group in groups_of(listed, other)]
+    return Infeasible([(few, many) if of_columns else (many, few) for many, few in groups])
+
+
+def groups_of(listed: List[List[int]], other: int) -> List[Group]:
+    """The groups that are short on one side, in the order of their first nodes, each proved by the library.
 
     Parameters
     ----------
-    count, other : int
-        How many nodes there are on the first side, which is to be served, and on the second.
-    nodes, others : sequences of int
-        Node nodes[k] of the first side lists others[k].
+    listed : list of lists of int
+        What each node of that side lists.
+    other : int
+        How many nodes there are on the other side.
     """
-    listed: List[List[int]] = [[] for _ in range(count)]
-    for node, item in zip(nodes, others):
-        listed[node].append(item)
-    fullest = solve_sparse(count, other, nodes, others, [0] * len(nodes), partial=True)
-    mates = dict(zip(fullest.columns, fullest.rows))
-    waiting = list(fullest.unmatched_rows)
-    reached, found = set(waiting), set()
+    mates = fullest(listed, other)
+    served = set(mates)
+    waiting = [node for node in range(len(listed)) if node not in served]
+    reached = set(waiting)
     while waiting:
         for item in listed[waiting.pop()]:
-            found.add(item)
             if mates[item] not in reached:
                 reached.add(mates[item])
                 waiting.append(mates[item])
@@ -70,10 +80,9 @@ def _part(first: int, left: set, listed: List[List[int]], who: Dict[int, List[in
 def _prove(group: Group, listed: List[List[int]]) -> None:
     """Lets the library say that these nodes can't all be served by what they list."""
     place = {item: number for number, item in enumerate(group.few)}
-    rows = [number for number, node in enumerate(group.many) for _ in listed[node]]
-    columns = [place[item] for node in group.many for item in listed[node]]
-    try:
-        solve_sparse(len(group.many), len(group.many), rows, columns, [0] * len(rows))
-    except Infeasible:
-        return
-    raise RuntimeError("a group was found to be short, and the library says otherwise")
+    rows = array("q", [number for number, node in enumerate(group.many) for _ in listed[node]])
+    columns = array("q", [place[item] for node in group.many for item in listed[node]])
+    size = len(group.many)
+    problem = reading.of_pairs(size, size, rows, columns, array("q", bytes(8 * len(rows))), exact.manner(False))
+    if not isinstance(square.answer(problem, square.squared(problem)), square.Short):
+        raise RuntimeError("a group was found to be short, and the library says otherwise")

@@ -34,9 +34,16 @@ def _augment(columns, owner, start, seen):
     return True
 
 
+def fullest(columns, n_columns):
+    """The row that has each column in a fullest matching, None where it is free; `columns` are those that each row may have."""
+    owner = [None] * n_columns
+    seen = set()
+    for row in range(len(columns)):
+        _augment(columns, owner, row, seen)
+    return owner
+
+
 def most_served(problem):
     """The greatest number of rows that can have a column each."""
-    columns = _listed(problem)
-    owner = [None] * problem.n_columns
-    seen = set()
-    return sum(_augment(columns, owner, row, seen) for row in range(problem.n_rows))
+    owner = fullest(_listed(problem), problem.n_columns)
+    return len(owner) - owner.count(None)

@@ -7,7 +7,6 @@ from array import array
 from typing import Any, NamedTuple
 
 from . import _library as library
-from ._errors import Infeasible
 from ._exact import refuse_range
 from ._library import MOST_PERSONS
 
@@ -112,17 +111,3 @@ def answer(problem, square, first=None):
     if code == "HALL":
         return Short(persons[:told.persons], objects[:told.objects])
     return refuse(problem, square, code, told)
-
-
-def infeasible(problem, short, served):
-    """The proof in the caller's rows and columns that no plan serves so many rows."""
-    n_rows, n_columns = problem.n_rows, problem.n_columns
-    if served < n_columns or n_rows == n_columns:
-        rows, columns = [person - 1 for person in short.persons], [item - 1 for item in short.objects if item <= n_columns]
-    else:
-        # The columns that the named rows don't list: whoever lists one is none of them, and such rows are fewer.
-        listed = set(short.objects)
-        wanting = {item for item in range(1, n_columns + 1) if item not in listed}
-        columns = [item - 1 for item in sorted(wanting)]
-        rows = sorted({int(person) - 1 for person, item in zip(problem.persons, problem.objects) if int(item) in wanting})
-    return Infeasible(problem.numbers(rows), problem.numbers(columns))

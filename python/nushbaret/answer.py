@@ -3,7 +3,7 @@ from collections import Counter
 from typing import Any, Dict, List, NamedTuple, Optional, Sequence, Set, Tuple
 
 from ._errors import Infeasible
-from ._groups import Group, groups_of
+from ._groups import Group
 from ._keep import fewest_changes
 from ._nodes import Listed, Nodes, changed, least_costs, nodes_of
 from .roster import PlanLine, Roster
@@ -85,8 +85,8 @@ def answer_of(roster: Roster, wish: Wish) -> Answer:
         costs = changed(costs, nodes.edges, wish.kept, wish.change)
     try:
         return Answer(_plan(roster, wish, nodes, costs, _solved(nodes, costs, False)), [])
-    except Infeasible:
-        groups = shortages(roster, nodes)
+    except Infeasible as found:
+        groups = shortages(nodes, found)
     if not wish.fullest:
         return Answer(None, groups)
     return Answer(_plan(roster, wish, nodes, costs, _solved(nodes, costs, True)), groups)
@@ -105,14 +105,10 @@ def _plan(roster: Roster, wish: Wish, nodes: Nodes, costs: List[int], result: An
     return plan_of(roster, wish.fixed, chosen, rents)
 
 
-def shortages(roster: Roster, nodes: Nodes) -> List[Short]:
+def shortages(nodes: Nodes, found: Infeasible) -> List[Short]:
     """All groups that are short, by the roster's numbers."""
-    rows, columns = len(nodes.of_rows), len(nodes.of_columns)
-    of_objects = rows > columns
-    if of_objects:
-        groups = groups_of(columns, rows, nodes.columns, nodes.rows)
-    else:
-        groups = groups_of(rows, columns, nodes.rows, nodes.columns)
+    of_objects = len(nodes.of_rows) > len(nodes.of_columns)
+    groups = [Group(columns, rows) if of_objects else Group(rows, columns) for rows, columns in found.groups]
     own = nodes.of_columns if of_objects else nodes.of_rows
     return [_short(nodes, group, of_objects) for group in _joined(groups, own)]
 
@@ -160,6 +156,26 @@ def plan_of(roster: Roster, fixed: Sequence[PlanLine], chosen: List[Tuple[int, i
         pairs, sum(pair.cost for pair in pairs),
         [person for person in range(len(roster.persons)) if had[person] < roster.tasks_of(person)],
         [object_ for object_ in range(len(roster.objects)) if used[object_] < roster.places_of(object_)], rents)
+
+
+class Out(NamedTuple):
+    """Names of persons (side 0) or of objects (side 1) that take less than they may, and how that is called."""
+
+    how: str
+    side: int
+    names: List[str]
+
+
+def left_out(roster: Roster, plan: Plan) -> List[Out]:
+    """Who gets less than it should, and what has places left, as far as there are such."""
+    had, used = Counter(pair.person for pair in plan.pairs), Counter(pair.object for pair in plan.pairs)
+    without = [_part_of(roster.persons[number], had[number], roster.tasks_of(number)) for number in plan.without]
+    unused = [_part_of(roster.objects[number], used[number], roster.places_of(number)) for number in plan.unused]
+    return [out for out in (Out("without", 0, without), Out("unused", 1, unused)) if out.names]
+
+
+def _part_of(name: str, had: int, wanted: int) -> str:
+    return name if wanted == 1 else f"{name} ({had} of {wanted})"
 
 
 def counted(count: int, word: str) -> str:

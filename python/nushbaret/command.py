@@ -13,15 +13,14 @@ import re
 import stat
 import sys
 import tempfile
-from collections import Counter
 from typing import Dict, List, NamedTuple, Optional, Sequence, TextIO
 
 from ._exact import MOST_PLACES
 from ._library import VERSION
-from .answer import Answer, Plan, Wish, answer_of, listed, sentence
+from .answer import MOST_NAMES_SHOWN, Answer, Plan, Wish, answer_of, counted, left_out, listed, sentence
 from .page import page
-from .roster import (LINES, MATRIX, SEPARATORS, OldPlan, PlanLine, Roster, RosterFault, decimal_text, quoted, read_counts, read_old_plan,
-                     read_plan, read_roster)
+from .roster import (LINES, MATRIX, SEPARATORS, OldPlan, PlanLine, Roster, RosterFault, alike, decimal_text, quoted, read_counts,
+                     read_old_plan, read_plan, read_roster)
 
 PLANNED, NONE, WORDS, REFUSED, DEVICE = range(5)
 KINDS = ("csv", "json", "html")
@@ -56,14 +55,17 @@ def _parser() -> argparse.ArgumentParser:
         description="Find the plan of least cost for a roster of names in a CSV file, or who is short of what.",
         epilog="Status 0: a plan; 1: there is none; 2: these words are refused; 3: a file's content is; 4: a file can't be "
                "read or written, an output exists, the library isn't there, or memory was refused.")
-    parser.add_argument("roster", metavar="ROSTER", help="a CSV file, or - for standard input, with a title line: a person, an object and a cost in each "
-                        "line, or a matrix with names in the first line and column, where an empty cell forbids a pair")
+    parser.add_argument("roster", metavar="ROSTER", help="a CSV file (- is standard input) or an .xlsx workbook, with a title line: a person, an object and a "
+                        "cost in each line, or a matrix with names in the first line and column, where an empty cell forbids a pair")
     form = parser.add_mutually_exclusive_group()
     form.add_argument("--lines", dest="form", action="store_const", const=LINES, help="the roster has lines")
     form.add_argument("--matrix", dest="form", action="store_const", const=MATRIX, help="the roster is a matrix")
     parser.add_argument("--max", action="store_true", help="find the plan of greatest cost")
-    parser.add_argument("--decimals", type=int, choices=range(MOST_PLACES + 1), metavar="K",
+    places = parser.add_mutually_exclusive_group()
+    places.add_argument("--decimals", type=int, choices=range(MOST_PLACES + 1), metavar="K",
                         help=f"costs have at most K decimal places, 0 to {MOST_PLACES} (else as many as the roster uses)")
+    places.add_argument("--round", type=int, choices=range(MOST_PLACES + 1), metavar="K",
+                        help="round costs to K decimal places, and say by how much that may matter")
     parser.add_argument("--decimal-comma", action="store_true", help="costs are written as 2,50")
     parser.add_argument("--fixed", metavar="PLAN.csv", help="lines of a person and an object that stand")
     parser.add_argument("--compare", metavar="PLAN.csv", help="tell by how much this plan is worse than the best")
@@ -167,10 +169,25 @@ def _run(options: argparse.Namespace) -> int:
 
 def _read(options: argparse.Namespace) -> Roster:
     """The roster, with how many each name takes."""
-    roster = read_roster(options.roster, options.form, options.decimals, options.decimal_comma)
+    roster = read_roster(options.roster, options.form, options.decimals, options.decimal_comma, options.round)
+    _tell_read(options.roster, roster)
     tasks = read_counts(options.tasks, roster, False) if options.tasks else None
     places = read_counts(options.places, roster, True) if options.places else None
     return roster._replace(tasks=tasks, places=places)
+
+
+def _tell_read(path: str, roster: Roster) -> None:
+    """Says on standard error, where that is a terminal, how much was read, and always which names are hardly two."""
+    if sys.stderr is None:
+        return
+    if sys.stderr.isatty():
+        persons, objects = counted(len(roster.persons), roster.titles[0]), counted(len(roster.objects), roster.titles[1])
+        print(f"{persons}, {objects}, {counted(len(roster.costs), 'pair')}", file=sys.stderr)
+    groups = alike(roster.persons) + alike(roster.objects)
+    for group in groups[:MOST_NAMES_SHOWN]:
+        print(f"{path}: {', '.join(map(quoted, group))} differ in case or spaces alone", file=sys.stderr)
+    if len(groups) > MOST_NAMES_SHOWN:
+        print(f"{path}: and {len(groups) - MOST_NAMES_SHOWN} more such names", file=sys.stderr)
 
 
 def _tell_gone(path: str, plan: Optional[OldPlan]) -> None:
@@ -237,6 +254,9 @@ def told(roster: Roster, answer: Answer, maximize: bool, some_fixed: bool) -> Li
         which = "greatest" if maximize else "least"
         fullest = f" of {len(answer.plan.pairs)} pairs" if answer.groups else ""
         lines.append(f"{which} {roster.titles[2]}{fullest}: {roster.shown(answer.plan.cost)}")
+        chosen = sum(not pair.fixed for pair in answer.plan.pairs)
+        if roster.rounded:
+            lines.append(f"costs were rounded: before that another plan may be better, by {roster.shown(chosen)} at most")
     return lines
 
 
@@ -271,19 +291,7 @@ def rows_of(roster: Roster, plan: Plan) -> List[str]:
 
 def outside(roster: Roster, plan: Plan) -> List[str]:
     """Who gets less than it should, and what has places left."""
-    lines = []
-    had, used = Counter(pair.person for pair in plan.pairs), Counter(pair.object for pair in plan.pairs)
-    if plan.without:
-        names = (_part(roster.persons[number], had[number], roster.tasks_of(number)) for number in plan.without)
-        lines.append(f"without: {', '.join(names)}")
-    if plan.unused:
-        names = (_part(roster.objects[number], used[number], roster.places_of(number)) for number in plan.unused)
-        lines.append(f"unused: {', '.join(names)}")
-    return lines
-
-
-def _part(name: str, had: int, wanted: int) -> str:
-    return name if wanted == 1 else f"{name} ({had} of {wanted})"
+    return [f"{out.how}: {', '.join(out.names)}" for out in left_out(roster, plan)]
 
 
 def changes(roster: Roster, plan: Plan, kept: OldPlan, path: str) -> List[str]:
@@ -336,13 +344,13 @@ def rendered(roster: Roster, answer: Answer, lines: List[str], options: argparse
         return as_csv(roster, answer.plan)
     if kind == "json":
         return as_json(roster, answer, lines, options.max)
-    more = outside(roster, answer.plan) if answer.plan is not None else []
-    return page(roster, answer, os.path.splitext(os.path.basename(options.roster))[0], lines + more)
+    return page(roster, answer, os.path.splitext(os.path.basename(options.roster))[0], lines)
 
 
 def as_csv(roster: Roster, plan: Plan) -> str:
     """The pairs as a roster of lines, with the titles, the separator and the decimal mark of the roster that was read."""
     text = io.StringIO()
+    text.write("\ufeff" if roster.has_bom else "")
     writer = csv.writer(text, delimiter=roster.separator, lineterminator="\n")
     # The separator is told from the title line, so that no other may seem to stand there.
     csv.writer(text, delimiter=roster.separator, lineterminator="\n", quoting=_title_quoting(roster)).writerow(roster.titles)

@@ -1,11 +1,14 @@
 """A plan as one page of HTML: no script, nothing from elsewhere."""
+import re
 from html import escape
-from typing import Dict, Iterator, List, NamedTuple, Optional, Tuple
+from typing import Dict, Iterator, List, NamedTuple, Optional, Set, Tuple
 
-from .answer import Answer, Plan, Short
+from .answer import Answer, Plan, counted, left_out
 from .roster import Roster
 
 MOST_CELLS = 250_000
+# Up to so many cells persons and objects that are in no pair and in no short group are drawn as well.
+MOST_WHOLE_CELLS = 20_000
 SHADES = ("#f7fbff", "#e3eef9", "#cfe1f2", "#b5d4e9", "#93c3df", "#6daed5", "#4b97c9", "#2f7ebc", "#1864aa")
 FIRST_DARK = 6
 
@@ -24,7 +27,10 @@ th, td { border: 1px solid #d0d0d0; padding: .15em .45em; white-space: nowrap }
 .matrix thead th span { writing-mode: vertical-rl }
 .matrix tbody th { left: 0; z-index: 1; text-align: left }
 .matrix thead th:first-child { left: 0; z-index: 3 }
-.plan td:last-child { text-align: right }
+.plan td { vertical-align: top; white-space: pre-line }
+.plan td:nth-child(3) { text-align: right; font-variant-numeric: tabular-nums }
+details { margin: .5em 0 }
+summary { cursor: pointer }
 td.none { background: repeating-linear-gradient(45deg, #fff, #fff 4px, #eee 4px, #eee 6px) }
 td.own { outline: 3px solid #d35400; outline-offset: -3px; font-weight: bold }
 td.fixed { outline-style: double }
@@ -34,35 +40,70 @@ td.fixed { outline-style: double }
 .matrix td.left { border-left: 3px solid #b00020 }
 .matrix td.right { border-right: 3px solid #b00020 }
 p.short { color: #b00020; font-weight: bold }
+@media print {
+body { margin: 0; print-color-adjust: exact; -webkit-print-color-adjust: exact }
+.matrix { overflow: visible; max-height: none }
+.matrix th { position: static }
+tr { break-inside: avoid }
+}
 """
 
 
+class Block(NamedTuple):
+    """A short group's rows and columns in a drawn matrix, from the first to the one behind the last."""
+
+    top: int
+    bottom: int
+    left: int
+    right: int
+
+
 class Frame(NamedTuple):
-    """The order in which a matrix is drawn, and how many of its first rows and columns are the short group's."""
+    """The persons and objects of a drawn matrix, in order, and the block of each row, if any."""
 
     persons: List[int]
     objects: List[int]
-    rows: int
-    columns: int
+    blocks: List[Optional[Block]]
+    short_columns: int
 
 
-def frame_of(roster: Roster, short: Optional[Short]) -> Frame:
-    """The short group first, so that its cells stand in one block."""
-    group = short or Short([], [], False, 0, 0, [])
-    return Frame(
-        _first(group.persons, len(roster.persons)), _first(group.objects, len(roster.objects)),
-        len(group.persons), len(group.objects))
+def frame_of(roster: Roster, answer: Answer) -> Frame:
+    """The short groups first, so that each one's cells stand in one block; then all others, or those in pairs where all are too many."""
+    persons: List[int] = []
+    objects: List[int] = []
+    blocks: List[Optional[Block]] = []
+    for short in answer.groups:
+        block = Block(len(persons), len(persons) + len(short.persons), len(objects), len(objects) + len(short.objects))
+        persons += short.persons
+        objects += short.objects
+        blocks += [block] * len(short.persons)
+    short_columns = len(objects)
+    other_persons, other_objects = _others(roster, answer, set(persons), set(objects))
+    if not roster.is_matrix:
+        other_objects.sort(key=lambda number: natural(roster.objects[number]))
+    return Frame(persons + other_persons, objects + other_objects, blocks + [None] * len(other_persons), short_columns)
 
 
-def _first(group: List[int], count: int) -> List[int]:
-    members = set(group)
-    return group + [number for number in range(count) if number not in members]
+def _others(roster: Roster, answer: Answer, persons: Set[int], objects: Set[int]) -> Tuple[List[int], List[int]]:
+    """Who and what is drawn beside the short groups."""
+    drawn_persons, drawn_objects = set(range(len(roster.persons))), set(range(len(roster.objects)))
+    if len(drawn_persons) * len(drawn_objects) > MOST_WHOLE_CELLS:
+        pairs = [] if answer.plan is None else answer.plan.pairs
+        drawn_persons, drawn_objects = {pair.person for pair in pairs}, {pair.object for pair in pairs}
+    return sorted(drawn_persons - persons), sorted(drawn_objects - objects)
+
+
+def natural(name: str) -> List[Tuple[int, int, str]]:
+    """What names are ordered by, so that S2 comes before S10."""
+    return [(0, int(part), "") if part.isdecimal() else (1, 0, part.casefold()) for part in re.findall("[0-9]{1,30}|[^0-9]+", name)]
 
 
 def page(roster: Roster, answer: Answer, heading: str, lines: List[str]) -> str:
-    """The page of an answer: the lines, the matrix with the chosen cells and the short group framed, and the plan as a list.
+    """The page of an answer: the lines, the plan as a list, who stays out, and the matrix with the chosen cells and the short groups
+    framed.
 
-    A matrix of more than 250000 cells isn't drawn, and the page says so.
+    Of a matrix of more than 20000 cells only the persons and objects of the plan and of the short groups are drawn; where even these
+    have more than 250000 cells none is, and the page says so.
     """
     return "".join(_parts(roster, answer, heading, lines))
 
@@ -75,12 +116,14 @@ def _parts(roster: Roster, answer: Answer, heading: str, lines: List[str]) -> It
     for place, line in enumerate(lines):
         kind = ' class="short"' if place < len(answer.groups) else ""
         yield f"<p{kind}>{escape(line)}</p>\n"
-    if len(roster.persons) * len(roster.objects) > MOST_CELLS:
-        yield f"<p>The matrix has more than {MOST_CELLS} cells and isn't drawn.</p>\n"
-    else:
-        yield from _matrix(roster, answer)
     if answer.plan is not None:
         yield from _list(roster, answer.plan)
+        yield from _folded(roster, answer.plan)
+    frame = frame_of(roster, answer)
+    if len(frame.persons) * len(frame.objects) > MOST_CELLS:
+        yield f"<p>The matrix has more than {MOST_CELLS} cells and isn't drawn.</p>\n"
+    elif frame.persons and frame.objects:
+        yield from _matrix(roster, answer, frame)
     yield "</body>\n</html>\n"
 
 
@@ -90,23 +133,24 @@ def _shades() -> str:
         for level, colour in enumerate(SHADES))
 
 
-def _matrix(roster: Roster, answer: Answer) -> Iterator[str]:
-    frame = frame_of(roster, answer.groups[0] if answer.groups else None)
+def _matrix(roster: Roster, answer: Answer, frame: Frame) -> Iterator[str]:
     chosen = {} if answer.plan is None else {(pair.person, pair.object): pair.fixed for pair in answer.plan.pairs}
     costs = _costs_by_person(roster)
     span = (min(roster.costs, default=0), max(roster.costs, default=0))
     yield '<div class="matrix"><table>\n<thead><tr><th></th>'
     for column, object_ in enumerate(frame.objects):
-        yield _heading("col", f"<span>{escape(roster.objects[object_])}</span>", column < frame.columns)
+        yield _heading("col", f"<span>{escape(roster.objects[object_])}</span>", column < frame.short_columns)
     yield "</tr></thead>\n<tbody>\n"
-    for row, person in enumerate(frame.persons):
-        yield "<tr>" + _heading("row", escape(roster.persons[person]), row < frame.rows)
+    for row, (person, block) in enumerate(zip(frame.persons, frame.blocks)):
+        yield "<tr>" + _heading("row", escape(roster.persons[person]), block is not None)
         yield from (
-            _cell(roster, costs[person].get(object_), chosen.get((person, object_)), span, _edges(frame, row, column))
+            _cell(roster, costs[person].get(object_), chosen.get((person, object_)), span, _edges(block, row, column))
             for column, object_ in enumerate(frame.objects))
         yield "</tr>\n"
     yield "</tbody>\n</table></div>\n"
     yield "<p>Darker cells cost more, hatched ones are forbidden; the plan's are outlined, the fixed ones twice.</p>\n"
+    if len(frame.persons) < len(roster.persons) or len(frame.objects) < len(roster.objects):
+        yield "<p>Who and what is in no pair isn't drawn.</p>\n"
 
 
 def _costs_by_person(roster: Roster) -> List[Dict[int, int]]:
@@ -121,10 +165,10 @@ def _heading(scope: str, inner: str, is_short: bool) -> str:
     return f'<th scope="{scope}"{kind}>{inner}</th>'
 
 
-def _edges(frame: Frame, row: int, column: int) -> List[str]:
-    if row >= frame.rows or column >= frame.columns:
+def _edges(block: Optional[Block], row: int, column: int) -> List[str]:
+    if block is None or not block.left <= column < block.right:
         return []
-    edges = (("top", row == 0), ("bottom", row == frame.rows - 1), ("left", column == 0), ("right", column == frame.columns - 1))
+    edges = (("top", row == block.top), ("bottom", row == block.bottom - 1), ("left", column == block.left), ("right", column == block.right - 1))
     return [name for name, is_edge in edges if is_edge]
 
 
@@ -141,9 +185,30 @@ def _cell(roster: Roster, cost: Optional[int], fixed: Optional[bool], span: Tupl
 
 
 def _list(roster: Roster, plan: Plan) -> Iterator[str]:
-    titles = "".join(f'<th scope="col">{escape(title)}</th>' for title in roster.titles)
-    yield f'<table class="plan">\n<thead><tr>{titles}</tr></thead>\n<tbody>\n'
+    """The plan: a row for each person with all of its own, and then for each object of several places."""
+    own: Dict[int, List[Tuple[str, str]]] = {}
+    at: Dict[int, List[str]] = {}
     for pair in plan.pairs:
-        cells = (roster.persons[pair.person], roster.objects[pair.object], roster.shown(pair.cost))
-        yield "<tr>" + "".join(f"<td>{escape(cell)}</td>" for cell in cells) + "</tr>\n"
+        own.setdefault(pair.person, []).append((roster.objects[pair.object], roster.shown(pair.cost)))
+        if roster.places_of(pair.object) > 1:
+            at.setdefault(pair.object, []).append(roster.persons[pair.person])
+    yield from _table(list(roster.titles), [
+        [roster.persons[person]] + ["\n".join(texts) for texts in zip(*pairs)] for person, pairs in own.items()])
+    if at:
+        yield from _table([roster.titles[1], roster.titles[0]], [[roster.objects[number], ", ".join(at[number])] for number in sorted(at)])
+
+
+def _table(titles: List[str], rows: List[List[str]]) -> Iterator[str]:
+    """A table; what stands in several lines of a cell stands so in the page."""
+    heads = "".join(f'<th scope="col">{escape(title)}</th>' for title in titles)
+    yield f'<table class="plan">\n<thead><tr>{heads}</tr></thead>\n<tbody>\n'
+    for row in rows:
+        yield "<tr>" + "".join(f"<td>{escape(cell)}</td>" for cell in row) + "</tr>\n"
     yield "</tbody>\n</table>\n"
+
+
+def _folded(roster: Roster, plan: Plan) -> Iterator[str]:
+    """Who gets less than it should, and what has places left, under their count."""
+    for out in left_out(roster, plan):
+        title = f"{out.how}: {counted(len(out.names), roster.titles[out.side])}"
+        yield f"<details><summary>{escape(title)}</summary><p>{escape(', '.join(out.names))}</p></details>\n"

@@ -1,4 +1,4 @@
-"""Rosters and plans in CSV files: persons, objects and costs by name.
+"""Rosters and plans in CSV files and workbooks: persons, objects and costs by name.
 
 A roster is read in one of two forms, a line for each pair or a matrix; a plan is lines of a person and an object.
 Lines and columns are counted from 1, and a column is a cell of its line.
@@ -16,10 +16,13 @@ from typing import Dict, Iterator, List, NamedTuple, NoReturn, Optional, Set, Tu
 
 from ._exact import MOST_PLACES
 from ._library import GREATEST_COST, MOST_PERSONS
+from ._workbook import WorkbookFault, rows_of
 
 MOST_BYTES = 2**30
 
 SEPARATORS = ";\t,"
+WIDE_BOMS = (b"\xff\xfe", b"\xfe\xff")
+BOMS = (b"\xef\xbb\xbf", *WIDE_BOMS)
 LINES, MATRIX = "lines", "matrix"
 TITLES = ("person", "object", "cost")
 MILLION = 10**MOST_PLACES
@@ -53,18 +56,31 @@ def _held(path: str) -> bytes:
 
 
 class Sheet:
-    """The records of a CSV file: UTF-8 or UTF-16, with `;`, TAB or `,` between cells, whichever its first line has most of.
+    """The records of a CSV file: UTF-8 or UTF-16, with `;`, TAB or `,` between cells, whichever its first line has most of. Or those of
+    a workbook, `.xlsx`.
 
     Raises `OSError` where the file can't be read, and `RosterFault` where it is no text or is too long.
     """
 
-    def __init__(self, path: str) -> None:
-        self.path = path
-        data = _held(path)
-        if path == "-":
-            self.path = "standard input"
+    def __init__(self, path: str, comma: bool = False) -> None:
+        self.path = "standard input" if path == "-" else path
+        self.rows: Optional[List[List[str]]] = None
+        if os.path.splitext(path)[1].lower() == ".xlsx":
+            self._take_workbook(path, comma)
+        else:
+            self._take_text(_held(path))
+
+    def _take_workbook(self, path: str, comma: bool) -> None:
+        self.has_bom, self.separator = False, ";" if comma else ","
+        try:
+            self.rows = rows_of(path, comma)
+        except WorkbookFault as fault:
+            self.refuse(str(fault))
+
+    def _take_text(self, data: bytes) -> None:
         if len(data) > MOST_BYTES:
             self.refuse(f"longer than {MOST_BYTES} bytes")
+        self.has_bom = data.startswith(BOMS)
         self.text = self._decoded(data)
         first = re.split("[\r\n]", self.text.lstrip("\r\n"), maxsplit=1)[0]
         # Spreadsheets write such a line ahead of the title to name the separator.
@@ -73,7 +89,7 @@ class Sheet:
         self.separator = hinted if self.has_hint and hinted in SEPARATORS and hinted else separator_of(first)
 
     def _decoded(self, data: bytes) -> str:
-        wide = data.startswith((b"\xff\xfe", b"\xfe\xff"))
+        wide = data.startswith(WIDE_BOMS)
         try:
             return data.decode("utf-16" if wide else "utf-8-sig")
         except UnicodeDecodeError as error:
@@ -85,6 +101,10 @@ class Sheet:
 
     def records(self) -> Iterator[Tuple[int, List[str]]]:
         """The records that aren't empty, each with the number of its first line; cells without the white space around them."""
+        if self.rows is not None:
+            stripped = ([cell.strip() for cell in cells] for cells in self.rows)
+            yield from ((line, cells) for line, cells in enumerate(stripped, 1) if any(cells))
+            return
         reader = csv.reader(io.StringIO(self.text, newline=""), delimiter=self.separator, strict=True)
         line = 1
         try:
@@ -168,9 +188,11 @@ class Names:
 class Costs:
     """Costs as they are read, exactly, in millionths until it is known how many places are used."""
 
-    def __init__(self, sheet: Sheet, decimals: Optional[int], comma: bool) -> None:
-        self._sheet, self._given, self._comma = sheet, decimals, comma
+    def __init__(self, sheet: Sheet, decimals: Optional[int], comma: bool, rounds: Optional[int] = None) -> None:
+        self._sheet, self._comma, self._rounds = sheet, comma, rounds
+        self._given = decimals if rounds is None else rounds
         self._most = MOST_PLACES if decimals is None else decimals
+        self.rounded = False
         point = "," if comma else r"\."
         # Sign, whole part without zeros ahead, decimal places without zeros behind; a digit stands somewhere.
         self._plain = re.compile(rf"([+-]?)(?={point}?[0-9])0*([0-9]*)(?:{point}([0-9]*?)0*)?")
@@ -184,6 +206,8 @@ class Costs:
         if found is None:
             self._sheet.refuse(f"{quoted(cell)} is no number{self._hint(cell)}", line, column)
         sign, whole, part = found.groups("")
+        if self._rounds is not None and len(part) > self._rounds:
+            whole, part = self._round(whole, part, self._rounds)
         if len(part) > self._places:
             self._more_places(cell, len(part), line, column)
         size = int(whole[:20] + part + ZEROS[len(part):])
@@ -192,6 +216,14 @@ class Costs:
                 self._out_of_range(0, line, column)
             self._greatest, self._greatest_place = size, (line, column)
         self._millionths.append(-size if sign == "-" else size)
+
+    def _round(self, whole: str, part: str, places: int) -> Tuple[str, str]:
+        """The whole part and so many decimal places of a cell, rounded to the nearest, halves to even ones."""
+        self.rounded = True
+        number, rest = int("0" + whole[:20] + part[:places]), part[places:]
+        number += rest > "5" or rest == "5" and number % 2
+        digits = str(number).zfill(places + 1)
+        return digits[:len(digits) - places], digits[len(digits) - places:]
 
     def _without_power(self, cell: str) -> str:
         """A cell such as 1.2E+03 as a plain number, and any other as it is."""
@@ -232,7 +264,8 @@ class Costs:
 class Roster(NamedTuple):
     """A problem by names. Pair k is of `persons[of_persons[k]]` and `objects[of_objects[k]]`, no pair twice; `costs[k]` is in
     units of 10^-decimals. `titles` are the words for a person, an object and a cost. `tasks` and `places` say of persons and of
-    objects how many they take, where it isn't one; None where nothing was said."""
+    objects how many they take, where it isn't one; None where nothing was said. `rounded` says whether any cost was changed by
+    rounding, `has_bom` whether the file began with a BOM, and `is_matrix` whether it is a matrix."""
 
     persons: List[str]
     objects: List[str]
@@ -247,6 +280,9 @@ class Roster(NamedTuple):
     comma: bool
     tasks: Optional[Dict[int, int]] = None
     places: Optional[Dict[int, int]] = None
+    rounded: bool = False
+    has_bom: bool = False
+    is_matrix: bool = False
 
     @property
     def counts(self) -> bool:
@@ -269,6 +305,14 @@ class Roster(NamedTuple):
     def shown(self, units: int) -> str:
         """A cost or a rent as the roster writes it."""
         return decimal_text(units, self.decimals, "," if self.comma else ".")
+
+
+def alike(names: List[str]) -> List[List[str]]:
+    """The names that differ in case or spaces alone, together."""
+    groups: Dict[str, List[str]] = {}
+    for name in names:
+        groups.setdefault("".join(name.split()).casefold(), []).append(name)
+    return [group for group in groups.values() if len(group) > 1]
 
 
 def decimal_text(units: int, decimals: int, point: str) -> str:
@@ -302,19 +346,21 @@ def form_of(sheet: Sheet) -> str:
     sheet.refuse("lines of pairs, or a matrix of two objects? Say --lines or --matrix", line)
 
 
-def read_roster(path: str, form: Optional[str], decimals: Optional[int], comma: bool) -> Roster:
+def read_roster(path: str, form: Optional[str], decimals: Optional[int], comma: bool, rounds: Optional[int] = None) -> Roster:
     """Reads a roster.
 
     Parameters
     ----------
     path : str
-        A CSV file with a title line.
+        A CSV file with a title line, or a workbook, `.xlsx`.
     form : 'lines', 'matrix' or None
         None tells the form from the file.
     decimals : int or None
         How many decimal places costs have at most, 0 to 6; None: as many as the file uses, up to 6.
     comma : bool
         Whether costs are written with a decimal comma.
+    rounds : int or None
+        To how many decimal places costs are rounded, in place of `decimals`; None: they are taken exactly.
 
     Raises
     ------
@@ -323,13 +369,14 @@ def read_roster(path: str, form: Optional[str], decimals: Optional[int], comma: 
     OSError
         Where the file can't be read.
     """
-    sheet = Sheet(path)
-    costs = Costs(sheet, decimals, comma)
-    read = _read_lines if (form or form_of(sheet)) == LINES else _read_matrix
+    sheet = Sheet(path, comma)
+    costs = Costs(sheet, decimals, comma, rounds)
+    is_matrix = (form or form_of(sheet)) == MATRIX
+    read = _read_matrix if is_matrix else _read_lines
     titles, persons, objects, of_persons, of_objects = read(sheet, costs)
     used, scaled = costs.scaled()
     return Roster(persons.list, objects.list, persons.numbers, objects.numbers, of_persons, of_objects, scaled,
-                  used, titles, sheet.separator, comma)
+                  used, titles, sheet.separator, comma, rounded=costs.rounded, has_bom=sheet.has_bom, is_matrix=is_matrix)
 
 
 def _read_lines(sheet: Sheet, costs: Costs):

@@ -63,6 +63,11 @@ class Runs(unittest.TestCase):
         self.assertEqual(sorted(os.listdir()), before)
 
 
+class Terminal(io.StringIO):
+    def isatty(self):
+        return True
+
+
 class Plans(Runs):
     def test_least_and_greatest(self):
         self.file("r.csv", SQUARE)
@@ -88,6 +93,32 @@ class Plans(Runs):
             f"vehicle {number}," + ",".join(str(drawn.randrange(100)) for _ in range(20)) + "\n" for number in range(12)))
         status, out, _ = self.run_words("r.csv")
         self.assertEqual((status, out.count("vehicle"), len(out.splitlines()[-1].split(", "))), (0, 12, 8))
+
+    def test_rounded(self):
+        self.file("r.csv", ",x,y\nAda,1.25,2\nBen,1.5,1\n")
+        self.expect(0, "least cost: 2.2\ncosts were rounded: before that another plan may be better, by 0.2 at most\n"
+                    "Ada: x, 1.2\nBen: y, 1.0\n", "", "r.csv", "--round", "1")
+        self.file("r.csv", ",x,y\nAda,1.5,2\nBen,1.5,1\n")
+        self.expect(0, "least cost: 2.5\nAda: x, 1.5\nBen: y, 1.0\n", "", "r.csv", "--round", "1")
+        self.refused(2, "not allowed with argument", "r.csv", "--round", "1", "--decimals", "1")
+
+    def test_what_was_read(self):
+        self.file("r.csv", "nurse,shift,hours\nAda,day,1\nada,night,2\nada,N ight,2\n")
+        alike = "r.csv: 'Ada', 'ada' differ in case or spaces alone\nr.csv: 'night', 'N ight' differ in case or spaces alone\n"
+        out = "least hours: 3\nAda: day, 1\nada: night, 2\nunused: N ight\n"
+        self.expect(0, out, alike, "r.csv")
+        with contextlib.redirect_stdout(io.StringIO()), contextlib.redirect_stderr(Terminal()) as err:
+            self.assertEqual(command.main(["r.csv"]), 0)
+        self.assertEqual(err.getvalue(), "2 nurses, 3 shifts, 3 pairs\n" + alike)
+        self.file("r.csv", "," + ",".join(f"x{number},X{number}" for number in range(22)) + "\nAda" + ",1" * 44 + "\n")
+        self.assertTrue(self.run_words("r.csv")[2].endswith("r.csv: and 2 more such names\n"))
+
+    def test_bom(self):
+        for encoding, bom in (("utf-8", ""), ("utf-8-sig", "\ufeff"), ("utf-16", "\ufeff")):
+            pathlib.Path("r.csv").write_text("a,b,c\nAd\u00e4,x,1\n", encoding=encoding)
+            self.run_words("r.csv", "--output", "p.csv", "--force")
+            self.assertEqual(self.read("p.csv"), bom + "a,b,c\nAd\u00e4,x,1\n")
+            self.assertEqual(self.run_words("p.csv")[:2], self.run_words("r.csv")[:2])
 
     def test_fixed(self):
         self.file("r.csv", SQUARE)
@@ -427,6 +458,35 @@ class Outputs(Runs):
         edges = [sum(edge in kinds for _, kinds in page.cells) for edge in ("top", "bottom", "left", "right")]
         self.assertEqual(edges, [2, 2, 3, 3])
         self.assertNotIn("b", page.tags)
+
+    def test_page_of_several_shortages(self):
+        self.file("r.csv", ",a,b,c,d,e\nAda,1,,,,\nBen,1,,,,\nCleo,,1,,,\nDan,,1,,,\nEve,,,1,1,1\n")
+        self.run_words("r.csv", "--html", "p.html")
+        page = parsed(self.read("p.html"))
+        self.assertEqual(page.short, ["a", "b", "Ada", "Ben", "Cleo", "Dan"])
+        framed = [place for place, (_, kinds) in enumerate(page.cells) if "left" in kinds and "right" in kinds]
+        self.assertEqual(framed, [0, 5, 11, 16])
+        self.assertEqual([place for place, (_, kinds) in enumerate(page.cells) if "top" in kinds], [0, 11])
+
+    def test_page_of_places(self):
+        self.file("r.csv", "nurse,shift,hours\nAda,S10,1\nAda,S2,2\nBen,S2,4\nBen,S1,9\n")
+        self.file("c.csv", "a,b\nS2,2\n")
+        self.file("t.csv", "a,b\nAda,2\n")
+        self.run_words("r.csv", "--places", "c.csv", "--tasks", "t.csv", "--html", "p.html")
+        page = parsed(self.read("p.html"))
+        self.assertEqual([cell for cell, _ in page.cells[:8]], ["Ada", "S10\nS2", "1\n2", "Ben", "S2", "4", "S2", "Ada, Ben"])
+        self.assertEqual([cell for cell, _ in page.cells[8:]], ["", "2", "1", "9", "4", ""])
+        self.assertIn("<details><summary>unused: 1 shift</summary><p>S1</p></details>", self.read("p.html"))
+
+    def test_wide_page(self):
+        drawn = random.Random(3)
+        self.file("r.csv", "," + ",".join(f"S{number}" for number in range(3000)) + "\n" + "".join(
+            f"p{number}," + ",".join(str(drawn.randrange(1000)) for _ in range(3000)) + "\n" for number in range(80)))
+        self.run_words("r.csv", "--html", "p.html")
+        self.assertLess(os.path.getsize("p.html"), 10**6)
+        page = parsed(self.read("p.html"))
+        self.assertEqual(len(page.cells), 80 * 80 + 3 * 80)
+        self.assertIn("unused: 2920 objects", self.read("p.html"))
 
     def test_large_page(self):
         for size in (30, 500):

@@ -1,13 +1,20 @@
 """What is read of rosters and plans in CSV files, and what is refused, with its place."""
+import datetime
 import os
 import pathlib
 import sys
 import tempfile
 import unittest
+from unittest import mock
 
 sys.path.insert(0, str(pathlib.Path(__file__).resolve().parents[2] / "python"))
 
-from nushbaret.roster import RosterFault, Sheet, form_of, read_plan, read_roster
+from nushbaret.roster import RosterFault, Sheet, alike, form_of, read_plan, read_roster
+
+try:
+    import openpyxl
+except ImportError:
+    openpyxl = None
 
 LINES = "nurse,shift,hours\nAda,early,2.50\nAda,late,4.00\nBen,early,3.25\n"
 MATRIX = "nurse,early,late,night\nAda,1,2,\nBen,,5,-6\n"
@@ -29,6 +36,14 @@ class Folder(unittest.TestCase):
 
     def roster(self, content, form=None, decimals=None, comma=False):
         return read_roster(self.file(content), form, decimals, comma)
+
+    def workbook(self, rows):
+        book = openpyxl.Workbook()
+        for row in rows:
+            book.active.append(row)
+        path = os.path.join(self.folder, "roster.xlsx")
+        book.save(path)
+        return path
 
     def pairs(self, roster):
         return {(roster.persons[person], roster.objects[object_]): roster.shown(cost)
@@ -90,6 +105,44 @@ class Forms(Folder):
         self.assertEqual(list(self.roster("a,b,c\nAda,x,2.5\nAda,y,-.25\n", decimals=3).costs), [2500, -250])
         self.assertEqual(list(self.roster("a,b,c\nAda,x,+002.\nAda,y,-0\n").costs), [2, 0])
         self.assertEqual(list(self.roster("a,b,c\nAda,x,1000000000000\n").costs), [10**12])
+
+
+    def test_rounding(self):
+        def costs(text, places, comma=False):
+            path = self.file("a;b;c\n" + "".join(f"Ada;x{number};{cost}\n" for number, cost in enumerate(text.split())))
+            roster = read_roster(path, "lines", None, comma, places)
+            return list(roster.costs), roster.rounded, roster.decimals
+
+        self.assertEqual(costs("0.5 1.5 2.5 -2.5 2.51 2.49 1e-9 .0000001", 0), ([0, 2, 2, -2, 3, 2, 0, 0], True, 0))
+        self.assertEqual(costs("1.005 1.015 -1.0050001 9.999 7 12.3", 2), ([100, 102, -101, 1000, 700, 1230], True, 2))
+        self.assertEqual(costs("1.5 2.000000000", 1), ([15, 20], False, 1))
+        self.assertEqual(costs("1,55 2", 1, True), ([16, 20], True, 1))
+        self.assertEqual(costs("0.123456789", 6), ([123457], True, 6))
+        with self.assertRaisesRegex(RosterFault, "line 2, column 3: a cost beyond 1000000000000"):
+            costs("1000000000000.5000001", 0)
+
+    def test_names_alike(self):
+        self.assertEqual(alike(["Ada", "Ben", "ada", "A da", "BEN", "Cleo"]), [["Ada", "ada", "A da"], ["Ben", "BEN"]])
+
+    @unittest.skipUnless(openpyxl, "openpyxl isn't installed")
+    def test_workbook(self):
+        rows = [["nurse", "shift", "hours"], ["Ada", "early", 2.5], ["Ada", datetime.datetime(2026, 1, 2), 0.1 + 0.2], [], ["Ben", 7, "1e1"]]
+        path = self.workbook(rows)
+        wanted = {("Ada", "early"): "2.5", ("Ada", "2026-01-02"): "0.3", ("Ben", "7"): "10.0"}
+        self.assertEqual(self.pairs(read_roster(path, "lines", None, False)), wanted)
+        self.assertEqual(read_roster(path, "lines", None, True).shown(25), "2,5")
+        matrix = self.workbook([[None, "x", "y"], ["Ada", 1, None], ["Ben", 2.0, 3]])
+        self.assertEqual(self.pairs(read_roster(matrix, None, None, False)), {("Ada", "x"): "1", ("Ben", "x"): "2", ("Ben", "y"): "3"})
+        with self.assertRaisesRegex(RosterFault, "roster.xlsx, line 2, column 3: 'z' is no number"):
+            read_roster(self.workbook([["", "x", "y"], ["Ada", 1, "z"]]), None, None, False)
+        with self.assertRaisesRegex(RosterFault, "no workbook that openpyxl reads"):
+            read_roster(self.file("a,b\n", "bad.xlsx"), None, None, False)
+        with self.assertRaises(OSError):
+            read_roster(os.path.join(self.folder, "none.xlsx"), None, None, False)
+
+    def test_workbook_without_openpyxl(self):
+        with mock.patch.dict(sys.modules, {"openpyxl": None}), self.assertRaisesRegex(RosterFault, "save the sheet as 'CSV UTF-8'"):
+            read_roster(self.file("PK", "r.xlsx"), None, None, False)
 
 
 class Refusals(Folder):

@@ -101,7 +101,7 @@ class Arrays(unittest.TestCase):
                 nushbaret.solve(costs)
         with self.assertRaises(nushbaret.Infeasible) as caught:
             nushbaret.solve(np.array([[1, np.inf], [2, np.inf]]))
-        self.assertEqual((caught.exception.rows.tolist(), caught.exception.columns.tolist()), ([0, 1], [0]))
+        self.assertEqual([tuple(side.tolist() for side in group) for group in caught.exception.groups], [([0, 1], [0])])
         with self.assertRaisesRegex(ValueError, r"rows\[1\] is 2"):
             nushbaret.solve_sparse(2, 2, np.array([0, 2]), np.array([0, 1]), np.array([1, 1]))
 

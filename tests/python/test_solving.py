@@ -98,11 +98,16 @@ class Drawn(unittest.TestCase):
 
     def hold_proof(self, costs, fault):
         pairs = {(row, column) for row, held in enumerate(costs) for column, cost in enumerate(held) if cost is not None}
-        if len(fault.rows) > len(fault.columns):
-            self.assertEqual({column for row, column in pairs if row in fault.rows}, set(fault.columns))
-        else:
-            self.assertLess(len(fault.rows), len(fault.columns))
-            self.assertEqual({row for row, column in pairs if column in fault.columns}, set(fault.rows))
+        self.assertEqual(fault.groups[0], (fault.rows, fault.columns))
+        self.assertEqual(len({len(rows) > len(columns) for rows, columns in fault.groups}), 1)
+        for rows, columns in fault.groups:
+            if len(rows) > len(columns):
+                self.assertEqual({column for row, column in pairs if row in rows}, set(columns))
+            else:
+                self.assertLess(len(rows), len(columns))
+                self.assertEqual({row for row, column in pairs if column in columns}, set(rows))
+        lack = sum(abs(len(rows) - len(columns)) for rows, columns in fault.groups)
+        self.assertEqual(min(len(costs), len(costs[0])) - lack, len(nushbaret.solve(costs, partial=True).rows))
         self.assertIn("cost matrix is infeasible", str(fault))
 
     def hold_fullest(self, costs, maximize, lists):
@@ -213,9 +218,11 @@ class Results(unittest.TestCase):
 
     def test_a_proof_can_be_pickled(self):
         with self.assertRaises(nushbaret.Infeasible) as caught:
-            nushbaret.solve([[1, None], [2, None]])
+            nushbaret.solve([[1, None, None], [2, None, None], [None, None, None]])
         again = pickle.loads(pickle.dumps(caught.exception))
         self.assertEqual((again.rows, again.columns, str(again)), ([0, 1], [0], str(caught.exception)))
+        self.assertEqual(again.groups, [([0, 1], [0]), ([2], [])])
+        self.assertEqual(str(again), "cost matrix is infeasible: rows 0, 1 may have columns 0 only (the first of 2 groups)")
 
     def test_eight_threads(self):
         draw, wrong = drawing(7), []
