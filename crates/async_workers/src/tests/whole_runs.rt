@@ -4,13 +4,14 @@ use super::problems::{
     Pair, draw, drawn_pairs, drawn_sense, numbers_of, problem_of, scaled_of, size,
 };
 use super::*;
-use assign_core::{Cost, Outcome, plain_best};
+use assign_core::{Cost, Outcome};
 use auction_book::Refused;
 use std::process::Abort;
 use std::sync::atomic::{AtomicU64, Ordering};
 use std::test::Fail;
 use std::thread;
 use std::thread::Threads;
+use test_helpers::plain_best;
 
 // The pairs of a dense problem, from its costs row by row.
 fn dense(alloc: Global, n: u16, costs: &[Cost]) -> Result<Vec<Pair>, AllocError> {

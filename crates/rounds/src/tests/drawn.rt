@@ -1,8 +1,8 @@
 // Drawn problems beside a search of all assignments and the plain transcription.
 use super::transcription::{auction_of, transcribed};
 use super::*;
-use assign_core::plain_best;
 use std::test::Fail;
+use test_helpers::plain_best;
 
 // The next number of a congruential generator, by its high bits.
 fn next_number(seed: &mut u64) -> u64 {

@@ -3,9 +3,9 @@
 use super::transcription::{Auction, auction_of, transcribed};
 use super::*;
 use crate::Offering;
-use assign_core::plain_best;
 use bidder::{Ask, Offer};
 use std::test::Fail;
+use test_helpers::plain_best;
 
 // A number below an end, by the high bits of a congruential generator.
 fn below(seed: &mut u64, end: u16) -> u16 {

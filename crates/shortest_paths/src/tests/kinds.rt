@@ -1,8 +1,8 @@
 // Problems of each kind, and drawn ones.
 use super::*;
-use assign_core::plain_best;
 use rounds::solve_rounds_alone;
 use std::test::Fail;
+use test_helpers::plain_best;
 
 // The next number of a congruential generator, by its high bits.
 fn next_number(seed: &mut u64) -> u64 {
