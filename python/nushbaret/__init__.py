@@ -4,9 +4,10 @@
     result = nushbaret.solve([[1, 2], [3, 5]])
     result.columns, result.cost, result.column_duals
 
-`solve` takes a matrix, `solve_sparse` listed pairs, and `linear_sum_assignment` is SciPy's call. `check` and `compare` judge
-plans from elsewhere. Every answer is found and held by Nushbaret's proved library; what this package adds, the reading of
-costs and the dummies of unequal numbers, is tested, not proved.
+`solve` takes a matrix, `solve_sparse` listed pairs, and `linear_sum_assignment` is SciPy's call. `k_best` yields the plans behind
+the best one, and `bottleneck` makes the worst pair as good as can be. `check` and `compare` judge plans from elsewhere. Every
+best plan is found and held by Nushbaret's proved library; what this package adds, the reading of costs, the dummies of unequal
+numbers and the plans behind the best, is tested, not proved.
 """
 from ._bottleneck import bottleneck
 from ._checking import Comparison, Verdict, check, compare

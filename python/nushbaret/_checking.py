@@ -6,7 +6,7 @@ from typing import Any, NamedTuple, Optional
 from . import _library as library, _duals, _exact as exact, _problem as reading, _square as square
 from ._problem import costs_of_pairs
 from ._result import Result, in_unit
-from ._solving import solve_problem
+from ._solving import Decimals, solve_problem
 
 
 class Verdict:
@@ -26,10 +26,10 @@ class Verdict:
         self.proved = not why
         self.why, self.row, self.column = why, row, column
 
-    def __bool__(self):
+    def __bool__(self) -> bool:
         return self.proved
 
-    def __repr__(self):
+    def __repr__(self) -> str:
         return "<nushbaret.Verdict: proved>" if self.proved else f"<nushbaret.Verdict: not proved: {self.why}>"
 
 
@@ -149,7 +149,7 @@ def _slack(problem, objects, row, column):
 
 
 def check(costs: Any, columns: Any, prices: Any, rows: Any = None, maximize: bool = False,
-          decimals: Optional[int] = None) -> Verdict:
+          decimals: Decimals = None) -> Verdict:
     """Holds a plan of any origin against a problem: whether these prices prove that it is best.
 
     Parameters
@@ -185,7 +185,7 @@ def check(costs: Any, columns: Any, prices: Any, rows: Any = None, maximize: boo
 
 
 def compare(costs: Any, columns: Any, rows: Any = None, maximize: bool = False,
-            decimals: Optional[int] = None) -> Comparison:
+            decimals: Decimals = None) -> Comparison:
     """By how much a plan made by hand is worse than the best one.
 
     Parameters

@@ -66,7 +66,7 @@ def manner(maximize, decimals=None, missing="refuse"):
 
 
 def _judged_decimals(decimals):
-    if decimals is None or isinstance(decimals, str) and decimals in (FIT, DOUBLES):
+    if decimals is None or isinstance(decimals, str) and decimals == FIT:
         return decimals
     if isinstance(decimals, str):
         raise ValueError(f"decimals is {decimals!r}: 0 to {MOST_PLACES} or 'fit' can be had")

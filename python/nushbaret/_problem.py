@@ -10,7 +10,8 @@ from ._library import MOST_PERSONS, Lent
 
 class Problem(NamedTuple):
     """Costs are times 10**places. Dense: all costs in order, and `persons` is None. Sparse: row persons[k] - 1 and column
-    objects[k] - 1 are a pair at costs[k]. `numpy` is the module where an array came in, else None; `labels` are those of the rows and columns of a frame of pandas."""
+    objects[k] - 1 are a pair at costs[k]. `numpy` is the module where an array came in, else None; `labels` are those of the
+    rows and columns of a frame of pandas."""
 
     n_rows: int
     n_columns: int

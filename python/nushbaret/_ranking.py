@@ -74,18 +74,28 @@ class Ranking:
         self.whole = _Part(own, self.sign * result._answer.total, duals.rows + [0], duals.columns + [-duals.unmatched], 0, frozenset())
 
     def wait(self, part: _Part) -> None:
-        """Puts a part in line: by its cost alone, until its best plan is the first in order among those of one cost."""
+        """Puts a part in line: at first by the least columns that its best plans can begin with."""
         insort(self.costs, part.cost)
-        self._put(part, 0, ())
+        self._put(part, 0, part.columns[:part.first] + [self._least_column(part)])
+
+    def _least_column(self, part):
+        """The first column that the row which tells a part from others can have at the part's cost, as far as its duals say."""
+        row, taken = part.first, set(part.columns[:part.first])
+        if row == self.n_rows:
+            return 0
+        base = part.row_duals[row]
+        return next(column for column, cost in self._choices(row)
+                    if cost - base == part.column_duals[column] and column not in part.banned
+                    and (column not in taken or column == self.n_columns))
 
     def _put(self, part, stage, key):
         self.count += 1
-        heapq.heappush(self.waiting, (part.cost, stage, key, self.count, part))
+        heapq.heappush(self.waiting, (part.cost, key, stage, self.count, part))
 
     def take(self) -> Optional[_Part]:
         """The next part in order; None where there is none."""
         while self.waiting:
-            _, stage, _, _, part = heapq.heappop(self.waiting)
+            _, _, stage, _, part = heapq.heappop(self.waiting)
             if stage:
                 self.costs.pop(0)
                 return part

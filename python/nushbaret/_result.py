@@ -87,7 +87,7 @@ class Result:
         Whether no other plan of as many pairs is as good.
     """
 
-    def __init__(self, problem, answer):
+    def __init__(self, problem: Any, answer: Any):
         self._problem = problem
         self._answer = answer
         self.rows, self.columns = rows_and_columns(problem, answer)
@@ -96,7 +96,7 @@ class Result:
         self.decimals, self.rounded, self.maximize = problem.places, problem.rounded, problem.maximize
         self.error_bound = in_unit(len(self.rows), problem.places) if problem.rounded else 0
 
-    def __repr__(self):
+    def __repr__(self) -> str:
         return f"<nushbaret.Result: cost {self.cost}, {len(self.rows)} pairs>"
 
     @cached_property
@@ -165,7 +165,7 @@ class Result:
         pandas.DataFrame
             With columns row, column and cost: labels where the costs had such, numbers elsewhere.
         """
-        import pandas
+        import pandas  # type: ignore
         costs = self._in_unit(costs_of_pairs(self._problem, list(zip(*self._pairs))))
         rows, columns = zip(*self.pairs) if self.pairs else ((), ())
         return pandas.DataFrame({"row": list(rows), "column": list(columns), "cost": costs})
@@ -190,7 +190,8 @@ class Result:
         if costs is not None:
             how = manner(self.maximize, self.decimals if self.rounded else None)
             problem = problem_of(costs, rows, columns, (problem.n_rows, problem.n_columns), how)
-        return check_problem(problem, *self._pairs, self._rents)
+        rows, columns = self._pairs
+        return check_problem(problem, rows, columns, self._rents)
 
     def without(self, row: int, column: int) -> "Result":
         """The best plan where this pair is forbidden; what it costs more is what the pair is worth.

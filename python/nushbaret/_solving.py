@@ -1,15 +1,20 @@
 """The solving calls."""
+import math
 import operator
+import sys
 from array import array
-from typing import Any, Optional, Sequence, Tuple, Union
+from typing import Any, List, Optional, Sequence, Tuple, Union
 
-from . import _duals, _exact as exact, _matching as matching, _problem as reading, _quick as quick, _square as square
+from . import _duals, _exact as exact, _library as library, _matching as matching, _problem as reading, _square as square
 from ._groups import infeasible
-from ._library import Halves
+from ._library import MOST_PERSONS, Halves
 from ._result import Result, rows_and_columns
 
 Start = Union[Result, Sequence[Any], None]
 Decimals = Union[int, str, None]
+_numbers: List[Any] = []
+# Beyond such powers of two a factor is no double.
+MOST_SHIFT = 1000
 
 
 def solve_served(problem, served):
@@ -172,11 +177,74 @@ def linear_sum_assignment(cost_matrix: Any, maximize: bool = False) -> Tuple[Any
     Floats are multiplied by the greatest power of two that leaves all within 10**12, and rounded. Where that makes all whole
     the answer is best for these very doubles; else it costs at most n times that unit more, some 12 digits below the greatest.
     """
-    found = quick.assignment(cost_matrix, maximize)
+    found = _quick_assignment(cost_matrix, maximize)
     if found:
         return found
-    problem = reading.of_matrix(cost_matrix, exact.manner(maximize, exact.DOUBLES))
+    problem = reading.of_matrix(cost_matrix, exact.Manner(bool(maximize), exact.DOUBLES))
     return rows_and_columns(problem, _answer(problem, None, False))
+
+
+# SciPy's call on an array of NumPy's, by a shorter way: around a small problem it's the steps in Python that take the time.
+
+
+def _quick_assignment(costs, maximize):
+    """Rows and columns of a best assignment. None where the costs aren't an array of 64-bit integers or floats, all finite, or
+    where the library has no answer to them: then the longer way finds it, or says what is wrong."""
+    numpy = sys.modules.get("numpy")
+    if numpy is None or type(costs) is not numpy.ndarray or costs.ndim != 2:
+        return None
+    n_rows, n_columns = costs.shape
+    size = n_rows if n_rows > n_columns else n_columns
+    if size > MOST_PERSONS or not n_rows or not n_columns or not costs.flags.aligned:
+        return None
+    numbers = _whole_numbers(numpy, costs)
+    if numbers is None:
+        return None
+    if n_rows != n_columns:
+        numbers = _filled_up(numpy, numbers, n_rows, n_columns, size)
+    found = library.best_objects(size, numbers, maximize)
+    if found is None:
+        return None
+    room, place = found
+    return _from_zero(numpy, n_rows, n_columns, numpy.frombuffer(room, numpy.uint16, n_rows, place))
+
+
+def _whole_numbers(numpy, costs):
+    kind = costs.dtype
+    if kind == numpy.int64:
+        return costs.ravel()
+    if kind != numpy.float64:
+        return None
+    flat = costs.ravel()
+    # Where the first isn't whole, no look at the others is needed.
+    numbers = exact.whole_numbers(numpy, flat) if flat.item(0).is_integer() else None
+    if numbers is not None:
+        return numbers
+    most = float(numpy.maximum.reduce(numpy.absolute(flat)))
+    if not 0 < most < math.inf:
+        return None
+    shift = exact.shift_of(most)
+    if not -MOST_SHIFT < shift < MOST_SHIFT:
+        return None
+    scaled = flat * 2.0**shift
+    return numpy.rint(scaled, scaled).astype(numpy.int64)
+
+
+def _filled_up(numpy, numbers, n_rows, n_columns, size):
+    """A square, in which dummies cost nothing."""
+    square = numpy.zeros((size, size), numpy.int64)
+    square[:n_rows, :n_columns] = numbers.reshape(n_rows, n_columns)
+    return square
+
+
+def _from_zero(numpy, n_rows, n_columns, objects):
+    """Numbers from 0 on, in arrays that are the caller's own: they come out of one that has -1, 0, 1 .."""
+    if not _numbers:
+        _numbers.append(numpy.arange(-1, MOST_PERSONS))
+    if n_rows <= n_columns:
+        return _numbers[0][1:n_rows + 1].copy(), _numbers[0].take(objects)
+    rows = (objects <= n_columns).nonzero()[0]
+    return rows, _numbers[0].take(objects.take(rows))
 
 
 def solve_without(problem, served, row, column):

@@ -95,7 +95,8 @@ class Fitting(unittest.TestCase):
         self.assertGreater(rounded, 100)
 
     def test_refusals(self):
-        for decimals, words in (("fits", "decimals is 'fits': 0 to 6 or 'fit' can be had"), (7, "decimals is 7: 0 to 6 or 'fit'")):
+        for decimals, words in (("fits", "decimals is 'fits': 0 to 6 or 'fit' can be had"), (7, "decimals is 7: 0 to 6 or 'fit'"),
+                                ("doubles", "decimals is 'doubles': 0 to 6")):
             with self.assertRaisesRegex(ValueError, words):
                 nushbaret.solve([[1]], decimals=decimals)
         with self.assertRaisesRegex(ValueError, "row 0, column 0: the cost is beyond 1000000000000$"):
