@@ -36,9 +36,8 @@ def face_of(nodes: Nodes, costs: List[int], result: Any) -> Face:
     return Face(tight, rows, [column for column in range(len(nodes.of_columns)) if spare and rents[column] == 0])
 
 
-def fewest_changes(nodes: Nodes, costs: List[int], result: Any, kept: Collection[Pair]) -> List[Pair]:
+def fewest_changes(nodes: Nodes, face: Face, result: Any, kept: Collection[Pair]) -> List[Pair]:
     """The pairs of a plan as good as the result's with the fewest pairs that aren't kept."""
-    face = face_of(nodes, costs, result)
     n_rows, n_columns = len(nodes.of_rows), len(nodes.of_columns)
     rows, columns = array("q"), array("q")
     changes = array("q")

@@ -4,8 +4,9 @@ from typing import Any, Dict, List, NamedTuple, Optional, Sequence, Set, Tuple
 
 from ._errors import Infeasible
 from ._groups import Group
-from ._keep import fewest_changes
+from ._keep import face_of, fewest_changes
 from ._nodes import Listed, Nodes, changed, least_costs, nodes_of
+from ._others import Swap, swaps_of
 from .roster import PlanLine, Roster
 from ._solving import solve_sparse
 
@@ -35,13 +36,16 @@ class Short(NamedTuple):
 
 class Plan(NamedTuple):
     """Pairs in the order of the persons, their cost, who and what gets less than it should, and the rent of each object that isn't
-    fixed, where nobody counts several times. Costs and rents are in the roster's units."""
+    fixed, where nobody counts several times. Costs and rents are in the roster's units. `swaps` are the groups that could change places
+    at no cost, not told where changes are weighed; `next_cost` is that of the best other plan, where it was asked for and is told."""
 
     pairs: List[Pair]
     cost: int
     without: List[int]
     unused: List[int]
     rents: Dict[int, int]
+    swaps: List[Swap] = []
+    next_cost: Optional[int] = None
 
 
 class Answer(NamedTuple):
@@ -53,13 +57,15 @@ class Answer(NamedTuple):
 
 class Wish(NamedTuple):
     """What is asked of a roster: pairs that stand, whatever they cost; the greatest cost, not the least; where there is no plan for all
-    the fullest one; pairs to be kept where that costs nothing, or where it costs no more than `change` for each pair."""
+    the fullest one; pairs to be kept where that costs nothing, or where it costs no more than `change` for each pair; the cost of the
+    best other plan."""
 
     fixed: Sequence[PlanLine] = ()
     maximize: bool = False
     fullest: bool = False
     kept: Optional[Set[Tuple[int, int]]] = None
     change: Optional[int] = None
+    others: bool = False
 
 
 def nodes_beside(roster: Roster, fixed: Sequence[PlanLine]) -> Nodes:
@@ -97,12 +103,22 @@ def _solved(nodes: Nodes, costs: List[int], fullest: bool) -> Any:
 
 
 def _plan(roster: Roster, wish: Wish, nodes: Nodes, costs: List[int], result: Any) -> Plan:
-    if wish.kept is None or wish.change is not None:
+    rents = {} if roster.counts else dict(zip(nodes.of_columns, result._rents))
+    if wish.kept is not None and wish.change is not None:
+        return plan_of(roster, wish.fixed, nodes.pairs(result.rows, result.columns), rents)
+    face = face_of(nodes, costs, result)
+    if wish.kept is None:
         chosen = nodes.pairs(result.rows, result.columns)
     else:
-        chosen = fewest_changes(nodes, costs, result, wish.kept)
-    rents = {} if roster.counts else dict(zip(nodes.of_columns, result._rents))
-    return plan_of(roster, wish.fixed, chosen, rents)
+        chosen = fewest_changes(nodes, face, result, wish.kept)
+    plan = plan_of(roster, wish.fixed, chosen, rents)._replace(swaps=swaps_of(nodes, face, chosen))
+    # Nodes of one name are alike, and a plan in which they change is no other one.
+    if plan.swaps or not wish.others or roster.counts:
+        return plan
+    other = result.next_best()
+    if other is None:
+        return plan
+    return plan._replace(next_cost=plan.cost + (other.cost - result.cost) * (-1 if wish.maximize else 1))
 
 
 def shortages(nodes: Nodes, found: Infeasible) -> List[Short]:

@@ -17,7 +17,7 @@ from typing import Dict, List, NamedTuple, Optional, Sequence, TextIO
 
 from ._exact import MOST_PLACES
 from ._library import VERSION
-from .answer import MOST_NAMES_SHOWN, Answer, Plan, Wish, answer_of, counted, left_out, listed, sentence
+from .answer import MOST_NAMES_SHOWN, Answer, Plan, Wish, answer_of, counted, left_out, listed, named, sentence
 from .page import page
 from .roster import (LINES, MATRIX, SEPARATORS, OldPlan, PlanLine, Roster, RosterFault, alike, decimal_text, quoted, read_counts,
                      read_old_plan, read_plan, read_roster)
@@ -73,6 +73,7 @@ def _parser() -> argparse.ArgumentParser:
     parser.add_argument("--change-cost", metavar="C", help="weigh each change from the kept plan as a cost of C")
     parser.add_argument("--places", metavar="FILE.csv", help="lines of an object and how many persons it takes (else one)")
     parser.add_argument("--tasks", metavar="FILE.csv", help="lines of a person and how many objects it takes (else one)")
+    parser.add_argument("--others", action="store_true", help="tell who could change places at no cost, or what the next best plan costs")
     parser.add_argument("--version", action="version", version=f"nushbaret {VERSION}")
     parser.add_argument("--as-many-as-can", action="store_true", help="where there is no plan for all, find the fullest")
     parser.add_argument("--rents", action="store_true", help="print the rents of the objects too")
@@ -89,6 +90,8 @@ def _words(words: Optional[Sequence[str]]) -> argparse.Namespace:
     options.outputs = options.output + options.html
     if options.change_cost is not None and not options.keep:
         parser.error("--change-cost wants --keep")
+    if options.others and options.change_cost is not None:
+        parser.error("--others tells of costs alone: not with --change-cost")
     if options.rents and (options.places or options.tasks):
         parser.error("--rents are of single places and tasks: not with --places or --tasks")
     read = (options.roster, options.fixed, options.compare, options.keep, options.places, options.tasks)
@@ -152,7 +155,7 @@ def _run(options: argparse.Namespace) -> int:
     hand = read_hand(options.compare, roster, fixed) if options.compare else None
     kept = read_old_plan(options.keep, roster) if options.keep else None
     pairs = None if kept is None else {(pair.person, pair.object) for pair in kept.known}
-    wish = Wish(fixed, options.max, options.as_many_as_can, pairs, _change_cost(options.change_cost, roster))
+    wish = Wish(fixed, options.max, options.as_many_as_can, pairs, _change_cost(options.change_cost, roster), options.others)
     try:
         answer = answer_of(roster, wish)
     except ValueError as fault:
@@ -265,7 +268,7 @@ def printed(roster: Roster, answer: Answer, options: argparse.Namespace, kept: O
     if answer.plan is None:
         return []
     plan = answer.plan
-    lines = rows_of(roster, plan) + outside(roster, plan)
+    lines = rows_of(roster, plan) + outside(roster, plan) + others(roster, plan, options)
     if options.rents:
         lines += [f"rent of {roster.objects[number]}: {roster.shown(rent)}" for number, rent in plan.rents.items()]
     if kept is not None:
@@ -292,6 +295,20 @@ def rows_of(roster: Roster, plan: Plan) -> List[str]:
 def outside(roster: Roster, plan: Plan) -> List[str]:
     """Who gets less than it should, and what has places left."""
     return [f"{out.how}: {', '.join(out.names)}" for out in left_out(roster, plan)]
+
+
+def others(roster: Roster, plan: Plan, options: argparse.Namespace) -> List[str]:
+    """That there are other best plans, and where it is asked for, who could change places or what the next best plan costs."""
+    if not options.others:
+        is_told = plan.swaps and not options.keep
+        return ["other plans are as good: --others tells who could change places"] if is_told else []
+    if plan.swaps:
+        return [f"could change places at no cost: {named(swap.persons, roster.titles[0], roster.persons)} "
+                f"on {named(swap.objects, roster.titles[1], roster.objects)}" for swap in plan.swaps]
+    if plan.next_cost is None:
+        return ["no other plan is as good"]
+    more = abs(plan.next_cost - plan.cost)
+    return [f"no other plan is as good: the next best is {roster.shown(plan.next_cost)}, {roster.shown(more)} {'less' if options.max else 'more'}"]
 
 
 def changes(roster: Roster, plan: Plan, kept: OldPlan, path: str) -> List[str]:

@@ -25,6 +25,7 @@ NIGHTS = ("person,shift,hours\nAda,early,1\nBen,night,2\nBen,weekend,3\nCleo,nig
           "Ada,late,2\nAda,office,1\n")
 SENTENCE = ("3 people (Ben, Cleo, Dan) can take only 2 shifts between them (night, weekend): "
             "allow one of them another, or leave one out")
+OTHERS = "other plans are as good: --others tells who could change places\n"
 SQUARE = ",early,late,night\nAda,4,1,3\nBen,2,0,5\nCleo,3,2,2\n"
 
 
@@ -92,7 +93,7 @@ class Plans(Runs):
         self.file("r.csv", "," + ",".join(f"job {number}" for number in range(20)) + "\n" + "".join(
             f"vehicle {number}," + ",".join(str(drawn.randrange(100)) for _ in range(20)) + "\n" for number in range(12)))
         status, out, _ = self.run_words("r.csv")
-        self.assertEqual((status, out.count("vehicle"), len(out.splitlines()[-1].split(", "))), (0, 12, 8))
+        self.assertEqual((status, out.count("vehicle"), len(out[out.index("unused: "):].split(", "))), (0, 12, 8))
 
     def test_rounded(self):
         self.file("r.csv", ",x,y\nAda,1.25,2\nBen,1.5,1\n")
@@ -105,7 +106,7 @@ class Plans(Runs):
     def test_what_was_read(self):
         self.file("r.csv", "nurse,shift,hours\nAda,day,1\nada,night,2\nada,N ight,2\n")
         alike = "r.csv: 'Ada', 'ada' differ in case or spaces alone\nr.csv: 'night', 'N ight' differ in case or spaces alone\n"
-        out = "least hours: 3\nAda: day, 1\nada: night, 2\nunused: N ight\n"
+        out = "least hours: 3\nAda: day, 1\nada: night, 2\nunused: N ight\n" + OTHERS
         self.expect(0, out, alike, "r.csv")
         with contextlib.redirect_stdout(io.StringIO()), contextlib.redirect_stderr(Terminal()) as err:
             self.assertEqual(command.main(["r.csv"]), 0)
@@ -175,6 +176,21 @@ class Plans(Runs):
         for content in ("", "{", "[]", "{}", '{"pairs": [1]}', "[" * 100000):
             self.file("s.json", content)
             self.refused(3, "s.json: no plan with pairs in JSON", "r.csv", "--keep", "s.json")
+
+    def test_others(self):
+        self.file("r.csv", SQUARE)
+        unique = "no other plan is as good: the next best is"
+        self.assertTrue(self.run_words("r.csv", "--others")[1].endswith(f"Cleo: night, 2\n{unique} 6, 1 more\n"))
+        self.assertTrue(self.run_words("r.csv", "--others", "--max")[1].endswith(f"{unique} 9, 2 less\n"))
+        self.file("f.csv", "a,b\nAda,early\n")
+        self.assertTrue(self.run_words("r.csv", "--others", "--fixed", "f.csv")[1].endswith(f"{unique} 11, 5 more\n"))
+        self.file("r.csv", "nurse,shift,hours\nAda,x,1\nAda,y,2\nBen,x,2\nBen,y,3\nCleo,z,1\nDan,v,0\nDan,w,0\n")
+        self.expect(0, "least hours: 5\nAda: x, 1\nBen: y, 3\nCleo: z, 1\nDan: v, 0\nunused: w\n"
+                    "could change places at no cost: 2 nurses (Ada, Ben) on 2 shifts (x, y)\n"
+                    "could change places at no cost: 1 nurse (Dan) on 2 shifts (v, w)\n", "", "r.csv", "--others")
+        self.file("r.csv", "a,b,c\nAda,x,1\n")
+        self.expect(0, "least c: 1\nAda: x, 1\nno other plan is as good\n", "", "r.csv", "--lines", "--others")
+        self.refused(2, "not with --change-cost", "r.csv", "--others", "--keep", "f.csv", "--change-cost", "1")
 
     def test_compare_with_names_that_are_gone(self):
         self.file("r.csv", SQUARE)
@@ -316,7 +332,7 @@ class NoPlans(Runs):
             with self.subTest(wanted=wanted):
                 self.file("r.csv", content)
                 self.expect(1 if wanted else 0, wanted + "\n" if wanted else "least cost: 3\nAda: x, 1\nBen: y, 1\n"
-                            "Cleo: z, 1\nwithout: Dan\n", "", "r.csv")
+                            "Cleo: z, 1\nwithout: Dan\n" + OTHERS, "", "r.csv")
 
     def test_sentences_of_larger_groups(self):
         self.file("r.csv", ",x,y\nAda,1,1\nBen,1,1\n")
@@ -371,7 +387,7 @@ class SilentFailures(Runs):
 
     def test_nobody_is_made_up(self):
         self.file("r.csv", "who,what,cost\nAda,early,1\nBen,early,2\nAda,late,5\nAda,night,1\nBen,late,1\n")
-        self.expect(0, "least cost: 2\nAda: early, 1\nBen: late, 1\nunused: night\n", "", "r.csv", "--decimals", "0")
+        self.expect(0, "least cost: 2\nAda: early, 1\nBen: late, 1\nunused: night\n" + OTHERS, "", "r.csv", "--decimals", "0")
 
     def test_two_rosters_in_a_folder(self):
         self.file("a.csv", "who,what,cost\nAda,early,1\n")

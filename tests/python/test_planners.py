@@ -79,6 +79,47 @@ class PlacesAndTasks(unittest.TestCase):
                     self.assertEqual(len(names), len(set(names)))
 
 
+class Others(unittest.TestCase):
+    def judge(self, answer, costs, every, maximize):
+        """Whether there are other best plans; what is told is held against all plans."""
+        pairs = tuple(sorted((pair.person, pair.object) for pair in answer.plan.pairs))
+        every = {tuple(sorted(those)) for those in every}
+        every = [those for those in every if len(those) == len(pairs)]
+        best = [those for those in every if value(those, costs, maximize) == value(pairs, costs, maximize)]
+        free = set().union(*best) - set.intersection(*map(set, best))
+        swapped = [pair for swap in answer.plan.swaps for pair in swap.pairs]
+        self.assertEqual((set(swapped), len(swapped)), (free, len(free)))
+        worse = [value(those, costs, maximize) for those in every if those not in best]
+        if free or not worse:
+            self.assertIsNone(answer.plan.next_cost)
+        elif answer.plan.next_cost is not None:
+            self.assertEqual(answer.plan.next_cost * (-1 if maximize else 1), min(worse))
+        return answer.plan.next_cost, bool(free)
+
+    def test_beside_all_plans(self):
+        draw, found = random.Random(4), 0
+        for case in range(CASES):
+            persons, objects = draw.randint(1, 5), draw.randint(1, 4)
+            costs = drawn_costs(draw, persons, objects, draw.choice((0.5, 1)))
+            kept = {pair for pair in costs if draw.random() < 0.3} if draw.random() < 0.3 else None
+            maximize = draw.random() < 0.5
+            answer = answer_of(roster_of(persons, objects, costs), Wish((), maximize, True, kept, None, True))
+            with self.subTest(case=case):
+                found += self.judge(answer, costs, plans(costs, [1] * persons, [1] * objects), maximize)[0] is not None
+        self.assertGreater(found, 50)
+
+    def test_places_and_tasks_beside_all_plans(self):
+        draw, found = random.Random(5), 0
+        for case in range(CASES):
+            costs, tasks, places = PlacesAndTasks().drawn(draw)
+            costs, maximize = {pair: cost % 2 for pair, cost in costs.items()}, draw.random() < 0.5
+            roster = roster_of(len(tasks), len(places), costs, dict(enumerate(tasks)), dict(enumerate(places)))
+            answer = answer_of(roster, Wish((), maximize, True))
+            with self.subTest(case=case):
+                found += self.judge(answer, costs, plans(costs, tasks, places), maximize)[1]
+        self.assertGreater(found, 50)
+
+
 class Kept(unittest.TestCase):
     def test_beside_all_best_plans(self):
         draw = random.Random(2)
