@@ -483,6 +483,15 @@ class Outputs(Runs):
         framed = [place for place, (_, kinds) in enumerate(page.cells) if "left" in kinds and "right" in kinds]
         self.assertEqual(framed, [0, 5, 11, 16])
         self.assertEqual([place for place, (_, kinds) in enumerate(page.cells) if "top" in kinds], [0, 11])
+        self.file("r.csv", ",a,b,c\nAda,1,1,\nBen,1,,\nCleo,,1,\n")
+        self.run_words("r.csv", "--html", "p.html", "--force")
+        page = parsed(self.read("p.html"))
+        self.assertEqual((page.short, len(page.cells)), (["a", "b", "Ada", "Ben", "Cleo"], 9))
+        for content, wanted in ((",a,b\nAda,1,1\nBen,,\n", (["Ben"], [0, 1])), (",a,b\nAda,1,\nBen,1,\nCleo,1,\n", (["b"], [0]))):
+            self.file("r.csv", content)
+            self.run_words("r.csv", "--html", "p.html", "--force")
+            page = parsed(self.read("p.html"))
+            self.assertEqual((page.short, [place for place, (_, kinds) in enumerate(page.cells) if "top" in kinds]), wanted)
 
     def test_page_of_places(self):
         self.file("r.csv", "nurse,shift,hours\nAda,S10,1\nAda,S2,2\nBen,S2,4\nBen,S1,9\n")
