@@ -44,7 +44,7 @@ p.short { color: #b00020; font-weight: bold }
 @page { size: landscape; margin: 1cm }
 @media print {
 body { margin: 0; print-color-adjust: exact; -webkit-print-color-adjust: exact }
-.matrix { overflow: visible; max-height: none; font-size: 9px }
+.matrix { overflow: visible; max-height: none; font-size: 9px; break-inside: avoid }
 .matrix th { position: static }
 tr { break-inside: avoid }
 }

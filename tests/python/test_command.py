@@ -589,7 +589,8 @@ class Statuses(Runs):
     def test_files(self):
         self.file("r.csv", SQUARE)
         for words in (("none.csv",), (".",), ("r.csv", "--fixed", "none.csv"), ("r.csv", "--compare", "none.csv"),
-                      ("r.csv", "--keep", "none.csv"), ("r.csv", "--places", "none.csv"), ("r.csv", "--tasks", "none.csv"), ("r.csv", "--output", "none/p.csv"),
+                      ("r.csv", "--keep", "none.csv"), ("r.csv", "--places", "none.csv"), ("r.csv", "--tasks", "none.csv"),
+                      ("r.csv", "--output", "none/p.csv"),
                       ("r.csv", "--output", "none/p.csv", "--force")):
             with self.subTest(words=words):
                 self.refused(4, "none" if len(words) > 1 or words[0] != "." else "", *words)
