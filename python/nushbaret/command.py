@@ -260,7 +260,7 @@ def told(roster: Roster, answer: Answer, maximize: bool, some_fixed: bool) -> Li
         lines.append(f"{which} {roster.titles[2]}{fullest}: {roster.shown(answer.plan.cost)}")
         chosen = sum(not pair.fixed for pair in answer.plan.pairs)
         if roster.rounded:
-            lines.append(f"costs were rounded: before that another plan may be better, by {roster.shown(chosen)} at most")
+            lines.append(f"costs were rounded: another plan may be better for the exact ones, by {roster.shown(chosen)} at most")
     return lines
 
 

@@ -97,7 +97,7 @@ class Plans(Runs):
 
     def test_rounded(self):
         self.file("r.csv", ",x,y\nAda,1.25,2\nBen,1.5,1\n")
-        self.expect(0, "least cost: 2.2\ncosts were rounded: before that another plan may be better, by 0.2 at most\n"
+        self.expect(0, "least cost: 2.2\ncosts were rounded: another plan may be better for the exact ones, by 0.2 at most\n"
                     "Ada: x, 1.2\nBen: y, 1.0\n", "", "r.csv", "--round", "1")
         self.file("r.csv", ",x,y\nAda,1.5,2\nBen,1.5,1\n")
         self.expect(0, "least cost: 2.5\nAda: x, 1.5\nBen: y, 1.0\n", "", "r.csv", "--round", "1")
