@@ -4,7 +4,7 @@ from typing import Any, Dict, List, NamedTuple
 
 from . import _exact as exact, _problem as reading, _square as square
 from ._errors import Infeasible
-from ._matching import fullest
+from ._matching import fullest, listed
 
 
 class Group(NamedTuple):
@@ -19,56 +19,53 @@ def infeasible(problem: Any) -> Infeasible:
     of_columns = problem.n_rows > problem.n_columns
     count, other = sorted((problem.n_rows, problem.n_columns))
     nodes, others = (problem.objects, problem.persons) if of_columns else (problem.persons, problem.objects)
-    listed: List[List[int]] = [[] for _ in range(count)]
-    for node, item in zip(nodes.tolist(), others.tolist()):
-        listed[node - 1].append(item - 1)
-    groups = [tuple(map(problem.numbers, group)) for group in groups_of(listed, other)]
+    groups = [tuple(map(problem.numbers, group)) for group in groups_of(listed(count, nodes, others), other)]
     return Infeasible([(few, many) if of_columns else (many, few) for many, few in groups])
 
 
-def groups_of(listed: List[List[int]], other: int) -> List[Group]:
+def groups_of(lists: List[array], other: int) -> List[Group]:
     """The groups that are short on one side, in the order of their first nodes, each proved by the library.
 
     Parameters
     ----------
-    listed : list of lists of int
+    lists : list of arrays of int
         What each node of that side lists.
     other : int
         How many nodes there are on the other side.
     """
-    mates = fullest(listed, other)
+    mates = fullest(lists, other)
     served = set(mates)
-    waiting = [node for node in range(len(listed)) if node not in served]
+    waiting = [node for node in range(len(lists)) if node not in served]
     reached = set(waiting)
     while waiting:
-        for item in listed[waiting.pop()]:
+        for item in lists[waiting.pop()]:
             if mates[item] not in reached:
                 reached.add(mates[item])
                 waiting.append(mates[item])
-    groups = _parts(sorted(reached), listed)
+    groups = _parts(sorted(reached), lists)
     for group in groups:
-        _prove(group, listed)
+        _prove(group, lists)
     return groups
 
 
-def _parts(reached: List[int], listed: List[List[int]]) -> List[Group]:
+def _parts(reached: List[int], lists: List[array]) -> List[Group]:
     """The connected parts of some nodes with what they list."""
     who: Dict[int, List[int]] = {}
     for node in reached:
-        for item in listed[node]:
+        for item in lists[node]:
             who.setdefault(item, []).append(node)
     left, parts = set(reached), []
     for first in reached:
         if first in left:
-            parts.append(_part(first, left, listed, who))
+            parts.append(_part(first, left, lists, who))
     return parts
 
 
-def _part(first: int, left: set, listed: List[List[int]], who: Dict[int, List[int]]) -> Group:
+def _part(first: int, left: set, lists: List[array], who: Dict[int, List[int]]) -> Group:
     left.discard(first)
     waiting, many, few = [first], [first], set()
     while waiting:
-        fresh = [item for item in listed[waiting.pop()] if item not in few]
+        fresh = [item for item in lists[waiting.pop()] if item not in few]
         few.update(fresh)
         near = sorted({node for item in fresh for node in who[item] if node in left})
         left.difference_update(near)
@@ -77,11 +74,11 @@ def _part(first: int, left: set, listed: List[List[int]], who: Dict[int, List[in
     return Group(sorted(many), sorted(few))
 
 
-def _prove(group: Group, listed: List[List[int]]) -> None:
+def _prove(group: Group, lists: List[array]) -> None:
     """Lets the library say that these nodes can't all be served by what they list."""
     place = {item: number for number, item in enumerate(group.few)}
-    rows = array("q", [number for number, node in enumerate(group.many) for _ in listed[node]])
-    columns = array("q", [place[item] for node in group.many for item in listed[node]])
+    rows = array("q", [number for number, node in enumerate(group.many) for _ in lists[node]])
+    columns = array("q", [place[item] for node in group.many for item in lists[node]])
     size = len(group.many)
     problem = reading.of_pairs(size, size, rows, columns, array("q", bytes(8 * len(rows))), exact.manner(False))
     if not isinstance(square.answer(problem, square.squared(problem)), square.Short):

@@ -1,13 +1,20 @@
 """How many rows can be served at all: a greatest matching, found by augmenting paths."""
+from array import array
 from collections import deque
 
 
-def _listed(problem):
-    """The columns that each row may have."""
-    columns = [[] for _ in range(problem.n_rows)]
-    for person, item in zip(problem.persons.tolist(), problem.objects.tolist()):
-        columns[person - 1].append(item - 1)
-    return columns
+# So many pairs are taken out of their arrays at once, since as Python's numbers they take many times the memory.
+AT_ONCE = 2**16
+
+
+def listed(count, nodes, others):
+    """What each of `count` nodes lists, from 0: node nodes[k] lists others[k], both from 1."""
+    lists = [array("H") for _ in range(count)]
+    for start in range(0, len(nodes), AT_ONCE):
+        some, more = nodes[start:start + AT_ONCE].tolist(), others[start:start + AT_ONCE].tolist()
+        for node, other in zip(some, more):
+            lists[node - 1].append(other - 1)
+    return lists
 
 
 def _augment(columns, owner, start, seen):
@@ -45,5 +52,5 @@ def fullest(columns, n_columns):
 
 def most_served(problem):
     """The greatest number of rows that can have a column each."""
-    owner = fullest(_listed(problem), problem.n_columns)
+    owner = fullest(listed(problem.n_rows, problem.persons, problem.objects), problem.n_columns)
     return len(owner) - owner.count(None)

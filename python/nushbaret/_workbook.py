@@ -14,7 +14,7 @@ def rows_of(path: str, comma: bool) -> List[List[str]]:
     try:
         import openpyxl
     except ImportError:
-        raise WorkbookFault(f"an Excel workbook is read where openpyxl is installed: {SAVE}") from None
+        raise WorkbookFault(f"an Excel workbook is read where openpyxl is installed; elsewhere {SAVE}") from None
     try:
         book = openpyxl.load_workbook(path, read_only=True, data_only=True)
         rows = [[_text(value, comma) for value in row] for row in book.worksheets[0].iter_rows(values_only=True)]

@@ -44,7 +44,7 @@ class Plan(NamedTuple):
     without: List[int]
     unused: List[int]
     rents: Dict[int, int]
-    swaps: List[Swap] = []
+    swaps: Sequence[Swap] = ()
     next_cost: Optional[int] = None
 
 

@@ -55,8 +55,9 @@ def _parser() -> argparse.ArgumentParser:
         description="Find the plan of least cost for a roster of names in a CSV file, or who is short of what.",
         epilog="Status 0: a plan; 1: there is none; 2: these words are refused; 3: a file's content is; 4: a file can't be "
                "read or written, an output exists, the library isn't there, or memory was refused.")
-    parser.add_argument("roster", metavar="ROSTER", help="a CSV file (- is standard input) or an .xlsx workbook, with a title line: a person, an object and a "
-                        "cost in each line, or a matrix with names in the first line and column, where an empty cell forbids a pair")
+    parser.add_argument("roster", metavar="ROSTER",
+                        help="a CSV file (- is standard input) or an .xlsx workbook, with a title line: a person, an object and a cost in "
+                             "each line, or a matrix with names in the first line and column, where an empty cell forbids a pair")
     form = parser.add_mutually_exclusive_group()
     form.add_argument("--lines", dest="form", action="store_const", const=LINES, help="the roster has lines")
     form.add_argument("--matrix", dest="form", action="store_const", const=MATRIX, help="the roster is a matrix")
@@ -259,7 +260,7 @@ def told(roster: Roster, answer: Answer, maximize: bool, some_fixed: bool) -> Li
         lines.append(f"{which} {roster.titles[2]}{fullest}: {roster.shown(answer.plan.cost)}")
         chosen = sum(not pair.fixed for pair in answer.plan.pairs)
         if roster.rounded:
-            lines.append(f"costs were rounded: before that another plan may be better, by {roster.shown(chosen)} at most")
+            lines.append(f"costs were rounded: another plan may be better for the exact ones, by {roster.shown(chosen)} at most")
     return lines
 
 
@@ -307,8 +308,8 @@ def others(roster: Roster, plan: Plan, options: argparse.Namespace) -> List[str]
                 f"on {named(swap.objects, roster.titles[1], roster.objects)}" for swap in plan.swaps]
     if plan.next_cost is None:
         return ["no other plan is as good"]
-    more = abs(plan.next_cost - plan.cost)
-    return [f"no other plan is as good: the next best is {roster.shown(plan.next_cost)}, {roster.shown(more)} {'less' if options.max else 'more'}"]
+    more = f"{roster.shown(abs(plan.next_cost - plan.cost))} {'less' if options.max else 'more'}"
+    return [f"no other plan is as good: the next best is {roster.shown(plan.next_cost)}, {more}"]
 
 
 def changes(roster: Roster, plan: Plan, kept: OldPlan, path: str) -> List[str]:
@@ -346,19 +347,19 @@ def write_outputs(roster: Roster, answer: Answer, lines: List[str], options: arg
     texts = []
     skipped = []
     for output in options.outputs:
-        if output.kind == "csv" and answer.plan is None:
-            skipped.append(f"{output.path} isn't written: there is no plan")
-        else:
+        if output.kind != "csv":
             texts.append((output.path, rendered(roster, answer, lines, options, output.kind)))
+        elif answer.plan is not None:
+            texts.append((output.path, as_csv(roster, answer.plan)))
+        else:
+            skipped.append(f"{output.path} isn't written: there is no plan")
     for path, text in texts:
         write_file(path, text, options.force)
     return skipped
 
 
 def rendered(roster: Roster, answer: Answer, lines: List[str], options: argparse.Namespace, kind: str) -> str:
-    """The text of an output."""
-    if kind == "csv":
-        return as_csv(roster, answer.plan)
+    """The text of an output in JSON, or of a page."""
     if kind == "json":
         return as_json(roster, answer, lines, options.max)
     return page(roster, answer, os.path.splitext(os.path.basename(options.roster))[0], lines)

@@ -1,7 +1,8 @@
 """A plan as one page of HTML: no script, nothing from elsewhere."""
 import re
 from html import escape
-from typing import Dict, Iterator, List, NamedTuple, Optional, Set, Tuple
+from itertools import product
+from typing import Dict, Iterator, List, NamedTuple, Optional, Sequence, Set, Tuple
 
 from .answer import Answer, Plan, counted, left_out
 from .roster import Roster
@@ -40,9 +41,10 @@ td.fixed { outline-style: double }
 .matrix td.left { border-left: 3px solid #b00020 }
 .matrix td.right { border-right: 3px solid #b00020 }
 p.short { color: #b00020; font-weight: bold }
+@page { size: landscape; margin: 1cm }
 @media print {
 body { margin: 0; print-color-adjust: exact; -webkit-print-color-adjust: exact }
-.matrix { overflow: visible; max-height: none }
+.matrix { overflow: visible; max-height: none; font-size: 9px; break-inside: avoid }
 .matrix th { position: static }
 tr { break-inside: avoid }
 }
@@ -50,7 +52,7 @@ tr { break-inside: avoid }
 
 
 class Block(NamedTuple):
-    """A short group's rows and columns in a drawn matrix, from the first to the one behind the last."""
+    """Rows and columns of a drawn matrix that are framed, from the first to the one behind the last."""
 
     top: int
     bottom: int
@@ -59,29 +61,36 @@ class Block(NamedTuple):
 
 
 class Frame(NamedTuple):
-    """The persons and objects of a drawn matrix, in order, and the block of each row, if any."""
+    """The persons and objects of a drawn matrix, in order, how many of the first are of short groups, and the groups' blocks."""
 
     persons: List[int]
     objects: List[int]
-    blocks: List[Optional[Block]]
-    short_columns: int
+    short_persons: int
+    short_objects: int
+    blocks: List[Block]
 
 
 def frame_of(roster: Roster, answer: Answer) -> Frame:
-    """The short groups first, so that each one's cells stand in one block; then all others, or those in pairs where all are too many."""
-    persons: List[int] = []
-    objects: List[int] = []
-    blocks: List[Optional[Block]] = []
-    for short in answer.groups:
-        block = Block(len(persons), len(persons) + len(short.persons), len(objects), len(objects) + len(short.objects))
-        persons += short.persons
-        objects += short.objects
-        blocks += [block] * len(short.persons)
-    short_columns = len(objects)
+    """The short groups first, so that each one's cells stand in one block; then all others, or those in pairs where all are too many.
+    Who can have nothing at all has the whole row framed, or the whole column."""
+    persons = [number for short in answer.groups for number in short.persons]
+    objects = [number for short in answer.groups for number in short.objects]
     other_persons, other_objects = _others(roster, answer, set(persons), set(objects))
     if not roster.is_matrix:
         other_objects.sort(key=lambda number: natural(roster.objects[number]))
-    return Frame(persons + other_persons, objects + other_objects, blocks + [None] * len(other_persons), short_columns)
+    rows, columns = len(persons) + len(other_persons), len(objects) + len(other_objects)
+    blocks = []
+    row = column = 0
+    for short in answer.groups:
+        below, behind = row + len(short.persons), column + len(short.objects)
+        if not short.objects:
+            blocks.append(Block(row, below, 0, columns))
+        elif not short.persons:
+            blocks.append(Block(0, rows, column, behind))
+        else:
+            blocks.append(Block(row, below, column, behind))
+        row, column = below, behind
+    return Frame(persons + other_persons, objects + other_objects, len(persons), len(objects), blocks)
 
 
 def _others(roster: Roster, answer: Answer, persons: Set[int], objects: Set[int]) -> Tuple[List[int], List[int]]:
@@ -137,14 +146,15 @@ def _matrix(roster: Roster, answer: Answer, frame: Frame) -> Iterator[str]:
     chosen = {} if answer.plan is None else {(pair.person, pair.object): pair.fixed for pair in answer.plan.pairs}
     costs = _costs_by_person(roster)
     span = (min(roster.costs, default=0), max(roster.costs, default=0))
+    edges = _edges(frame)
     yield '<div class="matrix"><table>\n<thead><tr><th></th>'
     for column, object_ in enumerate(frame.objects):
-        yield _heading("col", f"<span>{escape(roster.objects[object_])}</span>", column < frame.short_columns)
+        yield _heading("col", f"<span>{escape(roster.objects[object_])}</span>", column < frame.short_objects)
     yield "</tr></thead>\n<tbody>\n"
-    for row, (person, block) in enumerate(zip(frame.persons, frame.blocks)):
-        yield "<tr>" + _heading("row", escape(roster.persons[person]), block is not None)
+    for row, person in enumerate(frame.persons):
+        yield "<tr>" + _heading("row", escape(roster.persons[person]), row < frame.short_persons)
         yield from (
-            _cell(roster, costs[person].get(object_), chosen.get((person, object_)), span, _edges(block, row, column))
+            _cell(roster, costs[person].get(object_), chosen.get((person, object_)), span, edges.get((row, column), ()))
             for column, object_ in enumerate(frame.objects))
         yield "</tr>\n"
     yield "</tbody>\n</table></div>\n"
@@ -165,18 +175,23 @@ def _heading(scope: str, inner: str, is_short: bool) -> str:
     return f'<th scope="{scope}"{kind}>{inner}</th>'
 
 
-def _edges(block: Optional[Block], row: int, column: int) -> List[str]:
-    if block is None or not block.left <= column < block.right:
-        return []
-    edges = (("top", row == block.top), ("bottom", row == block.bottom - 1), ("left", column == block.left), ("right", column == block.right - 1))
-    return [name for name, is_edge in edges if is_edge]
+def _edges(frame: Frame) -> Dict[Tuple[int, int], List[str]]:
+    """At which of its sides a cell, by its row and column, has a piece of a block's frame."""
+    edges: Dict[Tuple[int, int], List[str]] = {}
+    for block in frame.blocks:
+        rows, columns = range(block.top, block.bottom), range(block.left, block.right)
+        sides = (("top", rows[:1], columns), ("bottom", rows[-1:], columns), ("left", rows, columns[:1]), ("right", rows, columns[-1:]))
+        for side, its_rows, its_columns in sides:
+            for cell in product(its_rows, its_columns):
+                edges.setdefault(cell, []).append(side)
+    return edges
 
 
-def _cell(roster: Roster, cost: Optional[int], fixed: Optional[bool], span: Tuple[int, int], kinds: List[str]) -> str:
+def _cell(roster: Roster, cost: Optional[int], fixed: Optional[bool], span: Tuple[int, int], edges: Sequence[str]) -> str:
     if cost is None:
-        return f'<td class="{" ".join(["none"] + kinds)}"></td>'
+        return f'<td class="{" ".join(["none", *edges])}"></td>'
     level = (cost - span[0]) * len(SHADES) // (span[1] - span[0] + 1)
-    kinds.append(f"s{level}")
+    kinds = [*edges, f"s{level}"]
     if fixed is not None:
         kinds.append("own")
     if fixed:

@@ -97,7 +97,7 @@ class Plans(Runs):
 
     def test_rounded(self):
         self.file("r.csv", ",x,y\nAda,1.25,2\nBen,1.5,1\n")
-        self.expect(0, "least cost: 2.2\ncosts were rounded: before that another plan may be better, by 0.2 at most\n"
+        self.expect(0, "least cost: 2.2\ncosts were rounded: another plan may be better for the exact ones, by 0.2 at most\n"
                     "Ada: x, 1.2\nBen: y, 1.0\n", "", "r.csv", "--round", "1")
         self.file("r.csv", ",x,y\nAda,1.5,2\nBen,1.5,1\n")
         self.expect(0, "least cost: 2.5\nAda: x, 1.5\nBen: y, 1.0\n", "", "r.csv", "--round", "1")
@@ -483,6 +483,15 @@ class Outputs(Runs):
         framed = [place for place, (_, kinds) in enumerate(page.cells) if "left" in kinds and "right" in kinds]
         self.assertEqual(framed, [0, 5, 11, 16])
         self.assertEqual([place for place, (_, kinds) in enumerate(page.cells) if "top" in kinds], [0, 11])
+        self.file("r.csv", ",a,b,c\nAda,1,1,\nBen,1,,\nCleo,,1,\n")
+        self.run_words("r.csv", "--html", "p.html", "--force")
+        page = parsed(self.read("p.html"))
+        self.assertEqual((page.short, len(page.cells)), (["a", "b", "Ada", "Ben", "Cleo"], 9))
+        for content, wanted in ((",a,b\nAda,1,1\nBen,,\n", (["Ben"], [0, 1])), (",a,b\nAda,1,\nBen,1,\nCleo,1,\n", (["b"], [0]))):
+            self.file("r.csv", content)
+            self.run_words("r.csv", "--html", "p.html", "--force")
+            page = parsed(self.read("p.html"))
+            self.assertEqual((page.short, [place for place, (_, kinds) in enumerate(page.cells) if "top" in kinds]), wanted)
 
     def test_page_of_places(self):
         self.file("r.csv", "nurse,shift,hours\nAda,S10,1\nAda,S2,2\nBen,S2,4\nBen,S1,9\n")
@@ -580,7 +589,8 @@ class Statuses(Runs):
     def test_files(self):
         self.file("r.csv", SQUARE)
         for words in (("none.csv",), (".",), ("r.csv", "--fixed", "none.csv"), ("r.csv", "--compare", "none.csv"),
-                      ("r.csv", "--keep", "none.csv"), ("r.csv", "--places", "none.csv"), ("r.csv", "--tasks", "none.csv"), ("r.csv", "--output", "none/p.csv"),
+                      ("r.csv", "--keep", "none.csv"), ("r.csv", "--places", "none.csv"), ("r.csv", "--tasks", "none.csv"),
+                      ("r.csv", "--output", "none/p.csv"),
                       ("r.csv", "--output", "none/p.csv", "--force")):
             with self.subTest(words=words):
                 self.refused(4, "none" if len(words) > 1 or words[0] != "." else "", *words)
