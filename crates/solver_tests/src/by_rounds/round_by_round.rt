@@ -1,129 +1,98 @@
-// Runs told round by round: what each phase asks, its table, and the offers with their answers.
-ghost use Rattle.std.specs.Prelude.{◌≡◌, true, IfOk};
-ghost use Rattle.rounds.specs.inside.Books.{IsAtRest};
-
+// Runs told round by round: what each phase asks, its table, and the offers with their answers. The plain
+// transcription tells them, and each round of the run has to be the plain one.
+use super::beside::alike;
+use super::transcription::{Auction, PlainOffer, Round, auction_of, is_over, next_round};
 use super::*;
-use crate::rounds::{Round, run_round};
-use auction_book::{Book, begin_next_if_over};
-use bidder::{Ask, Offer};
 use std::test::Fail;
 
-// Some prices in a line.
-fn prices_line(alloc: Global, prices: &[Price]) -> Result<String, AllocError> {
-    let mut line = String::new(alloc);
+// What a phase asks and the prices from which it is asked, in a line.
+fn phase_line(
+    alloc: Global,
+    phase: u16,
+    eps: i128,
+    floor: i128,
+    prices: &[Price],
+) -> Result<String, AllocError> {
+    let mut line = format!(in alloc; "phase {phase}, eps {eps}, floor {floor}, prices")?;
     for price in prices {
         write!(line, " {price}")?;
     }
     Ok(line)
 }
 
-// What a phase asks and the prices from which it is asked, in a line.
-fn phase_line(alloc: Global, ask: Ask, prices: &[Price]) -> Result<String, AllocError> {
-    let (phase, eps, floor) = (ask.phase, ask.eps, ask.floor);
-    let prices = prices_line(alloc, prices)?;
-    format!(in alloc; "phase {phase}, eps {eps}, floor {floor}, prices{prices}")
-}
-
-// How many bids of workers 1, 2, .. were accepted.
-fn accepted_by(alloc: Global, book: &Book) -> Result<Vec<u128>, AllocError> {
-    let mut counts = Vec::new(alloc);
-    for i in 0..book.workers() {
-        counts.push(book.accepted_by(i + 1))?;
-    }
-    Ok(counts)
-}
-
 // An offer in a line, with its answer.
-fn offer_line(alloc: Global, offer: Offer, accepted: bool) -> Result<String, AllocError> {
+fn offer_line(alloc: Global, offer: PlainOffer, accepted: bool) -> Result<String, AllocError> {
+    let person = offer.person.wrapping_add(1);
     let answer = if accepted { "accepted" } else { "refused" };
-    match offer {
-        Offer::Bid(bid) => {
-            let (person, object) = (bid.person.0, bid.object.0);
-            format!(in alloc; "{person} bids {} for {object}, {answer}", bid.level)
+    match offer.bid {
+        Some((object, level)) => {
+            let object = object.wrapping_add(1);
+            format!(in alloc; "{person} bids {level} for {object}, {answer}")
         }
-        Offer::Below(below) => format!(in alloc; "{} is below the floor", below.person.0),
+        None => format!(in alloc; "{person} is below the floor"),
     }
 }
 
-// The offers of a round, one by one, each with its answer: the worker of an accepted bid counts one more.
-fn tell_offers(
-    alloc: Global,
-    offers: &[Offer],
-    before: &[u128],
-    after: &[u128],
-    lines: &mut Vec<String>,
-) -> Result<(), AllocError> {
-    for (i, offer) in offers.iter().enumerate() {
-        let accepted = match (before.get(i), after.get(i)) {
-            (Some(before), Some(after)) => before < after,
-            _ => false,
-        };
-        lines.push(offer_line(alloc, *offer, accepted)?)?;
+// A round told: what its phase asks, its table, and one by one the offers that went in.
+fn tell_round(alloc: Global, round: &Round, lines: &mut Vec<String>) -> Result<(), AllocError> {
+    let prices = round.prices.as_slice();
+    lines.push(phase_line(alloc, round.phase, round.eps, round.floor, prices)?)?;
+    for (offer, accepted) in round.offers.iter().zip(round.answers.iter()) {
+        lines.push(offer_line(alloc, *offer, *accepted)?)?;
     }
     Ok(())
 }
 
-// A round told: what its phase asks, its table, and its offers one by one. Whether the run goes on.
-fn round_told(alloc: Global, book: &mut Book, lines: &mut Vec<String>) -> Result<bool, AllocError>
-    requires { IsAtRest book.old }
-    ensures { IfOk result (λ more. more ≡ true → IsAtRest book.new) }
-{
-    begin_next_if_over(alloc, book)?;
-    let phase = phase_line(alloc, book.ask(), book.prices().as_slice())?;
-    let before = accepted_by(alloc, book)?;
-    let mut offers = Vec::new(alloc);
-    let came = run_round(&mut Alone, book, &mut Vec::new(alloc), &mut offers)?;
-    lines.push(phase)?;
-    let after = accepted_by(alloc, book)?;
-    tell_offers(
-        alloc,
-        offers.as_slice(),
-        before.as_slice(),
-        after.as_slice(),
-        lines,
-    )?;
-    match came {
-        Round::More => Ok(true),
-        _ => Ok(false),
+// The rounds of a plain auction, at most a hundred.
+fn tell_rounds(alloc: Global, auction: &mut Auction) -> Result<Vec<String>, AllocError> {
+    let mut lines = Vec::new(alloc);
+    for _ in 0..100 {
+        if is_over(auction) {
+            break;
+        }
+        let round = next_round(alloc, auction)?;
+        tell_round(alloc, &round, &mut lines)?;
     }
+    Ok(lines)
 }
 
-// The rounds of a run, at most a hundred.
-fn rounds_told(
+// The rounds that the plain transcription takes, and its table in the end where everybody has an object.
+fn plainly_told(
     alloc: Global,
     n: u16,
     pairs: &[Pair],
     first: &[Price],
 ) -> Result<Vec<String>, AllocError> {
-    let n = size(n);
-    let scaled = scaled_of(alloc, n, pairs, Sense::Min)?;
-    let prices = first_prices(alloc, n, first)?;
-    let mut book = Book::open_from(alloc, scaled, prices, n)?;
-    let mut lines = Vec::new(alloc);
-    for _ in 0..100 {
-        if !round_told(alloc, &mut book, &mut lines)? {
-            break;
-        }
+    let mut auction = auction_of(alloc, n, pairs, Sense::Min, first)?;
+    let mut lines = tell_rounds(alloc, &mut auction)?;
+    if auction.halted.is_none() {
+        let prices = auction.prices.as_slice();
+        lines.push(phase_line(alloc, auction.phase, auction.eps, auction.floor, prices)?)?;
     }
     Ok(lines)
 }
 
-// The place of the first line of a run that is told otherwise.
+// The place of the first line that is told otherwise, and whether each round of the run is the plain one.
 fn told_otherwise(
     alloc: Global,
     n: u16,
     pairs: &[Pair],
     first: &[Price],
     lines: &[&str],
-) -> Result<Option<usize>, AllocError> {
-    let told = rounds_told(alloc, n, pairs, first)?;
-    for (i, line) in lines.iter().enumerate() {
-        match told.get(i) {
-            Some(told) if told.as_str() == *line => {}
-            _ => return Ok(Some(i)),
-        }
-    }
-    Ok((told.len() != lines.len()).then_some(lines.len()))
+) -> Result<(Option<usize>, bool), AllocError> {
+    let told = plainly_told(alloc, n, pairs, first)?;
+    let same = told
+        .iter()
+        .zip(lines.iter())
+        .take_while(|(told, line)| told.as_str() == **line)
+        .count();
+    let whole = same == told.len() && same == lines.len();
+    Ok(((!whole).then_some(same), is_run(alloc, n, pairs, first)?))
+}
+
+// Whether rounds are those of the plain transcription.
+fn is_run(alloc: Global, n: u16, pairs: &[Pair], first: &[Price]) -> Result<bool, AllocError> {
+    Ok(alike(Alone, alloc, n, pairs, Sense::Min, first)?.is_some())
 }
 
 #[test]
@@ -143,7 +112,7 @@ fn two_persons_from_zeros(rt: HostRuntime) -> Result<(), Fail> {
     ];
     assert_eq!(rt;
         told_otherwise(rt.alloc(), 2, &TWO_PERSONS, &[], &lines)?,
-        None
+        (None, true)
     );
     Ok(())
 }
@@ -165,7 +134,7 @@ fn two_persons_from_first_prices(rt: HostRuntime) -> Result<(), Fail> {
     ];
     assert_eq!(rt;
         told_otherwise(rt.alloc(), 2, &TWO_PERSONS, &[14, 12], &lines)?,
-        None
+        (None, true)
     );
     Ok(())
 }
@@ -187,7 +156,7 @@ fn three_persons_who_are_alike(rt: HostRuntime) -> Result<(), Fail> {
     ];
     assert_eq!(rt;
         told_otherwise(rt.alloc(), 3, alike.as_slice(), &[], &lines)?,
-        None
+        (None, true)
     );
     Ok(())
 }
@@ -204,7 +173,7 @@ fn three_persons_below_the_floor(rt: HostRuntime) -> Result<(), Fail> {
     ];
     assert_eq!(rt;
         told_otherwise(rt.alloc(), 3, &CONTESTED, &[], &lines)?,
-        None
+        (None, true)
     );
     Ok(())
 }
@@ -212,12 +181,12 @@ fn three_persons_below_the_floor(rt: HostRuntime) -> Result<(), Fail> {
 // A phase of one round, in which two persons get different objects at prices that are alike.
 fn tell_phase(
     alloc: Global,
-    ask: Ask,
+    (phase, eps, floor): (u16, i128, i128),
     price: Price,
     level: Price,
     lines: &mut Vec<String>,
 ) -> Result<(), AllocError> {
-    lines.push(phase_line(alloc, ask, &[price, price])?)?;
+    lines.push(phase_line(alloc, phase, eps, floor, &[price, price])?)?;
     lines.push(format!(in alloc; "1 bids {level} for 2, accepted")?)?;
     lines.push(format!(in alloc; "2 bids {level} for 1, accepted")?)?;
     Ok(())
@@ -239,23 +208,23 @@ fn ten_phases(alloc: Global) -> Result<Vec<String>, AllocError> {
         (9, 3, -58499998, 49499995, 55499998),
         (10, 1, -64499999, 55499998, 61499999),
     ] {
-        let ask = Ask { phase, eps, floor };
-        tell_phase(alloc, ask, price, level, &mut lines)?;
+        tell_phase(alloc, (phase, eps, floor), price, level, &mut lines)?;
     }
     let end = format!(in alloc; "phase 10, eps 1, floor -64499999, prices 61499999 61499999")?;
     lines.push(end)?;
     Ok(lines)
 }
 
-// The rounds on two such persons.
-fn rounds_of_two(alloc: Global) -> Result<Vec<String>, AllocError> {
+// Whether the rounds on two such persons are told so, and each round of the run is so.
+fn are_ten_phases(alloc: Global) -> Result<(bool, bool), AllocError> {
     let pairs = dense(alloc, 2, &[1_000_000, -1_000_000, -1_000_000, 1_000_000])?;
-    rounds_told(alloc, 2, pairs.as_slice(), &[])
+    let told = plainly_told(alloc, 2, pairs.as_slice(), &[])?;
+    let same = told == ten_phases(alloc)?;
+    Ok((same, is_run(alloc, 2, pairs.as_slice(), &[])?))
 }
 
 #[test]
 fn ten_phases_round_by_round(rt: HostRuntime) -> Result<(), Fail> {
-    let told = rounds_of_two(rt.alloc())?;
-    assert_eq!(rt; told, ten_phases(rt.alloc())?);
+    assert_eq!(rt; are_ten_phases(rt.alloc())?, (true, true));
     Ok(())
 }

@@ -94,8 +94,7 @@ fn solved(
     first: Option<&[Price]>,
 ) -> Result<Option<Cost>, AllocError> {
     let n = size(n);
-    let problem = problem_of(alloc, n, pairs)?;
-    let scaled = Arc::new(alloc, scale(alloc, problem, Sense::Min)?)?;
+    let scaled = scaled_of(alloc, n, pairs, Sense::Min)?;
     let again = scaled.clone()?;
     let outcome = match first {
         Some(first) => solve_paths_from(alloc, scaled, first_prices(alloc, n, first)?)?,
@@ -159,8 +158,7 @@ fn followed(
     follower: &Follower,
 ) -> Result<Option<Cost>, AllocError> {
     let n = size(follower.persons);
-    let problem = problem_of(alloc, n, pairs)?;
-    let scaled = Arc::new(alloc, scale(alloc, problem, Sense::Min)?)?;
+    let scaled = scaled_of(alloc, n, pairs, Sense::Min)?;
     let again = scaled.clone()?;
     let outcome = match first {
         Some(first) => {

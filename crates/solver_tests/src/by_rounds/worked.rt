@@ -1,6 +1,6 @@
 // Problems whose outcomes are known, solved in pieces of several lengths, and the public calls.
 use super::*;
-use crate::{solve_rounds, solve_rounds_alone, solve_rounds_alone_from, solve_rounds_from};
+use rounds::{solve_rounds, solve_rounds_alone, solve_rounds_alone_from, solve_rounds_from};
 use std::test::Fail;
 
 // What the public calls come to: from zeros, or from these first prices.
@@ -44,8 +44,8 @@ fn hall(alloc: Global, persons: &[u16], objects: &[u16]) -> Result<Seen, AllocEr
     Ok(Seen::Hall(persons.to_vec(alloc)?, objects.to_vec(alloc)?))
 }
 
-// What rounds in pieces of some length come to, where that isn't what is wanted.
-fn other_outcome(
+// Whether rounds in pieces of some lengths all come to this.
+fn are_outcome(
     rt: &(impl Threads + Sync),
     alloc: Global,
     n: u16,
@@ -53,18 +53,16 @@ fn other_outcome(
     sense: Sense,
     first: &[Price],
     wanted: &Seen,
-) -> Result<Option<Seen>, AllocError> {
+) -> Result<bool, AllocError> {
+    let mut all = true;
     for least in [1, 2, LEAST_PAIRS] {
-        let seen = solved(rt, alloc, least, n, pairs, sense, first)?;
-        if seen != *wanted {
-            return Ok(Some(seen));
-        }
+        all &= solved(rt, alloc, least, n, pairs, sense, first)? == *wanted;
     }
-    Ok(None)
+    Ok(all)
 }
 
-// What rounds on a dense problem come to, where that isn't a best assignment with these objects and prices.
-fn other_dense(
+// Whether rounds on a dense problem come to a best assignment with these objects and prices.
+fn are_dense(
     rt: &(impl Threads + Sync),
     alloc: Global,
     n: u16,
@@ -72,10 +70,10 @@ fn other_dense(
     sense: Sense,
     first: &[Price],
     wanted: (&[u16], &[Price]),
-) -> Result<Option<Seen>, AllocError> {
+) -> Result<bool, AllocError> {
     let pairs = dense(alloc, n, costs)?;
     let wanted = best(alloc, wanted.0, wanted.1)?;
-    other_outcome(rt, alloc, n, pairs.as_slice(), sense, first, &wanted)
+    are_outcome(rt, alloc, n, pairs.as_slice(), sense, first, &wanted)
 }
 
 // How many persons there are, all costs, the first prices where they aren't 0, and the objects and prices in the end.
@@ -122,10 +120,10 @@ fn worked_dense_problems(rt: HostRuntime) -> Result<(), Fail> {
             &[GREATEST_FIRST_PRICE + 1],
         ),
     ];
-    for (n, costs, sense, first, objects, prices) in table {
+    for (at, (n, costs, sense, first, objects, prices)) in table.into_iter().enumerate() {
         let wanted = (objects, prices);
-        let other = other_dense(&rt, rt.alloc(), n, costs, sense, first, wanted)?;
-        assert_eq!(rt; other, None);
+        let same = are_dense(&rt, rt.alloc(), n, costs, sense, first, wanted)?;
+        assert!(rt; same, "at {at}");
     }
     Ok(())
 }

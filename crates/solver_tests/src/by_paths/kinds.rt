@@ -2,15 +2,6 @@
 use super::*;
 use rounds::solve_rounds_alone;
 use std::test::Fail;
-use test_helpers::plain_best;
-
-// The next number of a congruential generator, by its high bits.
-fn next_number(seed: &mut u64) -> u64 {
-    *seed = seed
-        .wrapping_mul(6364136223846793005)
-        .wrapping_add(1442695040888963407);
-    *seed >> 33
-}
 
 // How many kinds there are.
 const KINDS: u8 = 19;
@@ -79,11 +70,10 @@ fn plainly_found(
     pairs: &[Pair],
     sense: Sense,
 ) -> Result<Finding, AllocError> {
-    let problem = problem_of(alloc, size(n), pairs)?;
-    match plain_best(alloc, &problem, sense)? {
-        Some(best) => Ok(Finding::Best(problem.total(&best))),
-        None => Ok(Finding::Hall),
-    }
+    Ok(match best_cost(alloc, n, pairs, sense)? {
+        Some(cost) => Finding::Best(cost),
+        None => Finding::Hall,
+    })
 }
 
 // Of so many small problems of all kinds, drawn from a seed, those that are found otherwise.
@@ -115,8 +105,7 @@ fn drawn_problems(rt: HostRuntime) -> Result<(), Fail> {
 
 // What rounds come to: the cost alone.
 fn found_by_rounds(alloc: Global, n: u16, pairs: &[Pair]) -> Result<Option<Cost>, AllocError> {
-    let problem = problem_of(alloc, size(n), pairs)?;
-    let scaled = Arc::new(alloc, scale(alloc, problem, Sense::Min)?)?;
+    let scaled = scaled_of(alloc, size(n), pairs, Sense::Min)?;
     let again = scaled.clone()?;
     match solve_rounds_alone(alloc, scaled) {
         Ok(outcome) => Ok(cost_of(found_in(&again, &outcome))),

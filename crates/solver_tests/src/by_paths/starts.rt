@@ -18,8 +18,7 @@ impl Observer for Least {
 // The least number that is told of a problem of two persons from first prices.
 fn least_told(alloc: Global, pairs: &[Pair], first: &[Price]) -> Result<u64, AllocError> {
     let n = size(2);
-    let problem = problem_of(alloc, n, pairs)?;
-    let scaled = Arc::new(alloc, scale(alloc, problem, Sense::Min)?)?;
+    let scaled = scaled_of(alloc, n, pairs, Sense::Min)?;
     let least = Least {
         persons: AtomicU64::new(u64::MAX),
     };
