@@ -7,7 +7,7 @@ ghost use Rattle.auction_book.specs.Follows.{GoesOn};
 ghost use Rattle.auction_book.specs.Free.{IsFree};
 ghost use Rattle.async_workers.specs.PlaceRule.{Extends, IsUntouched};
 ghost use Rattle.async_workers.specs.Solving.{IsAnsweredBy, IsEndOf, IsEnough, IsSolved, tallies};
-ghost use Rattle.async_workers.specs.inside.Working.{IsMemory};
+ghost use Rattle.async_workers.specs.Turns.{IsMemory};
 
 use crate::alone::{go_alone, outcome_of};
 use crate::gate::{Gate, TurnFault};
