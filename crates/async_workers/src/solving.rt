@@ -68,7 +68,7 @@ fn tally_all(alloc: Global, book: &Book) -> Result<Vec<Tally>, AllocError>
 // What the book answers. Where it has no answer yet this thread goes on with it alone.
 fn finish<R: Wait>(rt: &R, alloc: Global, book: &mut Book) -> Result<Outcome, AllocError>
     requires { 0 < length book.old.claims }
-    ensures goes_on { OnOk result (GoesOn book.old book.new) }
+    ensures goes_on { GoesOn book.old book.new }
     ensures answers { IfOk result (IsAnsweredBy book.new) }
     ensures free { IsFree book.new }
 {

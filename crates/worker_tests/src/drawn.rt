@@ -273,6 +273,19 @@ fn agreeing<R: Wait>(
     Ok(agreed)
 }
 
+// The same, and whether each of these letters came a hundred times.
+fn agreeing_with<R: Wait>(
+    rt: &R,
+    alloc: Global,
+    count: u16,
+    leaving: bool,
+    letters: &str,
+) -> Result<(u16, bool), AllocError> {
+    let mut came = Vec::new(alloc);
+    let agreed = agreeing(rt, alloc, count, leaving, &mut came)?;
+    Ok((agreed, all_came(came.as_slice(), letters, 100)))
+}
+
 // Whether each of these letters came so often.
 fn all_came(came: &[u8], letters: &str, times: usize) -> bool {
     letters.as_bytes().iter().all(|letter| came.iter().filter(|other| *other == letter).count()
@@ -281,15 +294,14 @@ fn all_came(came: &[u8], letters: &str, times: usize) -> bool {
 
 #[test]
 fn drawn_orders_are_runs_of_the_core(rt: HostRuntime) -> Result<(), Fail> {
-    let mut came = Vec::new(rt.alloc());
-    assert_eq!(rt; agreeing(&rt, rt.alloc(), 500, false, &mut came)?, 500);
+    let agreed = agreeing_with(&rt, rt.alloc(), 500, false, "")?;
+    assert_eq!(rt; agreed, (500, true));
     Ok(())
 }
 
 #[test]
 fn drawn_orders_are_those_of_plain_workers(rt: HostRuntime) -> Result<(), Fail> {
-    let mut came = Vec::new(rt.alloc());
-    assert_eq!(rt; agreeing(&rt, rt.alloc(), 500, true, &mut came)?, 500);
-    assert!(rt; all_came(came.as_slice(), "CIDRSyna", 100));
+    let agreed = agreeing_with(&rt, rt.alloc(), 500, true, "CIDRSyna")?;
+    assert_eq!(rt; agreed, (500, true));
     Ok(())
 }

@@ -1,9 +1,11 @@
 // The pauses of a worker that finds nobody to claim, one after the other.
 use async_workers::{FIRST_PAUSE, Pause};
 use std::test::Fail;
+use std::thread::Parker;
 
 #[test]
 fn yields_and_then_sleeps_longer_and_longer(rt: HostRuntime) -> Result<(), Fail> {
+    let parker = Parker::new();
     let mut pause = FIRST_PAUSE;
     for wanted in [
         Pause::Yield(1),
@@ -22,6 +24,7 @@ fn yields_and_then_sleeps_longer_and_longer(rt: HostRuntime) -> Result<(), Fail>
         Pause::Sleep(12_800),
     ] {
         assert!(rt; pause == wanted);
+        pause.wait(&rt, &parker);
         pause = pause.longer();
     }
     Ok(())

@@ -4,7 +4,6 @@ use assign_core::{Cost, Outcome, Price, Sense};
 use async_workers::{Gate, Note, OpenGate, Standing, Tally, solve_workers};
 use auction_book::Refused;
 use std::alloc::{AllocError, Global};
-use std::process::Abort;
 use std::sync::Wait;
 use std::sync::atomic::{AtomicU64, Ordering};
 use std::test::Fail;
@@ -260,36 +259,28 @@ const EIGHT: [Cost; 64] = [
     15, 19, 23, 27, 31, 39, 43, 47, 11, 16, 21, 26, 31, 35, 41, 46,
 ];
 
-// The objects that some workers give to eight persons.
+// The objects of their one least assignment.
+const LEAST_OF_EIGHT: [u16; 8] = [3, 1, 4, 8, 2, 7, 5, 6];
+
+// Whether some workers give these to the eight persons.
 fn eight<G: Gate + Sync, R: Threads + Wait + Sync>(
     rt: &R,
     alloc: Global,
     workers: u16,
     refresh: u64,
     gate: &G,
-) -> Result<Option<Vec<u16>>, AllocError> {
+) -> Result<bool, AllocError> {
     match dense_solved(rt, alloc, 8, &EIGHT, workers, refresh, gate)? {
-        Seen::Best(objects, _, _) => Ok(Some(objects)),
-        _ => Ok(None),
-    }
-}
-
-// The objects of their one least assignment.
-const LEAST_OF_EIGHT: [u16; 8] = [3, 1, 4, 8, 2, 7, 5, 6];
-
-// Whether they are these.
-fn is_least(objects: &Option<Vec<u16>>) -> bool {
-    match objects {
-        Some(objects) => objects.as_slice() == LEAST_OF_EIGHT.as_slice(),
-        None => false,
+        Seen::Best(objects, _, _) => Ok(objects.as_slice() == LEAST_OF_EIGHT.as_slice()),
+        _ => Ok(false),
     }
 }
 
 #[test]
 fn eight_persons(rt: HostRuntime) -> Result<(), Fail> {
     for (workers, refresh) in [(1, 1), (4, 1), (64, 1), (4, 0), (4, 1000), (64, 1000)] {
-        let objects = eight(&rt, rt.alloc(), workers, refresh, &OpenGate)?;
-        assert!(rt; is_least(&objects));
+        let least = eight(&rt, rt.alloc(), workers, refresh, &OpenGate)?;
+        assert!(rt; least, "{workers} workers, refresh {refresh}");
     }
     Ok(())
 }
@@ -298,33 +289,20 @@ fn number_at(place: &AtomicU64) -> u64 {
     place.load(Ordering::SeqCst)
 }
 
-// The objects, the prices and the workers' acceptances of an assignment.
-fn best_of<'a>(rt: &impl Abort, seen: &'a Seen) -> (&'a [u16], &'a [Price], &'a [u128]) {
-    let Seen::Best(objects, prices, accepted) = seen else {
-        panic!(rt; "no assignment");
-    };
-    (objects.as_slice(), prices.as_slice(), accepted.as_slice())
+// The acceptances of a run of one worker that found an assignment.
+fn accepted_by_one(seen: &Seen) -> Option<u128> {
+    match seen {
+        Seen::Best(_, _, accepted) if accepted.len() == 1 => accepted.first().copied(),
+        _ => None,
+    }
 }
 
-// That an assignment has one of these lists of objects, these prices and these acceptances.
-fn assert_best(
-    rt: &impl Abort,
-    seen: &Seen,
-    lists: &[&[u16]],
-    prices: &[Price],
-    accepted: &[u128],
-) {
-    let (objects, found, told) = best_of(rt, seen);
-    assert!(rt; lists.iter().any(|list| *list == objects));
-    assert_eq!(rt; (found, told), (prices, accepted));
-}
-
-// What one worker comes to on the eight persons; the acceptances that were told last, and those that it heard; the
-// last phase, slackness and number of assigned persons; and 1 where something was told that can't be.
+// The acceptances of one worker on the eight persons, those that were told last, and those that it heard; the last
+// phase, slackness and number of assigned persons; and 1 where something was told that can't be.
 fn followed<R: Threads + Wait + Sync>(
     rt: &R,
     alloc: Global,
-) -> Result<(Seen, [u64; 2], [u64; 4]), AllocError> {
+) -> Result<(Option<u128>, [u64; 2], [u64; 4]), AllocError> {
     let gate = new_following();
     let seen = dense_solved(rt, alloc, 8, &EIGHT, 1, 1, &gate)?;
     let accepted = [number_at(&gate.accepted), number_at(&gate.heard)];
@@ -334,43 +312,54 @@ fn followed<R: Threads + Wait + Sync>(
         number_at(&gate.assigned),
         number_at(&gate.wrong),
     ];
-    Ok((seen, accepted, last))
-}
-
-fn assert_accepted(rt: &impl Abort, seen: &Seen, accepted: u64) {
-    let (_, _, found) = best_of(rt, seen);
-    assert_eq!(rt; found, [u128::from(accepted)].as_slice());
+    Ok((accepted_by_one(&seen), accepted, last))
 }
 
 // The spread is 378, nine times that of the costs, so the phases have slackness 75, 15, 3 and 1.
 #[test]
 fn one_worker_is_followed(rt: HostRuntime) -> Result<(), Fail> {
-    let (seen, [told, heard], last) = followed(&rt, rt.alloc())?;
-    assert_accepted(&rt, &seen, told);
+    let (accepted, [told, heard], last) = followed(&rt, rt.alloc())?;
+    assert_eq!(rt; accepted, Some(u128::from(told)));
     assert_eq!(rt; (heard, last), (told, [4, 1, 8, 0]));
     Ok(())
 }
 
-// What eight workers come to whose first offers are held, whether one was held too long, and how many there were.
+// Whether eight workers whose first offers are held find the least assignment, whether one was held too long, and how
+// many there were.
 fn eight_at_once<R: Threads + Wait + Sync>(
     rt: &R,
     alloc: Global,
-) -> Result<(Option<Vec<u16>>, u64, u32), AllocError> {
+) -> Result<(bool, u64, u32), AllocError> {
     let gate = new_gate(8, 0);
-    let objects = eight(rt, alloc, 8, 1, &gate)?;
+    let least = eight(rt, alloc, 8, 1, &gate)?;
     let (late, offers) = (number_at(&gate.late), number_at(&gate.offers));
-    Ok((objects, late, offers.count_ones()))
+    Ok((least, late, offers.count_ones()))
 }
 
 #[test]
 fn all_workers_start(rt: HostRuntime) -> Result<(), Fail> {
-    let (objects, late, offers) = eight_at_once(&rt, rt.alloc())?;
-    assert!(rt; is_least(&objects));
-    assert_eq!(rt; (late, offers), (0, 8));
+    assert_eq!(rt; eight_at_once(&rt, rt.alloc())?, (true, 0, 8));
     Ok(())
 }
 
-// What two workers come to that never catch up by themselves, where worker 1 is held until worker 2
+// An assignment with one of these lists of objects, these prices and these acceptances.
+#[derive(Clone, Copy)]
+struct Wanted<'a> {
+    lists: &'a [&'a [u16]],
+    prices: &'a [Price],
+    accepted: &'a [u128],
+}
+
+fn is_wanted(seen: &Seen, wanted: Wanted) -> bool {
+    let Seen::Best(objects, prices, accepted) = seen else {
+        return false;
+    };
+    wanted.lists.contains(&objects.as_slice())
+        && prices.as_slice() == wanted.prices
+        && accepted.as_slice() == wanted.accepted
+}
+
+// Whether two workers that never catch up by themselves come to what is wanted, where worker 1 is held until worker 2
 // was told so many acceptances; how many bids were refused at price 1; and whether one was held too long.
 fn stale_bid<R: Threads + Wait + Sync>(
     rt: &R,
@@ -378,15 +367,16 @@ fn stale_bid<R: Threads + Wait + Sync>(
     waiting: u64,
     n: u16,
     costs: &[Cost],
-) -> Result<(Seen, u64, u64), AllocError> {
+    wanted: Wanted,
+) -> Result<(bool, u64, u64), AllocError> {
     let gate = new_gate(2, waiting);
     let seen = dense_solved(rt, alloc, n, costs, 2, 0, &gate)?;
     let (refused, late) = (number_at(&gate.refused), number_at(&gate.late));
-    Ok((seen, refused, late))
+    Ok((is_wanted(&seen, wanted), refused, late))
 }
 
-// Whether two workers that wait for each other find an assignment, how many were told of a session, and whether one was
-// held too long.
+// Whether two workers that wait for each other find the least assignment, how many were told of a session, and whether
+// one was held too long.
 fn eight_told<R: Threads + Wait + Sync>(
     rt: &R,
     alloc: Global,
@@ -395,9 +385,9 @@ fn eight_told<R: Threads + Wait + Sync>(
         told: AtomicU64::new(0),
         late: AtomicU64::new(0),
     };
-    let found = eight(rt, alloc, 2, 1, &gate)?.is_some();
+    let least = eight(rt, alloc, 2, 1, &gate)?;
     let (told, late) = (number_at(&gate.told), number_at(&gate.late));
-    Ok((found, told.count_ones(), late))
+    Ok((least, told.count_ones(), late))
 }
 
 #[test]
@@ -408,36 +398,52 @@ fn a_session_is_told_without_the_book(rt: HostRuntime) -> Result<(), Fail> {
 
 #[test]
 fn stale_bid_refused(rt: HostRuntime) -> Result<(), Fail> {
-    let (seen, refused, late) = stale_bid(&rt, rt.alloc(), 1, 2, &[2, 2, 2, 2])?;
-    assert_best(&rt, &seen, &[&[1, 2], &[2, 1]], &[1, 2], &[1, 1]);
-    assert_eq!(rt; (refused, late), (1, 0));
+    let wanted = Wanted {
+        lists: &[&[1, 2], &[2, 1]],
+        prices: &[1, 2],
+        accepted: &[1, 1],
+    };
+    let seen = stale_bid(&rt, rt.alloc(), 1, 2, &[2, 2, 2, 2], wanted)?;
+    assert_eq!(rt; seen, (true, 1, 0));
     Ok(())
 }
 
 #[test]
 fn stale_bid_accepted(rt: HostRuntime) -> Result<(), Fail> {
     let costs = [0, 1, 1, 1, 0, 1, 1, 1, 0];
-    let (seen, refused, late) = stale_bid(&rt, rt.alloc(), 2, 3, &costs)?;
-    assert_best(&rt, &seen, &[&[1, 2, 3]], &[5, 5, 5], &[1, 2]);
-    assert_eq!(rt; (refused, late), (0, 0));
+    let wanted = Wanted {
+        lists: &[&[1, 2, 3]],
+        prices: &[5, 5, 5],
+        accepted: &[1, 2],
+    };
+    let seen = stale_bid(&rt, rt.alloc(), 2, 3, &costs, wanted)?;
+    assert_eq!(rt; seen, (true, 0, 0));
     Ok(())
 }
 
-// The workers found these persons, who list these objects alone.
-fn assert_hall(rt: &impl Abort, seen: &Seen, persons: &[u16], objects: &[u16]) {
-    let Seen::Hall(found, listed) = seen else {
-        panic!(rt; "no Hall set");
-    };
-    assert_eq!(rt; (found.as_slice(), listed.as_slice()), (persons, objects));
+// Whether workers find on these pairs that these persons list these objects alone.
+fn is_hall<R: Threads + Wait + Sync>(
+    rt: &R,
+    alloc: Global,
+    n: u16,
+    pairs: &[Pair],
+    workers: u16,
+    persons: &[u16],
+    objects: &[u16],
+) -> Result<bool, AllocError> {
+    match solved(rt, alloc, n, pairs, Sense::Min, workers, 1, &OpenGate)? {
+        Seen::Hall(found, listed) => {
+            Ok(found.as_slice() == persons && listed.as_slice() == objects)
+        }
+        _ => Ok(false),
+    }
 }
 
 #[test]
 fn three_persons_and_no_assignment(rt: HostRuntime) -> Result<(), Fail> {
-    let alloc = rt.alloc();
     let pairs = [(1, 1, 4), (2, 1, 6), (3, 2, 1), (3, 3, 2)];
     for workers in [1, 2, 3] {
-        let seen = solved(&rt, alloc, 3, &pairs, Sense::Min, workers, 1, &OpenGate)?;
-        assert_hall(&rt, &seen, &[1, 2], &[1]);
+        assert!(rt; is_hall(&rt, rt.alloc(), 3, &pairs, workers, &[1, 2], &[1])?);
     }
     Ok(())
 }

@@ -6,7 +6,7 @@ ghost use Rattle.async_workers.specs.Turns.{CanTurn};
 use crate::scripts::{
     Heard, Story, give_all_up, new_book, next_person, opened, played, run_script,
 };
-use assign_core::{Outcome, Person, Price, Sense};
+use assign_core::{Outcome, Price, Prices, Sense};
 use async_workers::{BookPlace, Desk, Note, OpenGate, go_alone, take_turns};
 use auction_book::{Book, Refused};
 use std::alloc::{AllocError, Global};
@@ -193,20 +193,24 @@ fn an_old_table_is_told_the_price(rt: HostRuntime) -> Result<(), Fail> {
     Ok(())
 }
 
-// Whom worker 1 claims next from the book of the closed place once all claims are given up, and whom
-// the workers hold then.
+// Whom worker 1 claims next from the book of the closed place once all claims are given up, and whether
+// that is all that workers hold then.
 fn claimed_anew<R: Wait>(
     rt: &R,
     alloc: Global,
     script: &str,
-) -> Result<Option<(Option<Person>, Vec<u16>)>, AllocError> {
+) -> Result<(Option<u16>, bool), AllocError> {
     let Story { book, .. } = story_of(rt, alloc, script, 1)?;
     let Some(mut book) = book else {
-        return Ok(None);
+        return Ok((None, false));
     };
     give_all_up(&mut book);
-    let person = next_person(&mut book, 1);
-    Ok(Some((person, held_by(alloc, &book)?)))
+    let person = next_person(&mut book, 1).map(|person| person.0);
+    let held = held_by(alloc, &book)?;
+    Ok((
+        person,
+        held.as_slice() == [person.unwrap_or(0), 0].as_slice(),
+    ))
 }
 
 #[test]
@@ -219,58 +223,54 @@ fn a_claim_outlives_its_place(rt: HostRuntime) -> Result<(), Fail> {
         held: [1, 2],
     };
     assert_eq!(rt; fault(&rt, rt.alloc(), "1t 2t", 1, &wanted)?, "");
-    let Some((person, held)) = claimed_anew(&rt, rt.alloc(), "1t 2t")? else {
-        panic!(rt; "no book");
-    };
-    assert!(rt; person == Some(Person(1)));
-    assert_eq!(rt; held.as_slice(), [1, 0].as_slice());
+    let claimed = claimed_anew(&rt, rt.alloc(), "1t 2t")?;
+    assert_eq!(rt; claimed, (Some(1), true));
     Ok(())
 }
 
-// What is seen of a book.
-#[derive(Drop)]
+// What is seen of a book of two objects.
+#[derive(Clone, Copy)]
 struct Found {
-    prices: Vec<Price>,
+    prices: [Price; 2],
     assigned: u16,
     stopped: bool,
 }
 
+// The first two prices of a table.
+fn two_of(prices: &Prices) -> [Price; 2] {
+    let prices = prices.as_slice();
+    [0, 1].map(|at: usize| prices.get(at).copied().unwrap_or(-1))
+}
+
 // The book that a desk finds in the place.
-fn look<R: Wait>(
-    rt: &R,
-    alloc: Global,
-    place: &BookPlace,
-    desk: &mut Desk,
-) -> Result<Found, AllocError>
+fn look<R: Wait>(rt: &R, place: &BookPlace, desk: &mut Desk) -> Found
     requires { CanTurn place.now desk.old }
 {
     let held = desk.take(rt, place);
     let book = held.book();
-    let (assigned, stopped) = (book.assigned(), book.stopped());
-    let prices = book.prices().as_slice().to_vec(alloc);
+    let found = Found {
+        prices: two_of(book.prices()),
+        assigned: book.assigned(),
+        stopped: book.stopped(),
+    };
     held.give(rt, place, desk);
-    Ok(Found {
-        prices: prices?,
-        assigned,
-        stopped,
-    })
+    found
 }
 
 // The table of the first desk, and the prices of the book that it finds in the place.
 fn prices_found<R: Wait>(
     rt: &R,
-    alloc: Global,
     place: &BookPlace,
     mut desks: Vec<Desk>,
-) -> Result<Option<(Vec<Price>, Vec<Price>)>, AllocError>
+) -> Option<([Price; 2], [Price; 2])>
     requires { All (CanTurn place.now) desks.items }
 {
     if desks.is_empty() {
-        return Ok(None);
+        return None;
     }
-    let own = desks[0].table().as_slice().to_vec(alloc)?;
-    let found = look(rt, alloc, place, &mut desks[0])?;
-    Ok(Some((own, found.prices)))
+    let own = two_of(desks[0].table());
+    let found = look(rt, place, &mut desks[0]);
+    Some((own, found.prices))
 }
 
 // The same after a script of one desk.
@@ -278,37 +278,29 @@ fn prices_after<R: Wait>(
     rt: &R,
     alloc: Global,
     script: &str,
-) -> Result<Option<(Vec<Price>, Vec<Price>)>, AllocError> {
+) -> Result<Option<([Price; 2], [Price; 2])>, AllocError> {
     let book = book_of(alloc, 1)?;
     let (place, desks) = opened(rt, alloc, book)?;
     let (desks, _came) = run_script(rt, alloc, &place, desks, script.as_bytes(), 0, &OpenGate)?;
-    prices_found(rt, alloc, &place, desks)
+    Ok(prices_found(rt, &place, desks))
 }
 
 #[test]
 fn the_next_book_has_the_own_raise(rt: HostRuntime) -> Result<(), Fail> {
-    let Some((own, found)) = prices_after(&rt, rt.alloc(), "1t1t")? else {
-        panic!(rt; "no desk");
-    };
-    assert_eq!(rt; own.as_slice(), [0, 0].as_slice());
-    assert_eq!(rt; found.as_slice(), [5, 0].as_slice());
+    let found = prices_after(&rt, rt.alloc(), "1t1t")?;
+    assert_eq!(rt; found, Some(([0, 0], [5, 0])));
     Ok(())
 }
 
 // A desk's turns up to the one that ends its run: whether there was a fault, the sessions, and the
 // book found then.
-fn run_of<R: Wait>(
-    rt: &R,
-    alloc: Global,
-    place: &BookPlace,
-    desk: &mut Desk,
-) -> Result<(bool, u64, Found), AllocError>
+fn run_of<R: Wait>(rt: &R, alloc: Global, place: &BookPlace, desk: &mut Desk) -> (bool, u64, Found)
     requires { CanTurn place.now desk.old }
 {
     let parker = Parker::new();
     let fault = take_turns(rt, alloc, place, desk, 1, &OpenGate, &parker);
     let sessions = desk.sessions();
-    Ok((fault.is_some(), sessions, look(rt, alloc, place, desk)?))
+    (fault.is_some(), sessions, look(rt, place, desk))
 }
 
 fn run_first<R: Wait>(
@@ -316,13 +308,13 @@ fn run_first<R: Wait>(
     alloc: Global,
     place: &BookPlace,
     mut desks: Vec<Desk>,
-) -> Result<Option<(bool, u64, Found)>, AllocError>
+) -> Option<(bool, u64, Found)>
     requires { All (CanTurn place.now) desks.items }
 {
     if desks.is_empty() {
-        return Ok(None);
+        return None;
     }
-    Ok(Some(run_of(rt, alloc, place, &mut desks[0])?))
+    Some(run_of(rt, alloc, place, &mut desks[0]))
 }
 
 // The run of the first of two desks after a script.
@@ -334,7 +326,7 @@ fn run_after<R: Wait>(
     let book = book_of(alloc, 2)?;
     let (place, desks) = opened(rt, alloc, book)?;
     let (desks, _came) = run_script(rt, alloc, &place, desks, script.as_bytes(), 1, &OpenGate)?;
-    run_first(rt, alloc, &place, desks)
+    Ok(run_first(rt, alloc, &place, desks))
 }
 
 #[test]
@@ -344,7 +336,7 @@ fn a_worker_takes_turns_until_all_have_an_object(rt: HostRuntime) -> Result<(), 
     };
     assert_eq!(rt; (fault, sessions), (false, 7));
     assert_eq!(rt; (found.assigned, found.stopped), (2, false));
-    assert_eq!(rt; found.prices.as_slice(), [14, 12].as_slice());
+    assert_eq!(rt; found.prices, [14, 12]);
     Ok(())
 }
 
@@ -355,7 +347,7 @@ fn a_worker_takes_no_more_turns_after_a_stop(rt: HostRuntime) -> Result<(), Fail
     };
     assert_eq!(rt; (fault, sessions), (false, 3));
     assert_eq!(rt; (found.assigned, found.stopped), (1, true));
-    assert_eq!(rt; found.prices.as_slice(), [8, 0].as_slice());
+    assert_eq!(rt; found.prices, [8, 0]);
     Ok(())
 }
 
@@ -367,22 +359,21 @@ fn objects_given(alloc: Global, outcome: &Outcome) -> Result<Vec<u16>, AllocErro
     }
 }
 
-// The objects that one thread alone gives to persons 1 and 2, after a claim of each worker and a stop.
-fn given_alone<R: Wait>(rt: &R, alloc: Global) -> Result<Vec<u16>, AllocError> {
+// Whether one thread alone gives these objects to persons 1 and 2, after a claim of each worker and a stop.
+fn are_given_alone<R: Wait>(rt: &R, alloc: Global, objects: &[u16]) -> Result<bool, AllocError> {
     let mut book = book_of(alloc, 2)?;
     let _first = next_person(&mut book, 1);
     let _second = next_person(&mut book, 2);
     book.stop();
     if book.workers() == 0 {
-        return Ok(Vec::new(alloc));
+        return Ok(false);
     }
     let outcome = go_alone(rt, alloc, &mut book)?;
-    objects_given(alloc, &outcome)
+    Ok(objects_given(alloc, &outcome)?.as_slice() == objects)
 }
 
 #[test]
 fn one_thread_goes_on_after_claims_and_a_stop(rt: HostRuntime) -> Result<(), Fail> {
-    let given = given_alone(&rt, rt.alloc())?;
-    assert_eq!(rt; given.as_slice(), [2, 1].as_slice());
+    assert!(rt; are_given_alone(&rt, rt.alloc(), &[2, 1])?);
     Ok(())
 }
