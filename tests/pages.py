@@ -32,7 +32,7 @@ AVOIDED = re.compile(
 # A sentence ends here; a new one begins with a capital letter, a number, a name of code or a bracket.
 END = re.compile(r"(?<!\be\.g)(?<!\bi\.e)(?<!\bvs)[.!?][)\"'*]*\s+(?=[\"'(*\[]*[A-Z0-9`])")
 CODE = re.compile(r"`[^`]*`")
-ITEM = re.compile(r"\s*(?:[-*]|\d+\.) ")
+ITEM = re.compile(r"\A\s*(?:[-*]|\d+\.) ")
 LINK = re.compile(r"\]\(([^)\s]+)\)")
 FILE = re.compile(r"`((?:\.ci|bench|c|crates|docs|examples|programs|tests)/[\w./-]+)`")
 # Such a name is no file of a fresh clone: what a build makes.
