@@ -6,7 +6,7 @@ Python package over the library that c/build.sh made, and compares what it print
 stands below it. With --text it runs nothing, and needs no program.
 
 Then it looks at the text of all pages: links and names of files that lead nowhere, lines of more than 100 characters,
-sentences of more than 35 words, and words that docs/CONTRIBUTING.md says to avoid. Tables, code and quoted output are
+sentences of more than 35 words, and words that docs/CONTRIBUTING.md lists to avoid. Tables, code and quoted output are
 exempt. It compares docs/DEFINITIONS.md with what docs/definitions.py makes, whose sentences come from the sources and
 are exempt too. Prints what is wrong, and ends with status 1 then.
 """
@@ -24,11 +24,8 @@ RUN = ["README.md", "docs/MODELLING.md", "docs/MODES.md", "docs/SCRIPTS.md"]
 GENERATED = "docs/DEFINITIONS.md"
 WIDEST = 100
 LONGEST = 35
-# The words that docs/CONTRIBUTING.md lists with what to write in their place.
-AVOIDED = re.compile(
-    r"\b(tell|tells|told|telling|such(?! as)|thereof|therein|thereby|hence|whom|whoever|whichever|whatsoever|anew|beside"
-    r"|behind|nor|lest|wants|in vain|but for|want of)\b",
-    re.IGNORECASE)
+# The page that lists the words to avoid, in a block whose first line begins with `avoid`.
+WORDS = "docs/CONTRIBUTING.md"
 # A sentence ends here; a new one begins with a capital letter, a number, a name of code or a bracket.
 END = re.compile(r"(?<!\be\.g)(?<!\bi\.e)(?<!\bvs)[.!?][)\"'*]*\s+(?=[\"'(*\[]*[A-Z0-9`])")
 CODE = re.compile(r"`[^`]*`")
@@ -145,13 +142,27 @@ def sentences(text):
     return re.split(END, ITEM.sub("", text, count=1))
 
 
-def look_at_sentences(page, told):
+def avoided():
+    """What finds a word to avoid. `such (except 'such as')` in the list spares what stands in quotes."""
+    lines = lines_of(WORDS)
+    start = next(place for place, line in enumerate(lines) if line.startswith("    avoid "))
+    parts = []
+    for line in lines[start + 1:]:
+        if not is_code(line):
+            break
+        for entry in re.split(r"[,;] ", re.split(r"\s{2,}", line.strip())[0]):
+            word, _, spared = entry.partition(" (except '")
+            parts.append(re.escape(word) + (f"(?!{re.escape(spared[len(word):-2])})" if spared else ""))
+    return re.compile(rf"\b({'|'.join(parts)})\b", re.IGNORECASE)
+
+
+def look_at_sentences(page, words_to_avoid, told):
     for number, text in paragraphs(page):
         for sentence in sentences(text):
             words = [word for word in sentence.split() if re.search(r"[\w`]", word)]
             if len(words) > LONGEST:
                 told.append(f"{page}:{number}: {len(words)} words: {' '.join(words[:8])} ..")
-            for word in AVOIDED.findall(sentence):
+            for word in words_to_avoid.findall(sentence):
                 told.append(f"{page}:{number}: avoid '{word}'")
 
 
@@ -167,11 +178,12 @@ def look_at_generated(told):
 
 
 def look_at_text(told):
+    words_to_avoid = avoided()
     for page in pages():
         look_for_links(page, told)
         look_for_wide_lines(page, told)
         if page != GENERATED:
-            look_at_sentences(page, told)
+            look_at_sentences(page, words_to_avoid, told)
     look_at_generated(told)
 
 
