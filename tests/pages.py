@@ -1,13 +1,17 @@
 #!/usr/bin/env python3
-"""Whether the pages tell what is: tests/pages.py [PROGRAM].
+"""Whether the pages are true and plain: tests/pages.py [--text] [PROGRAM].
 
 Runs each `$` line of the pages in RUN with the built program on the path (rt run in crates/auction_cli) and the
 Python package over the library that c/build.sh made, and compares what it prints, on both streams, with what
-stands below it. Looks in all pages for links and for names of files that lead nowhere, and in those that are
-WRAPPED for lines of more than 100 characters, tables and code apart. Prints what differs, and ends with status 1
-then.
+stands below it. With --text it runs nothing, and needs no program.
+
+Then it looks at the text of all pages: links and names of files that lead nowhere, lines of more than 100 characters,
+sentences of more than 35 words, and words that docs/CONTRIBUTING.md lists to avoid. Tables, code and quoted output are
+exempt. It compares docs/DEFINITIONS.md with what docs/definitions.py makes, whose sentences come from the sources and
+are exempt too. Prints what is wrong, and ends with status 1 then.
 """
 import glob
+import importlib.util
 import os
 import re
 import subprocess
@@ -17,12 +21,19 @@ import tempfile
 TOP = os.path.dirname(os.path.dirname(os.path.abspath(__file__)))
 PROGRAM = os.path.join(TOP, "crates/auction_cli/out/auction_cli")
 RUN = ["README.md", "docs/MODELLING.md", "docs/MODES.md", "docs/SCRIPTS.md"]
-WRAPPED = ["README.md", "docs/*.md", "bench/README.md", "examples/README.md"]
+GENERATED = "docs/DEFINITIONS.md"
 WIDEST = 100
+LONGEST = 35
+# The page that lists the words to avoid, in a block whose first line begins with `avoid`.
+WORDS = "docs/CONTRIBUTING.md"
+# A sentence ends here; a new one begins with a capital letter, a number, a name of code or a bracket.
+END = re.compile(r"(?<!\be\.g)(?<!\bi\.e)(?<!\bvs)[.!?][)\"'*]*\s+(?=[\"'(*\[]*[A-Z0-9`])")
+CODE = re.compile(r"`[^`]*`")
+ITEM = re.compile(r"\A\s*(?:[-*]|\d+\.) ")
 LINK = re.compile(r"\]\(([^)\s]+)\)")
 FILE = re.compile(r"`((?:\.ci|bench|c|crates|docs|examples|programs|tests)/[\w./-]+)`")
-# Such a name is no file of a fresh clone: what a build makes, and the example crate of docs/CALLING.md.
-MADE = re.compile(r"/out(/|$)|/NAME|/plan_check")
+# Such a name is no file of a fresh clone: what a build makes.
+MADE = re.compile(r"/out(/|$)|/NAME")
 
 
 def lines_of(page):
@@ -111,18 +122,81 @@ def look_for_wide_lines(page, told):
             told.append(f"{page}:{number}: {len(line)} characters")
 
 
-def main():
-    program = os.path.abspath(sys.argv[1] if len(sys.argv) > 1 else PROGRAM)
-    if not os.access(program, os.X_OK):
-        sys.exit(f"tests/pages.py: no program at {program}")
-    told = []
-    for page in RUN:
-        run_page(page, program, told)
+def paragraphs(page):
+    """Each paragraph, item and heading of a page with the number of its first line, tables and code apart."""
+    number, held = 0, []
+    for place, line in enumerate(lines_of(page) + [""], 1):
+        ends = not line.strip() or is_code(line) or line.startswith(("|", "#")) or ITEM.match(line)
+        if ends and held:
+            yield number, " ".join(held)
+            held = []
+        if not line.strip() or is_code(line) or line.startswith("|"):
+            continue
+        number = number if held else place
+        held.append(line.strip().lstrip("#").strip())
+
+
+def sentences(text):
+    """The sentences of a paragraph, with a name of code as one word and a link as its text."""
+    text = re.sub(r"\[([^\]]*)\]\([^)]*\)", r"\1", CODE.sub("`", text))
+    return re.split(END, ITEM.sub("", text, count=1))
+
+
+def avoided():
+    """What finds a word to avoid. `such (except 'such as')` in the list spares what stands in quotes."""
+    lines = lines_of(WORDS)
+    start = next(place for place, line in enumerate(lines) if line.startswith("    avoid "))
+    parts = []
+    for line in lines[start + 1:]:
+        if not is_code(line):
+            break
+        for entry in re.split(r"[,;] ", re.split(r"\s{2,}", line.strip())[0]):
+            word, _, spared = entry.partition(" (except '")
+            parts.append(re.escape(word) + (f"(?!{re.escape(spared[len(word):-2])})" if spared else ""))
+    return re.compile(rf"\b({'|'.join(parts)})\b", re.IGNORECASE)
+
+
+def look_at_sentences(page, words_to_avoid, told):
+    for number, text in paragraphs(page):
+        for sentence in sentences(text):
+            words = [word for word in sentence.split() if re.search(r"[\w`]", word)]
+            if len(words) > LONGEST:
+                told.append(f"{page}:{number}: {len(words)} words: {' '.join(words[:8])} ..")
+            for word in words_to_avoid.findall(sentence):
+                told.append(f"{page}:{number}: avoid '{word}'")
+
+
+def look_at_generated(told):
+    """Compares the generated page with what its script makes of the sources."""
+    sys.dont_write_bytecode = True
+    spec = importlib.util.spec_from_file_location("definitions", os.path.join(TOP, "docs/definitions.py"))
+    script = importlib.util.module_from_spec(spec)
+    spec.loader.exec_module(script)
+    with open(os.path.join(TOP, GENERATED), encoding="utf-8") as file:
+        if file.read() != script.page():
+            told.append(f"{GENERATED} is old: run docs/definitions.py")
+
+
+def look_at_text(told):
+    words_to_avoid = avoided()
     for page in pages():
         look_for_links(page, told)
-    for pattern in WRAPPED:
-        for path in sorted(glob.glob(os.path.join(TOP, pattern))):
-            look_for_wide_lines(os.path.relpath(path, TOP), told)
+        look_for_wide_lines(page, told)
+        if page != GENERATED:
+            look_at_sentences(page, words_to_avoid, told)
+    look_at_generated(told)
+
+
+def main():
+    words = [word for word in sys.argv[1:] if word != "--text"]
+    told = []
+    if "--text" not in sys.argv:
+        program = os.path.abspath(words[0] if words else PROGRAM)
+        if not os.access(program, os.X_OK):
+            sys.exit(f"tests/pages.py: no program at {program}")
+        for page in RUN:
+            run_page(page, program, told)
+    look_at_text(told)
     for line in told:
         print(line)
     sys.exit(1 if told else 0)
