@@ -6,7 +6,7 @@ ghost use Rattle.assign_core.specs.Hall.{IsHallSet};
 ghost use Rattle.assign_core.specs.Outcomes.{IsProof, IsProofAmong};
 ghost use Rattle.assign_core.specs.Rows.{Listing, IsProblem};
 ghost use Rattle.assign_core.specs.Slackness.{IsCertificate, IsCertificateAmong};
-ghost use Rattle.dummies.specs.Filled.{filled_up, of_first};
+ghost use Rattle.rectangles.specs.Filled.{filled_up, of_first};
 
 /// What proves the answer of a problem that is filled up with dummies proves that of its first `n`
 /// persons: a certificate without the dummies' objects is one among all objects, since a dummy has

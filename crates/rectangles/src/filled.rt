@@ -1,6 +1,6 @@
 // A problem filled up to a square, and what the square's outcome says of the problem.
 ghost use Rattle.std.specs.Prelude.{◌≡◌, ◌-◌, ◌++◌, ◌≤◌, IfOk, length, map, replicate, take};
-ghost use Rattle.dummies.specs.Filled.{dummy_row, filled_up, of_first};
+ghost use Rattle.rectangles.specs.Filled.{dummy_row, filled_up, of_first};
 ghost use Rattle.assign_core.specs.Rows.{IsSize};
 
 use assign_core::{Assignment, Certificate, Cost, MOST_PERSONS, Object, Outcome, Person, Problem};

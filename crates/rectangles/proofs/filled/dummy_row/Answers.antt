@@ -1,6 +1,6 @@
 use Rattle.std.proofs.Common.{◌≡◌, ◌-◌, ◌+◌, ◌++◌, ◌∷◌, [], pos, suc, replicate, append_assoc, arith, sym, ◌∙◌, ap}
 use Rattle.assign_core.specs.Dense.{row_from}
-use Rattle.dummies.proofs.filled.dummy_row.Goals as goal
+use Rattle.rectangles.proofs.filled.dummy_row.Goals as goal
 
 pub loop-j-preserved : goal.loop-j-preserved
 loop-j-preserved c =

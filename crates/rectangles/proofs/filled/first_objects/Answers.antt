@@ -1,7 +1,7 @@
 use Rattle.std.proofs.Common.{◌∙◌, nat_eq, subst, sym}
 use Rattle.std.specs.List.{IsDistinct}
-use Rattle.dummies.proofs.Fronts.{distinct_take}
-use Rattle.dummies.proofs.filled.first_objects.Goals as goal
+use Rattle.rectangles.proofs.Fronts.{distinct_take}
+use Rattle.rectangles.proofs.filled.first_objects.Goals as goal
 
 pub new-requires : goal.new-requires
 new-requires c =

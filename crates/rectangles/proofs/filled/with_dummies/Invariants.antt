@@ -1,6 +1,6 @@
 use Rattle.std.proofs.Common.{◌≡◌, ◌-◌, ◌++◌, map, replicate}
-use Rattle.dummies.specs.Filled.{dummy_row}
-use Rattle.dummies.proofs.filled.with_dummies.Given as goal
+use Rattle.rectangles.specs.Filled.{dummy_row}
+use Rattle.rectangles.proofs.filled.with_dummies.Given as goal
 
 -- the rows so far and the dummies to come are all rows
 abbrev pub invariant-loop : goal.invariant-loop

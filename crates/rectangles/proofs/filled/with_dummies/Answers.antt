@@ -1,7 +1,7 @@
 use Rattle.std.proofs.Common.{◌≡◌, ◌-◌, ◌+◌, ◌++◌, suc, map, replicate, arith, sym, ◌∙◌, ap}
 use Rattle.assign_core.proofs.DenseRows.{rows_moved}
-use Rattle.dummies.specs.Filled.{dummy_row}
-use Rattle.dummies.proofs.filled.with_dummies.Goals as goal
+use Rattle.rectangles.specs.Filled.{dummy_row}
+use Rattle.rectangles.proofs.filled.with_dummies.Goals as goal
 
 pub loop-preserved : goal.loop-preserved
 loop-preserved c =

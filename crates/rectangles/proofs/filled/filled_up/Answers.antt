@@ -1,8 +1,8 @@
 use Rattle.std.proofs.Common.{◌-◌, ◌++◌, replicate, take, subst, sym, ap, ◌∙◌}
 use Rattle.assign_core.specs.Rows.{IsProblem}
-use Rattle.dummies.specs.Filled.{dummy_row}
-use Rattle.dummies.proofs.Squares.{IsProblem-filled}
-use Rattle.dummies.proofs.filled.filled_up.Goals as goal
+use Rattle.rectangles.specs.Filled.{dummy_row}
+use Rattle.rectangles.proofs.Squares.{IsProblem-filled}
+use Rattle.rectangles.proofs.filled.filled_up.Goals as goal
 
 pub from_rows-requires : goal.from_rows-requires
 from_rows-requires c =

@@ -1,7 +1,7 @@
 use Rattle.std.proofs.Common.{◌≡◌, ◌-◌, ◌+◌, ◌++◌, pos, replicate}
 use Rattle.assign_core.specs.Dense.{row_from}
-use Rattle.dummies.specs.Filled.{dummy_row}
-use Rattle.dummies.proofs.filled.dummy_row.Given as goal
+use Rattle.rectangles.specs.Filled.{dummy_row}
+use Rattle.rectangles.proofs.filled.dummy_row.Given as goal
 
 -- the row so far and the objects to come are the whole row
 abbrev pub invariant-loop-j : goal.invariant-loop-j

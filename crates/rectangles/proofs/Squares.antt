@@ -26,8 +26,8 @@ use Rattle.assign_core.proofs.Distinct.{InRange, counted}
 use Rattle.assign_core.proofs.HallSets.{few_among}
 use Rattle.assign_core.proofs.Listed.{listed_here, listed_later, objects_within, entry_listed}
 use Rattle.assign_core.proofs.Zips.{zip_at}
-use Rattle.dummies.specs.Filled.{dummy_row, filled_up, of_first}
-use Rattle.dummies.proofs.Fronts.{contains_or_apart, distinct_take, hall_front, held, rising_distinct, zip_take}
+use Rattle.rectangles.specs.Filled.{dummy_row, filled_up, of_first}
+use Rattle.rectangles.proofs.Fronts.{contains_or_apart, distinct_take, hall_front, held, rising_distinct, zip_take}
 
 -- what a dummy lists is worth nothing
 zero_benefits : (sense : Sense) (m j k : ℕ) → benefit_row sense m (row_from j (replicate k (pos 0))) ≡ row_from j (replicate k (pos 0))
