@@ -1,3 +1,5 @@
 mod Fitting
 mod Triples
+mod DenseFronts
 mod Starting
+mod HallFronts

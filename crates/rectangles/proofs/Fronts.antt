@@ -45,10 +45,10 @@ rising_distinct xs rise = IsDistinct-from_apart nat_eq xs (λ i k z lt last. eli
 ])
 
 -- who is among the first n lists what it lists among all
-listed_front : (n : ℕ) (rows : List Listing) (i j : ℕ) → i ≤ n → IsListed rows i j → IsListed (take n rows) i j
+pub listed_front : (n : ℕ) (rows : List Listing) (i j : ℕ) → i ≤ n → IsListed rows i j → IsListed (take n rows) i j
 listed_front n rows i j le h = subst (λ row. IsSome (listed_in row j)) (sym (row_of-take n rows i le)) h
 
-listed_whole : (n : ℕ) (rows : List Listing) (i j : ℕ) → i ≤ n → IsListed (take n rows) i j → IsListed rows i j
+pub listed_whole : (n : ℕ) (rows : List Listing) (i j : ℕ) → i ≤ n → IsListed (take n rows) i j → IsListed rows i j
 listed_whole n rows i j le h = subst (λ row. IsSome (listed_in row j)) (row_of-take n rows i le) h
 
 -- a contained number has what all elements have
