@@ -1,18 +1,18 @@
 -- Verdicts on Hall sets of the first n persons of a problem.
-use Rattle.std.proofs.Common.{◌≡◌, ℕ, ◌<◌, ◌≤◌, List, length, take, get_or, max, All, arith, sym, subst}
+use Rattle.std.proofs.Common.{◌≡◌, ℕ, ◌≤◌, List, length, take, max, All, arith}
 use Rattle.std.specs.List.{Contains}
 use Rattle.std.proofs.lemmas.List.{length-take-le}
 use Rattle.std.proofs.lemmas.List.Elements.{All-weaker}
 use Rattle.assign_core.specs.Numbered.{IsNumber}
 use Rattle.assign_core.specs.Rows.{Listing, IsAmong, IsListed, row_of}
-use Rattle.assign_core.specs.Hall.{IsHallSet, IsNeighbour}
+use Rattle.assign_core.specs.Hall.{IsNeighbour}
 use Rattle.assign_core.proofs.Listed.{listing_within, object_within}
 use Rattle.assign_core.proofs.RowLemmas.{IsRow-row_of}
 use Rattle.dual_checker.specs.declared.hall_verdict.HallVerdict.{HallVerdict}
 use Rattle.dual_checker.specs.declared.hall_verdict.HallVerdict.TheVariants.{Range, Order, Missing, Extra, Count, Yes}
 use Rattle.dual_checker.specs.HallVerdicts.{IsHallVerdict}
 use Rattle.rectangles.proofs.Fronts.{hall_front, held, listed_front, listed_whole}
-use Rattle.lent_lists.specs.HallSets.{AreInRangeAmong, IsHallVerdictAmong}
+use Rattle.lent_lists.specs.HallSets.{IsHallVerdictAmong}
 
 low : (n : ℕ) (persons : List ℕ) (i : ℕ) → All (IsNumber n) persons → Contains persons i → i ≤ n
 low n persons i h c = (held (IsNumber n) persons i h c).last

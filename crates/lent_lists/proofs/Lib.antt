@@ -1,4 +1,5 @@
 mod Fitting
+mod Fewer
 mod Triples
 mod DenseFronts
 mod Starting

@@ -1,6 +1,5 @@
 -- What a checking call tells.
 use Rattle.std.specs.Prelude.{◌≡◌, ℕ, ℤ, pos, List}
-use Rattle.dual_checker.specs.declared.verdict.Verdict.{Verdict}
 use Rattle.dual_checker.specs.declared.verdict.Verdict.TheVariants as verdict
 use Rattle.dual_checker.specs.declared.among.VerdictAmong.{VerdictAmong}
 use Rattle.dual_checker.specs.declared.among.VerdictAmong.TheVariants as among

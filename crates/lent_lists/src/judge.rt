@@ -121,7 +121,10 @@ pub fn judge(given: &Given<'_>) -> Result<Sense, Fault>
     let Some(m) = size_by(given.m) else {
         return Err(Fault::Size);
     };
-    if !has_pairs(given) || !are_all(given.by_person, given.n) || !are_all(given.by_object, given.m) {
+    if !has_pairs(given)
+        || !are_all(given.by_person, given.n)
+        || !are_all(given.by_object, given.m)
+    {
         return Err(Fault::Length);
     }
     match first_fault(n, m, given) {

@@ -11,6 +11,7 @@ mod halves;
 mod judge;
 mod problem;
 mod rooms;
+mod solve;
 mod told;
 
 pub use check::{hall_verdict_on, tell_hall_verdict, tell_verdict, verdict_on};
@@ -19,4 +20,5 @@ pub use fault::Fault;
 pub use form::{Form, form_of};
 pub use given::Given;
 pub use halves::Halves;
+pub use solve::solve_given;
 pub use told::Told;

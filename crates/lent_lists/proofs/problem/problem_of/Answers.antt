@@ -1,4 +1,4 @@
-use Rattle.std.proofs.Common.{length, max, sym, subst, take, ap, ◌∙◌}
+use Rattle.std.proofs.Common.{sym, subst, ◌∙◌}
 use Rattle.std.specs.List.{All}
 use Rattle.rectangles.specs.Sparse.{IsTripleAmong}
 use Rattle.lent_lists.specs.Faults.{IsWhole}
