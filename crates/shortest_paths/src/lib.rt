@@ -2,6 +2,7 @@
 //! checkers, and rounds of offers where they refuse it.
 #![tactic(auto)]
 
+mod among;
 mod answer;
 mod bids;
 mod lowering;
@@ -17,6 +18,7 @@ mod search;
 mod solve;
 mod ties;
 
+pub use among::{solve_paths_among, solve_paths_among_from};
 pub use observer::{Observer, Unobserved};
 pub use solve::{
     solve_paths, solve_paths_from, solve_paths_from_watched, solve_paths_watched, try_paths,
