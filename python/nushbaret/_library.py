@@ -6,7 +6,7 @@ from array import array
 
 from ._errors import LibraryNotFound
 
-VERSION = "1.0.0"
+VERSION = "2.0.0"
 MOST_PERSONS = 8192
 GREATEST_COST = 10**12
 GREATEST_FIRST_PRICE = 10**21
