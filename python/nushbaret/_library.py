@@ -4,8 +4,6 @@ import pathlib
 import threading
 from array import array
 
-from ._errors import LibraryNotFound
-
 VERSION = "2.0.0"
 MOST_PERSONS = 8192
 GREATEST_COST = 10**12
@@ -16,11 +14,16 @@ CODES = (
     "SENSE", "SIZE", "LENGTH", "PERSON", "OBJECT", "COST", "PRICE", "MEMORY",
     "ANSWER_LENGTH", "UNLISTED", "TWICE", "PRICE_RANGE", "SLACK",
     "HALL_RANGE", "HALL_ORDER", "HALL_MISSING", "HALL_EXTRA", "HALL_COUNT",
+    "DEAR",
 )
 
 NAME = "libnushbaret.so"
 _PACKAGE = pathlib.Path(__file__).resolve().parent
 PLACES = (_PACKAGE / NAME, _PACKAGE.parent.parent / "c" / "out" / NAME)
+
+
+class LibraryNotFound(OSError):
+    """The shared library isn't there, or it is of another version; the text says which command makes it."""
 
 
 class Told(ctypes.Structure):
@@ -59,7 +62,7 @@ def _load():
     for name, lists in _LISTS.items():
         call = getattr(library, f"nushbaret_{name}")
         sense = [] if name == "check_hall" else [ctypes.c_uint32]
-        call.argtypes = sense + [ctypes.c_size_t] + [ctypes.c_void_p, ctypes.c_size_t] * lists + [ctypes.c_void_p]
+        call.argtypes = sense + [ctypes.c_size_t] * 2 + [ctypes.c_void_p, ctypes.c_size_t] * lists + [ctypes.c_void_p]
         call.restype = ctypes.c_int32
         _calls[name] = call
 
@@ -124,10 +127,10 @@ def _loaded():
     return _calls
 
 
-def call(name, sense, size, *lists):
+def call(name, sense, n, m, *lists):
     """The name of the code, and what is told. `sense` is None for `check_hall`; MemoryError where memory is refused."""
     told = Told()
-    words = [size] if sense is None else [1 if sense else 0, size]
+    words = [n, m] if sense is None else [1 if sense else 0, n, m]
     for values in lists:
         words += _lend(values)
     code = CODES[_loaded()[name](*words, ctypes.addressof(told))]
@@ -136,13 +139,13 @@ def call(name, sense, size, *lists):
     return code, told
 
 
-def best_objects(size, costs, maximize):
+def best_objects(n, m, costs, maximize):
     """An array, and the place in it where the objects of a best assignment of a dense problem stand, in 16 bits each; None
     where the library has no such answer. All that it fills lies in the array: what is told, prices, objects, persons."""
-    room = array("Q", bytes(_TOLD + 24 * size))
+    room = array("Q", bytes(_TOLD + 16 * m + 4 * n + 8 - 4 * n % 8))
     told = room.buffer_info()[0]
     prices = told + _TOLD
-    objects = prices + 16 * size
+    objects = prices + 16 * m
     code = _loaded()["dense"](
-        1 if maximize else 0, size, *_lend(costs), objects, size, objects + 2 * size, size, prices, size, told)
+        1 if maximize else 0, n, m, *_lend(costs), objects, n, objects + 2 * n, n, prices, m, told)
     return (room, objects - told) if CODES[code] == "BEST" else None

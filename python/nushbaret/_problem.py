@@ -130,6 +130,22 @@ def costs_of_pairs(problem, pairs):
     return [wanted[row + 1, column + 1] for row, column in pairs]
 
 
+def lists_of(problem):
+    """The columns of each row, rising, and what they cost where costs are to be little."""
+    n_rows, n_columns, sign = problem.n_rows, problem.n_columns, -1 if problem.maximize else 1
+    if problem.persons is None:
+        costs = plain(problem.costs)
+        if problem.maximize:
+            costs = -costs if problem.numpy else array("q", map(operator.neg, costs))
+        view = memoryview(costs)
+        return [(range(n_columns), view[row * n_columns:(row + 1) * n_columns]) for row in range(n_rows)]
+    held = [{} for _ in range(n_rows)]
+    for person, item, cost in zip(problem.persons.tolist(), problem.objects.tolist(), problem.costs.tolist()):
+        row = held[person - 1]
+        row[item - 1] = min(cost, row.get(item - 1, cost))
+    return [(sorted(row), [sign * row[column] for column in sorted(row)]) for row in held]
+
+
 def listed(problem):
     """A dense problem as a sparse one."""
     if problem.persons is not None:

@@ -5,9 +5,9 @@ import sys
 from array import array
 from typing import Any, List, Optional, Sequence, Tuple, Union
 
-from . import _duals, _exact as exact, _library as library, _matching as matching, _problem as reading, _square as square
-from ._groups import infeasible
-from ._library import MOST_PERSONS, Halves
+from . import _exact as exact, _library as library, _problem as reading, _proved as proved
+from ._infeasible import infeasible, most_served
+from ._library import MOST_PERSONS
 from ._result import Result, rows_and_columns
 
 Start = Union[Result, Sequence[Any], None]
@@ -20,39 +20,32 @@ MOST_SHIFT = 1000
 def solve_served(problem, served):
     """The best plan of so many pairs; None where the library proves that there is none."""
     answer = _solved(problem, served=served)
-    return None if isinstance(answer, square.Short) else Result(problem, answer)
-
-
-def _no_pairs(problem):
-    """The answer where there is no pair to make: all that there is stays out, at duals of 0."""
-    objects = array("H", (problem.n_columns + 1,)) * problem.n_rows
-    return square.Answer(problem.n_rows + problem.n_columns, 0, objects, Halves(problem.n_columns))
+    return None if isinstance(answer, proved.Short) else Result(problem, answer)
 
 
 def _solved(problem, start=None, served=None):
-    """An answer or a Short of the square problem that stands for this one."""
+    """The library's answer to the problem of so many pairs, an Answer or a Short."""
     if served == 0 or not min(problem.n_rows, problem.n_columns):
-        return _no_pairs(problem)
-    first = None if start is None else _first(problem, start, served)
-    return square.answer(problem, square.squared(problem, served), first)
-
-
-def _first(problem, start, served):
-    return _duals.first_prices(problem, start._rents if isinstance(start, Result) else start, served)
+        return proved.no_pairs(problem)
+    asked = proved.given(problem, served)
+    if start is None:
+        return proved.answer(problem, asked)
+    prices = start._rents if isinstance(start, Result) else start
+    return proved.answer(problem, asked, proved.first_prices(problem, prices, served))
 
 
 def _most(problem, start):
     """The best of the fullest plans. That no plan has one pair more is proved by the library as well."""
-    served = matching.most_served(problem)
+    served = most_served(problem)
     answer = _solved(problem, start, served)
-    if isinstance(answer, square.Short) or not isinstance(_solved(problem, served=served + 1), square.Short):
+    if isinstance(answer, proved.Short) or not isinstance(_solved(problem, served=served + 1), proved.Short):
         raise RuntimeError(f"{served} rows were found to be the most that can be served, and the library says otherwise")
     return answer
 
 
 def _answer(problem, start, partial):
     answer = _solved(problem, start)
-    if not isinstance(answer, square.Short):
+    if not isinstance(answer, proved.Short):
         return answer
     if not partial:
         raise infeasible(problem)
@@ -194,19 +187,19 @@ def _quick_assignment(costs, maximize):
     if numpy is None or type(costs) is not numpy.ndarray or costs.ndim != 2:
         return None
     n_rows, n_columns = costs.shape
-    size = n_rows if n_rows > n_columns else n_columns
-    if size > MOST_PERSONS or not n_rows or not n_columns or not costs.flags.aligned:
+    is_turned = n_rows > n_columns
+    if is_turned:
+        costs, n_rows, n_columns = costs.T, n_columns, n_rows
+    if n_columns > MOST_PERSONS or not n_rows or not costs.flags.aligned:
         return None
     numbers = _whole_numbers(numpy, costs)
     if numbers is None:
         return None
-    if n_rows != n_columns:
-        numbers = _filled_up(numpy, numbers, n_rows, n_columns, size)
-    found = library.best_objects(size, numbers, maximize)
+    found = library.best_objects(n_rows, n_columns, numbers, maximize)
     if found is None:
         return None
     room, place = found
-    return _from_zero(numpy, n_rows, n_columns, numpy.frombuffer(room, numpy.uint16, n_rows, place))
+    return _from_zero(numpy, numpy.frombuffer(room, numpy.uint16, n_rows, place), is_turned)
 
 
 def _whole_numbers(numpy, costs):
@@ -230,21 +223,14 @@ def _whole_numbers(numpy, costs):
     return numpy.rint(scaled, scaled).astype(numpy.int64)
 
 
-def _filled_up(numpy, numbers, n_rows, n_columns, size):
-    """A square, in which dummies cost nothing."""
-    square = numpy.zeros((size, size), numpy.int64)
-    square[:n_rows, :n_columns] = numbers.reshape(n_rows, n_columns)
-    return square
-
-
-def _from_zero(numpy, n_rows, n_columns, objects):
+def _from_zero(numpy, objects, is_turned):
     """Numbers from 0 on, in arrays that are the caller's own: they come out of one that has -1, 0, 1 .."""
     if not _numbers:
         _numbers.append(numpy.arange(-1, MOST_PERSONS))
-    if n_rows <= n_columns:
-        return _numbers[0][1:n_rows + 1].copy(), _numbers[0].take(objects)
-    rows = (objects <= n_columns).nonzero()[0]
-    return rows, _numbers[0].take(objects.take(rows))
+    if is_turned:
+        columns = objects.argsort()
+        return _numbers[0].take(objects.take(columns)), columns
+    return _numbers[0][1:len(objects) + 1].copy(), _numbers[0].take(objects)
 
 
 def solve_without(problem, served, row, column):
@@ -254,7 +240,7 @@ def solve_without(problem, served, row, column):
         raise IndexError(f"row {row}, column {column}: there are {problem.n_rows} rows and {problem.n_columns} columns")
     less = _leave_out(problem, row, column)
     answer = _solved(less, served=served)
-    if isinstance(answer, square.Short):
+    if isinstance(answer, proved.Short):
         raise infeasible(less)
     return Result(less, answer)
 
