@@ -10,14 +10,12 @@ from fractions import Fraction
 from itertools import chain
 from typing import NamedTuple, Union
 
-from ._library import GREATEST_COST
+from ._library import FEW, GREATEST_COST
 
 MOST_PLACES = 6
 # In place of a number of decimals: as many as fit; and a power of two, for costs that are taken as doubles.
 FIT, DOUBLES = "fit", "doubles"
 FORBID = "forbid"
-# Up to so many numbers a copy costs less than a second look at them.
-FEW = 1024
 # Digits behind the point that are kept of a fraction before it is rounded.
 STICKY = 30
 _PLAIN = frozenset((int, float, bool, type(None)))
@@ -332,8 +330,8 @@ def _double(place, value, manner, where):
 
 def shift_of(most):
     """The greatest power of two that leaves a float within the library's range."""
-    shift = 40 - math.frexp(most)[1]
-    return shift if math.ldexp(most, shift) <= GREATEST_COST else shift - 1
+    part, power = math.frexp(most)
+    return 40 - power - (part > GREATEST_COST / 2**40)
 
 
 def of_array(numpy, values, manner, where):

@@ -65,6 +65,8 @@ def _load():
         call.argtypes = sense + [ctypes.c_size_t] * 2 + [ctypes.c_void_p, ctypes.c_size_t] * lists + [ctypes.c_void_p]
         call.restype = ctypes.c_int32
         _calls[name] = call
+    # Without types, so that what is made ready isn't looked at once more.
+    _calls["dense, made ready"] = library["nushbaret_dense"]
 
 
 class Lent:
@@ -80,8 +82,9 @@ class Lent:
 
 
 _SPARE = array("Q", [0])
-# NumPy tells an array's address slowly: up to so many bytes a copy is had sooner.
-_FEW = 8192
+# NumPy tells an array's address slowly: up to so many numbers a copy is had sooner.
+FEW = 1024
+_FEW_BYTES = 8 * FEW
 
 
 def _lend(values):
@@ -92,7 +95,7 @@ def _lend(values):
         place, count = values.place, values.count
     elif isinstance(values, Halves):
         place, count = values.words.buffer_info()[0], len(values)
-    elif values.nbytes <= _FEW:
+    elif values.nbytes <= _FEW_BYTES:
         return values.tobytes(), values.size
     else:
         place, count = values.__array_interface__["data"][0], values.size
@@ -139,13 +142,47 @@ def call(name, sense, n, m, *lists):
     return code, told
 
 
-def best_objects(n, m, costs, maximize):
-    """An array, and the place in it where the objects of a best assignment of a dense problem stand, in 16 bits each; None
-    where the library has no such answer. All that it fills lies in the array: what is told, prices, objects, persons."""
-    room = array("Q", bytes(_TOLD + 16 * m + 4 * n + 8 - 4 * n % 8))
-    told = room.buffer_info()[0]
-    prices = told + _TOLD
-    objects = prices + 16 * m
-    code = _loaded()["dense"](
-        1 if maximize else 0, n, m, *_lend(costs), objects, n, objects + 2 * n, n, prices, m, told)
-    return (room, objects - told) if CODES[code] == "BEST" else None
+class Room:
+    """What a dense call on an array of NumPy's fills, with its arguments made ready, since to convert them takes as long as a small
+    problem: a sense, sizes, costs, and the rest. The call answers 0 where it found a best assignment, whose objects stand here
+    then. `doubles` and `numbers` are one memory, for costs that are to become whole numbers, and `own` is its address."""
+
+    def __init__(self, numpy, n, m):
+        self.words = array("Q", bytes(_TOLD + 16 * m + 4 * n + 8 - 4 * n % 8))
+        self.rows, self.objects = numpy.arange(n), numpy.frombuffer(self.words, numpy.uint16, n, _TOLD + 16 * m)
+        told = self.words.buffer_info()[0]
+        prices, objects, persons = told + _TOLD, told + _TOLD + 16 * m, told + _TOLD + 16 * m + 2 * n
+        many, few, address = ctypes.c_size_t(m), ctypes.c_size_t(n), ctypes.c_void_p
+        self.minimized, self.maximized, self.sizes = ctypes.c_uint32(0), ctypes.c_uint32(1), (few, many)
+        self.rest = (ctypes.c_size_t(n * m), address(objects), few, address(persons), few, address(prices), many, address(told))
+        self.call, self.doubles, self.numbers, self.own = _calls["dense, made ready"], None, None, None
+
+    def held(self, numbers):
+        """The address of an array of 64-bit numbers, which stays as long as this does. NumPy tells it slowly: a copy of a small
+        array, as bytes, is had sooner."""
+        self.numbers = numbers
+        return ctypes.c_void_p(numbers.__array_interface__["data"][0])
+
+    def hold_doubles(self, numpy, shape):
+        """Makes memory for costs that are to become whole numbers."""
+        self.doubles = numpy.empty(shape)
+        self.own = self.held(self.doubles.view(numpy.int64))
+
+
+# Rooms of calls that are done, by their sizes; so many sizes are held at most.
+_MOST_SIZES = 256
+_rooms = {}
+
+
+def rooms_for(n, m):
+    """A list of rooms that no call has: take one of it, and put it back when it is done."""
+    rooms = _rooms.get((n, m))
+    if rooms is None:
+        _loaded()
+        if len(_rooms) >= _MOST_SIZES:
+            _rooms.clear()
+        rooms = []
+        # Larger rooms aren't kept: to make one takes little beside such a problem, and it holds much.
+        if n * m <= FEW:
+            _rooms[n, m] = rooms
+    return rooms

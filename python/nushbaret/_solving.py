@@ -3,18 +3,17 @@ import math
 import operator
 import sys
 from array import array
-from typing import Any, List, Optional, Sequence, Tuple, Union
+from typing import Any, Dict, Optional, Sequence, Tuple, Union
 
 from . import _exact as exact, _library as library, _problem as reading, _proved as proved
 from ._infeasible import infeasible, most_served
-from ._library import MOST_PERSONS
+from ._library import FEW, MOST_PERSONS
 from ._result import Result, rows_and_columns
 
 Start = Union[Result, Sequence[Any], None]
 Decimals = Union[int, str, None]
-_numbers: List[Any] = []
-# Beyond such powers of two a factor is no double.
-MOST_SHIFT = 1000
+# Beyond such powers of two there may be no double to add.
+MOST_SHIFT = 900
 
 
 def solve_served(problem, served):
@@ -170,67 +169,106 @@ def linear_sum_assignment(cost_matrix: Any, maximize: bool = False) -> Tuple[Any
     Floats are multiplied by the greatest power of two that leaves all within 10**12, and rounded. Where that makes all whole
     the answer is best for these very doubles; else it costs at most n times that unit more, some 12 digits below the greatest.
     """
-    found = _quick_assignment(cost_matrix, maximize)
+    arrays = _arrays or _load_arrays()
+    found = arrays and arrays.assignment(cost_matrix, maximize)
     if found:
         return found
     problem = reading.of_matrix(cost_matrix, exact.Manner(bool(maximize), exact.DOUBLES))
     return rows_and_columns(problem, _answer(problem, None, False))
 
 
-# SciPy's call on an array of NumPy's, by a shorter way: around a small problem it's the steps in Python that take the time.
+class _Arrays:
+    """SciPy's call on arrays of NumPy's, by a shorter way: around a small problem it's the steps in Python that take the time. What
+    is wanted of NumPy stands here, so that it isn't looked up each time."""
+
+    def __init__(self, numpy):
+        self.numpy, self.array = numpy, numpy.ndarray
+        self.int64, self.float64 = numpy.dtype(numpy.int64), numpy.dtype(numpy.float64)
+        self.add, self.subtract = numpy.add, numpy.subtract
+        # Numbers from 0 on come out of an array that has -1, 0, 1 ..
+        self.from_zero = numpy.arange(-1, MOST_PERSONS).take
+
+    def assignment(self, costs, maximize):
+        """Rows and columns of a best assignment. None where the costs aren't an array of 64-bit integers or floats, all finite, or
+        where the library has no answer to them: then the longer way finds it, or says what is wrong."""
+        if type(costs) is not self.array or costs.ndim != 2:
+            return None
+        n, m = costs.shape
+        if n <= m:
+            return self._assignment(costs, n, m, maximize)
+        found = self._assignment(costs.T, m, n, maximize)
+        if found is None:
+            return None
+        rows = found[1]
+        columns = rows.argsort()
+        return rows.take(columns), columns
+
+    def _assignment(self, costs, n, m, maximize):
+        if not n or m > MOST_PERSONS or not costs.flags.aligned:
+            return None
+        rooms = library.rooms_for(n, m)
+        try:
+            room = rooms.pop()
+        except IndexError:
+            room = library.Room(self.numpy, n, m)
+        if costs.dtype is self.int64:
+            lent = costs.tobytes() if n * m <= FEW else room.held(costs.ravel())
+        elif costs.dtype is self.float64:
+            lent = self._taken(costs, room)
+        else:
+            lent = None
+        if lent is None or room.call(room.maximized if maximize else room.minimized, *room.sizes, lent, *room.rest):
+            return None
+        found = room.rows.copy(), self.from_zero(room.objects)
+        rooms.append(room)
+        return found
+
+    def _taken(self, costs, room):
+        """Doubles as whole numbers, as `doubles_of_array` has them; None where that must look closer."""
+        # In the order in which they lie in memory they are looked at sooner.
+        seen = costs if costs.flags.c_contiguous else costs.T
+        item = seen.item
+        # Where the first isn't whole, no look at the others is needed.
+        if item(0).is_integer():
+            numbers = exact.whole_numbers(self.numpy, costs.ravel())
+            if numbers is not None:
+                return numbers.tobytes() if numbers.size <= FEW else room.held(numbers)
+        most, least = item(seen.argmax()), -item(seen.argmin())
+        if least > most:
+            most = least
+        if not 0 < most < math.inf:
+            return None
+        shift = exact.shift_of(most)
+        adder = _adders.get(shift) or self._adder(shift)
+        if adder is None:
+            return None
+        if room.doubles is None:
+            room.hold_doubles(self.numpy, costs.shape)
+        self.add(costs, adder[0], room.doubles)
+        self.subtract(room.numbers, adder[1], room.numbers)
+        return room.own
+
+    def _adder(self, shift):
+        """A double whose last place is 2**-shift, so that what is added to it is rounded there, and its bits, which are to be taken
+        off those of the sum; None where there is no such double."""
+        if not -MOST_SHIFT < shift < MOST_SHIFT:
+            return None
+        adder = self.numpy.array(1.5 * 2.0**(52 - shift))
+        _adders[shift] = adder, adder.view(self.int64)
+        return _adders[shift]
 
 
-def _quick_assignment(costs, maximize):
-    """Rows and columns of a best assignment. None where the costs aren't an array of 64-bit integers or floats, all finite, or
-    where the library has no answer to them: then the longer way finds it, or says what is wrong."""
+_arrays: Optional[_Arrays] = None
+_adders: Dict[int, Tuple[Any, Any]] = {}
+
+
+def _load_arrays():
+    """The shorter way, once NumPy is there."""
+    global _arrays
     numpy = sys.modules.get("numpy")
-    if numpy is None or type(costs) is not numpy.ndarray or costs.ndim != 2:
-        return None
-    n_rows, n_columns = costs.shape
-    is_turned = n_rows > n_columns
-    if is_turned:
-        costs, n_rows, n_columns = costs.T, n_columns, n_rows
-    if n_columns > MOST_PERSONS or not n_rows or not costs.flags.aligned:
-        return None
-    numbers = _whole_numbers(numpy, costs)
-    if numbers is None:
-        return None
-    found = library.best_objects(n_rows, n_columns, numbers, maximize)
-    if found is None:
-        return None
-    room, place = found
-    return _from_zero(numpy, numpy.frombuffer(room, numpy.uint16, n_rows, place), is_turned)
-
-
-def _whole_numbers(numpy, costs):
-    kind = costs.dtype
-    if kind == numpy.int64:
-        return costs.ravel()
-    if kind != numpy.float64:
-        return None
-    flat = costs.ravel()
-    # Where the first isn't whole, no look at the others is needed.
-    numbers = exact.whole_numbers(numpy, flat) if flat.item(0).is_integer() else None
-    if numbers is not None:
-        return numbers
-    most = float(numpy.maximum.reduce(numpy.absolute(flat)))
-    if not 0 < most < math.inf:
-        return None
-    shift = exact.shift_of(most)
-    if not -MOST_SHIFT < shift < MOST_SHIFT:
-        return None
-    scaled = flat * 2.0**shift
-    return numpy.rint(scaled, scaled).astype(numpy.int64)
-
-
-def _from_zero(numpy, objects, is_turned):
-    """Numbers from 0 on, in arrays that are the caller's own: they come out of one that has -1, 0, 1 .."""
-    if not _numbers:
-        _numbers.append(numpy.arange(-1, MOST_PERSONS))
-    if is_turned:
-        columns = objects.argsort()
-        return _numbers[0].take(objects.take(columns)), columns
-    return _numbers[0][1:len(objects) + 1].copy(), _numbers[0].take(objects)
+    if numpy is not None and hasattr(numpy, "ndarray"):
+        _arrays = _Arrays(numpy)
+    return _arrays
 
 
 def solve_without(problem, served, row, column):
