@@ -237,6 +237,8 @@ def of_pairs(n_rows, n_columns, rows, columns, costs, manner):
 
 def of_sparse_matrix(matrix, manner):
     """The problem of a sparse matrix of SciPy's, whose stored entries are its pairs, also those that are 0."""
-    entries = matrix.tocoo(copy=True)
-    entries.sum_duplicates()
+    once = getattr(matrix, "has_canonical_format", False)
+    entries = matrix.tocoo(copy=not once)
+    if not once:
+        entries.sum_duplicates()
     return of_pairs(*matrix.shape, entries.row, entries.col, entries.data, manner)
