@@ -12,8 +12,6 @@ from ._result import Result, rows_and_columns
 
 Start = Union[Result, Sequence[Any], None]
 Decimals = Union[int, str, None]
-# Beyond such powers of two there may be no double to add.
-MOST_SHIFT = 900
 
 
 def solve_served(problem, served):
@@ -251,7 +249,7 @@ class _Arrays:
     def _adder(self, shift):
         """A double whose last place is 2**-shift, so that what is added to it is rounded there, and its bits, which are to be taken
         off those of the sum; None where there is no such double."""
-        if not -MOST_SHIFT < shift < MOST_SHIFT:
+        if not -exact.MOST_SHIFT < shift < exact.MOST_SHIFT:
             return None
         adder = self.numpy.array(1.5 * 2.0**(52 - shift))
         _adders[shift] = adder, adder.view(self.int64)
