@@ -44,14 +44,22 @@ def _judge_size(n_rows, n_columns):
         raise ValueError(f"{n_rows} rows and {n_columns} columns: at most {MOST_PERSONS} of each can be had")
 
 
-def _rows_of(costs):
-    """The rows of a matrix that is no array of NumPy's, and how long they are."""
+def _rows_of_any(costs):
     try:
         rows = [row if hasattr(row, "__len__") else list(row) for row in costs]
     except TypeError:
         raise ValueError("expected a matrix (2-D array)") from None
     if any(isinstance(row, (str, bytes)) for row in rows):
         raise TypeError("Cannot cast array data: a row is a text")
+    return rows
+
+
+def _rows_of(costs):
+    """The rows of a matrix that is no array of NumPy's, and how long they are."""
+    if type(costs) is list and {list}.issuperset(map(type, costs)):
+        rows = costs
+    else:
+        rows = _rows_of_any(costs)
     lengths = set(map(len, rows))
     if len(lengths) > 1:
         row = next(row for row, held in enumerate(rows) if len(held) != len(rows[0]))
