@@ -6,8 +6,8 @@
 
 `solve` takes a matrix, `solve_sparse` listed pairs, and `linear_sum_assignment` is SciPy's call. `k_best` yields the plans behind
 the best one, and `bottleneck` makes the worst pair as good as can be. `check` and `compare` judge plans from elsewhere. Every
-best plan is found and held by Nushbaret's proved library; what this package adds, the reading of costs, the dummies of unequal
-numbers and the plans behind the best, is tested, not proved.
+best plan is found and held by Nushbaret's proved library; what this package adds, the reading of costs, the dummies where some stay
+out and the plans behind the best, is tested, not proved.
 """
 from ._checking import Comparison, Verdict, check, compare
 from ._infeasible import Infeasible

@@ -3,6 +3,7 @@ import ctypes
 import pathlib
 import threading
 from array import array
+from typing import Dict, List, Tuple
 
 VERSION = "2.0.0"
 MOST_PERSONS = 8192
@@ -171,7 +172,7 @@ class Room:
 
 # Rooms of calls that are done, by their sizes; so many sizes are held at most.
 _MOST_SIZES = 256
-_rooms = {}
+_rooms: Dict[Tuple[int, int], List[Room]] = {}
 
 
 def rooms_for(n, m):
