@@ -181,9 +181,8 @@ def duals_of(problem: Any, found: Answer, rows: List[int], columns: List[int]) -
     if not rows:
         return Duals([0] * n_rows, [0] * n_columns, 0)
     prices, most, turned = _whole_prices(problem, found, len(rows)), max(n_rows, n_columns), is_turned(problem)
-    base = min(prices[:most])
-    out = prices[-1] - base if found.m > most else 0
-    of_objects = [base - price for price in prices[:most]]
+    out = prices[-1] if found.m > most else 0
+    of_objects = [-price for price in prices[:most]]
     of_persons = [out] * found.n
     sign = -1 if problem.maximize else 1
     for row, column, cost in zip(rows, columns, costs_of_pairs(problem, list(zip(rows, columns)))):
@@ -199,7 +198,7 @@ def _whole_prices(problem, found, served):
 
     There are fewer prices than residues by the unit, so that one residue is had by none. Counted from behind it, no price's rest
     is the unit less 1; so two rests and the slackness differ by less than the unit, and what is left of the slack in whole costs
-    is less than 1, hence none. An object that nobody has, at most 1 above the least price, is at the least whole one."""
+    is less than 1, hence none. The least is 0, and an object that nobody has, at most 1 above the least price, is at 0 too."""
     prices, unit = found.halves.prices(), found.m + 1
     rests = {price % unit for price in prices}
     missing = next(rest for rest in range(unit) if rest not in rests)

@@ -153,6 +153,10 @@ class BesideScipy(unittest.TestCase):
                     self.assertIsNone(wanted)
                     self.assertNotEqual(len(fault.rows), len(fault.columns))
         self.assertGreater(found, 300)
+        twice = sparse.coo_matrix(([3, 4, 5], ([0, 0, 1], [1, 1, 0])), (2, 2))
+        for form in twice, twice.tocsr():
+            self.assertEqual(nushbaret.solve_sparse(form).cost, 12)
+        self.assertEqual((twice.nnz, twice.data.tolist()), (3, [3, 4, 5]))
 
 
 if __name__ == "__main__":

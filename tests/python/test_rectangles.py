@@ -156,6 +156,10 @@ class Checked(unittest.TestCase):
         self.assertEqual((verdict.row, verdict.column), (1, 0))
         verdict = check([[1, None], [2, None], [3, None]], [0, None, None], [0, 3])
         self.assertEqual((verdict.why, verdict.column), ("column 1 stays unused, and column 0 is cheaper", 0))
+        # The library's unit is a fifth here, and an unused column may cost one more than the cheapest.
+        for price, wanted in (0, True), (0.2, True), (0.4, False):
+            self.assertEqual(bool(check([[1, None], [2, None], [3, None]], [0, None, None], [0, price])), wanted)
+            self.assertEqual(bool(check([[1, 2, 3, 4]], [0], [0, 0, 0, price])), wanted)
 
 
 if __name__ == "__main__":
