@@ -1,22 +1,22 @@
 /* Nushbaret for C and C++: optimal assignments, with prices that prove them.
 
    A problem has n persons and m objects, and costs of pairs. A solving call gives each person an object, no object
-   twice, so that the sum of the costs is least (or greatest). Where there is no such assignment it returns a Hall set:
+   twice, so that the sum of the costs is least (or greatest). Where there is no assignment it returns a Hall set:
    persons who together list fewer objects than they are. With n = m each object is used; with n < m some stay unused;
    with n > m there is never an assignment. Persons are numbered from 1 to n, objects from 1 to m, places in lists from 0.
 
-   Two ways to call: `nushbaret_solve` takes a problem and an answer as structs, and the functions below it take each
-   list with its length.
+   There are two ways to call: `nushbaret_solve`, at the end, takes a problem and an answer as structs; the functions
+   before it take each list with its length.
 
    WHAT A CALLER OWES
 
-   - Each pointer is valid for as many values as the count behind it says, and aligned as its type requires. No pointer
+   - Each pointer is valid for as many values as the count after it says, and aligned as its type requires. No pointer
      is NULL, even where its count is 0. (In struct nushbaret_problem three pointers may be NULL: see there.)
    - What a call writes (each list that isn't const, and `told`) overlaps nothing else that is passed to it. While the
      call runs, nobody else reads or writes these, and nobody changes what the call reads.
    - malloc, realloc and free are those of the C library, or any three that belong together and align as C requires.
    - The thread has 32 KB of stack left; calls were seen to take a third of it.
-   - No call is made from a signal handler, nor in the child of a fork of a process that had several threads.
+   - No call is made from a signal handler, or in the child of a fork of a process that had several threads.
 
    That is all: the numbers in the lists, the counts, n, m and the sense may have any value. The code that a call
    returns says what is wrong with them.
@@ -29,8 +29,8 @@
 
    WHAT STANDS WHERE AFTER A CALL
 
-   The code says what was written. All else is as it was before: each list that isn't named here, each place of a list
-   behind what was written, and each field of `told`.
+   The code says what was written. All else is as it was before: the lists and fields that aren't named here, and what
+   follows the written part of a list.
 
    code                  written
    NUSHBARET_BEST        solving: objects (of person 1, 2, .., n), prices (of object 1, 2, .., m) and told->total;
@@ -45,8 +45,8 @@
 
    Of several faults a call returns the first in this order: the codes from NUSHBARET_SENSE to NUSHBARET_MEMORY as they
    are numbered; then, in nushbaret_check, those from NUSHBARET_ANSWER_LENGTH to NUSHBARET_SLACK and NUSHBARET_DEAR, and
-   in nushbaret_check_hall those from NUSHBARET_HALL_RANGE to NUSHBARET_HALL_COUNT. told->place is the first such place.
-   NUSHBARET_MEMORY comes only where nothing is wrong with the lists.
+   in nushbaret_check_hall those from NUSHBARET_HALL_RANGE to NUSHBARET_HALL_COUNT. told->place is the first place with
+   this fault. NUSHBARET_MEMORY comes only where nothing is wrong with the lists.
 
    A WORKED EXAMPLE
 
@@ -80,6 +80,7 @@ extern "C" {
 #define NUSHBARET_MOST_PERSONS 8192
 #define NUSHBARET_GREATEST_COST INT64_C(1000000000000)
 
+/* 'The lowest' is the lowest number with this fault. */
 enum nushbaret_code {
     NUSHBARET_BEST = 0,          /* an optimal assignment; from nushbaret_check: the prices prove it optimal */
     NUSHBARET_HALL = 1,          /* there is no assignment: a Hall set; from nushbaret_check_hall: it is one */
@@ -94,18 +95,18 @@ enum nushbaret_code {
     NUSHBARET_MEMORY = 9,        /* memory was refused */
 
     NUSHBARET_ANSWER_LENGTH = 10, /* there aren't n objects and m prices */
-    NUSHBARET_UNLISTED = 11,     /* told->person, the lowest such, doesn't list its object */
-    NUSHBARET_TWICE = 12,        /* told->object, the lowest such, is given twice */
-    NUSHBARET_PRICE_RANGE = 13,  /* the price of told->object, the lowest such, isn't from 0 to 10^22 - 1 */
-    NUSHBARET_SLACK = 14,        /* told->person, the lowest such, would gain more than 1 by told->object, the lowest such */
+    NUSHBARET_UNLISTED = 11,     /* told->person, the lowest, doesn't list its object */
+    NUSHBARET_TWICE = 12,        /* told->object, the lowest, is given twice */
+    NUSHBARET_PRICE_RANGE = 13,  /* the price of told->object, the lowest, isn't from 0 to 10^22 - 1 */
+    NUSHBARET_SLACK = 14,        /* told->person, the lowest, would gain more than 1 with told->object, its lowest */
 
     NUSHBARET_HALL_RANGE = 15,   /* a person isn't from 1 to n, or an object isn't from 1 to m */
     NUSHBARET_HALL_ORDER = 16,   /* a list doesn't rise */
-    NUSHBARET_HALL_MISSING = 17, /* told->person, the lowest such, lists told->object, the lowest such that isn't named */
-    NUSHBARET_HALL_EXTRA = 18,   /* told->object, the lowest such, is named, and no named person lists it */
+    NUSHBARET_HALL_MISSING = 17, /* told->person, the lowest, lists told->object, its lowest that isn't named */
+    NUSHBARET_HALL_EXTRA = 18,   /* told->object, the lowest, is named, and no named person lists it */
     NUSHBARET_HALL_COUNT = 19,   /* there aren't fewer objects than persons */
 
-    NUSHBARET_DEAR = 20          /* nobody has told->object, the lowest such, and it costs over 1 more than the cheapest */
+    NUSHBARET_DEAR = 20          /* nobody has told->object, the lowest, and it costs over 1 more than the cheapest */
 };
 
 /* A price in two halves: low + 2^64 * high. Prices are in the unit of costs times K + 1, where K is the greater of n and m:
@@ -115,7 +116,7 @@ struct nushbaret_price {
     int64_t high;
 };
 
-/* What a call reports beside its lists. */
+/* What a call reports in addition to its lists. */
 struct nushbaret_told {
     int64_t total;    /* the sum of the costs of an optimal assignment */
     uint64_t place;   /* the place of a fault in a list */
@@ -134,8 +135,8 @@ int32_t nushbaret_dense(uint32_t sense, size_t n, size_t m,
     struct nushbaret_price *prices, size_t prices_count,
     struct nushbaret_told *told);
 
-/* The same, with first prices for the search to begin at, such as those of a similar problem; m of them. Whatever they
-   are, the answer is optimal. */
+/* The same, with m first prices at which the search begins, as those of a similar problem. Whatever they are, the answer
+   is optimal. */
 int32_t nushbaret_dense_from(uint32_t sense, size_t n, size_t m,
     const int64_t *costs, size_t costs_count,
     const struct nushbaret_price *first, size_t first_count,
@@ -156,7 +157,7 @@ int32_t nushbaret_sparse(uint32_t sense, size_t n, size_t m,
     struct nushbaret_price *prices, size_t prices_count,
     struct nushbaret_told *told);
 
-/* The same, with first prices; m of them. */
+/* The same, with m first prices. */
 int32_t nushbaret_sparse_from(uint32_t sense, size_t n, size_t m,
     const uint16_t *of_persons, size_t of_persons_count,
     const uint16_t *of_objects, size_t of_objects_count,
@@ -167,7 +168,7 @@ int32_t nushbaret_sparse_from(uint32_t sense, size_t n, size_t m,
     struct nushbaret_price *prices, size_t prices_count,
     struct nushbaret_told *told);
 
-/* Checks an assignment, whoever found it: NUSHBARET_BEST says that these prices prove these objects optimal. Each person's
+/* Checks an assignment of any origin: NUSHBARET_BEST says that these prices prove these objects optimal. Each person's
    object is then worth as much to it, at these prices, as any other to within 1 (slackness 1), and each object that nobody
    has costs at most 1 more than the cheapest. A sparse problem is given as above; a dense one by its costs, with
    of_persons_count and of_objects_count 0 (any two addresses but NULL will do). With costs_count 0 too it is a sparse
