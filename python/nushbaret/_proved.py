@@ -225,6 +225,8 @@ def rents(duals: Duals) -> List[int]:
 
 def _whole(price, scale, place):
     """A price times the scale, to the nearest whole number."""
+    if type(price) is int:
+        return price * scale
     try:
         if isinstance(price, (int, decimal.Decimal, numbers.Rational)):
             return round(Fraction(price) * scale)
