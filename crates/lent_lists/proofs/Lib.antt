@@ -1,3 +1,6 @@
 mod Fitting
+mod Fewer
 mod Triples
+mod DenseFronts
 mod Starting
+mod HallFronts

@@ -3,7 +3,7 @@ use Rattle.std.specs.Prelude.{◌≡◌, ℕ, ℤ, pos, List, Result, Ok, Err, l
 use Rattle.assign_core.specs.declared.sense.Sense.{Sense}
 use Rattle.assign_core.specs.Rows.{Listing}
 use Rattle.assign_core.specs.Assignment.{IsBest, total}
-use Rattle.assign_core.specs.Slackness.{IsCertificate}
+use Rattle.assign_core.specs.Slackness.{IsCertificateAmong}
 use Rattle.assign_core.specs.Hall.{IsHallSet}
 use Rattle.lent_lists.specs.declared.fault.Fault.{Fault}
 use Rattle.lent_lists.specs.declared.fault.Fault.TheVariants as fault
@@ -54,9 +54,9 @@ abbrev pub rooms : List ℕ → List ℕ → List Halves → Told → Rooms
 rooms objects persons prices told =
     record { objects = objects; persons = persons; prices = prices; told = told }
 
--- a best assignment, with prices that prove it, and the sum of its costs
-pub record HoldsBest (sense : Sense) (rows : List Listing) (before after : Rooms) : Type 0 where
-  pub proof : IsCertificate sense rows after.objects (map price_in after.prices)
+-- a best assignment among m objects, with prices that prove it, and the sum of its costs
+pub record HoldsBest (sense : Sense) (m : ℕ) (rows : List Listing) (before after : Rooms) : Type 0 where
+  pub proof : IsCertificateAmong sense m rows after.objects (map price_in after.prices)
   pub best : IsBest sense rows after.objects
   pub sum : after.told ≡ record before.told { total = total rows after.objects }
   pub persons : after.persons ≡ before.persons
@@ -71,14 +71,14 @@ pub record HoldsHall (rows : List Listing) (before after : Rooms) : Type 0 where
   pub counts : after.told ≡ record before.told { persons = length some; objects = length few }
   pub prices : after.prices ≡ before.prices
 
--- an answer to a problem
-abbrev pub HoldsEnd : Sense → List Listing → Rooms → Rooms → End → Type 0
-HoldsEnd sense rows before after Best = HoldsBest sense rows before after
-HoldsEnd sense rows before after Hall = HoldsHall rows before after
+-- an answer to a problem among m objects
+abbrev pub HoldsEnd : Sense → ℕ → List Listing → Rooms → Rooms → End → Type 0
+HoldsEnd sense m rows before after Best = HoldsBest sense m rows before after
+HoldsEnd sense m rows before after Hall = HoldsHall rows before after
 
 -- an answer to the problem that is given
 abbrev pub IsAnswered : GivenLists → Rooms → Rooms → End → Type 0
-IsAnswered g before after end = IsOfGiven g (λ sense rows. HoldsEnd sense rows before after end)
+IsAnswered g before after end = IsOfGiven g (λ sense rows. HoldsEnd sense g.m rows before after end)
 
 -- the rooms with the place of a fault, if it has one, and else as they were
 abbrev pub with_place : Fault → Rooms → Rooms

@@ -14,16 +14,21 @@ pub record IsFirstWithout {A : Type 0} (P : A → Type 0) (xs : List A) (k : ℕ
   pub lacks : (d : A) → ¬ P (slice_index_or xs k d)
   pub before : (i : ℕ) (d : A) → i < k → P (slice_index_or xs i d)
 
+-- there may be so many persons and so many objects
+pub record HasSize (g : GivenLists) : Type 0 where
+  pub persons : IsSize g.n
+  pub objects : IsSize g.m
+
 -- a sense, a size, and lists that are as long as they have to be
 pub record HasShape (g : GivenLists) : Type 0 where
   pub sense : IsSome (sense_of g.sense)
-  pub size : IsSize g.n
+  pub size : HasSize g
   pub lengths : HasLengths g
 
 -- the pairs are of persons and objects
 pub record AreNumbers (g : GivenLists) : Type 0 where
   pub persons : All (IsNumber g.n) g.persons
-  pub objects : All (IsNumber g.n) g.objects
+  pub objects : All (IsNumber g.m) g.objects
 
 -- nothing is wrong
 pub record IsWhole (g : GivenLists) : Type 0 where
@@ -35,11 +40,11 @@ pub record IsWhole (g : GivenLists) : Type 0 where
 -- the first fault in the order of the variants, by the first place that has it
 abbrev pub HasFault : GivenLists → Fault → Type 0
 HasFault g Sense = sense_of g.sense ≡ None
-HasFault g Size = IsSome (sense_of g.sense) × ¬ IsSize g.n
-HasFault g Length = IsSome (sense_of g.sense) × IsSize g.n × ¬ HasLengths g
+HasFault g Size = IsSome (sense_of g.sense) × ¬ HasSize g
+HasFault g Length = IsSome (sense_of g.sense) × HasSize g × ¬ HasLengths g
 HasFault g (Person k) = HasShape g × IsFirstWithout (IsNumber g.n) g.persons k
 HasFault g (Object k) =
-    HasShape g × All (IsNumber g.n) g.persons × IsFirstWithout (IsNumber g.n) g.objects k
+    HasShape g × All (IsNumber g.n) g.persons × IsFirstWithout (IsNumber g.m) g.objects k
 HasFault g (Cost k) = HasShape g × AreNumbers g × IsFirstWithout IsCost g.costs k
 HasFault g (Price k) =
     HasShape g × AreNumbers g × All IsCost g.costs × IsFirstWithout StandsForFirstPrice g.first k

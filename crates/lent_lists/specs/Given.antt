@@ -3,20 +3,23 @@ use Rattle.std.specs.Prelude.{◌≡◌, ℕ, zero, suc, ◌*◌, ℤ, List, [],
 use Rattle.assign_core.specs.declared.sense.Sense.{Sense}
 use Rattle.assign_core.specs.declared.sense.Sense.TheVariants.{Min, Max}
 use Rattle.assign_core.specs.Rows.{Listing}
-use Rattle.assign_core.specs.Dense.{dense_rows}
-use Rattle.assign_core.specs.Sparse.{Triple, IsSparse}
+use Rattle.assign_core.specs.Dense.{rows_cut}
+use Rattle.assign_core.specs.Sparse.{Triple}
+use Rattle.rectangles.specs.Sparse.{IsSparseAmong}
 use Rattle.lent_lists.specs.declared.form.Form.{Form}
 use Rattle.lent_lists.specs.declared.form.Form.TheVariants.{Dense, Sparse}
 use Rattle.lent_lists.specs.declared.halves.Halves.{Halves}
 
--- a problem as it is given: which costs are wanted and how many persons there are, by number; how
--- many values the lists have that want one for each person or object; the persons and the objects of
--- the pairs, and the costs; and first prices
+-- a problem as it is given: which costs are wanted, how many persons there are and how many objects,
+-- by number; how many values the lists have that want one for each person, and those that want one for
+-- each object; the persons and the objects of the pairs, and the costs; and first prices
 pub record GivenLists : Type 0 where
   pub form : Form
   pub sense : ℕ
   pub n : ℕ
-  pub lengths : List ℕ
+  pub m : ℕ
+  pub by_person : List ℕ
+  pub by_object : List ℕ
   pub persons : List ℕ
   pub objects : List ℕ
   pub costs : List ℤ
@@ -33,23 +36,26 @@ abbrev pub triples_of : List ℕ → List ℕ → List ℤ → List Triple
 triples_of (i ∷ persons) (j ∷ objects) (c ∷ costs) = (i, j, c) ∷ triples_of persons objects costs
 triples_of persons objects costs = []
 
--- dense: no list of pairs, and a cost for each person and object; sparse: three lists of one length
+-- dense: no list of pairs, and a cost for each person and each object; sparse: three lists of one length
 abbrev pub HasPairs : Form → GivenLists → Type 0
-HasPairs Dense g = (g.persons ≡ []) × (g.objects ≡ []) × (length g.costs ≡ g.n * g.n)
+HasPairs Dense g = (g.persons ≡ []) × (g.objects ≡ []) × (length g.costs ≡ g.n * g.m)
 HasPairs Sparse g = (length g.objects ≡ length g.persons) × (length g.costs ≡ length g.persons)
 
 -- each list is as long as it has to be
 pub record HasLengths (g : GivenLists) : Type 0 where
   pub pairs : HasPairs g.form g
-  pub others : All (λ k. k ≡ g.n) g.lengths
+  pub by_person : All (λ k. k ≡ g.n) g.by_person
+  pub by_object : All (λ k. k ≡ g.m) g.by_object
 
 -- a dense problem: each person lists each object
-abbrev pub dense : ℕ → ℕ → List ℕ → List ℤ → List Halves → GivenLists
-dense sense n lengths costs first = record {
+abbrev pub dense : ℕ → ℕ → ℕ → List ℕ → List ℕ → List ℤ → List Halves → GivenLists
+dense sense n m by_person by_object costs first = record {
   form = Dense;
   sense = sense;
   n = n;
-  lengths = lengths;
+  m = m;
+  by_person = by_person;
+  by_object = by_object;
   persons = [];
   objects = [];
   costs = costs;
@@ -57,12 +63,14 @@ dense sense n lengths costs first = record {
 }
 
 -- a sparse problem: the pairs are listed
-abbrev pub sparse : ℕ → ℕ → List ℕ → List ℕ → List ℕ → List ℤ → List Halves → GivenLists
-sparse sense n lengths persons objects costs first = record {
+abbrev pub sparse : ℕ → ℕ → ℕ → List ℕ → List ℕ → List ℕ → List ℕ → List ℤ → List Halves → GivenLists
+sparse sense n m by_person by_object persons objects costs first = record {
   form = Sparse;
   sense = sense;
   n = n;
-  lengths = lengths;
+  m = m;
+  by_person = by_person;
+  by_object = by_object;
   persons = persons;
   objects = objects;
   costs = costs;
@@ -75,19 +83,21 @@ either_form persons objects costs =
     if (length persons == 0) && (length objects == 0) && not (length costs == 0) then Dense else Sparse
 
 -- a problem of either form, without first prices
-abbrev pub either : ℕ → ℕ → List ℕ → List ℕ → List ℤ → GivenLists
-either sense n persons objects costs = record {
+abbrev pub either : ℕ → ℕ → ℕ → List ℕ → List ℕ → List ℤ → GivenLists
+either sense n m persons objects costs = record {
   form = either_form persons objects costs;
   sense = sense;
   n = n;
-  lengths = [];
+  m = m;
+  by_person = [];
+  by_object = [];
   persons = persons;
   objects = objects;
   costs = costs;
   first = [];
 }
 
--- the rows of the problem
+-- the rows of the problem, one for each person
 abbrev pub HasRows : Form → GivenLists → List Listing → Type 0
-HasRows Dense g rows = rows ≡ dense_rows g.n g.costs
-HasRows Sparse g rows = IsSparse g.n (triples_of g.persons g.objects g.costs) rows
+HasRows Dense g rows = rows ≡ rows_cut g.m g.n g.costs
+HasRows Sparse g rows = IsSparseAmong g.n g.m (triples_of g.persons g.objects g.costs) rows

@@ -1,20 +1,21 @@
 // Answers of any program, held against the problem that is given.
-ghost use Rattle.std.specs.Prelude.{◌≡◌, IfErr, IfOk, map};
-ghost use Rattle.dual_checker.specs.Verdicts.{IsVerdict};
-ghost use Rattle.dual_checker.specs.HallVerdicts.{IsHallVerdict};
+ghost use Rattle.std.specs.Prelude.{◌≡◌, ◌↔◌, All, IfErr, IfOk, IsTrue, map};
+ghost use Rattle.assign_core.specs.Numbered.{IsNumber};
+ghost use Rattle.dual_checker.specs.Verdicts.{IsVerdictAmong};
 ghost use Rattle.lent_lists.specs.Checks.{hall_code, verdict_code, with_hall_verdict, with_verdict};
 ghost use Rattle.lent_lists.specs.Faults.{HasFault, IsOfGiven};
+ghost use Rattle.lent_lists.specs.HallSets.{IsHallVerdictAmong};
 ghost use Rattle.lent_lists.specs.Prices.{price_in};
 
 use crate::fault::Fault;
 use crate::given::Given;
 use crate::halves::Halves;
-use crate::judge::judge;
+use crate::judge::{first_wrong, judge};
 use crate::problem::problem_of;
 use crate::rooms::{numbered, prices_of};
 use crate::told::Told;
 use assign_core::{Object, Person};
-use dual_checker::{HallVerdict, Verdict, check, check_hall};
+use dual_checker::{HallVerdict, Verdict, VerdictAmong, check_among, check_hall};
 use std::alloc::Global;
 
 /// The verdict on these objects and prices.
@@ -23,23 +24,32 @@ pub fn verdict_on(
     given: &Given<'_>,
     objects: &[u16],
     prices: &[Halves],
-) -> Result<Verdict, Fault>
-    ensures verdict { IfOk result (λ v. IsOfGiven given.now
-        (λ sense rows. IsVerdict sense rows objects.now (map price_in prices.now) v)) }
+) -> Result<VerdictAmong, Fault>
+    ensures verdict { IfOk result (λ v. IsOfGiven given.now (λ sense rows.
+        IsVerdictAmong sense given.now.m rows objects.now (map price_in prices.now) v)) }
     ensures fault { IfErr result (HasFault given.now) }
 {
     let sense = judge(given)?;
     let problem = problem_of(alloc, given)?;
     let objects: Vec<Object> = numbered(alloc, objects)?;
     let prices = prices_of(alloc, prices)?;
-    let verdict = check(
+    let verdict = check_among(
         alloc,
         &problem,
+        given.n as u16,
+        given.m as u16,
         sense,
         objects.as_slice(),
         prices.as_slice(),
     )?;
     Ok(verdict)
+}
+
+// Whether the numbers are those of persons and of objects.
+fn are_in_range(n: u16, m: u16, persons: &[u16], objects: &[u16]) -> bool
+    ensures { IsTrue result ↔ (All (IsNumber n) persons.now × All (IsNumber m) objects.now) }
+{
+    first_wrong(n, persons).is_none() && first_wrong(m, objects).is_none()
 }
 
 /// The verdict on these persons and objects.
@@ -50,21 +60,24 @@ pub fn hall_verdict_on(
     objects: &[u16],
 ) -> Result<HallVerdict, Fault>
     ensures verdict { IfOk result (λ v. IsOfGiven given.now
-        (λ sense rows. IsHallVerdict rows persons.now objects.now v)) }
+        (λ sense rows. IsHallVerdictAmong given.now.m rows persons.now objects.now v)) }
     ensures fault { IfErr result (HasFault given.now) }
 {
     let _sense = judge(given)?;
     let problem = problem_of(alloc, given)?;
+    if !are_in_range(given.n as u16, given.m as u16, persons, objects) {
+        return Ok(HallVerdict::Range);
+    }
     let persons: Vec<Person> = numbered(alloc, persons)?;
     let objects: Vec<Object> = numbered(alloc, objects)?;
     let verdict = check_hall(alloc, &problem, persons.as_slice(), objects.as_slice())?;
     Ok(verdict)
 }
 
-/// The code of a verdict, with what it names told.
-pub fn tell_verdict(verdict: Verdict, told: &mut Told) -> i32
-    ensures code { result ≡ verdict_code verdict }
-    ensures names { told.new ≡ with_verdict verdict told.old }
+// The code of a verdict on persons, with what it names told.
+fn tell_usual(verdict: Verdict, told: &mut Told) -> i32
+    ensures code { result ≡ verdict_code (VerdictAmong.Usual verdict) }
+    ensures names { told.new ≡ with_verdict (VerdictAmong.Usual verdict) told.old }
 {
     match verdict {
         Verdict::Yes => 0,
@@ -85,6 +98,20 @@ pub fn tell_verdict(verdict: Verdict, told: &mut Told) -> i32
             told.person = u64::from(person.0);
             told.object = u64::from(object.0);
             14
+        }
+    }
+}
+
+/// The code of a verdict, with what it names told.
+pub fn tell_verdict(verdict: VerdictAmong, told: &mut Told) -> i32
+    ensures code { result ≡ verdict_code verdict }
+    ensures names { told.new ≡ with_verdict verdict told.old }
+{
+    match verdict {
+        VerdictAmong::Usual(verdict) => tell_usual(verdict, told),
+        VerdictAmong::Dear(object) => {
+            told.object = u64::from(object.0);
+            20
         }
     }
 }

@@ -7,13 +7,13 @@ use std::alloc::AllocError;
 pub enum Fault {
     /// The number of the sense is neither 0 nor 1.
     Sense,
-    /// There is nobody, or there are more than `MOST_PERSONS`.
+    /// There is nobody or nothing, or there are more persons or objects than `MOST_PERSONS`.
     Size,
     /// A list or a room isn't as long as it has to be.
     Length,
     /// The first person of a pair that isn't one of 1 to n.
     Person(usize),
-    /// The first object of a pair that isn't one of 1 to n.
+    /// The first object of a pair that isn't one of 1 to m.
     Object(usize),
     /// The first cost beyond `GREATEST_COST` either way.
     Cost(usize),

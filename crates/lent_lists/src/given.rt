@@ -13,9 +13,14 @@ use std::marker::Model;
 pub struct Given<'a> {
     pub form: Form,
     pub sense: u32,
+    /// How many persons there are.
     pub n: usize,
-    /// How many values each further list and room has that wants `n`.
-    pub lengths: &'a [usize],
+    /// How many objects there are.
+    pub m: usize,
+    /// How many values each further list and room has that wants one for each person.
+    pub by_person: &'a [usize],
+    /// The same for those that want one for each object.
+    pub by_object: &'a [usize],
     pub persons: &'a [u16],
     pub objects: &'a [u16],
     pub costs: &'a [Cost],
@@ -29,7 +34,9 @@ impl<'a> Model for Given<'a> {
       form = g.form;
       sense = g.sense;
       n = g.n;
-      lengths = g.lengths.now;
+      m = g.m;
+      by_person = g.by_person.now;
+      by_object = g.by_object.now;
       persons = g.persons.now;
       objects = g.objects.now;
       costs = g.costs.now;
@@ -37,24 +44,26 @@ impl<'a> Model for Given<'a> {
     } };
 }
 
-// How many pairs there are of so many persons and as many objects.
-fn square(n: usize) -> usize
-    requires { IsSize n }
-    ensures { result ≡ n * n }
+// How many pairs there are of so many persons and so many objects.
+fn pairs_of(n: usize, m: usize) -> usize
+    requires persons { IsSize n }
+    requires objects { IsSize m }
+    ensures { result ≡ n * m }
 {
-    n * n
+    n * m
 }
 
 /// Whether the lists of pairs and costs are as long as they have to be.
 pub fn has_pairs(given: &Given<'_>) -> bool
-    requires { IsSize given.now.n }
+    requires persons { IsSize given.now.n }
+    requires objects { IsSize given.now.m }
     ensures { IsTrue result ↔ HasPairs given.now.form given.now }
 {
     match given.form {
         Form::Dense => {
             given.persons.is_empty()
                 && given.objects.is_empty()
-                && given.costs.len() == square(given.n)
+                && given.costs.len() == pairs_of(given.n, given.m)
         }
         Form::Sparse => {
             given.objects.len() == given.persons.len() && given.costs.len() == given.persons.len()

@@ -11,7 +11,7 @@ use crate::given::{Given, has_pairs};
 use crate::halves::Halves;
 use assign_core::{Cost, GREATEST_COST, GREATEST_FIRST_PRICE, MOST_PERSONS, Sense};
 
-// What stands in a list, each of which has to be right among `n` persons.
+// What stands in a list, each of which has to be right where numbers go up to `n`.
 trait Judged: Copy {
     ghost is_right: { ℕ → Self → Type 0 };
 
@@ -45,7 +45,7 @@ impl Judged for Halves {
 }
 
 // The place of the first element that isn't right.
-fn first_wrong<T: Judged>(n: u16, all: &[T]) -> Option<usize>
+pub fn first_wrong<T: Judged>(n: u16, all: &[T]) -> Option<usize>
     ensures { MatchOption result (All (T.is_right n) all.now) (IsFirstWithout (T.is_right n) all.now) }
 {
     for i in 0..all.len() {
@@ -67,7 +67,7 @@ fn sense_by(number: u32) -> Option<Sense>
     }
 }
 
-// The number of persons, where there may be so many.
+// The number of persons or of objects, where there may be so many.
 fn size_by(n: usize) -> Option<u16>
     ensures { MatchOption result (¬ IsSize n) (λ size. (size ≡ n) × IsSize n) }
 {
@@ -85,15 +85,16 @@ fn are_all(lengths: &[usize], n: usize) -> bool
 }
 
 // The first of the lists that has something wrong in it, by the first place.
-fn first_fault(n: u16, given: &Given<'_>) -> Option<Fault>
-    requires size { n ≡ given.now.n }
+fn first_fault(n: u16, m: u16, given: &Given<'_>) -> Option<Fault>
+    requires persons { n ≡ given.now.n }
+    requires objects { m ≡ given.now.m }
     requires shape { HasShape given.now }
     ensures { MatchOption result (IsWhole given.now) (HasFault given.now) }
 {
     if let Some(place) = first_wrong(n, given.persons) {
         return Some(Fault::Person(place));
     }
-    if let Some(place) = first_wrong(n, given.objects) {
+    if let Some(place) = first_wrong(m, given.objects) {
         return Some(Fault::Object(place));
     }
     if let Some(place) = first_wrong(n, given.costs) {
@@ -117,10 +118,16 @@ pub fn judge(given: &Given<'_>) -> Result<Sense, Fault>
     let Some(n) = size_by(given.n) else {
         return Err(Fault::Size);
     };
-    if !has_pairs(given) || !are_all(given.lengths, given.n) {
+    let Some(m) = size_by(given.m) else {
+        return Err(Fault::Size);
+    };
+    if !has_pairs(given)
+        || !are_all(given.by_person, given.n)
+        || !are_all(given.by_object, given.m)
+    {
         return Err(Fault::Length);
     }
-    match first_fault(n, given) {
+    match first_fault(n, m, given) {
         Some(fault) => Err(fault),
         None => Ok(sense),
     }

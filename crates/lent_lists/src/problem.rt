@@ -1,11 +1,14 @@
 // The problem that a caller gives.
-ghost use Rattle.std.specs.Prelude.{◌≡◌, length, IfOk};
+ghost use Rattle.std.specs.Prelude.{◌≡◌, ◌*◌, All, IfOk, length, max, take};
+ghost use Rattle.assign_core.specs.Dense.{rows_cut};
+ghost use Rattle.assign_core.specs.Rows.{IsAmong, IsCost, IsSize};
 ghost use Rattle.lent_lists.specs.Faults.{IsWhole};
 ghost use Rattle.lent_lists.specs.Given.{HasRows, triples_of};
 
 use crate::form::Form;
 use crate::given::Given;
-use assign_core::{Cost, Object, Person, Problem, dense_pairs};
+use assign_core::{Cost, Object, Person, Problem};
+use rectangles::sparse_among;
 use std::alloc::{AllocError, Global};
 
 // The pairs of three lists, side by side.
@@ -27,24 +30,38 @@ fn triples(
     Ok(triples)
 }
 
-/// The problem that is given, where nothing is wrong with it. A pair that is given several times
-/// counts once, at its least cost.
+// The problem of a cost for each person and each object, row by row.
+fn dense(alloc: Global, n: u16, m: u16, costs: &[Cost]) -> Result<Problem, AllocError>
+    requires persons { IsSize n }
+    requires objects { IsSize m }
+    requires long { length costs.now ≡ n * m }
+    requires costs { All IsCost costs.now }
+    ensures rows { IfOk result (λ problem. take n problem ≡ rows_cut m n costs.now) }
+    ensures among { IfOk result (IsAmong n m) }
+    ensures count { IfOk result (λ problem. length problem ≡ max n m) }
+{
+    Problem::dense_among(alloc, n, m, costs)
+}
+
+/// The problem whose first persons are those that are given, where nothing is wrong with it. A pair
+/// that is given several times counts once, at its least cost.
 ///
 /// # Errors
 /// Only where memory is refused.
 pub fn problem_of(alloc: Global, given: &Given<'_>) -> Result<Problem, AllocError>
     requires { IsWhole given.now }
-    ensures rows { IfOk result (HasRows given.now.form given.now) }
-    ensures count { IfOk result (λ problem. length problem ≡ given.now.n) }
+    ensures rows { IfOk result (λ problem.
+        HasRows given.now.form given.now (take given.now.n problem)) }
+    ensures among { IfOk result (IsAmong given.now.n given.now.m) }
+    ensures count { IfOk result (λ problem. length problem ≡ max given.now.n given.now.m) }
 {
-    // How many persons a dense list is of follows from this call.
-    dense_pairs();
     let n = given.n as u16;
+    let m = given.m as u16;
     match given.form {
-        Form::Dense => Problem::dense(alloc, n, given.costs),
+        Form::Dense => dense(alloc, n, m, given.costs),
         Form::Sparse => {
             let triples = triples(alloc, given.persons, given.objects, given.costs)?;
-            Problem::sparse(alloc, n, triples.as_slice())
+            sparse_among(alloc, n, m, triples.as_slice())
         }
     }
 }

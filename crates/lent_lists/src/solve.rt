@@ -1,8 +1,9 @@
 // From what is given to an answer in the caller's rooms.
-ghost use Rattle.std.specs.Prelude.{◌≡◌, All, IfErr, IfOk, OnErr, length};
+ghost use Rattle.std.specs.Prelude.{◌≡◌, ◌≤◌, All, IfErr, IfOk, OnErr, length, take};
 ghost use Rattle.std.specs.Arc.{arc_value};
 ghost use Rattle.assign_core.specs.Assignment.{IsAssignment, total};
-ghost use Rattle.assign_core.specs.Outcomes.{IsProof};
+ghost use Rattle.assign_core.specs.Outcomes.{IsProofAmong};
+ghost use Rattle.assign_core.specs.Rows.{IsAmong};
 ghost use Rattle.lent_lists.specs.Ends.{HoldsEnd, IsAnswered, IsTold, rooms};
 ghost use Rattle.lent_lists.specs.Faults.{HasFault};
 ghost use Rattle.lent_lists.specs.Given.{HasLengths};
@@ -16,36 +17,48 @@ use crate::judge::judge;
 use crate::problem::problem_of;
 use crate::rooms::{first_prices, put_numbers, put_prices};
 use crate::told::Told;
-use assign_core::{Assignment, Outcome, Problem, Sense, slack_means_best};
+use assign_core::{Assignment, Outcome, Problem, Sense, slack_means_best_among};
+use rectangles::total_of_first;
 use scaled_values::{Scaled, scale};
-use shortest_paths::{solve_paths, solve_paths_from};
+use shortest_paths::{solve_paths_among, solve_paths_among_from};
 use std::alloc::{AllocError, Global};
 use std::sync::Arc;
 
-// What the solver finds, from the first prices on if there is one for each object.
-fn outcome_of(alloc: Global, scaled: Arc<Scaled>, first: &[Halves]) -> Result<Outcome, AllocError>
-    requires { All StandsForFirstPrice first.now }
-    ensures { IfOk result (λ outcome. let s = arc_value scaled in IsProof s.sense s.problem outcome) }
+// What the solver finds for the first `n` persons, from the first prices on if there is one for each
+// object of the problem.
+fn outcome_of(
+    alloc: Global,
+    scaled: Arc<Scaled>,
+    n: u16,
+    first: &[Halves],
+) -> Result<Outcome, AllocError>
+    requires persons { n ≤ length (arc_value scaled).problem }
+    requires first { All StandsForFirstPrice first.now }
+    ensures { IfOk result (λ outcome. let s = arc_value scaled in
+        IsProofAmong s.sense (length s.problem) (take n s.problem) outcome) }
 {
     if first.len() == scaled.n() as usize {
         let prices = first_prices(alloc, first)?;
-        solve_paths_from(alloc, scaled, prices)
+        solve_paths_among_from(alloc, scaled, n, prices)
     } else {
-        solve_paths(alloc, scaled)
+        solve_paths_among(alloc, scaled, n)
     }
 }
 
-// Tells the sum of the costs of an assignment.
-fn tell_sum(problem: &Problem, assignment: &Assignment, told: &mut Told)
-    requires { IsAssignment problem.now assignment.now }
-    ensures { told.new ≡ record told.old { total = total problem.now assignment.now } }
+// Tells the sum of the costs of an assignment of the first `n` persons.
+fn tell_sum(problem: &Problem, n: u16, assignment: &Assignment, told: &mut Told)
+    requires persons { n ≤ length problem.now }
+    requires assignment { IsAssignment (take n problem.now) assignment.now }
+    ensures { told.new ≡ record told.old { total = total (take n problem.now) assignment.now } }
 {
-    told.total = problem.total(assignment);
+    told.total = total_of_first(problem, n, assignment);
 }
 
-// Writes an answer that is a proof.
+// Writes an answer that is a proof for the first `n` persons, among as many objects as the room for
+// prices has places.
 fn give(
     problem: &Problem,
+    n: u16,
     sense: Sense,
     outcome: &Outcome,
     objects: &mut [u16],
@@ -53,22 +66,21 @@ fn give(
     prices: &mut [Halves],
     told: &mut Told,
 ) -> End
-    requires proof { IsProof sense problem.now outcome.now }
-    requires objects { length objects.old ≡ length problem.now }
-    requires persons { length persons.old ≡ length problem.now }
-    requires prices { length prices.old ≡ length problem.now }
-    ensures { HoldsEnd sense problem.now
+    requires among { IsAmong n (length prices.old) problem.now }
+    requires proof { IsProofAmong sense (length prices.old) (take n problem.now) outcome.now }
+    requires objects { length objects.old ≡ n }
+    requires persons { length persons.old ≡ n }
+    ensures { HoldsEnd sense (length prices.old) (take n problem.now)
         (rooms objects.old persons.old prices.old told.old)
         (rooms objects.new persons.new prices.new told.new) result }
 {
-    // That it is a problem, and so an assignment with such prices is best, follows from these calls.
-    let _persons = problem.n();
-    slack_means_best();
+    // That an assignment with such prices is best follows from this call.
+    slack_means_best_among();
     match outcome {
         Outcome::Best(best) => {
             put_numbers(objects, best.assignment.objects());
             put_prices(prices, best.prices.as_slice());
-            tell_sum(problem, &best.assignment, told);
+            tell_sum(problem, n, &best.assignment, told);
             End::Best
         }
         Outcome::Hall(hall) => {
@@ -101,7 +113,7 @@ fn solve(
 ) -> Result<End, Fault>
     requires objects { HasLengths given.now → length objects.old ≡ given.now.n }
     requires persons { HasLengths given.now → length persons.old ≡ given.now.n }
-    requires prices { HasLengths given.now → length prices.old ≡ given.now.n }
+    requires prices { HasLengths given.now → length prices.old ≡ given.now.m }
     ensures end { IfOk result (IsAnswered given.now
         (rooms objects.old persons.old prices.old told.old)
         (rooms objects.new persons.new prices.new told.new)) }
@@ -111,11 +123,13 @@ fn solve(
 {
     let sense = judge(given)?;
     let problem = problem_of(alloc, given)?;
+    let n = given.n as u16;
     let scaled = shared(alloc, problem, sense)?;
     let kept = scaled.clone()?;
-    let outcome = outcome_of(alloc, scaled, given.first)?;
+    let outcome = outcome_of(alloc, scaled, n, given.first)?;
     Ok(give(
         kept.problem(),
+        n,
         sense,
         &outcome,
         objects,
@@ -136,7 +150,7 @@ pub fn solve_given(
 ) -> i32
     requires objects { HasLengths given.now → length objects.old ≡ given.now.n }
     requires persons { HasLengths given.now → length persons.old ≡ given.now.n }
-    requires prices { HasLengths given.now → length prices.old ≡ given.now.n }
+    requires prices { HasLengths given.now → length prices.old ≡ given.now.m }
     ensures { IsTold given.now
         (rooms objects.old persons.old prices.old told.old)
         (rooms objects.new persons.new prices.new told.new) result }

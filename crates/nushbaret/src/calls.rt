@@ -11,12 +11,13 @@ use lent_lists::{
 };
 use std::alloc::Global;
 
-/// Solves a dense problem: `n` persons, `n` objects, and the cost of each pair, row by row.
+/// Solves a dense problem: `n` persons, `m` objects, and the cost of each pair, row by row.
 #[unsafe(no_mangle)]
 pub extern "C" fn nushbaret_dense(
     alloc: Global,
     sense: u32,
     n: usize,
+    m: usize,
     costs: &[i64],
     objects: &mut [u16],
     persons: &mut [u16],
@@ -24,16 +25,20 @@ pub extern "C" fn nushbaret_dense(
     told: &mut Told,
 ) -> i32
     ensures { IsTold
-        (dense sense n (length objects.old ∷ length persons.old ∷ length prices.old ∷ []) costs.now [])
+        (dense sense n m (length objects.old ∷ length persons.old ∷ []) (length prices.old ∷ [])
+        costs.now [])
         (rooms objects.old persons.old prices.old told.old)
         (rooms objects.new persons.new prices.new told.new) result }
 {
-    let lengths = [objects.len(), persons.len(), prices.len()];
+    let by_person = [objects.len(), persons.len()];
+    let by_object = [prices.len()];
     let given = Given {
         form: Form::Dense,
         sense,
         n,
-        lengths: &lengths,
+        m,
+        by_person: &by_person,
+        by_object: &by_object,
         persons: &[],
         objects: &[],
         costs,
@@ -48,6 +53,7 @@ pub extern "C" fn nushbaret_dense_from(
     alloc: Global,
     sense: u32,
     n: usize,
+    m: usize,
     costs: &[i64],
     first: &[Halves],
     objects: &mut [u16],
@@ -56,18 +62,21 @@ pub extern "C" fn nushbaret_dense_from(
     told: &mut Told,
 ) -> i32
     ensures { IsTold
-        (dense sense n
-        (length objects.old ∷ length persons.old ∷ length prices.old ∷ length first.now ∷ [])
+        (dense sense n m (length objects.old ∷ length persons.old ∷ [])
+        (length prices.old ∷ length first.now ∷ [])
         costs.now first.now)
         (rooms objects.old persons.old prices.old told.old)
         (rooms objects.new persons.new prices.new told.new) result }
 {
-    let lengths = [objects.len(), persons.len(), prices.len(), first.len()];
+    let by_person = [objects.len(), persons.len()];
+    let by_object = [prices.len(), first.len()];
     let given = Given {
         form: Form::Dense,
         sense,
         n,
-        lengths: &lengths,
+        m,
+        by_person: &by_person,
+        by_object: &by_object,
         persons: &[],
         objects: &[],
         costs,
@@ -76,13 +85,14 @@ pub extern "C" fn nushbaret_dense_from(
     solve_given(alloc, &given, objects, persons, prices, told)
 }
 
-/// Solves a sparse problem: `n` persons, `n` objects, and the persons, the objects and the costs of
+/// Solves a sparse problem: `n` persons, `m` objects, and the persons, the objects and the costs of
 /// the pairs that are listed.
 #[unsafe(no_mangle)]
 pub extern "C" fn nushbaret_sparse(
     alloc: Global,
     sense: u32,
     n: usize,
+    m: usize,
     of_persons: &[u16],
     of_objects: &[u16],
     costs: &[i64],
@@ -92,17 +102,20 @@ pub extern "C" fn nushbaret_sparse(
     told: &mut Told,
 ) -> i32
     ensures { IsTold
-        (sparse sense n (length objects.old ∷ length persons.old ∷ length prices.old ∷ [])
+        (sparse sense n m (length objects.old ∷ length persons.old ∷ []) (length prices.old ∷ [])
         of_persons.now of_objects.now costs.now [])
         (rooms objects.old persons.old prices.old told.old)
         (rooms objects.new persons.new prices.new told.new) result }
 {
-    let lengths = [objects.len(), persons.len(), prices.len()];
+    let by_person = [objects.len(), persons.len()];
+    let by_object = [prices.len()];
     let given = Given {
         form: Form::Sparse,
         sense,
         n,
-        lengths: &lengths,
+        m,
+        by_person: &by_person,
+        by_object: &by_object,
         persons: of_persons,
         objects: of_objects,
         costs,
@@ -117,6 +130,7 @@ pub extern "C" fn nushbaret_sparse_from(
     alloc: Global,
     sense: u32,
     n: usize,
+    m: usize,
     of_persons: &[u16],
     of_objects: &[u16],
     costs: &[i64],
@@ -127,18 +141,21 @@ pub extern "C" fn nushbaret_sparse_from(
     told: &mut Told,
 ) -> i32
     ensures { IsTold
-        (sparse sense n
-        (length objects.old ∷ length persons.old ∷ length prices.old ∷ length first.now ∷ [])
+        (sparse sense n m (length objects.old ∷ length persons.old ∷ [])
+        (length prices.old ∷ length first.now ∷ [])
         of_persons.now of_objects.now costs.now first.now)
         (rooms objects.old persons.old prices.old told.old)
         (rooms objects.new persons.new prices.new told.new) result }
 {
-    let lengths = [objects.len(), persons.len(), prices.len(), first.len()];
+    let by_person = [objects.len(), persons.len()];
+    let by_object = [prices.len(), first.len()];
     let given = Given {
         form: Form::Sparse,
         sense,
         n,
-        lengths: &lengths,
+        m,
+        by_person: &by_person,
+        by_object: &by_object,
         persons: of_persons,
         objects: of_objects,
         costs,
@@ -154,6 +171,7 @@ pub extern "C" fn nushbaret_check(
     alloc: Global,
     sense: u32,
     n: usize,
+    m: usize,
     of_persons: &[u16],
     of_objects: &[u16],
     costs: &[i64],
@@ -161,7 +179,7 @@ pub extern "C" fn nushbaret_check(
     prices: &[Halves],
     told: &mut Told,
 ) -> i32
-    ensures { let given = either sense n of_persons.now of_objects.now costs.now in
+    ensures { let given = either sense n m of_persons.now of_objects.now costs.now in
         IsJudged given objects.now (map price_in prices.now) told.old told.new result
         ⊎ IsRefused given told.old told.new result }
 {
@@ -169,7 +187,9 @@ pub extern "C" fn nushbaret_check(
         form: form_of(of_persons, of_objects, costs),
         sense,
         n,
-        lengths: &[],
+        m,
+        by_person: &[],
+        by_object: &[],
         persons: of_persons,
         objects: of_objects,
         costs,
@@ -186,6 +206,7 @@ pub extern "C" fn nushbaret_check(
 pub extern "C" fn nushbaret_check_hall(
     alloc: Global,
     n: usize,
+    m: usize,
     of_persons: &[u16],
     of_objects: &[u16],
     costs: &[i64],
@@ -193,7 +214,7 @@ pub extern "C" fn nushbaret_check_hall(
     objects: &[u16],
     told: &mut Told,
 ) -> i32
-    ensures { let given = either 0 n of_persons.now of_objects.now costs.now in
+    ensures { let given = either 0 n m of_persons.now of_objects.now costs.now in
         IsHallJudged given persons.now objects.now told.old told.new result
         ⊎ IsRefused given told.old told.new result }
 {
@@ -201,7 +222,9 @@ pub extern "C" fn nushbaret_check_hall(
         form: form_of(of_persons, of_objects, costs),
         sense: 0,
         n,
-        lengths: &[],
+        m,
+        by_person: &[],
+        by_object: &[],
         persons: of_persons,
         objects: of_objects,
         costs,

@@ -2,6 +2,7 @@
 //! checkers, and rounds of offers where they refuse it.
 #![tactic(auto)]
 
+mod among;
 mod answer;
 mod bids;
 mod lowering;
@@ -19,6 +20,7 @@ mod solve;
 mod tests;
 mod ties;
 
+pub use among::{solve_paths_among, solve_paths_among_from};
 pub use observer::{Observer, Unobserved};
 pub use solve::{
     solve_paths, solve_paths_from, solve_paths_from_watched, solve_paths_watched, try_paths,

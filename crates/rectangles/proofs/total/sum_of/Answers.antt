@@ -1,0 +1,41 @@
+use Rattle.std.proofs.Common.{◌≡◌, pos, ◌+◌, [], unwrap_or, length, take, get_or, arith, ap, sym, subst, ◌∙◌}
+use Rattle.std.proofs.lemmas.Int.{ints}
+use Rattle.std.proofs.lemmas.List.{length-take}
+use Rattle.assign_core.specs.Rows.{IsCost, listed_or_zero, row_of}
+use Rattle.assign_core.proofs.NumberedLemmas.{numbered-next}
+use Rattle.assign_core.proofs.RowLemmas.{IsCost-listed, IsRow-row_of, row_of-take}
+use Rattle.assign_core.proofs.Totals.{total-drop}
+use Rattle.rectangles.proofs.total.sum_of.Goals as goal
+
+-- what the pair adds
+cost_is : (c : goal.After-unwrap_or-cost) → c.unwrap_or-cost.result ≡ listed_or_zero (row_of c.args.problem.now (c.loop-i.i + 1)) c.index-objects-i.result
+cost_is c = c.unwrap_or-cost.ensures ∙ ap (λ o. unwrap_or o (pos 0)) c.cost_of.ensures
+
+bounds : (c : goal.After-unwrap_or-cost) → IsCost c.unwrap_or-cost.result
+bounds c =
+    let few = c.requires in
+    let lt = c.loop-i-test.true in
+    let row = IsRow-row_of (length c.args.problem.now) c.args.problem.now (c.loop-i.i + 1) c.n-persons.ensures.problem.each (omega arith) (omega arith) in
+    subst IsCost (sym (cost_is c)) (IsCost-listed (row_of c.args.problem.now (c.loop-i.i + 1)) c.index-objects-i.result row.costs)
+
+pub overflow_add-sum : goal.overflow_add-sum
+overflow_add-sum c =
+    let b = bounds c in
+    omega (arith, ints, c.requires, c.n-persons.ensures.problem.size.few, c.loop-i-test.true, c.loop-i.invariant.low, c.loop-i.invariant.high)
+
+pub loop-i-preserved : goal.loop-i-preserved
+loop-i-preserved c =
+    let rows = take (length c.args.objects.now) c.args.problem.now in
+    let i = c.loop-i.i in
+    let lt = c.loop-i-test.true in
+    let few = c.requires in
+    let b = bounds c in
+    let long = length-take (length c.args.objects.now) c.args.problem.now in
+    let more = total-drop rows c.args.objects.now i c.index-objects-i.result (omega arith) lt in
+    let row = sym (row_of-take (length c.args.objects.now) c.args.problem.now (i + 1) (omega arith)) ∙ numbered-next rows i [] in
+    let adds = cost_is c ∙ ap (λ r. listed_or_zero r c.index-objects-i.result) row ∙ ap (listed_or_zero (get_or rows i [])) c.index-objects-i.is in
+    record {
+      whole = omega (arith, ints, c.loop-i.invariant.whole);
+      low = omega (arith, ints);
+      high = omega (arith, ints);
+    }
