@@ -10,7 +10,10 @@
                                 and 20 was drawn anew; seconds
      door poor TIMES            a dense problem from standard input: cold, then from first prices that tell nothing of
                                 it: drawn, drawn up to 10^21, one of 10^21, and the prices of it turned round; seconds
-     door wide                  three equal objects with first prices 0, 0 and 10^21, and prices 1, 5 and 7: seconds */
+     door wide                  three equal objects with first prices 0, 0 and 10^21, and prices 1, 5 and 7: seconds
+     door rectangle N M MOST TIMES   N persons and M objects, costs 1..MOST: cold, then from the prices of the same problem,
+                                of one whose rows were drawn anew, and from drawn prices, under which objects are dear that
+                                nobody wants; seconds */
 #define _POSIX_C_SOURCE 200809L
 #include "../c/nushbaret.h"
 #include <stdio.h>
@@ -22,13 +25,12 @@ extern int64_t plain_dense(size_t n, const int64_t *costs, uint16_t *columns);
 extern int64_t plain_sparse(size_t n, size_t pairs, const uint16_t *of_rows, const uint16_t *of_columns,
     const int64_t *costs, uint16_t *columns);
 
+/* A problem, its answer, the lists of its pairs where it is sparse, and its costs to be changed. */
 struct problem {
-    size_t n, pairs;
-    int is_sparse;
+    struct nushbaret_problem given;
+    struct nushbaret_answer answer;
     uint16_t *of_persons, *of_objects;
     int64_t *costs;
-    uint16_t *objects, *persons;
-    struct nushbaret_price *prices;
     int64_t total;
 };
 
@@ -38,13 +40,15 @@ static void *room(size_t bytes) {
     return block;
 }
 
-static struct problem problem(size_t n, size_t pairs, int is_sparse) {
+static struct problem problem(size_t n, size_t m, size_t pairs, int is_sparse) {
     struct problem p;
-    p.n = n, p.pairs = pairs, p.is_sparse = is_sparse, p.total = 0;
+    memset(&p, 0, sizeof p);
     p.of_persons = (uint16_t *)room(pairs * 2), p.of_objects = (uint16_t *)room(pairs * 2);
     p.costs = (int64_t *)room(pairs * 8);
-    p.objects = (uint16_t *)room(n * 2), p.persons = (uint16_t *)room(n * 2);
-    p.prices = (struct nushbaret_price *)room(n * sizeof *p.prices);
+    p.given.sense = NUSHBARET_MIN, p.given.n = n, p.given.m = m, p.given.count = pairs, p.given.costs = p.costs;
+    p.given.persons = is_sparse ? p.of_persons : NULL, p.given.objects = is_sparse ? p.of_objects : NULL;
+    p.answer.objects = (uint16_t *)room(n * 2), p.answer.persons = (uint16_t *)room(n * 2);
+    p.answer.prices = (struct nushbaret_price *)room(m * sizeof *p.answer.prices);
     return p;
 }
 
@@ -56,31 +60,25 @@ static double now(void) {
 
 /* The seconds of a solve, from first prices where they are given. */
 static double proved(struct problem *p, const struct nushbaret_price *first) {
-    struct nushbaret_told told;
-    double begin = now();
+    double begin;
     int32_t code;
-    size_t n = p->n;
-    if (p->is_sparse)
-        code = nushbaret_sparse(NUSHBARET_MIN, n, p->of_persons, p->pairs, p->of_objects, p->pairs, p->costs, p->pairs,
-            p->objects, n, p->persons, n, p->prices, n, &told);
-    else if (first != NULL)
-        code = nushbaret_dense_from(NUSHBARET_MIN, n, p->costs, p->pairs, first, n, p->objects, n, p->persons, n,
-            p->prices, n, &told);
-    else
-        code = nushbaret_dense(NUSHBARET_MIN, n, p->costs, p->pairs, p->objects, n, p->persons, n, p->prices, n, &told);
+    p->given.first = first;
+    begin = now();
+    code = nushbaret_solve(&p->given, &p->answer);
     begin = now() - begin;
+    p->given.first = NULL;
     if (code != NUSHBARET_BEST && code != NUSHBARET_HALL) exit(3);
-    p->total = code == NUSHBARET_BEST ? told.total : INT64_MIN;
+    p->total = code == NUSHBARET_BEST ? p->answer.told.total : INT64_MIN;
     return begin;
 }
 
 static double plain(struct problem *p) {
     double begin = now();
     int64_t total;
-    if (p->is_sparse)
-        total = plain_sparse(p->n, p->pairs, p->of_persons, p->of_objects, p->costs, p->objects);
+    if (p->given.persons != NULL)
+        total = plain_sparse(p->given.n, p->given.count, p->of_persons, p->of_objects, p->costs, p->answer.objects);
     else
-        total = plain_dense(p->n, p->costs, p->objects);
+        total = plain_dense(p->given.n, p->costs, p->answer.objects);
     begin = now() - begin;
     if (total != p->total) {
         fprintf(stderr, "other sums: %lld and %lld\n", (long long)p->total, (long long)total);
@@ -91,11 +89,8 @@ static double plain(struct problem *p) {
 
 /* The seconds of a check of what was found, which builds the problem too. */
 static double checked(struct problem *p) {
-    struct nushbaret_told told;
     double begin = now();
-    size_t n = p->n, pairs = p->is_sparse ? p->pairs : 0;
-    nushbaret_check(NUSHBARET_MIN, n, p->of_persons, pairs, p->of_objects, pairs, p->costs, p->pairs, p->objects, n,
-        p->prices, n, &told);
+    nushbaret_verify(&p->given, &p->answer);
     return now() - begin;
 }
 
@@ -132,8 +127,8 @@ static struct problem read_text(int is_sparse) {
     at = text;
     n = (size_t)number(&at);
     if (!is_sparse) {
-        p = problem(n, n * n, 0);
-        for (k = 0; k < p.pairs; k++) p.costs[k] = number(&at);
+        p = problem(n, n, n * n, 0);
+        for (k = 0; k < p.given.count; k++) p.costs[k] = number(&at);
         free(text);
         return p;
     }
@@ -141,13 +136,13 @@ static struct problem read_text(int is_sparse) {
     for (pairs = 0; (triples[3 * pairs] = number(&at)) != 0; pairs++)
         triples[3 * pairs + 1] = number(&at), triples[3 * pairs + 2] = number(&at);
     qsort(triples, pairs, 3 * sizeof *triples, by_pair);
-    p = problem(n, pairs, 1);
-    p.pairs = 0;
+    p = problem(n, n, pairs, 1);
+    p.given.count = 0;
     for (k = 0; k < pairs; k++) {
         const int64_t *one = triples + 3 * k;
         if (k > 0 && one[-3] == one[0] && one[-2] == one[1]) continue;
-        p.of_persons[p.pairs] = (uint16_t)one[0], p.of_objects[p.pairs] = (uint16_t)one[1];
-        p.costs[p.pairs++] = one[2];
+        p.of_persons[p.given.count] = (uint16_t)one[0], p.of_objects[p.given.count] = (uint16_t)one[1];
+        p.costs[p.given.count++] = one[2];
     }
     free(triples);
     free(text);
@@ -185,14 +180,14 @@ static void tell_start(const char *name, struct problem *p, const struct nushbar
 /* A problem whose costs are drawn up to so much, its best prices, and then one row in so many drawn anew. */
 static void draw_rows(struct problem *p, int64_t most, size_t every) {
     size_t i;
-    for (i = 0; every > 0 && i < p->n; i += every) draw(p->costs + i * p->n, p->n, most);
+    for (i = 0; every > 0 && i < p->given.n; i += every) draw(p->costs + i * p->given.m, p->given.m, most);
 }
 
 static struct nushbaret_price *drawn_prices(struct problem *p, int64_t most) {
-    struct nushbaret_price *first = (struct nushbaret_price *)room(p->n * sizeof *first);
-    draw(p->costs, p->pairs, most);
+    struct nushbaret_price *first = (struct nushbaret_price *)room(p->given.m * sizeof *first);
+    draw(p->costs, p->given.count, most);
     proved(p, NULL);
-    memcpy(first, p->prices, p->n * sizeof *first);
+    memcpy(first, p->answer.prices, p->given.m * sizeof *first);
     return first;
 }
 
@@ -200,7 +195,7 @@ static void starts(int times) {
     static const size_t every[] = {0, 2000, 100, 50, 20, 10};
     static const char *names[] = {"same", "one row", "1 %", "2 %", "5 %", "10 %"};
     size_t k;
-    struct problem p = problem(2000, 2000 * 2000, 0);
+    struct problem p = problem(2000, 2000, 2000 * 2000, 0);
     struct nushbaret_price *first = drawn_prices(&p, 1000);
     for (k = 0; k < sizeof every / sizeof *every; k++) {
         draw_rows(&p, 1000, every[k]);
@@ -213,7 +208,7 @@ static void neighbours(int times) {
     static const size_t every[] = {200, 50, 30, 20};
     size_t i, k;
     int drawn;
-    struct problem p = problem(1000, 1000 * 1000, 0);
+    struct problem p = problem(1000, 1000, 1000 * 1000, 0);
     for (i = 0; i < sizeof most / sizeof *most; i++)
         for (k = 0; k < sizeof every / sizeof *every; k++)
             for (drawn = 0; drawn < 6; drawn++) {
@@ -241,20 +236,20 @@ static struct nushbaret_price poor_price(int kind, size_t n, struct nushbaret_pr
 static void poor(int times) {
     static const char *names[] = {"drawn", "drawn up to 10^21", "one of 10^21", "turned round"};
     struct problem p = read_text(0);
-    struct nushbaret_price *own = (struct nushbaret_price *)room(p.n * sizeof *own);
-    struct nushbaret_price *first = (struct nushbaret_price *)room(p.n * sizeof *first);
-    size_t j;
+    size_t j, n = p.given.n;
+    struct nushbaret_price *own = (struct nushbaret_price *)room(n * sizeof *own);
+    struct nushbaret_price *first = (struct nushbaret_price *)room(n * sizeof *first);
     int kind;
     proved(&p, NULL);
-    memcpy(own, p.prices, p.n * sizeof *own);
+    memcpy(own, p.answer.prices, n * sizeof *own);
     for (kind = 0; kind < 4; kind++) {
-        for (j = 0; j < p.n; j++) first[j] = poor_price(kind, p.n, own[j], j);
+        for (j = 0; j < n; j++) first[j] = poor_price(kind, n, own[j], j);
         tell_start(names[kind], &p, first, times);
     }
 }
 
 static void wide(void) {
-    struct problem p = problem(3, 9, 0);
+    struct problem p = problem(3, 3, 9, 0);
     struct nushbaret_price far[3] = {{0, 0}, {0, 0}, {UINT64_C(3875820019684212736), 54}};
     struct nushbaret_price odd[3] = {{1, 0}, {5, 0}, {7, 0}};
     size_t k;
@@ -262,7 +257,18 @@ static void wide(void) {
     tell("0, 0, 10^21", proved(&p, far), 0, 0);
     tell("1, 5, 7", proved(&p, odd), 0, 0);
     for (k = 0; k < 3; k++)
-        if (p.prices[k].low % 4 != 0 || p.prices[k].high != 0 || p.total != 6) exit(5);
+        if (p.answer.prices[k].low % 4 != 0 || p.answer.prices[k].high != 0 || p.total != 6) exit(5);
+}
+
+static void rectangle(size_t n, size_t m, int64_t most, int times) {
+    struct problem p = problem(n, m, n * m, 0);
+    struct nushbaret_price *first = drawn_prices(&p, most);
+    size_t j;
+    tell_start("same", &p, first, times);
+    draw_rows(&p, most, 20);
+    tell_start("5 %", &p, first, times);
+    for (j = 0; j < m; j++) first[j] = poor_price(0, m, first[j], j);
+    tell_start("drawn", &p, first, times);
 }
 
 int main(int argc, char **argv) {
@@ -279,13 +285,13 @@ int main(int argc, char **argv) {
         tell("text", least, beside, check);
     } else if (strcmp(what, "drawn") == 0 && argc > 4) {
         size_t n = (size_t)atoi(argv[2]), k, count = (size_t)atoi(argv[3]);
-        struct problem p = problem(n, n * n, 0);
+        struct problem p = problem(n, n, n * n, 0);
         int turn;
         for (turn = 0; turn < atoi(argv[4]); turn++) {
             double seconds = 0, others = 0, checks = 0;
             state = 7;
             for (k = 0; k < count; k++) {
-                draw(p.costs, p.pairs, 1000);
+                draw(p.costs, p.given.count, 1000);
                 seconds += proved(&p, NULL);
                 checks += checked(&p);
                 others += plain(&p);
@@ -301,6 +307,8 @@ int main(int argc, char **argv) {
         poor(atoi(argv[2]));
     } else if (strcmp(what, "wide") == 0) {
         wide();
+    } else if (strcmp(what, "rectangle") == 0 && argc > 5) {
+        rectangle((size_t)atoi(argv[2]), (size_t)atoi(argv[3]), atol(argv[4]), atoi(argv[5]));
     } else {
         return 2;
     }

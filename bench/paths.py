@@ -1,9 +1,9 @@
 #!/usr/bin/env python3
 """Measures shortest paths by the library for C: the solve alone beside plain Rust of Jonker and Volgenant's method, and beside
-`auction_cli solve` in rounds and with one worker; starts from first prices; and calls from C.
+`auction_cli solve` in rounds and with one worker; starts from first prices; and calls from C, on squares and rectangles.
 
 Run it at the top of the repository after c/build.sh and `rt run` in crates/auction_cli: bench/paths.py [PROGRAM
-[kinds | large | starts | neighbours | poor | calls | whole]]. It writes its inputs below bench/out and needs rustc and cc. Calls and plain Rust take turns in one
+[kinds | large | starts | neighbours | poor | calls | rectangles | whole]]. It writes its inputs below bench/out and needs rustc and cc. Calls and plain Rust take turns in one
 process (bench/door.c), and of each the least processor time counts. Of a call, where the solve alone is wanted, the time of a
 check is taken off, which builds the same problem. Of the program it is that of the whole run, on one processor, less that
 of reading the same text with a word too many behind it. A run of more than LIMIT seconds is cut off,
@@ -23,6 +23,7 @@ DENSE = ("to_10", "to_1000", "to_million", "equal_rows", "all_equal", "like_rows
          "dear_marks", "dummy_rows", "dummy_columns", "few_rows")
 SPARSE = (("pairs=5", 8192), ("pairs=10", 8192), ("pairs=50", 8192), ("contested=50", 1000), ("contested=50", 8192),
           ("contested=1000", 1000), ("contested=1000", 8192))
+RECTANGLES = ((80, 3000), (20, 8000), (1000, 2000), (1000, 1100), (1, 8192))
 ROUNDS = ["--mode", "rounds"]
 WORKER = ["--mode", "workers", "--workers", "1"]
 PATHS = ["--method", "paths"]
@@ -148,6 +149,13 @@ def calls():
         print(f"the program on one problem of n = {n}, reading and printing included: {program:.4f} s", flush=True)
 
 
+def rectangles():
+    """Calls on n persons and m objects: cold, and from first prices; what building and checking take is told too."""
+    for n, m in RECTANGLES:
+        for name, (warm, cold, check) in door("rectangle", n, m, 10**6, TIMES):
+            print(f"{n} persons, {m} objects, from first prices, {name}: {warm:.4f} s, {warm / cold:.2f} of {cold:.4f} s cold; a check {check:.4f} s", flush=True)
+
+
 def whole():
     for name, n in (*((name, 1000) for name in DENSE), *SPARSE, *((name, 4000) for name in DENSE)):
         words = [*PATHS, "--sparse"] if "=" in name else PATHS
@@ -157,7 +165,7 @@ def whole():
 
 def main():
     build_door()
-    parts = {"kinds": kinds, "large": large, "starts": starts, "neighbours": neighbours, "poor": poor, "calls": calls, "whole": whole}
+    parts = {"kinds": kinds, "large": large, "starts": starts, "neighbours": neighbours, "poor": poor, "calls": calls, "rectangles": rectangles, "whole": whole}
     for part in sys.argv[2:] or parts:
         parts[part]()
 

@@ -6,6 +6,9 @@ others it takes those that it finds, and says which: SciPy where python3 has it,
 (in Debian python3-scipy, liblemon-dev, libdlib-dev). It writes its inputs below bench/out. Solvers take turns, and of each
 the least of three times counts; all find the same cost, or it stops. It prints two tables of seconds, of processor time and
 by the clock: of a whole run, reading and printing included, and in brackets of solving alone, when the costs lie in memory.
+
+A third table has rectangles, costs 1..10^6, from Python beside SciPy: processor time of solving alone, and by how much the
+first call in a process raises its peak of memory. bench/peers.py rectangles prints this table alone.
 """
 import os
 import resource
@@ -37,6 +40,9 @@ PROBLEMS = [
     ("dense, n = 2000, costs 1..10^6", ["make_problem.py", "2000", "1", "1000000", "7"], False),
     ("sparse, n = 8192, 10 pairs a person", ["make_sparse_problem.py", "8192", "10", "1", "1000", "5"], True),
 ]
+# rows, columns, and how many pairs a row lists; None for all
+RECTANGLES = [(80, 3000, None), (20, 8000, None), (80, 8000, None), (1000, 2000, None), (1000, 1100, None), (3000, 80, None),
+              (500, 4000, 10)]
 
 
 def built(name, *flags):
@@ -130,6 +136,69 @@ def by_sparse_scipy(costs):
     return int(costs.matrix[min_weight_full_bipartite_matching(costs.matrix)].sum())
 
 
+class Rectangle:
+    """Drawn costs of so many rows and columns, all pairs or so many a row."""
+
+    def __init__(self, n_rows, n_columns, pairs):
+        draw = numpy.random.default_rng(n_rows * n_columns)
+        if pairs is None:
+            self.square = draw.integers(1, 10**6, (n_rows, n_columns), endpoint=True)
+            return
+        columns = numpy.concatenate([draw.choice(n_columns, pairs, replace=False) for _ in range(n_rows)])
+        rows = numpy.repeat(numpy.arange(n_rows), pairs)
+        self.matrix = sparse.csr_matrix((draw.integers(1, 10**6, len(rows), endpoint=True), (rows, columns)), (n_rows, n_columns))
+
+
+def by_call(costs):
+    """By the package's call in SciPy's manner, and for pairs by its own."""
+    if hasattr(costs, "square"):
+        return int(costs.square[nushbaret.linear_sum_assignment(costs.square)].sum())
+    return nushbaret.solve_sparse(costs.matrix).cost
+
+
+def held(word):
+    """A line of this process's state, in MB."""
+    with open("/proc/self/status") as status:
+        return next(int(line.split()[1]) for line in status if line.startswith(word)) / 1024
+
+
+def tell_memory(place, name):
+    """Prints by how many MB the peak of this process is higher in its first call on a rectangle."""
+    n_rows, n_columns, pairs = RECTANGLES[int(place)]
+    costs, solve = Rectangle(n_rows, n_columns, pairs), calls_on(pairs)[name]
+    solve(Rectangle(3, 4, None if pairs is None else 4))
+    with open("/proc/self/clear_refs", "w") as refs:
+        refs.write("5")
+    before = held("VmRSS")
+    solve(costs)
+    print(f"{max(held('VmHWM') - before, 0):.1f}")
+
+
+def memory(place, name):
+    """What a process of its own tells of its memory; empty where the system can't say."""
+    told = subprocess.run([sys.executable, os.path.abspath(__file__), "memory", str(place), name], stdout=subprocess.PIPE, stderr=subprocess.DEVNULL)
+    return told.stdout.decode().strip()
+
+
+def calls_on(pairs):
+    return {"library": by_call, "SciPy": by_scipy if pairs is None else by_sparse_scipy}
+
+
+def rectangles():
+    """A line a rectangle: seconds of either call, the ratio, and memory."""
+    yield "| rows, columns, pairs a row | library for C, from Python | SciPy | ratio | MB beyond the costs | of SciPy |"
+    yield "|---|---|---|---|---|---|"
+    for place, (n_rows, n_columns, pairs) in enumerate(RECTANGLES):
+        costs, times, answers, calls = Rectangle(n_rows, n_columns, pairs), {}, set(), calls_on(pairs)
+        for _ in range(REPEATS):
+            for name, solve in calls.items():
+                answers.add(solve_alone(solve)(None, costs, times.setdefault(name, Times())))
+        assert len(answers) == 1, (n_rows, n_columns, answers)
+        own, theirs = (times[name].told["alone_processor"] for name in calls)
+        taken = " | ".join(memory(place, name) for name in calls)
+        yield f"| {n_rows}, {n_columns}, {pairs or n_columns} | {own:.4f} | {theirs:.4f} | {own / theirs:.2f} | {taken} |"
+
+
 def solvers(is_sparse, lemon, dlib):
     """Those that are there and take such a problem."""
     kind = "sparse" if is_sparse else "dense"
@@ -170,6 +239,12 @@ def table(measured, measure):
 
 
 def main():
+    if sys.argv[1:] == ["rectangles"]:
+        print(*rectangles(), sep="\n")
+        return
+    if sys.argv[1:2] == ["memory"]:
+        tell_memory(*sys.argv[2:])
+        return
     os.makedirs(OUT, exist_ok=True)
     lemon, dlib = built("lemon", "-llemon"), built("dlib")
     there = [f"SciPy {scipy.__version__}"] if scipy else []
@@ -181,6 +256,8 @@ def main():
         measured[what] = measure(what, path, is_sparse, lemon, dlib)
     for kind in "processor", "clock":
         print("", *table(measured, kind), sep="\n")
+    if scipy:
+        print("", *rectangles(), sep="\n")
 
 
 if __name__ == "__main__":

@@ -15,16 +15,16 @@ except ImportError:
     np = None
 
 
-def bare(costs, n):
+def bare(costs, n, m):
     """The library's call alone."""
-    objects, persons, halves = array("H", bytes(2 * n)), array("H", bytes(2 * n)), library.Halves(n)
-    library.call("dense", False, n, costs, objects, persons, halves)
+    objects, persons, halves = array("H", bytes(2 * n)), array("H", bytes(2 * n)), library.Halves(m)
+    library.call("dense", False, n, m, costs, objects, persons, halves)
 
 
-def drawn(n, most):
-    draw = random.Random(n)
-    flat = array("q", [draw.randint(1, most) for _ in range(n * n)])
-    return flat, [flat[row * n:(row + 1) * n].tolist() for row in range(n)]
+def drawn(n, m, most):
+    draw = random.Random(n * m)
+    flat = array("q", [draw.randint(1, most) for _ in range(n * m)])
+    return flat, [flat[row * m:(row + 1) * m].tolist() for row in range(n)]
 
 
 def measure(what, runs, times=3):
@@ -37,11 +37,11 @@ def measure(what, runs, times=3):
     print(what, *(f"{name} {seconds:.4f}" for name, seconds in least.items()), sep="; ")
 
 
-def compare(what, n, most, count, times=3):
-    flat, rows = drawn(n, most)
+def compare(what, n, m, most, count, times=3):
+    flat, rows = drawn(n, m, most)
     floats = [list(map(float, row)) for row in rows]
     hundredths = [[cost / 100 for cost in row] for row in rows]
-    calls = [("library alone", lambda: bare(flat, n)), ("solve, lists", lambda: nushbaret.solve(rows)),
+    calls = [("library alone", lambda: bare(flat, n, m)), ("solve, lists", lambda: nushbaret.solve(rows)),
              ("linear_sum_assignment, lists", lambda: nushbaret.linear_sum_assignment(rows)),
              ("lists of floats", lambda: nushbaret.linear_sum_assignment(floats)),
              ("lists of hundredths", lambda: nushbaret.linear_sum_assignment(hundredths))]
@@ -53,7 +53,12 @@ def compare(what, n, most, count, times=3):
     measure(what, [(name, lambda call=call: [call() for _ in range(count)]) for name, call in calls], times)
 
 
-compare("1000 problems of n = 8", 8, 100, 1000, 10)
-compare("n = 300", 300, 1000, 1, 10)
-compare("n = 2000, costs to 1000", 2000, 1000, 1)
-compare("n = 2000, costs to a million", 2000, 10**6, 1)
+compare("1000 problems of n = 8", 8, 8, 100, 1000, 10)
+compare("1000 problems of 20 x 30", 20, 30, 100, 1000, 10)
+compare("n = 300", 300, 300, 1000, 1, 10)
+compare("80 x 3000", 80, 3000, 10**6, 1, 10)
+compare("20 x 8000", 20, 8000, 10**6, 1, 10)
+compare("1000 x 2000", 1000, 2000, 10**6, 1)
+compare("1000 x 1100", 1000, 1100, 10**6, 1)
+compare("n = 2000, costs to 1000", 2000, 2000, 1000, 1)
+compare("n = 2000, costs to a million", 2000, 2000, 10**6, 1)

@@ -1,6 +1,7 @@
 #!/usr/bin/env bash
 # Proves the library for C and builds it: c/out/libnushbaret.a and c/out/libnushbaret.so, in which only the names of
-# exports.map can be seen. Wants the kit, and cc with the binutils that it stands on.
+# exports.map can be seen. Programs ask at run time for the SONAME, libnushbaret.so.2 by the first number of VERSION: a
+# link of this name stands beside. Needs the kit, and cc with the binutils that it uses.
 #
 # With the word `gate` it stands on the crates that `rt ci` has just proved, as rt ci's own checks do, and proves the
 # library's crate alone: rt proves the crates below once more after a gate, which leaves them unstamped.
@@ -40,6 +41,8 @@ cc -r -nostdlib -o "$out/nushbaret.o" -Wl,--whole-archive "$archive" -Wl,--no-wh
 objcopy --wildcard --keep-global-symbol='nushbaret_*' "$out/nushbaret.o"
 rm -f "$out/libnushbaret.a"
 ar rcs "$out/libnushbaret.a" "$out/nushbaret.o"
-cc -shared -o "$out/libnushbaret.so" "$out/nushbaret.o" -Wl,--version-script="$top/c/exports.map" \
-    -Wl,-z,defs -Wl,-z,now -Wl,-z,relro
+soname=libnushbaret.so.$(cut -d. -f1 "$top/VERSION")
+cc -shared -o "$out/libnushbaret.so" "$out/nushbaret.o" -Wl,-soname,"$soname" \
+    -Wl,--version-script="$top/c/exports.map" -Wl,-z,defs -Wl,-z,now -Wl,-z,relro
+ln -sf libnushbaret.so "$out/$soname"
 rm -f "$out/nushbaret.o"

@@ -1,17 +1,15 @@
-/* The worked example of nushbaret.h: solves a problem, and holds the answer against it. */
+/* The worked example of nushbaret.h: solves a problem of two persons and three objects, and verifies the answer. */
 #include "nushbaret.h"
 #include <stdio.h>
 
 int main(void) {
-    const int64_t costs[4] = {1, 2, 3, 5};
+    const int64_t costs[6] = {4, 1, 9, 2, 3, 9};
     uint16_t objects[2], persons[2];
-    struct nushbaret_price prices[2];
-    struct nushbaret_told told;
-    int32_t code = nushbaret_dense(NUSHBARET_MIN, 2, costs, 4, objects, 2, persons, 2, prices, 2, &told);
-    if (code != NUSHBARET_BEST) return 1;
-    printf("cost %lld: person 1 has object %d, person 2 has object %d\n", (long long)told.total, objects[0], objects[1]);
-    /* A dense problem has no lists of pairs: of_persons and of_objects are empty. */
-    code = nushbaret_check(NUSHBARET_MIN, 2, objects, 0, objects, 0, costs, 4, objects, 2, prices, 2, &told);
-    puts(code == NUSHBARET_BEST ? "proved best" : "not proved");
-    return code;
+    struct nushbaret_price prices[3];
+    struct nushbaret_problem problem = {NUSHBARET_MIN, 2, 3, costs, NULL, NULL, 6, NULL};
+    struct nushbaret_answer answer = {objects, persons, prices, {0, 0, 0, 0, 0, 0}};
+    if (nushbaret_solve(&problem, &answer) != NUSHBARET_BEST) return 1;
+    printf("cost %lld: person 1 has object %d, person 2 has object %d\n", (long long)answer.told.total, objects[0], objects[1]);
+    puts(nushbaret_verify(&problem, &answer) == NUSHBARET_BEST ? "proved optimal" : "not proved");
+    return 0;
 }

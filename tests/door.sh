@@ -1,8 +1,8 @@
 #!/usr/bin/env bash
 # Builds the library for C, compares its header with the crate, and calls it from C and from C++: worked and drawn
-# problems, each fault and each code, each growth refused, eight threads at a time; once more with the compiler's own
-# checks of addresses and of undefined behaviour on the C side, where cc has them. Prints what differs.
-# Wants the kit, cc, c++ and python3: tests/door.sh [gate], with c/build.sh's word.
+# problems, square and not, each fault and each code, each growth refused, eight threads at a time; once more with the
+# compiler's own checks of addresses and of undefined behaviour on the C side, where cc has them. Prints what differs.
+# Needs the kit, cc with the binutils, c++ and python3: tests/door.sh [gate], with c/build.sh's word.
 set -euo pipefail
 top=$(cd "$(dirname "$0")/.." && pwd)
 work=$(mktemp -d)
@@ -37,10 +37,12 @@ if echo 'int main(void) { return 0; }' | cc -fsanitize=address,undefined -x c - 
     run 'checked' "$work/checked"
 fi
 
-# The worked example, over the shared library.
-run 'example: build' cc -std=c99 "${flags[@]}" "$top/c/example.c" -L"$top/c/out" -lnushbaret -Wl,-rpath,"$top/c/out" -o "$work/example"
+# The worked example, over the shared library, in C and in C++.
+run 'example in C++: build' c++ -x c++ -std=c++11 -pedantic "${flags[@]}" "$top/c/example.c" -x none "$archive" -o "$work/example_as_cpp"
+run 'example in C++' "$work/example_as_cpp"
+run 'example: build' cc -std=c99 -pedantic "${flags[@]}" "$top/c/example.c" -L"$top/c/out" -lnushbaret -Wl,-rpath,"$top/c/out" -o "$work/example"
 run 'example' "$work/example"
-wanted=$'cost 5: person 1 has object 2, person 2 has object 1\nproved best'
+wanted=$'cost 3: person 1 has object 2, person 2 has object 1\nproved optimal'
 if [ "$("$work/example" 2> /dev/null)" != "$wanted" ]; then
     echo 'example: another answer'
     failed=$((failed + 1))

@@ -139,7 +139,7 @@ expect '3 1 1 4 2 1 6 3 2 1 3 3 2' 5 'not verified: sense\n' '' verify --sparse 
 firsts 0 'Read a problem from standard input, and write a best assignment or why there is none' '' solve --help
 firsts 0 'Read a problem from standard input, and check a report on it' '' verify --help
 firsts 0 'Solve assignment problems and check reports; the problem comes on standard input' '' --help
-expect '' 0 'auction_cli 1.0.0\n' '' --version
+expect '' 0 'auction_cli 2.0.0\n' '' --version
 firsts 2 '' "error: unexpected argument '-V' found" -V
 for word in solve verify; do
     firsts 2 '' "error: unexpected argument '--version' found" $word --version

@@ -6,14 +6,13 @@
 
 `solve` takes a matrix, `solve_sparse` listed pairs, and `linear_sum_assignment` is SciPy's call. `k_best` yields the plans behind
 the best one, and `bottleneck` makes the worst pair as good as can be. `check` and `compare` judge plans from elsewhere. Every
-best plan is found and held by Nushbaret's proved library; what this package adds, the reading of costs, the dummies of unequal
-numbers and the plans behind the best, is tested, not proved.
+best plan is found and held by Nushbaret's proved library; what this package adds, the reading of costs, the dummies where some stay
+out and the plans behind the best, is tested, not proved.
 """
-from ._bottleneck import bottleneck
 from ._checking import Comparison, Verdict, check, compare
-from ._errors import Infeasible, LibraryNotFound
-from ._library import GREATEST_COST, MOST_PERSONS, VERSION as __version__
-from ._ranking import k_best
+from ._infeasible import Infeasible
+from ._library import GREATEST_COST, MOST_PERSONS, VERSION as __version__, LibraryNotFound
+from ._plans import bottleneck, k_best
 from ._result import Plan, Result
 from ._solving import linear_sum_assignment, solve, solve_sparse
 

@@ -1,6 +1,6 @@
 """`python3 -m nushbaret`: the command for rosters with names."""
 import sys
 
-from .command import main
+from ._command import main
 
 sys.exit(main())

@@ -3,7 +3,7 @@ import operator
 from array import array
 from typing import Any, NamedTuple, Optional
 
-from . import _library as library, _duals, _exact as exact, _problem as reading, _square as square
+from . import _exact as exact, _library as library, _problem as reading, _proved as proved
 from ._problem import costs_of_pairs
 from ._result import Result, in_unit
 from ._solving import Decimals, solve_problem
@@ -74,50 +74,23 @@ def _pairs_of(problem, columns, rows):
     return pairs
 
 
-def _filled_up(problem, pairs, size):
-    """An object for each person of the square problem, from 1 on: dummies take what is left."""
-    objects = array("H", bytes(2 * size))
-    for row, column in pairs:
-        objects[row] = column + 1
-    used = {column for _, column in pairs}
-    unused = iter([column + 1 for column in range(problem.n_columns) if column not in used])
-    dummies = iter(range(problem.n_columns + 1, size + 1))
-    for row in range(size):
-        if not objects[row]:
-            objects[row] = next(dummies if row < problem.n_rows else unused, 0)
-    return objects
-
-
-def _price_of_dummies(problem, pairs, costs, prices, unit):
-    """What staying out costs a row: as much as the dearest pair that is served, so that none of these would rather stay out."""
-    sign = -1 if problem.maximize else 1
-    return max(sign * unit * cost + prices[column] for (_, column), cost in zip(pairs, costs))
-
-
-def check_problem(problem, rows, columns, given):
+def check_problem(problem, rows, columns, prices):
     """The verdict on a plan whose rows and columns are known to be some of the problem's."""
     pairs = list(zip(rows, columns))
-    served = len(pairs)
-    if not served:
+    if not pairs:
         return _verdict_on_none(problem)
     costs = costs_of_pairs(problem, pairs)
+    given_columns = set()
     for (row, column), cost in zip(pairs, costs):
         if cost is None:
             return Verdict(f"row {row} may not have column {column}", row, column)
-    given_columns = set()
-    for row, column in pairs:
         if column in given_columns:
             return Verdict(f"column {column} is given twice", row, column)
         given_columns.add(column)
-    if problem.persons is None and served < min(problem.n_rows, problem.n_columns):
-        return Verdict(f"{served} rows have a column, and {min(problem.n_rows, problem.n_columns)} can")
-    given_square = square.squared(problem, served)
-    prices = _duals.scaled(problem, given, given_square.size)
-    if given_square.size > problem.n_columns:
-        dummy = _price_of_dummies(problem, pairs, costs, prices, given_square.size + 1)
-        lowest = min(dummy, 0)
-        prices = [price - lowest for price in prices] + [dummy - lowest] * (given_square.size - problem.n_columns)
-    return _judged(problem, given_square, _filled_up(problem, pairs, given_square.size), prices)
+    most = min(problem.n_rows, problem.n_columns)
+    if problem.persons is None and len(pairs) < most:
+        return Verdict(f"{len(pairs)} rows have a column, and {most} can")
+    return _judged(problem, pairs, costs, prices)
 
 
 def _verdict_on_none(problem):
@@ -126,26 +99,64 @@ def _verdict_on_none(problem):
     return Verdict("no row has a column")
 
 
-def _judged(problem, given, objects, prices):
-    """The library's verdict on the square problem, in the caller's numbers."""
-    halves = library.Halves(prices=prices)
-    code, told = library.call("check", problem.maximize, given.size, given.persons, given.objects, given.costs, objects, halves)
-    if code == "BEST":
-        return Verdict()
+def _judged(problem, pairs, costs, prices):
+    """The library's verdict, in the caller's numbers.
+
+    Staying out is worth as much as the dearest pair: so none that is served would rather stay out. Where that is less than the
+    cheapest column, it costs less by whole costs, so that no price of a dummy is below all others."""
+    n, m, dummies = proved.sizes_of(problem, len(pairs))
+    unit, sign = m + 1, -1 if problem.maximize else 1
+    prices = proved.scaled(problem, prices, unit)
+    paid = [sign * unit * cost + prices[column] for (_, column), cost in zip(pairs, costs)]
+    dearest = max(paid)
+    less = max(0, -(dearest // unit))
+    of_objects = prices
+    if proved.is_turned(problem):
+        of_objects = [0] * problem.n_rows
+        for (row, _), held in zip(pairs, paid):
+            of_objects[row] = dearest - held
+    halves = library.Halves(prices=of_objects + [dearest + less * unit] * dummies)
+    asked = proved.given(problem, len(pairs), -sign * less)
+    code, told = library.call("check", problem.maximize, *asked, _objects(problem, pairs, n, m - dummies), halves)
+    return _in_words(problem, pairs, prices, asked, code, told)
+
+
+def _objects(problem, pairs, n, most):
+    """An object for each person, from 1 on: those that stay out have dummies."""
+    objects = array("H", bytes(2 * n))
+    for row, column in pairs:
+        if proved.is_turned(problem):
+            objects[column] = row + 1
+        else:
+            objects[row] = column + 1
+    for person in range(n):
+        if not objects[person]:
+            most += 1
+            objects[person] = most
+    return objects
+
+
+def _in_words(problem, pairs, prices, asked, code, told):
     if code == "SLACK":
-        return _slack(problem, objects, told.person - 1, told.object - 1)
+        row, column = told.person - 1, told.object - 1
+        if proved.is_turned(problem):
+            row, column = column, row
+        return Verdict(f"row {row} would be better off with column {column}, at these prices", row, column)
+    if code == "DEAR":
+        return _dear(prices, told.object - 1)
     if code == "PRICE_RANGE":
         return Verdict("prices are too far apart")
-    return square.refuse(problem, given, code, told)
+    if code != "BEST":
+        return proved.refuse(problem, asked, code, told)
+    # Where rows are more the library has seen the prices of the matched columns alone.
+    used = {column for _, column in pairs}
+    dear = [column for column, price in enumerate(prices) if price > 1 and column not in used]
+    return _dear(prices, dear[0]) if dear else Verdict()
 
 
-def _slack(problem, objects, row, column):
-    if row >= problem.n_rows:
-        unused = objects[row] - 1
-        return Verdict(f"column {unused} stays unused, and column {column} is cheaper", None, column)
-    if column >= problem.n_columns:
-        return Verdict(f"row {row} would be better off without a column", row, None)
-    return Verdict(f"row {row} would be better off with column {column}, at these prices", row, column)
+def _dear(prices, unused):
+    cheaper = next(column for column, price in enumerate(prices) if price + 1 < prices[unused])
+    return Verdict(f"column {unused} stays unused, and column {cheaper} is cheaper", None, cheaper)
 
 
 def check(costs: Any, columns: Any, prices: Any, rows: Any = None, maximize: bool = False,

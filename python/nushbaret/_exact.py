@@ -10,14 +10,14 @@ from fractions import Fraction
 from itertools import chain
 from typing import NamedTuple, Union
 
-from ._library import GREATEST_COST
+from ._library import FEW, GREATEST_COST
 
 MOST_PLACES = 6
 # In place of a number of decimals: as many as fit; and a power of two, for costs that are taken as doubles.
 FIT, DOUBLES = "fit", "doubles"
 FORBID = "forbid"
-# Up to so many numbers a copy costs less than a second look at them.
-FEW = 1024
+# Beyond such powers of two the factor, or what stands in for it, may be no double.
+MOST_SHIFT = 900
 # Digits behind the point that are kept of a fraction before it is rounded.
 STICKY = 30
 _PLAIN = frozenset((int, float, bool, type(None)))
@@ -214,7 +214,8 @@ def of_rows(rows, length, manner, where):
     if length * len(rows) <= FEW:
         rows, length = [list(chain.from_iterable(rows))], length * len(rows)
     numbers = _packed(rows, length) if manner.whole else None
-    if numbers is not None and (manner.decimals != DOUBLES or not numbers or max(max(numbers), -min(numbers)) <= GREATEST_COST):
+    if numbers is not None and (manner.decimals != DOUBLES or not numbers
+                                or max(map(max, rows)) <= GREATEST_COST and min(map(min, rows)) >= -GREATEST_COST):
         return Costs(numbers, (), 0, False)
     values = list(chain.from_iterable(rows))
     return doubles_of_list(values, manner, where) if manner.decimals == DOUBLES else _of_numbers(values, manner, where)
@@ -305,6 +306,11 @@ def _of_numbers(values, manner, where):
 
 def doubles_of_list(values, manner, where):
     """Costs as doubles, times the greatest power of two that leaves all within range."""
+    if set(map(type, values)) == {float} and math.isfinite(sum(values)):
+        shift = shift_of(max(max(values), -min(values)))
+        if -MOST_SHIFT < shift < MOST_SHIFT:
+            scale = 2.0**shift
+            return Costs(array("q", map(round, [value * scale for value in values])), (), 0, False)
     doubles = [_double(place, value, manner, where) for place, value in enumerate(values)]
     most = max((abs(value) for value in doubles if value is not None), default=0.0)
     shift = shift_of(most)
@@ -332,8 +338,8 @@ def _double(place, value, manner, where):
 
 def shift_of(most):
     """The greatest power of two that leaves a float within the library's range."""
-    shift = 40 - math.frexp(most)[1]
-    return shift if math.ldexp(most, shift) <= GREATEST_COST else shift - 1
+    part, power = math.frexp(most)
+    return 40 - power - (part > GREATEST_COST / 2**40)
 
 
 def of_array(numpy, values, manner, where):

@@ -3,10 +3,9 @@ import ctypes
 import pathlib
 import threading
 from array import array
+from typing import Dict, List, Tuple
 
-from ._errors import LibraryNotFound
-
-VERSION = "1.0.0"
+VERSION = "2.0.0"
 MOST_PERSONS = 8192
 GREATEST_COST = 10**12
 GREATEST_FIRST_PRICE = 10**21
@@ -16,11 +15,16 @@ CODES = (
     "SENSE", "SIZE", "LENGTH", "PERSON", "OBJECT", "COST", "PRICE", "MEMORY",
     "ANSWER_LENGTH", "UNLISTED", "TWICE", "PRICE_RANGE", "SLACK",
     "HALL_RANGE", "HALL_ORDER", "HALL_MISSING", "HALL_EXTRA", "HALL_COUNT",
+    "DEAR",
 )
 
 NAME = "libnushbaret.so"
 _PACKAGE = pathlib.Path(__file__).resolve().parent
 PLACES = (_PACKAGE / NAME, _PACKAGE.parent.parent / "c" / "out" / NAME)
+
+
+class LibraryNotFound(OSError):
+    """The shared library isn't there, or it is of another version; the text says which command makes it."""
 
 
 class Told(ctypes.Structure):
@@ -59,9 +63,11 @@ def _load():
     for name, lists in _LISTS.items():
         call = getattr(library, f"nushbaret_{name}")
         sense = [] if name == "check_hall" else [ctypes.c_uint32]
-        call.argtypes = sense + [ctypes.c_size_t] + [ctypes.c_void_p, ctypes.c_size_t] * lists + [ctypes.c_void_p]
+        call.argtypes = sense + [ctypes.c_size_t] * 2 + [ctypes.c_void_p, ctypes.c_size_t] * lists + [ctypes.c_void_p]
         call.restype = ctypes.c_int32
         _calls[name] = call
+    # Without types, so that what is made ready isn't looked at once more.
+    _calls["dense, made ready"] = library["nushbaret_dense"]
 
 
 class Lent:
@@ -77,8 +83,9 @@ class Lent:
 
 
 _SPARE = array("Q", [0])
-# NumPy tells an array's address slowly: up to so many bytes a copy is had sooner.
-_FEW = 8192
+# NumPy tells an array's address slowly: up to so many numbers a copy is had sooner.
+FEW = 1024
+_FEW_BYTES = 8 * FEW
 
 
 def _lend(values):
@@ -89,7 +96,7 @@ def _lend(values):
         place, count = values.place, values.count
     elif isinstance(values, Halves):
         place, count = values.words.buffer_info()[0], len(values)
-    elif values.nbytes <= _FEW:
+    elif values.nbytes <= _FEW_BYTES:
         return values.tobytes(), values.size
     else:
         place, count = values.__array_interface__["data"][0], values.size
@@ -124,10 +131,10 @@ def _loaded():
     return _calls
 
 
-def call(name, sense, size, *lists):
+def call(name, sense, n, m, *lists):
     """The name of the code, and what is told. `sense` is None for `check_hall`; MemoryError where memory is refused."""
     told = Told()
-    words = [size] if sense is None else [1 if sense else 0, size]
+    words = [n, m] if sense is None else [1 if sense else 0, n, m]
     for values in lists:
         words += _lend(values)
     code = CODES[_loaded()[name](*words, ctypes.addressof(told))]
@@ -136,13 +143,47 @@ def call(name, sense, size, *lists):
     return code, told
 
 
-def best_objects(size, costs, maximize):
-    """An array, and the place in it where the objects of a best assignment of a dense problem stand, in 16 bits each; None
-    where the library has no such answer. All that it fills lies in the array: what is told, prices, objects, persons."""
-    room = array("Q", bytes(_TOLD + 24 * size))
-    told = room.buffer_info()[0]
-    prices = told + _TOLD
-    objects = prices + 16 * size
-    code = _loaded()["dense"](
-        1 if maximize else 0, size, *_lend(costs), objects, size, objects + 2 * size, size, prices, size, told)
-    return (room, objects - told) if CODES[code] == "BEST" else None
+class Room:
+    """What a dense call on an array of NumPy's fills, with its arguments made ready, since to convert them takes as long as a small
+    problem: a sense, sizes, costs, and the rest. The call answers 0 where it found a best assignment, whose objects stand here
+    then. `doubles` and `numbers` are one memory, for costs that are to become whole numbers, and `own` is its address."""
+
+    def __init__(self, numpy, n, m):
+        self.words = array("Q", bytes(_TOLD + 16 * m + 4 * n + 8 - 4 * n % 8))
+        self.rows, self.objects = numpy.arange(n), numpy.frombuffer(self.words, numpy.uint16, n, _TOLD + 16 * m)
+        told = self.words.buffer_info()[0]
+        prices, objects, persons = told + _TOLD, told + _TOLD + 16 * m, told + _TOLD + 16 * m + 2 * n
+        many, few, address = ctypes.c_size_t(m), ctypes.c_size_t(n), ctypes.c_void_p
+        self.minimized, self.maximized, self.sizes = ctypes.c_uint32(0), ctypes.c_uint32(1), (few, many)
+        self.rest = (ctypes.c_size_t(n * m), address(objects), few, address(persons), few, address(prices), many, address(told))
+        self.call, self.doubles, self.numbers, self.own = _calls["dense, made ready"], None, None, None
+
+    def held(self, numbers):
+        """The address of an array of 64-bit numbers, which stays as long as this does. NumPy tells it slowly: a copy of a small
+        array, as bytes, is had sooner."""
+        self.numbers = numbers
+        return ctypes.c_void_p(numbers.__array_interface__["data"][0])
+
+    def hold_doubles(self, numpy, shape):
+        """Makes memory for costs that are to become whole numbers."""
+        self.doubles = numpy.empty(shape)
+        self.own = self.held(self.doubles.view(numpy.int64))
+
+
+# Rooms of calls that are done, by their sizes; so many sizes are held at most.
+_MOST_SIZES = 256
+_rooms: Dict[Tuple[int, int], List[Room]] = {}
+
+
+def rooms_for(n, m):
+    """A list of rooms that no call has: take one of it, and put it back when it is done."""
+    rooms = _rooms.get((n, m))
+    if rooms is None:
+        _loaded()
+        if len(_rooms) >= _MOST_SIZES:
+            _rooms.clear()
+        rooms = []
+        # Larger rooms aren't kept: to make one takes little beside such a problem, and it holds much.
+        if n * m <= FEW:
+            _rooms[n, m] = rooms
+    return rooms

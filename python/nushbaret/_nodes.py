@@ -1,13 +1,20 @@
-"""The problem of single nodes that stands for one where names count several times.
+"""The problem of single nodes that stands for one where names count several times, and all of its best plans.
 
 A person of several tasks, and an object of several places, has a node for each. Where such two may meet, the pair gets two nodes
 of its own, joined with each other: the person's nodes reach the one at the pair's cost, and the other reaches the object's nodes
 at 0. So a pair counts at most once.
+
+The best plans are those along pairs whose reduced cost is 0, in which nobody stays out but whose dual is 0. Of these one has the
+fewest changes from an earlier plan. Two of them differ by rounds of pairs that cost nothing, each in one of them: so a pair that
+is in some best plan and not in all stands, as an arrow from the object to its person where it is in this plan and the other way
+where it isn't, in a round of such arrows. What stays out is held by one vertex on each side.
 """
 from array import array
-from typing import Collection, List, NamedTuple, Sequence, Tuple
+from collections import Counter
+from typing import Any, Collection, Dict, List, NamedTuple, Optional, Sequence, Set, Tuple
 
 from ._library import MOST_PERSONS
+from ._solving import solve_sparse
 
 Pair = Tuple[int, int]
 
@@ -24,8 +31,7 @@ class Listed(NamedTuple):
 
 class Nodes(NamedTuple):
     """Rows and columns with the pairs among them. `of_rows[row]` is a person, and `of_columns[column]` an object, or below 0: ~k is
-    a node of its own of the pair `joined[k]`. `edges[k]` is the pair that edge k
-    chooses, or NO_PAIR."""
+    a node of its own of the pair `joined[k]`. `edges[k]` is the pair that edge k chooses, or NO_PAIR."""
 
     of_rows: List[int]
     of_columns: List[int]
@@ -122,3 +128,143 @@ def least_costs(nodes: Nodes, maximize: bool) -> List[int]:
 def changed(costs: Sequence[int], edges: Sequence[Pair], kept: Collection[Pair], change: int) -> List[int]:
     """Costs with `change` more for each pair that isn't kept."""
     return [cost if edge in kept or edge == NO_PAIR else cost + change for cost, edge in zip(costs, edges)]
+
+
+# All best plans: one with the fewest changes, and who could change places.
+
+
+class Face(NamedTuple):
+    """All best plans of nodes: the places in the list of edges that they may use, and who may stay out."""
+
+    edges: List[int]
+    rows: List[int]
+    columns: List[int]
+
+
+def face_of(nodes: Nodes, costs: List[int], result: Any) -> Face:
+    """All plans as good as a result for these costs, which are to be least."""
+    rents = result._rents
+    paid = [cost + rents[column] for cost, column in zip(costs, nodes.columns)]
+    least: List[Optional[int]] = [None] * len(nodes.of_rows)
+    for row, cost in zip(nodes.rows, paid):
+        before = least[row]
+        least[row] = cost if before is None else min(before, cost)
+    out = [least[row] for row in result.unmatched_rows]
+    bound = min((cost for cost in out if cost is not None), default=None)
+    held = [cost if bound is None or cost is None else min(cost, bound) for cost in least]
+    tight = [edge for edge, (row, cost) in enumerate(zip(nodes.rows, paid)) if cost == held[row]]
+    some_out = len(result.unmatched_rows) > 0
+    rows = [row for row, cost in enumerate(least) if some_out and (cost is None or bound is None or cost >= bound)]
+    spare = len(result.unmatched_columns) > 0
+    return Face(tight, rows, [column for column in range(len(nodes.of_columns)) if spare and rents[column] == 0])
+
+
+def fewest_changes(nodes: Nodes, face: Face, result: Any, kept: Collection[Pair]) -> List[Pair]:
+    """The pairs of a plan as good as the result's with the fewest pairs that aren't kept.
+
+    All pairs of the face cost a change or nothing, and who may not stay out is worth more than all changes."""
+    step = len(result.rows) + 1
+    rows, columns, changes = array("q"), array("q"), array("q")
+    out_rows, out_columns = set(face.rows), set(face.columns)
+    for edge in face.edges:
+        row, column = nodes.rows[edge], nodes.columns[edge]
+        rows.append(row)
+        columns.append(column)
+        held = nodes.edges[edge] in kept or nodes.edges[edge] == NO_PAIR
+        changes.append((not held) - step * ((row not in out_rows) + (column not in out_columns)))
+    best = solve_sparse(len(nodes.of_rows), len(nodes.of_columns), rows, columns, changes, partial=True)
+    return nodes.pairs(best.rows, best.columns)
+
+
+class Swap(NamedTuple):
+    """Pairs that are in some of the best plans and not in all, and that depend on each other."""
+
+    pairs: List[Pair]
+
+    @property
+    def persons(self) -> List[int]:
+        return sorted({person for person, _ in self.pairs})
+
+    @property
+    def objects(self) -> List[int]:
+        return sorted({object_ for _, object_ in self.pairs})
+
+
+def swaps_of(nodes: Nodes, face: Face, chosen: List[Pair]) -> List[Swap]:
+    """The groups that could change places, in the order of their first persons; none where the chosen plan is the only best one."""
+    tasks, places = Counter(nodes.of_rows), Counter(nodes.of_columns)
+    first_object = max(tasks, default=0) + 1
+    out = first_object + max(places, default=0) + 1
+    leads: List[List[int]] = [[] for _ in range(out + 2)]
+    own = set(chosen)
+    pairs = _free_pairs(nodes, face)
+    for person, object_ in pairs:
+        begin, end = (first_object + object_, person) if (person, object_) in own else (person, first_object + object_)
+        leads[begin].append(end)
+    had, used = Counter(person for person, _ in chosen), Counter(object_ for _, object_ in chosen)
+    for person in {nodes.of_rows[row] for row in face.rows if nodes.of_rows[row] >= 0}:
+        leads[person].append(out)
+        leads[out] += [person] if had[person] < tasks[person] else []
+    for object_ in {nodes.of_columns[column] for column in face.columns if nodes.of_columns[column] >= 0}:
+        leads[out + 1].append(first_object + object_)
+        leads[first_object + object_] += [out + 1] if used[object_] < places[object_] else []
+    part = _parts(leads)
+    swaps: Dict[int, List[Pair]] = {}
+    for person, object_ in sorted(pairs):
+        if part[person] == part[first_object + object_]:
+            swaps.setdefault(part[person], []).append((person, object_))
+    return [Swap(group) for group in swaps.values()]
+
+
+def _free_pairs(nodes: Nodes, face: Face) -> Set[Pair]:
+    """The pairs that a best plan may have or not, as far as they themselves say. A pair with nodes of its own is one where
+    all of these are free: its person's end, its object's end, and the two with each other."""
+    free: Set[Pair] = set()
+    ends: Set[Tuple[int, int]] = set()
+    for edge in face.edges:
+        row, column = nodes.of_rows[nodes.rows[edge]], nodes.of_columns[nodes.columns[edge]]
+        if row >= 0 and column >= 0:
+            free.add(nodes.edges[edge])
+        elif row >= 0:
+            ends.add((~column, 0))
+        elif column >= 0:
+            ends.add((~row, 1))
+        else:
+            ends.add((~row, 2))
+    free.update(pair for number, pair in enumerate(nodes.joined) if all((number, end) in ends for end in range(3)))
+    return free - {NO_PAIR}
+
+
+def _parts(leads: List[List[int]]) -> List[int]:
+    """A number for each vertex of a graph: the same for two exactly where arrows lead from each to the other."""
+    back: List[List[int]] = [[] for _ in leads]
+    for begin, ends in enumerate(leads):
+        for end in ends:
+            back[end].append(begin)
+    part = [-1] * len(leads)
+    for first in reversed(_finished(leads)):
+        waiting = [first] if part[first] < 0 else []
+        while waiting:
+            vertex = waiting.pop()
+            if part[vertex] < 0:
+                part[vertex] = first
+                waiting += back[vertex]
+    return part
+
+
+def _finished(leads: List[List[int]]) -> List[int]:
+    """The vertices in the order in which a search into the depth is done with them."""
+    seen, order = [False] * len(leads), []
+    for first in range(len(leads)):
+        way = [] if seen[first] else [(first, iter(leads[first]))]
+        seen[first] = True
+        while way:
+            vertex, ends = way[-1]
+            end = next((end for end in ends if not seen[end]), None)
+            if end is None:
+                order.append(vertex)
+                way.pop()
+            else:
+                seen[end] = True
+                way.append((end, iter(leads[end])))
+    return order

@@ -44,14 +44,22 @@ def _judge_size(n_rows, n_columns):
         raise ValueError(f"{n_rows} rows and {n_columns} columns: at most {MOST_PERSONS} of each can be had")
 
 
-def _rows_of(costs):
-    """The rows of a matrix that is no array of NumPy's, and how long they are."""
+def _rows_of_any(costs):
     try:
         rows = [row if hasattr(row, "__len__") else list(row) for row in costs]
     except TypeError:
         raise ValueError("expected a matrix (2-D array)") from None
     if any(isinstance(row, (str, bytes)) for row in rows):
         raise TypeError("Cannot cast array data: a row is a text")
+    return rows
+
+
+def _rows_of(costs):
+    """The rows of a matrix that is no array of NumPy's, and how long they are."""
+    if type(costs) is list and {list}.issuperset(map(type, costs)):
+        rows = costs
+    else:
+        rows = _rows_of_any(costs)
     lengths = set(map(len, rows))
     if len(lengths) > 1:
         row = next(row for row, held in enumerate(rows) if len(held) != len(rows[0]))
@@ -128,6 +136,22 @@ def costs_of_pairs(problem, pairs):
             least = wanted[person, item]
             wanted[person, item] = cost if least is None else min(cost, least)
     return [wanted[row + 1, column + 1] for row, column in pairs]
+
+
+def lists_of(problem):
+    """The columns of each row, rising, and what they cost where costs are to be little."""
+    n_rows, n_columns, sign = problem.n_rows, problem.n_columns, -1 if problem.maximize else 1
+    if problem.persons is None:
+        costs = plain(problem.costs)
+        if problem.maximize:
+            costs = -costs if problem.numpy else array("q", map(operator.neg, costs))
+        view = memoryview(costs)
+        return [(range(n_columns), view[row * n_columns:(row + 1) * n_columns]) for row in range(n_rows)]
+    held = [{} for _ in range(n_rows)]
+    for person, item, cost in zip(problem.persons.tolist(), problem.objects.tolist(), problem.costs.tolist()):
+        row = held[person - 1]
+        row[item - 1] = min(cost, row.get(item - 1, cost))
+    return [(sorted(row), [sign * row[column] for column in sorted(row)]) for row in held]
 
 
 def listed(problem):
@@ -221,6 +245,8 @@ def of_pairs(n_rows, n_columns, rows, columns, costs, manner):
 
 def of_sparse_matrix(matrix, manner):
     """The problem of a sparse matrix of SciPy's, whose stored entries are its pairs, also those that are 0."""
-    entries = matrix.tocoo(copy=True)
-    entries.sum_duplicates()
+    once = getattr(matrix, "has_canonical_format", False)
+    entries = matrix.tocoo(copy=not once)
+    if not once:
+        entries.sum_duplicates()
     return of_pairs(*matrix.shape, entries.row, entries.col, entries.data, manner)

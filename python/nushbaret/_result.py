@@ -3,7 +3,7 @@ import decimal
 from functools import cached_property
 from typing import TYPE_CHECKING, Any, List, NamedTuple, Optional, Tuple, Union
 
-from . import _duals
+from . import _proved as proved
 from ._exact import manner
 from ._problem import costs_of_pairs
 
@@ -21,24 +21,18 @@ def in_unit(number, places):
 
 def rows_and_columns(problem, answer):
     """The numbers of the pairs of an answer, in the form that the caller wants: dummies stand in none."""
-    return _arrays_of(problem.numpy, problem, answer) if problem.numpy else _lists_of(problem, answer)
-
-
-def _lists_of(problem, answer):
-    columns = [item - 1 for item in answer.objects[:problem.n_rows]]
-    if answer.size == problem.n_columns:
-        return list(range(problem.n_rows)), columns
-    rows = [row for row, column in enumerate(columns) if column < problem.n_columns]
-    return rows, [columns[row] for row in rows]
+    return _arrays_of(problem.numpy, problem, answer) if problem.numpy else proved.pairs_of(problem, answer)
 
 
 def _arrays_of(numpy, problem, answer):
-    columns = numpy.array(answer.objects[:problem.n_rows].tolist(), numpy.intp)
-    columns -= 1
-    if answer.size == problem.n_columns:
-        return numpy.arange(problem.n_rows), columns
-    rows = numpy.flatnonzero(columns < problem.n_columns)
-    return rows, columns[rows]
+    own = numpy.array(answer.objects, numpy.intp)
+    own -= 1
+    persons = numpy.flatnonzero(own < max(problem.n_rows, problem.n_columns))
+    own = own[persons]
+    if not proved.is_turned(problem):
+        return persons, own
+    order = own.argsort()
+    return own[order], persons[order]
 
 
 class Plan(NamedTuple):
@@ -70,7 +64,8 @@ class Result:
         unmatched rows have one dual, none is greater, and it is the sum over the matched that is the cost.) Other duals prove
         the same plan as well.
     prices : list of int
-        The library's own proof, one price for each column, in the unit of the costs divided by `scale`.
+        The library's own proof, one price for each column, in the unit of the costs divided by `scale`. Where rows are more the
+        library has prices of the rows, and these follow from them.
     unmatched_rows, unmatched_columns : list of int, or NumPy array
         Who stays without, rising.
     scale : int
@@ -92,7 +87,7 @@ class Result:
         self._answer = answer
         self.rows, self.columns = rows_and_columns(problem, answer)
         self.cost = in_unit(answer.total, problem.places)
-        self.scale = (answer.size + 1) * 10**problem.places
+        self.scale = (answer.m + 1) * 10**problem.places
         self.decimals, self.rounded, self.maximize = problem.places, problem.rounded, problem.maximize
         self.error_bound = in_unit(len(self.rows), problem.places) if problem.rounded else 0
 
@@ -101,7 +96,7 @@ class Result:
 
     @cached_property
     def _pairs(self):
-        return _lists_of(self._problem, self._answer)
+        return proved.pairs_of(self._problem, self._answer)
 
     @cached_property
     def pairs(self) -> List[Tuple[Any, Any]]:
@@ -120,11 +115,11 @@ class Result:
 
     @cached_property
     def prices(self) -> List[int]:
-        return self._answer.halves.prices()[:self._problem.n_columns]
+        return proved.prices_of(self._problem, self._answer, *self._pairs)
 
     @cached_property
     def _whole_duals(self):
-        return _duals.of_answer(self._problem, self._answer, *self._pairs)
+        return proved.duals_of(self._problem, self._answer, *self._pairs)
 
     def _in_unit(self, numbers):
         return [in_unit(number, self.decimals) for number in numbers]
@@ -139,11 +134,11 @@ class Result:
 
     @cached_property
     def _rents(self):
-        return self._in_unit(_duals.rents(self._whole_duals))
+        return self._in_unit(proved.rents(self._whole_duals))
 
     @cached_property
     def is_unique(self) -> bool:
-        from ._ranking import Ranking
+        from ._plans import Ranking
         return not Ranking(self).has_other()
 
     def next_best(self) -> Optional[Plan]:
@@ -154,7 +149,7 @@ class Result:
         Plan or None
             None where there is no other plan. Of several, the one that comes first in the order of `k_best`.
         """
-        from ._ranking import next_best
+        from ._plans import next_best
         return next_best(self)
 
     def to_frame(self) -> Any:

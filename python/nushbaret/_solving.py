@@ -3,56 +3,46 @@ import math
 import operator
 import sys
 from array import array
-from typing import Any, List, Optional, Sequence, Tuple, Union
+from typing import Any, Dict, Optional, Sequence, Tuple, Union
 
-from . import _duals, _exact as exact, _library as library, _matching as matching, _problem as reading, _square as square
-from ._groups import infeasible
-from ._library import MOST_PERSONS, Halves
+from . import _exact as exact, _library as library, _problem as reading, _proved as proved
+from ._infeasible import infeasible, most_served
+from ._library import FEW, MOST_PERSONS
 from ._result import Result, rows_and_columns
 
 Start = Union[Result, Sequence[Any], None]
 Decimals = Union[int, str, None]
-_numbers: List[Any] = []
-# Beyond such powers of two a factor is no double.
-MOST_SHIFT = 1000
 
 
 def solve_served(problem, served):
     """The best plan of so many pairs; None where the library proves that there is none."""
     answer = _solved(problem, served=served)
-    return None if isinstance(answer, square.Short) else Result(problem, answer)
-
-
-def _no_pairs(problem):
-    """The answer where there is no pair to make: all that there is stays out, at duals of 0."""
-    objects = array("H", (problem.n_columns + 1,)) * problem.n_rows
-    return square.Answer(problem.n_rows + problem.n_columns, 0, objects, Halves(problem.n_columns))
+    return None if isinstance(answer, proved.Short) else Result(problem, answer)
 
 
 def _solved(problem, start=None, served=None):
-    """An answer or a Short of the square problem that stands for this one."""
+    """The library's answer to the problem of so many pairs, an Answer or a Short."""
     if served == 0 or not min(problem.n_rows, problem.n_columns):
-        return _no_pairs(problem)
-    first = None if start is None else _first(problem, start, served)
-    return square.answer(problem, square.squared(problem, served), first)
-
-
-def _first(problem, start, served):
-    return _duals.first_prices(problem, start._rents if isinstance(start, Result) else start, served)
+        return proved.no_pairs(problem)
+    asked = proved.given(problem, served)
+    if start is None:
+        return proved.answer(problem, asked)
+    prices = start._rents if isinstance(start, Result) else start
+    return proved.answer(problem, asked, proved.first_prices(problem, prices, served))
 
 
 def _most(problem, start):
     """The best of the fullest plans. That no plan has one pair more is proved by the library as well."""
-    served = matching.most_served(problem)
+    served = most_served(problem)
     answer = _solved(problem, start, served)
-    if isinstance(answer, square.Short) or not isinstance(_solved(problem, served=served + 1), square.Short):
+    if isinstance(answer, proved.Short) or not isinstance(_solved(problem, served=served + 1), proved.Short):
         raise RuntimeError(f"{served} rows were found to be the most that can be served, and the library says otherwise")
     return answer
 
 
 def _answer(problem, start, partial):
     answer = _solved(problem, start)
-    if not isinstance(answer, square.Short):
+    if not isinstance(answer, proved.Short):
         return answer
     if not partial:
         raise infeasible(problem)
@@ -177,74 +167,106 @@ def linear_sum_assignment(cost_matrix: Any, maximize: bool = False) -> Tuple[Any
     Floats are multiplied by the greatest power of two that leaves all within 10**12, and rounded. Where that makes all whole
     the answer is best for these very doubles; else it costs at most n times that unit more, some 12 digits below the greatest.
     """
-    found = _quick_assignment(cost_matrix, maximize)
+    arrays = _arrays or _load_arrays()
+    found = arrays and arrays.assignment(cost_matrix, maximize)
     if found:
         return found
     problem = reading.of_matrix(cost_matrix, exact.Manner(bool(maximize), exact.DOUBLES))
     return rows_and_columns(problem, _answer(problem, None, False))
 
 
-# SciPy's call on an array of NumPy's, by a shorter way: around a small problem it's the steps in Python that take the time.
+class _Arrays:
+    """SciPy's call on arrays of NumPy's, by a shorter way: around a small problem it's the steps in Python that take the time. What
+    is wanted of NumPy stands here, so that it isn't looked up each time."""
+
+    def __init__(self, numpy):
+        self.numpy, self.array = numpy, numpy.ndarray
+        self.int64, self.float64 = numpy.dtype(numpy.int64), numpy.dtype(numpy.float64)
+        self.add, self.subtract = numpy.add, numpy.subtract
+        # Numbers from 0 on come out of an array that has -1, 0, 1 ..
+        self.from_zero = numpy.arange(-1, MOST_PERSONS).take
+
+    def assignment(self, costs, maximize):
+        """Rows and columns of a best assignment. None where the costs aren't an array of 64-bit integers or floats, all finite, or
+        where the library has no answer to them: then the longer way finds it, or says what is wrong."""
+        if type(costs) is not self.array or costs.ndim != 2:
+            return None
+        n, m = costs.shape
+        if n <= m:
+            return self._assignment(costs, n, m, maximize)
+        found = self._assignment(costs.T, m, n, maximize)
+        if found is None:
+            return None
+        rows = found[1]
+        columns = rows.argsort()
+        return rows.take(columns), columns
+
+    def _assignment(self, costs, n, m, maximize):
+        if not n or m > MOST_PERSONS or not costs.flags.aligned:
+            return None
+        rooms = library.rooms_for(n, m)
+        try:
+            room = rooms.pop()
+        except IndexError:
+            room = library.Room(self.numpy, n, m)
+        if costs.dtype is self.int64:
+            lent = costs.tobytes() if n * m <= FEW else room.held(costs.ravel())
+        elif costs.dtype is self.float64:
+            lent = self._taken(costs, room)
+        else:
+            lent = None
+        if lent is None or room.call(room.maximized if maximize else room.minimized, *room.sizes, lent, *room.rest):
+            return None
+        found = room.rows.copy(), self.from_zero(room.objects)
+        rooms.append(room)
+        return found
+
+    def _taken(self, costs, room):
+        """Doubles as whole numbers, as `doubles_of_array` has them; None where that must look closer."""
+        # In the order in which they lie in memory they are looked at sooner.
+        seen = costs if costs.flags.c_contiguous else costs.T
+        item = seen.item
+        # Where the first isn't whole, no look at the others is needed.
+        if item(0).is_integer():
+            numbers = exact.whole_numbers(self.numpy, costs.ravel())
+            if numbers is not None:
+                return numbers.tobytes() if numbers.size <= FEW else room.held(numbers)
+        most, least = item(seen.argmax()), -item(seen.argmin())
+        if least > most:
+            most = least
+        if not 0 < most < math.inf:
+            return None
+        shift = exact.shift_of(most)
+        adder = _adders.get(shift) or self._adder(shift)
+        if adder is None:
+            return None
+        if room.doubles is None:
+            room.hold_doubles(self.numpy, costs.shape)
+        self.add(costs, adder[0], room.doubles)
+        self.subtract(room.numbers, adder[1], room.numbers)
+        return room.own
+
+    def _adder(self, shift):
+        """A double whose last place is 2**-shift, so that what is added to it is rounded there, and its bits, which are to be taken
+        off those of the sum; None where there is no such double."""
+        if not -exact.MOST_SHIFT < shift < exact.MOST_SHIFT:
+            return None
+        adder = self.numpy.array(1.5 * 2.0**(52 - shift))
+        _adders[shift] = adder, adder.view(self.int64)
+        return _adders[shift]
 
 
-def _quick_assignment(costs, maximize):
-    """Rows and columns of a best assignment. None where the costs aren't an array of 64-bit integers or floats, all finite, or
-    where the library has no answer to them: then the longer way finds it, or says what is wrong."""
+_arrays: Optional[_Arrays] = None
+_adders: Dict[int, Tuple[Any, Any]] = {}
+
+
+def _load_arrays():
+    """The shorter way, once NumPy is there."""
+    global _arrays
     numpy = sys.modules.get("numpy")
-    if numpy is None or type(costs) is not numpy.ndarray or costs.ndim != 2:
-        return None
-    n_rows, n_columns = costs.shape
-    size = n_rows if n_rows > n_columns else n_columns
-    if size > MOST_PERSONS or not n_rows or not n_columns or not costs.flags.aligned:
-        return None
-    numbers = _whole_numbers(numpy, costs)
-    if numbers is None:
-        return None
-    if n_rows != n_columns:
-        numbers = _filled_up(numpy, numbers, n_rows, n_columns, size)
-    found = library.best_objects(size, numbers, maximize)
-    if found is None:
-        return None
-    room, place = found
-    return _from_zero(numpy, n_rows, n_columns, numpy.frombuffer(room, numpy.uint16, n_rows, place))
-
-
-def _whole_numbers(numpy, costs):
-    kind = costs.dtype
-    if kind == numpy.int64:
-        return costs.ravel()
-    if kind != numpy.float64:
-        return None
-    flat = costs.ravel()
-    # Where the first isn't whole, no look at the others is needed.
-    numbers = exact.whole_numbers(numpy, flat) if flat.item(0).is_integer() else None
-    if numbers is not None:
-        return numbers
-    most = float(numpy.maximum.reduce(numpy.absolute(flat)))
-    if not 0 < most < math.inf:
-        return None
-    shift = exact.shift_of(most)
-    if not -MOST_SHIFT < shift < MOST_SHIFT:
-        return None
-    scaled = flat * 2.0**shift
-    return numpy.rint(scaled, scaled).astype(numpy.int64)
-
-
-def _filled_up(numpy, numbers, n_rows, n_columns, size):
-    """A square, in which dummies cost nothing."""
-    square = numpy.zeros((size, size), numpy.int64)
-    square[:n_rows, :n_columns] = numbers.reshape(n_rows, n_columns)
-    return square
-
-
-def _from_zero(numpy, n_rows, n_columns, objects):
-    """Numbers from 0 on, in arrays that are the caller's own: they come out of one that has -1, 0, 1 .."""
-    if not _numbers:
-        _numbers.append(numpy.arange(-1, MOST_PERSONS))
-    if n_rows <= n_columns:
-        return _numbers[0][1:n_rows + 1].copy(), _numbers[0].take(objects)
-    rows = (objects <= n_columns).nonzero()[0]
-    return rows, _numbers[0].take(objects.take(rows))
+    if numpy is not None and hasattr(numpy, "ndarray"):
+        _arrays = _Arrays(numpy)
+    return _arrays
 
 
 def solve_without(problem, served, row, column):
@@ -254,7 +276,7 @@ def solve_without(problem, served, row, column):
         raise IndexError(f"row {row}, column {column}: there are {problem.n_rows} rows and {problem.n_columns} columns")
     less = _leave_out(problem, row, column)
     answer = _solved(less, served=served)
-    if isinstance(answer, square.Short):
+    if isinstance(answer, proved.Short):
         raise infeasible(less)
     return Result(less, answer)
 

@@ -1,6 +1,7 @@
 /* Calls each function of the library, as C and as C++; ends with 0 where all is as it has to be. Problems worked by
-   hand, drawn ones beside a slow search, each fault and each code, each growth refused in turn, a thread with
-   just the stack that the header names, and eight threads at a time. After each call no block may be left. */
+   hand, drawn squares and rectangles beside a slow search, by lists and by structs, each fault and each code, each
+   growth refused in turn, a thread with just the stack that the header names, and eight threads at a time. After each
+   call no block may be left. */
 #include "nushbaret.h"
 #include <pthread.h>
 #include <stdio.h>
@@ -54,11 +55,11 @@ static int failed;
 
 enum { MOST = 64, PAIRS = 256 };
 
-/* What a call reads and writes. */
+/* What a call reads and writes. `is_by_struct` sends it through the functions of the header that take structs. */
 struct call {
     uint32_t sense;
-    size_t n, pairs;
-    int is_sparse, is_from;
+    size_t n, m, pairs;
+    int is_sparse, is_from, is_by_struct;
     int64_t costs[PAIRS];
     uint16_t of_persons[PAIRS], of_objects[PAIRS];
     uint16_t objects[MOST], persons[MOST];
@@ -66,44 +67,79 @@ struct call {
     struct nushbaret_told told;
 };
 
-static int32_t solve(struct call *c) {
-    size_t n = c->n;
+static struct nushbaret_problem problem_of(struct call *c) {
+    struct nushbaret_problem problem;
+    problem.sense = c->sense, problem.n = c->n, problem.m = c->m;
+    problem.costs = c->costs, problem.count = c->pairs;
+    problem.persons = c->is_sparse ? c->of_persons : NULL, problem.objects = c->is_sparse ? c->of_objects : NULL;
+    problem.first = c->is_from ? c->first : NULL;
+    return problem;
+}
+
+/* A call by structs, with a room of the answer's own. */
+static int32_t by_struct(struct call *c, int32_t (*call)(const struct nushbaret_problem *, struct nushbaret_answer *)) {
+    struct nushbaret_problem problem = problem_of(c);
+    struct nushbaret_answer answer;
     int32_t code;
-    if (c->is_sparse && c->is_from)
-        code = nushbaret_sparse_from(c->sense, n, c->of_persons, c->pairs, c->of_objects, c->pairs, c->costs, c->pairs,
-            c->first, n, c->objects, n, c->persons, n, c->prices, n, &c->told);
+    answer.objects = c->objects, answer.persons = c->persons, answer.prices = c->prices, answer.told = c->told;
+    code = call(&problem, &answer);
+    c->told = answer.told;
+    return blocks == 0 ? code : -1;
+}
+
+static int32_t solve(struct call *c) {
+    size_t n = c->n, m = c->m;
+    int32_t code;
+    if (c->is_by_struct)
+        code = by_struct(c, nushbaret_solve);
+    else if (c->is_sparse && c->is_from)
+        code = nushbaret_sparse_from(c->sense, n, m, c->of_persons, c->pairs, c->of_objects, c->pairs, c->costs, c->pairs,
+            c->first, m, c->objects, n, c->persons, n, c->prices, m, &c->told);
     else if (c->is_sparse)
-        code = nushbaret_sparse(c->sense, n, c->of_persons, c->pairs, c->of_objects, c->pairs, c->costs, c->pairs,
-            c->objects, n, c->persons, n, c->prices, n, &c->told);
+        code = nushbaret_sparse(c->sense, n, m, c->of_persons, c->pairs, c->of_objects, c->pairs, c->costs, c->pairs,
+            c->objects, n, c->persons, n, c->prices, m, &c->told);
     else if (c->is_from)
-        code = nushbaret_dense_from(c->sense, n, c->costs, c->pairs, c->first, n, c->objects, n, c->persons, n,
-            c->prices, n, &c->told);
+        code = nushbaret_dense_from(c->sense, n, m, c->costs, c->pairs, c->first, m, c->objects, n, c->persons, n,
+            c->prices, m, &c->told);
     else
-        code = nushbaret_dense(c->sense, n, c->costs, c->pairs, c->objects, n, c->persons, n, c->prices, n, &c->told);
-    if (blocks != 0) code = -1;
-    return code;
+        code = nushbaret_dense(c->sense, n, m, c->costs, c->pairs, c->objects, n, c->persons, n, c->prices, m, &c->told);
+    return blocks == 0 ? code : -1;
 }
 
 static int32_t check(struct call *c) {
     size_t pairs = c->is_sparse ? c->pairs : 0;
-    int32_t code = nushbaret_check(c->sense, c->n, c->of_persons, pairs, c->of_objects, pairs, c->costs, c->pairs,
-        c->objects, c->n, c->prices, c->n, &c->told);
+    int32_t code;
+    if (c->is_by_struct) return by_struct(c, nushbaret_verify);
+    code = nushbaret_check(c->sense, c->n, c->m, c->of_persons, pairs, c->of_objects, pairs, c->costs, c->pairs,
+        c->objects, c->n, c->prices, c->m, &c->told);
     return blocks == 0 ? code : -1;
 }
 
 static int32_t check_hall(struct call *c) {
     size_t pairs = c->is_sparse ? c->pairs : 0;
-    int32_t code = nushbaret_check_hall(c->n, c->of_persons, pairs, c->of_objects, pairs, c->costs, c->pairs,
+    int32_t code;
+    if (c->is_by_struct) return by_struct(c, nushbaret_verify_hall);
+    code = nushbaret_check_hall(c->n, c->m, c->of_persons, pairs, c->of_objects, pairs, c->costs, c->pairs,
         c->persons, (size_t)c->told.persons, c->objects, (size_t)c->told.objects, &c->told);
     return blocks == 0 ? code : -1;
 }
 
-/* A dense problem of two persons. */
+/* A dense problem of two persons and two objects. */
 static struct call two(uint32_t sense, int64_t a, int64_t b, int64_t c, int64_t d) {
     struct call call;
     memset(&call, 0, sizeof call);
-    call.sense = sense, call.n = 2, call.pairs = 4;
+    call.sense = sense, call.n = 2, call.m = 2, call.pairs = 4;
     call.costs[0] = a, call.costs[1] = b, call.costs[2] = c, call.costs[3] = d;
+    return call;
+}
+
+/* A dense problem of two persons and three objects. */
+static struct call two_of_three(uint32_t sense) {
+    static const int64_t costs[] = {4, 1, 9, 2, 3, 9};
+    struct call call;
+    memset(&call, 0, sizeof call);
+    call.sense = sense, call.n = 2, call.m = 3, call.pairs = 6;
+    memcpy(call.costs, costs, sizeof costs);
     return call;
 }
 
@@ -112,18 +148,18 @@ static void list_pairs(struct call *c) {
     size_t k;
     c->is_sparse = 1;
     for (k = 0; k < c->pairs; k++) {
-        c->of_persons[k] = (uint16_t)(k / c->n + 1);
-        c->of_objects[k] = (uint16_t)(k % c->n + 1);
+        c->of_persons[k] = (uint16_t)(k / c->m + 1);
+        c->of_objects[k] = (uint16_t)(k % c->m + 1);
     }
 }
 
-/* A sparse problem of three persons. Person 1 and person 2 list object 1 alone. */
+/* A sparse problem of three persons and three objects. Person 1 and person 2 list object 1 alone. */
 static struct call three(void) {
     static const uint16_t i[] = {1, 2, 3, 3}, j[] = {1, 1, 1, 2};
     static const int64_t cost[] = {4, 6, 2, 3};
     struct call call;
     memset(&call, 0, sizeof call);
-    call.n = 3, call.pairs = 4, call.is_sparse = 1;
+    call.n = 3, call.m = 3, call.pairs = 4, call.is_sparse = 1;
     memcpy(call.of_persons, i, sizeof i);
     memcpy(call.of_objects, j, sizeof j);
     memcpy(call.costs, cost, sizeof cost);
@@ -151,11 +187,59 @@ static void worked(void) {
     c.is_from = 1;
     WANT(solve(&c) == NUSHBARET_HALL && check_hall(&c) == NUSHBARET_HALL);
     c = three();
-    c.n = 1, c.pairs = 0;
+    c.n = 1, c.m = 1, c.pairs = 0;
     WANT(solve(&c) == NUSHBARET_HALL && c.told.persons == 1 && c.told.objects == 0 && c.persons[0] == 1);
     c.n = 1, c.pairs = 2, c.sense = NUSHBARET_MAX;
     c.of_persons[1] = 1, c.costs[0] = 7, c.costs[1] = -7;
     WANT(solve(&c) == NUSHBARET_BEST && c.told.total == -7);
+}
+
+/* Persons and objects of unequal numbers: what stands behind n objects and m prices stays, and more persons than objects
+   have no assignment. */
+static void rectangles(void) {
+    struct call c = two_of_three(NUSHBARET_MIN);
+    c.objects[2] = 66, c.persons[0] = 77, c.prices[3].low = 88;
+    WANT(solve(&c) == NUSHBARET_BEST && c.told.total == 3 && c.objects[0] == 2 && c.objects[1] == 1 && check(&c) == NUSHBARET_BEST);
+    WANT(c.objects[2] == 66 && c.persons[0] == 77 && c.prices[3].low == 88);
+    list_pairs(&c);
+    WANT(solve(&c) == NUSHBARET_BEST && c.told.total == 3 && check(&c) == NUSHBARET_BEST);
+    c = two_of_three(NUSHBARET_MAX);
+    WANT(solve(&c) == NUSHBARET_BEST && c.told.total == 13 && c.objects[0] == 1 && c.objects[1] == 3 && check(&c) == NUSHBARET_BEST);
+    c.n = 3, c.m = 2, c.objects[2] = 66;
+    WANT(solve(&c) == NUSHBARET_HALL && c.told.persons == 3 && c.told.objects == 2 && check_hall(&c) == NUSHBARET_HALL);
+    WANT(c.persons[2] == 3 && c.objects[1] == 2 && c.objects[2] == 66);
+    c = three();
+    c.m = 2;
+    WANT(solve(&c) == NUSHBARET_HALL && check_hall(&c) == NUSHBARET_HALL);
+    c.n = 2, c.m = 3, c.pairs = 2;
+    WANT(solve(&c) == NUSHBARET_HALL && c.told.persons == 2 && c.told.objects == 1 && check_hall(&c) == NUSHBARET_HALL);
+    c.of_objects[1] = 3;
+    WANT(solve(&c) == NUSHBARET_BEST && c.told.total == 10 && c.objects[0] == 1 && c.objects[1] == 3 && check(&c) == NUSHBARET_BEST);
+}
+
+/* The functions that take structs make the calls that they stand for. */
+static void structs(void) {
+    struct call lists, form;
+    int kind;
+    for (kind = 0; kind < 8; kind++) {
+        lists = kind & 1 ? two_of_three(NUSHBARET_MAX) : two(NUSHBARET_MIN, 1, 2, 3, 5);
+        if (kind & 2) list_pairs(&lists);
+        lists.is_from = kind >> 2, lists.first[0].low = 5, lists.first[1].low = 3;
+        form = lists, form.is_by_struct = 1;
+        WANT(solve(&lists) == NUSHBARET_BEST && solve(&form) == NUSHBARET_BEST && check(&form) == NUSHBARET_BEST);
+        WANT(lists.told.total == form.told.total && memcmp(lists.objects, form.objects, sizeof lists.objects) == 0);
+        WANT(memcmp(lists.prices, form.prices, sizeof lists.prices) == 0);
+        form.objects[1] = form.objects[0];
+        WANT(check(&form) == NUSHBARET_TWICE && form.told.object == form.objects[0]);
+    }
+    form = three(), form.is_by_struct = 1;
+    WANT(solve(&form) == NUSHBARET_HALL && form.told.persons == 2 && check_hall(&form) == NUSHBARET_HALL);
+    form.persons[1] = 3;
+    WANT(check_hall(&form) == NUSHBARET_HALL_MISSING && form.told.person == 3 && form.told.object == 2);
+    form = two(NUSHBARET_MIN, 1, 2, 3, 5), form.is_by_struct = 1, form.pairs = 3;
+    WANT(solve(&form) == NUSHBARET_LENGTH);
+    form.m = 0;
+    WANT(solve(&form) == NUSHBARET_SIZE);
 }
 
 /* Whether the prices of an answer are 6 and 0. */
@@ -178,6 +262,19 @@ static void starts(void) {
     }
 }
 
+/* First prices at which an object is dear that nobody wants: it is cheap in the answer. */
+static void dear_starts(void) {
+    struct call c = two_of_three(NUSHBARET_MIN);
+    size_t place;
+    for (place = 0; place < 6; place++) {
+        c.is_from = 1, c.is_sparse = 0;
+        memset(c.first, 0, sizeof c.first);
+        c.first[place % 3].low = UINT64_C(3875820019684212736), c.first[place % 3].high = 54;
+        if (place > 2) list_pairs(&c);
+        WANT(solve(&c) == NUSHBARET_BEST && c.told.total == 3 && check(&c) == NUSHBARET_BEST && c.prices[2].low <= c.prices[0].low + 1);
+    }
+}
+
 /* The code of a spoilt call; what isn't told must be as it was. */
 static int32_t spoilt(struct call c) {
     struct call before;
@@ -191,26 +288,69 @@ static int32_t spoilt(struct call c) {
     return code * 100 + (int32_t)c.told.place;
 }
 
-static void faults(void) {
-    struct call c = two(2, 1, 2, 3, 5);
-    uint16_t room[8];
-    uint8_t text[6];
-    c.n = 0, c.pairs = 3;
+static void sizes(void) {
+    static const size_t wrong[] = {0, NUSHBARET_MOST_PERSONS + 1, (size_t)1 << 31, SIZE_MAX / 2 + 1, SIZE_MAX};
+    struct call c = two(NUSHBARET_MIN, 1, 2, 3, 5);
+    size_t k;
+    for (k = 0; k < sizeof wrong / sizeof *wrong; k++) {
+        c.n = wrong[k], c.m = 2;
+        WANT(spoilt(c) == NUSHBARET_SIZE * 100 + 99);
+        c.n = 2, c.m = wrong[k];
+        WANT(spoilt(c) == NUSHBARET_SIZE * 100 + 99);
+        c.is_sparse = !c.is_sparse, c.is_from = 1;
+        WANT(spoilt(c) == NUSHBARET_SIZE * 100 + 99);
+        WANT(nushbaret_check(0, wrong[k], 2, c.objects, 0, c.objects, 0, c.costs, 4, c.objects, 2, c.prices, 2, &c.told)
+            == NUSHBARET_SIZE);
+        WANT(nushbaret_check_hall(2, wrong[k], c.objects, 0, c.objects, 0, c.costs, 4, c.persons, 2, c.objects, 1, &c.told)
+            == NUSHBARET_SIZE);
+    }
+    c.sense = 2;
     WANT(spoilt(c) == NUSHBARET_SENSE * 100 + 99);
-    c.sense = NUSHBARET_MIN;
-    WANT(spoilt(c) == NUSHBARET_SIZE * 100 + 99);
-    c.n = 8193;
-    WANT(spoilt(c) == NUSHBARET_SIZE * 100 + 99);
-    c.n = SIZE_MAX;
-    WANT(nushbaret_dense(0, c.n, c.costs, 4, room, 8, room, 0, c.prices, 0, &c.told) == NUSHBARET_SIZE);
-    c.n = 2;
-    WANT(spoilt(c) == NUSHBARET_LENGTH * 100 + 99);
-    c.pairs = 4;
-    WANT(nushbaret_dense(0, 2, c.costs, 4, c.objects, 1, c.persons, 2, c.prices, 2, &c.told) == NUSHBARET_LENGTH);
-    WANT(nushbaret_dense(0, 2, c.costs, 4, c.objects, 2, c.persons, 3, c.prices, 2, &c.told) == NUSHBARET_LENGTH);
-    WANT(nushbaret_dense(0, 2, c.costs, 4, c.objects, 2, c.persons, 2, c.prices, 1, &c.told) == NUSHBARET_LENGTH);
-    WANT(nushbaret_dense_from(0, 2, c.costs, 4, c.first, 0, c.objects, 2, c.persons, 2, c.prices, 2, &c.told)
-        == NUSHBARET_LENGTH);
+    c.sense = UINT32_MAX, c.n = 0;
+    WANT(spoilt(c) == NUSHBARET_SENSE * 100 + 99);
+}
+
+/* The code of a dense call whose lists have these lengths in place of those of two persons and three objects. */
+static int32_t with_lengths(size_t costs, size_t first, size_t objects, size_t persons, size_t prices) {
+    struct call c = two_of_three(NUSHBARET_MIN);
+    return nushbaret_dense_from(0, 2, 3, c.costs, costs, c.first, first, c.objects, objects, c.persons, persons, c.prices,
+        prices, &c.told);
+}
+
+/* Lengths are those of n persons and m objects, each list by itself. */
+static void lengths(void) {
+    struct call c = two_of_three(NUSHBARET_MIN);
+    size_t k;
+    WANT(with_lengths(6, 3, 2, 2, 3) == NUSHBARET_BEST);
+    for (k = 0; k < 8; k++) {
+        WANT(k == 6 || with_lengths(k, 3, 2, 2, 3) == NUSHBARET_LENGTH);
+        WANT(k == 3 || with_lengths(6, k, 2, 2, 3) == NUSHBARET_LENGTH);
+        WANT(k == 2 || with_lengths(6, 3, k, 2, 3) == NUSHBARET_LENGTH);
+        WANT(k == 2 || with_lengths(6, 3, 2, k, 3) == NUSHBARET_LENGTH);
+        WANT(k == 3 || with_lengths(6, 3, 2, 2, k) == NUSHBARET_LENGTH);
+        WANT(k == 2 || nushbaret_check(0, 2, 3, c.objects, 0, c.objects, 0, c.costs, 6, c.objects, k, c.prices, 3, &c.told)
+            == NUSHBARET_ANSWER_LENGTH);
+        WANT(k == 3 || nushbaret_check(0, 2, 3, c.objects, 0, c.objects, 0, c.costs, 6, c.objects, 2, c.prices, k, &c.told)
+            == NUSHBARET_ANSWER_LENGTH);
+    }
+    WANT(nushbaret_dense(0, 2, 3, c.costs, 4, c.objects, 2, c.persons, 2, c.prices, 3, &c.told) == NUSHBARET_LENGTH);
+    WANT(nushbaret_dense(0, 2, 3, c.costs, 6, c.objects, 3, c.persons, 2, c.prices, 3, &c.told) == NUSHBARET_LENGTH);
+    WANT(nushbaret_dense(0, 2, 3, c.costs, 6, c.objects, 2, c.persons, 2, c.prices, 2, &c.told) == NUSHBARET_LENGTH);
+    list_pairs(&c);
+    for (k = 0; k < 8; k++) {
+        if (k == 4) continue;
+        WANT(nushbaret_sparse(0, 2, 3, c.of_persons, k, c.of_objects, 4, c.costs, 4, c.objects, 2, c.persons, 2, c.prices, 3,
+            &c.told) == NUSHBARET_LENGTH);
+        WANT(nushbaret_sparse(0, 2, 3, c.of_persons, 4, c.of_objects, k, c.costs, 4, c.objects, 2, c.persons, 2, c.prices, 3,
+            &c.told) == NUSHBARET_LENGTH);
+        WANT(nushbaret_check_hall(2, 3, c.of_persons, 4, c.of_objects, k, c.costs, 4, c.persons, 2, c.objects, 1, &c.told)
+            == NUSHBARET_LENGTH);
+    }
+}
+
+static void faults(void) {
+    uint8_t text[8];
+    struct call c = two(NUSHBARET_MIN, 1, 2, 3, 5);
     c.costs[2] = INT64_C(1000000000001), c.costs[3] = INT64_MIN;
     c.is_from = 1, c.first[0].high = -1;
     WANT(spoilt(c) == NUSHBARET_COST * 100 + 2);
@@ -220,6 +360,9 @@ static void faults(void) {
     WANT(spoilt(c) == NUSHBARET_PRICE * 100 + 0);
     c.first[0].high = 0, c.first[1].high = INT64_C(54), c.first[1].low = UINT64_C(3875820019684212737);
     WANT(spoilt(c) == NUSHBARET_PRICE * 100 + 1);
+    c = two_of_three(NUSHBARET_MIN);
+    c.is_from = 1, c.first[2].high = 55;
+    WANT(spoilt(c) == NUSHBARET_PRICE * 100 + 2);
     c = three();
     c.of_persons[2] = 4, c.of_persons[3] = 0, c.of_objects[0] = 0, c.costs[0] = INT64_MAX;
     WANT(spoilt(c) == NUSHBARET_PERSON * 100 + 2);
@@ -227,9 +370,12 @@ static void faults(void) {
     WANT(spoilt(c) == NUSHBARET_OBJECT * 100 + 0);
     c.of_objects[0] = 1;
     WANT(spoilt(c) == NUSHBARET_COST * 100 + 0);
-    c = three();
-    WANT(nushbaret_sparse(0, 3, c.of_persons, 4, c.of_objects, 3, c.costs, 4, c.objects, 3, c.persons, 3, c.prices, 3,
-        &c.told) == NUSHBARET_LENGTH);
+    c.costs[0] = 4, c.n = 2, c.m = 8;
+    WANT(spoilt(c) == NUSHBARET_PERSON * 100 + 2);
+    c.n = 8, c.m = 1;
+    WANT(spoilt(c) == NUSHBARET_OBJECT * 100 + 3);
+    c.of_objects[3] = UINT16_MAX, c.m = 8192;
+    WANT(spoilt(c) == NUSHBARET_OBJECT * 100 + 3);
     memset(text, 9, sizeof text);
     WANT(nushbaret_version(text, 5) == 5 && text[0] == 9);
     WANT(nushbaret_version(text, 6) == 5 && strcmp((const char *)text, NUSHBARET_VERSION) == 0);
@@ -238,7 +384,7 @@ static void faults(void) {
 static void verdicts(void) {
     struct call c = two(NUSHBARET_MIN, 1, 2, 3, 5);
     WANT(solve(&c) == NUSHBARET_BEST);
-    WANT(nushbaret_check(0, 2, c.objects, 0, c.objects, 0, c.costs, 4, c.objects, 1, c.prices, 2, &c.told)
+    WANT(nushbaret_check(0, 2, 2, c.objects, 0, c.objects, 0, c.costs, 4, c.objects, 1, c.prices, 2, &c.told)
         == NUSHBARET_ANSWER_LENGTH);
     c.objects[0] = 1;
     WANT(check(&c) == NUSHBARET_TWICE && c.told.object == 1);
@@ -260,33 +406,97 @@ static void verdicts(void) {
     WANT(check_hall(&c) == NUSHBARET_HALL_RANGE);
     c.persons[1] = 2, c.objects[1] = 3, c.told.objects = 2;
     WANT(check_hall(&c) == NUSHBARET_HALL_EXTRA && c.told.object == 3);
+    c.objects[1] = 4;
+    WANT(check_hall(&c) == NUSHBARET_HALL_RANGE);
     c.told.persons = 1, c.told.objects = 1;
     WANT(check_hall(&c) == NUSHBARET_HALL_COUNT);
 }
 
+static struct nushbaret_price low(uint64_t price) {
+    struct nushbaret_price halves;
+    halves.low = price, halves.high = 0;
+    return halves;
+}
+
+/* Two persons and four objects at cost 0 each: an object that nobody has may cost 1 more than the cheapest, no more. */
+static void dear(void) {
+    struct call c;
+    memset(&c, 0, sizeof c);
+    c.n = 2, c.m = 4, c.pairs = 8, c.objects[0] = 2, c.objects[1] = 4, c.told.object = 99, c.told.person = 99;
+    c.prices[0] = low(6), c.prices[1] = low(5), c.prices[2] = low(6), c.prices[3] = low(5);
+    WANT(check(&c) == NUSHBARET_BEST && c.told.object == 99);
+    c.prices[0] = low(7);
+    WANT(check(&c) == NUSHBARET_DEAR && c.told.object == 1 && c.told.person == 99);
+    c.prices[0] = low(5), c.prices[2] = low(7);
+    WANT(check(&c) == NUSHBARET_DEAR && c.told.object == 3);
+    c.prices[0] = low(7);
+    WANT(check(&c) == NUSHBARET_DEAR && c.told.object == 1);
+    c.prices[0].high = 500, c.prices[2].high = 500;
+    WANT(check(&c) == NUSHBARET_DEAR && c.told.object == 1);
+    c.prices[1] = low(9);
+    WANT(check(&c) == NUSHBARET_SLACK && c.told.person == 1 && c.told.object == 4);
+    c.prices[1] = low(6);
+    WANT(check(&c) == NUSHBARET_DEAR && c.told.object == 1);
+    c.objects[1] = 1;
+    WANT(check(&c) == NUSHBARET_SLACK && c.told.person == 2 && c.told.object == 2);
+    list_pairs(&c);
+    c.objects[1] = 4;
+    WANT(check(&c) == NUSHBARET_DEAR && c.told.object == 1);
+    c.n = 3, c.objects[2] = 1, c.pairs = 9;
+    c.of_persons[8] = 3, c.of_objects[8] = 1;
+    WANT(check(&c) == NUSHBARET_DEAR && c.told.object == 3);
+}
+
 /* The least sum of costs by trying all; `listed` is 0 for a pair that isn't listed. */
-static int64_t least(size_t n, const int64_t *costs, const char *listed, size_t i, unsigned used) {
+static int64_t least(const struct call *c, const int64_t *costs, const char *listed, size_t i, unsigned used) {
     int64_t best = INT64_MAX;
     size_t j;
-    if (i == n) return 0;
-    for (j = 0; j < n; j++)
-        if (!(used >> j & 1) && listed[i * n + j]) {
-            int64_t rest = least(n, costs, listed, i + 1, used | 1u << j);
-            if (rest != INT64_MAX && costs[i * n + j] + rest < best) best = costs[i * n + j] + rest;
+    if (i == c->n) return 0;
+    for (j = 0; j < c->m; j++)
+        if (!(used >> j & 1) && listed[i * c->m + j]) {
+            int64_t rest = least(c, costs, listed, i + 1, used | 1u << j);
+            if (rest != INT64_MAX && costs[i * c->m + j] + rest < best) best = costs[i * c->m + j] + rest;
         }
     return best;
 }
 
+/* Whether objects and prices are a certificate, looked at here: slackness 1 at costs times m + 1, and no object that
+   nobody has costs over 1 more than the cheapest. */
+static int is_certificate(const struct call *c, const int64_t *costs, const char *listed) {
+    unsigned used = 0;
+    size_t i, j;
+    uint64_t cheapest = UINT64_MAX;
+    for (i = 0; i < c->n; i++) used |= 1u << (c->objects[i] - 1);
+    for (j = 0; j < c->m; j++) {
+        if (c->prices[j].high != 0) return 0;
+        if (c->prices[j].low < cheapest) cheapest = c->prices[j].low;
+    }
+    for (j = 0; j < c->m; j++)
+        if (!(used >> j & 1) && c->prices[j].low > cheapest + 1) return 0;
+    for (i = 0; i < c->n; i++) {
+        size_t own = (size_t)c->objects[i] - 1;
+        int64_t paid = costs[i * c->m + own] * (int64_t)(c->m + 1) + (int64_t)c->prices[own].low;
+        for (j = 0; j < c->m; j++)
+            if (listed[i * c->m + j] && costs[i * c->m + j] * (int64_t)(c->m + 1) + (int64_t)c->prices[j].low + 1 < paid)
+                return 0;
+    }
+    return 1;
+}
+
 /* Of all assignments that give persons from i on what isn't used, how many are judged wrongly under the prices that
-   were found: those of the best sum are to pass, whoever found them, and no others. */
+   were found: those of the best sum are to pass, whoever found them, and no others; and the library's verdict is that
+   of the definition. */
 static int wrongly_judged(struct call *c, const int64_t *costs, const char *listed, int64_t left, size_t i, unsigned used) {
-    size_t j, n = c->n;
+    size_t j;
     int wrong = 0;
-    if (i == n) return (check(c) == NUSHBARET_BEST) != (left == 0);
-    for (j = 0; j < n; j++)
-        if (!(used >> j & 1) && listed[i * n + j]) {
+    if (i == c->n) {
+        int is_best = check(c) == NUSHBARET_BEST;
+        return is_best != (left == 0) || is_best != is_certificate(c, costs, listed);
+    }
+    for (j = 0; j < c->m; j++)
+        if (!(used >> j & 1) && listed[i * c->m + j]) {
             c->objects[i] = (uint16_t)(j + 1);
-            wrong += wrongly_judged(c, costs, listed, left - costs[i * n + j], i + 1, used | 1u << j);
+            wrong += wrongly_judged(c, costs, listed, left - costs[i * c->m + j], i + 1, used | 1u << j);
         }
     return wrong;
 }
@@ -296,36 +506,39 @@ static unsigned drawn(unsigned *seed) {
     return *seed >> 16;
 }
 
-/* A problem of up to six persons, dense or sparse, under either sense; 1 where it is solved as the slow search says,
-   and the prices prove each best assignment. */
+/* A problem of up to five persons and seven objects, dense or sparse, under either sense, by lists or by structs; 1 where
+   it is solved as the slow search says, and the prices prove each best assignment. */
 static int is_right(unsigned *seed) {
     struct call c;
-    int64_t costs[36], best, sign;
-    char listed[36];
-    size_t k, n = 1 + drawn(seed) % 6;
+    int64_t costs[42], best, sign;
+    char listed[42];
+    size_t k;
     int32_t code;
     memset(&c, 0, sizeof c);
-    c.n = n, c.sense = drawn(seed) % 2, c.is_sparse = (int)(drawn(seed) % 2), c.is_from = (int)(drawn(seed) % 2);
+    c.n = 1 + drawn(seed) % 5, c.m = drawn(seed) % 4 ? 1 + drawn(seed) % 7 : c.n;
+    c.sense = drawn(seed) % 2, c.is_sparse = (int)(drawn(seed) % 2), c.is_from = (int)(drawn(seed) % 2);
+    c.is_by_struct = (int)(drawn(seed) % 2);
     sign = c.sense == NUSHBARET_MAX ? -1 : 1;
-    for (k = 0; k < n; k++) c.first[k].low = drawn(seed) % 5000;
-    for (k = 0; k < n * n; k++) {
+    for (k = 0; k < c.m; k++) c.first[k].low = drawn(seed) % 5000;
+    for (k = 0; k < c.n * c.m; k++) {
         costs[k] = (int64_t)(drawn(seed) % 2001) - 1000;
+        if (drawn(seed) % 4 == 0) costs[k] /= 200;
         listed[k] = (char)(!c.is_sparse || drawn(seed) % 3 != 0);
         if (!listed[k]) continue;
-        c.of_persons[c.pairs] = (uint16_t)(k / n + 1), c.of_objects[c.pairs] = (uint16_t)(k % n + 1);
+        c.of_persons[c.pairs] = (uint16_t)(k / c.m + 1), c.of_objects[c.pairs] = (uint16_t)(k % c.m + 1);
         c.costs[c.pairs++] = costs[k];
         costs[k] *= sign;
     }
-    best = least(n, costs, listed, 0, 0);
+    best = c.n > c.m ? INT64_MAX : least(&c, costs, listed, 0, 0);
     code = solve(&c);
-    if (best == INT64_MAX) return code == NUSHBARET_HALL && check_hall(&c) == NUSHBARET_HALL;
+    if (best == INT64_MAX) return code == NUSHBARET_HALL && (c.pairs == 0 || check_hall(&c) == NUSHBARET_HALL);
     return code == NUSHBARET_BEST && c.told.total == sign * best && check(&c) == NUSHBARET_BEST
-        && wrongly_judged(&c, costs, listed, best, 0, 0) == 0;
+        && is_certificate(&c, costs, listed) && wrongly_judged(&c, costs, listed, best, 0, 0) == 0;
 }
 
 static void *many(void *seed) {
     int trial;
-    for (trial = 0; trial < 200; trial++)
+    for (trial = 0; trial < 500; trial++)
         if (!is_right((unsigned *)seed)) return seed;
     return NULL;
 }
@@ -341,11 +554,44 @@ static void refused(struct call c, int32_t wanted, int32_t (*call)(struct call *
         refuse_at = 0;
         WANT(code == wanted || code == NUSHBARET_MEMORY);
         WANT(code == wanted || memcmp(now.objects, c.objects, sizeof c.objects) == 0);
+        WANT(code == wanted || memcmp(now.persons, c.persons, sizeof c.persons) == 0);
+        WANT(code == wanted || memcmp(now.prices, c.prices, sizeof c.prices) == 0);
+        WANT(code == wanted || memcmp(&now.told, &c.told, sizeof c.told) == 0);
         told += code == NUSHBARET_MEMORY;
         if (growths < k) break;
     }
     WANT(told > 0);
     printf("%s: %ld growths, %ld answered with MEMORY\n", name, k - 1, told);
+}
+
+static void refusals(void) {
+    struct call c = two(NUSHBARET_MIN, 1, 2, 3, 5);
+    refused(c, NUSHBARET_BEST, solve, "dense");
+    WANT(solve(&c) == NUSHBARET_BEST);
+    refused(c, NUSHBARET_BEST, check, "check");
+    c.is_from = 1;
+    refused(c, NUSHBARET_BEST, solve, "dense_from");
+    list_pairs(&c);
+    refused(c, NUSHBARET_BEST, solve, "sparse_from, best");
+    c = two_of_three(NUSHBARET_MAX);
+    refused(c, NUSHBARET_BEST, solve, "dense, rectangle");
+    WANT(solve(&c) == NUSHBARET_BEST);
+    refused(c, NUSHBARET_BEST, check, "check, rectangle");
+    memcpy(c.first, c.prices, sizeof c.first);
+    c.is_from = 1;
+    refused(c, NUSHBARET_BEST, solve, "dense_from, rectangle");
+    list_pairs(&c);
+    refused(c, NUSHBARET_BEST, solve, "sparse_from, rectangle");
+    c.is_from = 0;
+    refused(c, NUSHBARET_BEST, solve, "sparse, rectangle");
+    c.n = 3, c.m = 2, c.is_sparse = 0;
+    refused(c, NUSHBARET_HALL, solve, "dense, more persons");
+    c = three();
+    refused(c, NUSHBARET_HALL, solve, "sparse");
+    c.is_from = 1;
+    refused(c, NUSHBARET_HALL, solve, "sparse_from");
+    WANT(solve(&c) == NUSHBARET_HALL);
+    refused(c, NUSHBARET_HALL, check_hall, "check_hall");
 }
 
 /* Persons and objects at costs i * j, whose searches are long. */
@@ -355,11 +601,19 @@ static uint16_t wide_objects[WIDE], wide_persons[WIDE];
 static struct nushbaret_price wide_prices[WIDE];
 static struct nushbaret_told wide_told;
 
-/* NULL where the greatest sum is found, that of the squares, and no block is left. */
+/* NULL where the greatest sum is found, and no block is left: that of the squares, or for two thirds of the persons that of
+   each with the object by as much dearer. */
 static void *wide(void *unused) {
-    int32_t code = nushbaret_dense(NUSHBARET_MAX, WIDE, wide_costs, WIDE * WIDE, wide_objects, WIDE, wide_persons, WIDE, wide_prices, WIDE, &wide_told);
+    size_t n, i;
     (void)unused;
-    return code == NUSHBARET_BEST && wide_told.total == (int64_t)WIDE * (WIDE + 1) * (2 * WIDE + 1) / 6 && blocks == 0 ? NULL : wide_objects;
+    for (n = WIDE; n >= WIDE / 3; n -= WIDE / 3) {
+        int64_t sum = 0;
+        int32_t code = nushbaret_dense(NUSHBARET_MAX, n, WIDE, wide_costs, n * WIDE, wide_objects, n, wide_persons, n,
+            wide_prices, WIDE, &wide_told);
+        for (i = 1; i <= n; i++) sum += (int64_t)(i * (i + WIDE - n));
+        if (code != NUSHBARET_BEST || wide_told.total != sum || blocks != 0) return wide_objects;
+    }
+    return NULL;
 }
 
 /* A thread with just the stack that the header names; the compiler's own checks of addresses want more of it. */
@@ -381,61 +635,83 @@ static void on_its_stack(void) {
     WANT(wrong == NULL);
 }
 
+/* Room for as many persons and objects as there may be. */
+enum { FULL = NUSHBARET_MOST_PERSONS };
+static uint16_t full_of_persons[2 * FULL], full_of_objects[2 * FULL], full_objects[FULL], full_persons[FULL];
+static int64_t full_costs[2 * FULL];
+static struct nushbaret_price full_prices[FULL];
+
 /* As many persons as there may be; each lists the object of its number at 2 and the next one at 1. */
 static void full_size(void) {
-    enum { FULL = NUSHBARET_MOST_PERSONS };
-    static uint16_t of_persons[2 * FULL], of_objects[2 * FULL], objects[FULL], persons[FULL];
-    static int64_t costs[2 * FULL];
-    static struct nushbaret_price prices[FULL];
-    struct nushbaret_told told;
+    struct nushbaret_problem problem = {NUSHBARET_MIN, FULL, FULL, full_costs, full_of_persons, full_of_objects, 2 * FULL, NULL};
+    struct nushbaret_answer answer = {full_objects, full_persons, full_prices, {0, 0, 0, 0, 0, 0}};
     size_t k;
     for (k = 0; k < 2 * FULL; k++) {
-        of_persons[k] = (uint16_t)(k / 2 + 1);
-        of_objects[k] = (uint16_t)((k / 2 + k % 2) % FULL + 1);
-        costs[k] = 2 - (int64_t)(k % 2);
+        full_of_persons[k] = (uint16_t)(k / 2 + 1);
+        full_of_objects[k] = (uint16_t)((k / 2 + k % 2) % FULL + 1);
+        full_costs[k] = 2 - (int64_t)(k % 2);
     }
-    WANT(nushbaret_sparse(NUSHBARET_MIN, FULL, of_persons, 2 * FULL, of_objects, 2 * FULL, costs, 2 * FULL, objects, FULL, persons, FULL, prices, FULL, &told) == NUSHBARET_BEST);
-    WANT(told.total == FULL && objects[0] == 2 && objects[FULL - 1] == 1 && blocks == 0);
-    WANT(nushbaret_check(NUSHBARET_MIN, FULL, of_persons, 2 * FULL, of_objects, 2 * FULL, costs, 2 * FULL, objects, FULL, prices, FULL, &told) == NUSHBARET_BEST);
+    WANT(nushbaret_solve(&problem, &answer) == NUSHBARET_BEST);
+    WANT(answer.told.total == FULL && full_objects[0] == 2 && full_objects[FULL - 1] == 1 && blocks == 0);
+    WANT(nushbaret_verify(&problem, &answer) == NUSHBARET_BEST);
 }
 
-int main(void) {
-    struct call c;
-    pthread_t threads[8];
+/* One person among as many objects as there may be, and as many persons for one object; dense and sparse. */
+static void longest_sides(void) {
+    struct nushbaret_problem problem = {NUSHBARET_MIN, 1, FULL, full_costs, NULL, NULL, FULL, NULL};
+    struct nushbaret_answer answer = {full_objects, full_persons, full_prices, {0, 0, 0, 0, 0, 0}};
+    size_t k;
+    for (k = 0; k < FULL; k++) full_costs[k] = (int64_t)((k * 7919 + 11) % FULL) * 122000000 - INT64_C(500000000000);
+    for (k = 0; k < FULL; k++) full_of_persons[k] = 1, full_of_objects[k] = (uint16_t)(k + 1);
+    for (k = 0; k < 2; k++) {
+        problem.n = 1, problem.m = FULL;
+        problem.persons = k ? full_of_persons : NULL, problem.objects = k ? full_of_objects : NULL;
+        WANT(nushbaret_solve(&problem, &answer) == NUSHBARET_BEST && answer.told.total == INT64_C(-500000000000));
+        WANT(full_costs[full_objects[0] - 1] == answer.told.total && nushbaret_verify(&problem, &answer) == NUSHBARET_BEST);
+        full_prices[full_objects[0] % FULL].low += 2;
+        WANT(nushbaret_verify(&problem, &answer) == NUSHBARET_DEAR && answer.told.object == full_objects[0] % FULL + 1u);
+        problem.n = FULL, problem.m = 1;
+        problem.persons = k ? full_of_objects : NULL, problem.objects = k ? full_of_persons : NULL;
+        WANT(nushbaret_solve(&problem, &answer) == NUSHBARET_HALL && answer.told.persons > 1 && answer.told.objects == 1);
+        WANT(nushbaret_verify_hall(&problem, &answer) == NUSHBARET_HALL && blocks == 0);
+    }
+}
+
+/* Eight threads, each with problems of its own. Their stack takes what the header names beside what this program's functions
+   take. */
+static void threads(void) {
+    pthread_t running[8];
     pthread_attr_t attributes;
     unsigned seeds[8], t;
-    worked();
-    starts();
-    faults();
-    verdicts();
-    c = two(NUSHBARET_MIN, 1, 2, 3, 5);
-    refused(c, NUSHBARET_BEST, solve, "dense");
-    WANT(solve(&c) == NUSHBARET_BEST);
-    refused(c, NUSHBARET_BEST, check, "check");
-    c.is_from = 1;
-    refused(c, NUSHBARET_BEST, solve, "dense_from");
-    list_pairs(&c);
-    refused(c, NUSHBARET_BEST, solve, "sparse_from, best");
-    c = three();
-    refused(c, NUSHBARET_HALL, solve, "sparse");
-    c.is_from = 1;
-    refused(c, NUSHBARET_HALL, solve, "sparse_from");
-    WANT(solve(&c) == NUSHBARET_HALL);
-    refused(c, NUSHBARET_HALL, check_hall, "check_hall");
-    full_size();
-    on_its_stack();
-    /* The threads' own stack takes what the header names beside what this program's functions take. */
     pthread_attr_init(&attributes);
     WANT(pthread_attr_setstacksize(&attributes, 48 << 10) == 0);
     for (t = 0; t < 8; t++) {
         seeds[t] = t + 1;
-        WANT(pthread_create(&threads[t], &attributes, many, &seeds[t]) == 0);
+        WANT(pthread_create(&running[t], &attributes, many, &seeds[t]) == 0);
     }
     for (t = 0; t < 8; t++) {
         void *wrong;
-        pthread_join(threads[t], &wrong);
+        pthread_join(running[t], &wrong);
         WANT(wrong == NULL);
     }
+}
+
+int main(void) {
+    worked();
+    rectangles();
+    structs();
+    starts();
+    dear_starts();
+    sizes();
+    lengths();
+    faults();
+    verdicts();
+    dear();
+    refusals();
+    full_size();
+    longest_sides();
+    on_its_stack();
+    threads();
     puts(failed ? "failed" : "calls: all as wanted");
     return failed;
 }

@@ -1,6 +1,6 @@
 #!/usr/bin/env python3
-"""Compares the header for C, the names that the built library shows, and the crates: signatures, structs, codes, version.
-Prints what differs and ends with 1 then. Wants the built library (c/build.sh)."""
+"""Compares the header for C, the names that the built library shows, and the crates: signatures, structs, codes, version and
+SONAME. Prints what differs and ends with 1 then. Needs the built library (c/build.sh)."""
 import pathlib
 import re
 import subprocess
@@ -51,7 +51,7 @@ def header_calls():
 def crate_codes():
     for file in ["end.rt", "check.rt"]:
         text = (LISTS / file).read_text()
-        for kind, variant, number in re.findall(r"(Fault|End|HallVerdict|Verdict)::(\w+)(?:\([^)]*\))?\)? => (?:\{[^}]*?\n\s*)?(\d+)[,\n]", text):
+        for kind, variant, number in re.findall(r"(Fault|End|HallVerdict|VerdictAmong|Verdict)::(\w+)(?:\([^)]*\))?\)? => (?:\{[^}]*?\n\s*)?(\d+)[,\n]", text):
             if variant != "Yes":
                 yield CALLED.get(f"{kind}::{variant}", variant.upper()), int(number)
 
@@ -86,6 +86,8 @@ compare("version of the header", re.search(r'NUSHBARET_VERSION "(.*)"', HEADER)[
 for file in TOP.glob("crates/*/src/*.rt"):
     for told in re.findall(r'VERSION: &str = "(.*)"', file.read_text()):
         compare(f"version of {file.parent.parent.name}", told, version)
+soname = re.search(r"SONAME.*\[(.*)\]", subprocess.run(["readelf", "-d", TOP / "c/out/libnushbaret.so"], capture_output=True, text=True, check=True).stdout)
+compare("SONAME", soname and soname[1], f"libnushbaret.so.{version.split('.')[0]}")
 mapped = re.findall(r"^\s+(nushbaret_\w+);", (TOP / "c/exports.map").read_text(), flags=re.M)
 compare("exports.map", sorted(mapped), sorted(calls))
 shown = subprocess.run(["nm", "-D", "--defined-only", TOP / "c/out/libnushbaret.so"], capture_output=True, text=True, check=True).stdout

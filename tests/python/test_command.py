@@ -17,9 +17,9 @@ from unittest import mock
 TOP = pathlib.Path(__file__).resolve().parents[2]
 sys.path.insert(0, str(TOP / "python"))
 
-from nushbaret import _library as library, command
-from nushbaret.answer import Short, listed, plural, sentence
-from nushbaret.roster import read_roster
+from nushbaret import _command as command, _library as library
+from nushbaret._answer import Short, listed, plural, sentence
+from nushbaret._roster import read_roster
 
 NIGHTS = ("person,shift,hours\nAda,early,1\nBen,night,2\nBen,weekend,3\nCleo,night,2\nDan,night,1\nDan,weekend,5\n"
           "Ada,late,2\nAda,office,1\n")
@@ -520,7 +520,7 @@ class Outputs(Runs):
             page = parsed(self.read("p.html"))
             self.assertEqual(len([1 for _, kinds in page.cells if "own" in kinds]), size)
             self.assertEqual(len(page.cells), size * size + 3 * size)
-        with mock.patch("nushbaret.page.MOST_CELLS", 899):
+        with mock.patch("nushbaret._page.MOST_CELLS", 899):
             self.run_words("r.csv", "--html", "q.html")
         self.assertIn("isn't drawn", self.read("q.html"))
 
@@ -599,7 +599,7 @@ class Statuses(Runs):
         self.file("r.csv", SQUARE)
         with mock.patch.dict(library._calls, clear=True), mock.patch.object(library, "PLACES", ()):
             self.refused(4, "c/build.sh", "r.csv", "--output", "p.csv")
-        with mock.patch("nushbaret.answer.solve_sparse", side_effect=MemoryError):
+        with mock.patch("nushbaret._answer.solve_sparse", side_effect=MemoryError):
             self.refused(4, "memory refused", "r.csv", "--output", "p.csv")
 
     def program(self, *words, **options):

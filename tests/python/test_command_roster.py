@@ -9,7 +9,7 @@ from unittest import mock
 
 sys.path.insert(0, str(pathlib.Path(__file__).resolve().parents[2] / "python"))
 
-from nushbaret.roster import RosterFault, Sheet, alike, form_of, read_plan, read_roster
+from nushbaret._roster import RosterFault, Sheet, alike, form_of, read_plan, read_roster
 
 try:
     import openpyxl

@@ -1,4 +1,5 @@
 """Costs in NumPy's arrays: kinds, layouts, what comes back; and, where SciPy is there, drawn problems beside its solver."""
+import threading
 import unittest
 from decimal import Decimal
 
@@ -44,6 +45,38 @@ class Arrays(unittest.TestCase):
                     self.assertEqual((rows.dtype, columns.dtype), (np.intp, np.intp))
                     rows[:], columns[:] = 7, 7
         self.assertEqual([part.tolist() for part in nushbaret.linear_sum_assignment(np.eye(2))], [[0, 1], [1, 0]])
+
+    def test_rectangles_of_either_way(self):
+        rng = np.random.default_rng(12)
+        for shape in (1, 7), (7, 1), (5, 40), (40, 5), (30, 80), (80, 30):
+            costs = rng.integers(-10**6, 10**6, shape)
+            for form in costs, costs / 8, costs.astype(float), np.asfortranarray(costs), np.asfortranarray(costs / 8), costs[::-1, ::-1] / 8:
+                for maximize in False, True:
+                    rows, columns = nushbaret.linear_sum_assignment(form, maximize)
+                    result = nushbaret.solve(form, maximize)
+                    self.assertEqual((rows.tolist(), len(set(columns.tolist()))), (sorted(rows.tolist()), min(shape)))
+                    self.assertEqual(form[rows, columns].sum(), float(result.cost))
+                    self.assertTrue(result.verify(form))
+
+    def test_eight_threads(self):
+        """Calls of one size at a time, each with an answer of its own."""
+        rng = np.random.default_rng(13)
+        problems = [rng.integers(0, 1000, (6, 9)) / kind for _ in range(50) for kind in (1, 8)]
+        wanted = [nushbaret.linear_sum_assignment(costs)[1].tolist() for costs in problems]
+        wrong = []
+
+        def work():
+            for _ in range(5):
+                found = [nushbaret.linear_sum_assignment(costs) for costs in problems]
+                if [columns.tolist() for _, columns in found] != wanted or any(rows.tolist() != list(range(6)) for rows, _ in found):
+                    wrong.append(True)
+
+        threads = [threading.Thread(target=work) for _ in range(8)]
+        for thread in threads:
+            thread.start()
+        for thread in threads:
+            thread.join()
+        self.assertFalse(wrong)
 
     def test_what_is_not_whole_goes_the_longer_way(self):
         for wrong, words in (-np.inf, "contains invalid numeric entries"), (np.nan, "nan at row 1, column 0: None or an infinite"):
@@ -153,6 +186,10 @@ class BesideScipy(unittest.TestCase):
                     self.assertIsNone(wanted)
                     self.assertNotEqual(len(fault.rows), len(fault.columns))
         self.assertGreater(found, 300)
+        twice = sparse.coo_matrix(([3, 4, 5], ([0, 0, 1], [1, 1, 0])), (2, 2))
+        for form in twice, twice.tocsr():
+            self.assertEqual(nushbaret.solve_sparse(form).cost, 12)
+        self.assertEqual((twice.nnz, twice.data.tolist()), (3, [3, 4, 5]))
 
 
 if __name__ == "__main__":

@@ -69,6 +69,7 @@ class Package(unittest.TestCase):
 
     def test_one_version(self):
         self.assertEqual(backend().VERSION, library.VERSION)
+        self.assertEqual((PYTHON.parent / "VERSION").read_text().strip(), library.VERSION)
 
     @unittest.skipUnless(importlib.util.find_spec("pip"), "pip isn't there")
     def test_pip_without_a_network(self):

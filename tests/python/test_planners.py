@@ -8,8 +8,8 @@ from array import array
 
 sys.path.insert(0, str(pathlib.Path(__file__).resolve().parents[2] / "python"))
 
-from nushbaret.answer import Wish, answer_of
-from nushbaret.roster import Roster
+from nushbaret._answer import Wish, answer_of
+from nushbaret._roster import Roster
 
 CASES = 500
 

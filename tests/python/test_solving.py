@@ -170,7 +170,7 @@ class Drawn(unittest.TestCase):
 
 class Duals(unittest.TestCase):
     def test_prices_of_any_slack_that_proves_give_whole_duals(self):
-        """Prices of rounds are no multiples: here each is raised by 0 or 1, as slackness 1 allows."""
+        """Prices needn't be multiples of the unit: here each is raised by 0 or 1, as slackness 1 allows, and all by one number."""
         draw, settled = drawing(8), 0
         for _ in range(300):
             n_rows, n_columns = draw.randint(1, 5), draw.randint(1, 5)
@@ -179,7 +179,8 @@ class Duals(unittest.TestCase):
             if not result.rows:
                 continue
             answer = result._answer
-            prices = [price + draw.randint(0, 1) for price in answer.halves.prices()]
+            shift = draw.randint(0, 2 * answer.m + 2)
+            prices = [price + shift + draw.randint(0, 1) for price in answer.halves.prices()]
             settled += len(set(prices)) > 1
             result._answer = answer._replace(halves=library.Halves(prices=prices))
             self.assertTrue(proves(costs, result, maximize))

@@ -397,7 +397,7 @@ fn version_flag<'a>(alloc: Global) -> Arg<'a>
 }
 
 // The program's number, as the file VERSION at the top has it.
-const VERSION: &str = "1.0.0";
+const VERSION: &str = "2.0.0";
 
 // The program's command with its subcommands. clap's own option for the version has a short name.
 fn command<'a>(alloc: Global) -> Result<Command<'a>, AllocError>

@@ -2,14 +2,14 @@
 ghost use Rattle.std.specs.Prelude.{◌≡◌, ◌++◌, ◌∷◌, ◌<◌, ◌≤◌, codes, drop, length};
 
 // The library's number, as the file VERSION at the top has it.
-const VERSION: &str = "1.0.0";
+const VERSION: &str = "2.0.0";
 
 /// The length of the version's text. Where the room has a place more than that, the text and a 0 stand at
 /// its beginning then; else it is as it was.
 #[unsafe(no_mangle)]
 pub extern "C" fn nushbaret_version(room: &mut [u8]) -> usize
     ensures long { result ≡ 5 }
-    ensures text { 5 < length room.old → room.new ≡ codes "1.0.0" ++ 0 ∷ drop 6 room.old }
+    ensures text { 5 < length room.old → room.new ≡ codes "2.0.0" ++ 0 ∷ drop 6 room.old }
     ensures short { length room.old ≤ 5 → room.new ≡ room.old }
 {
     if room.len() > 5 {

@@ -2,12 +2,9 @@
 from collections import Counter
 from typing import Any, Dict, List, NamedTuple, Optional, Sequence, Set, Tuple
 
-from ._errors import Infeasible
-from ._groups import Group
-from ._keep import face_of, fewest_changes
-from ._nodes import Listed, Nodes, changed, least_costs, nodes_of
-from ._others import Swap, swaps_of
-from .roster import PlanLine, Roster
+from ._infeasible import Group, Infeasible
+from ._nodes import Listed, Nodes, Swap, changed, face_of, fewest_changes, least_costs, nodes_of, swaps_of
+from ._roster import PlanLine, Roster
 from ._solving import solve_sparse
 
 MOST_NAMES_SHOWN = 20

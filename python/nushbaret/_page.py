@@ -4,8 +4,8 @@ from html import escape
 from itertools import product
 from typing import Dict, Iterator, List, NamedTuple, Optional, Sequence, Set, Tuple
 
-from .answer import Answer, Plan, counted, left_out
-from .roster import Roster
+from ._answer import Answer, Plan, counted, left_out
+from ._roster import Roster
 
 MOST_CELLS = 250_000
 # Up to so many cells persons and objects that are in no pair and in no short group are drawn as well.

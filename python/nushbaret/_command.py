@@ -17,9 +17,9 @@ from typing import Dict, List, NamedTuple, Optional, Sequence, TextIO
 
 from ._exact import MOST_PLACES
 from ._library import VERSION
-from .answer import MOST_NAMES_SHOWN, Answer, Plan, Wish, answer_of, counted, left_out, listed, named, sentence
-from .page import page
-from .roster import (LINES, MATRIX, SEPARATORS, OldPlan, PlanLine, Roster, RosterFault, alike, decimal_text, quoted, read_counts,
+from ._answer import MOST_NAMES_SHOWN, Answer, Plan, Wish, answer_of, counted, left_out, listed, named, sentence
+from ._page import page
+from ._roster import (LINES, MATRIX, SEPARATORS, OldPlan, PlanLine, Roster, RosterFault, alike, decimal_text, quoted, read_counts,
                      read_old_plan, read_plan, read_roster)
 
 PLANNED, NONE, WORDS, REFUSED, DEVICE = range(5)

@@ -4,6 +4,7 @@ A roster is read in one of two forms, a line for each pair or a matrix; a plan i
 Lines and columns are counted from 1, and a column is a cell of its line.
 """
 import csv
+import datetime
 import io
 import json
 import os
@@ -12,11 +13,10 @@ import sys
 import unicodedata
 from array import array
 from decimal import Decimal
-from typing import Dict, Iterator, List, NamedTuple, NoReturn, Optional, Set, Tuple, Union
+from typing import Any, Dict, Iterator, List, NamedTuple, NoReturn, Optional, Set, Tuple, Union
 
 from ._exact import MOST_PLACES
 from ._library import GREATEST_COST, MOST_PERSONS
-from ._workbook import WorkbookFault, rows_of
 
 MOST_BYTES = 2**30
 
@@ -27,6 +27,7 @@ LINES, MATRIX = "lines", "matrix"
 TITLES = ("person", "object", "cost")
 MILLION = 10**MOST_PLACES
 ZEROS = "0" * MOST_PLACES
+SAVE = "save the sheet as 'CSV UTF-8'"
 
 
 class RosterFault(ValueError):
@@ -55,6 +56,44 @@ def _held(path: str) -> bytes:
         return file.read(MOST_BYTES + 1)
 
 
+# The first sheet of an Excel workbook, where openpyxl is installed.
+
+
+class WorkbookFault(Exception):
+    """Why a workbook can't be read."""
+
+
+def _workbook_rows(path: str, comma: bool) -> List[List[str]]:
+    """The rows of a workbook's first sheet, all of one length, as a CSV file would have them; with `comma` numbers have a decimal comma."""
+    try:
+        import openpyxl
+    except ImportError:
+        raise WorkbookFault(f"an Excel workbook is read where openpyxl is installed; elsewhere {SAVE}") from None
+    try:
+        book = openpyxl.load_workbook(path, read_only=True, data_only=True)
+        rows = [[_cell_text(value, comma) for value in row] for row in book.worksheets[0].iter_rows(values_only=True)]
+        book.close()
+    except OSError:
+        raise
+    except Exception as fault:
+        # openpyxl lets pass whatever the parsers beneath it raise.
+        raise WorkbookFault(f"no workbook that openpyxl reads ({fault}): {SAVE}") from fault
+    width = max(map(len, rows), default=0)
+    return [row + [""] * (width - len(row)) for row in rows]
+
+
+def _cell_text(value: Any, comma: bool) -> str:
+    """A cell as a spreadsheet shows it: numbers with up to 15 digits."""
+    if value is None:
+        return ""
+    if isinstance(value, float):
+        shown = format(value, ".15g")
+        return shown.replace(".", ",") if comma else shown
+    if isinstance(value, datetime.datetime) and value.time() == datetime.time():
+        return value.date().isoformat()
+    return str(value)
+
+
 class Sheet:
     """The records of a CSV file: UTF-8 or UTF-16, with `;`, TAB or `,` between cells, whichever its first line has most of. Or those of
     a workbook, `.xlsx`.
@@ -73,7 +112,7 @@ class Sheet:
     def _take_workbook(self, path: str, comma: bool) -> None:
         self.has_bom, self.separator = False, ";" if comma else ","
         try:
-            self.rows = rows_of(path, comma)
+            self.rows = _workbook_rows(path, comma)
         except WorkbookFault as fault:
             self.refuse(str(fault))
 

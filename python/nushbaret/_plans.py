@@ -12,9 +12,10 @@ from typing import Any, Dict, FrozenSet, Iterator, List, NamedTuple, Optional, T
 
 from ._checking import problem_of
 from ._exact import manner
-from ._problem import plain
+from ._infeasible import most_served
+from ._problem import Problem, listed, lists_of
 from ._result import Plan, Result, in_unit
-from ._solving import Decimals, solve_problem
+from ._solving import Decimals, solve_problem, solve_served
 
 INFINITE = float("inf")
 
@@ -40,22 +41,6 @@ class _Way(NamedTuple):
     far: List[Any]
 
 
-def _lists_of(problem: Any) -> List[Tuple[Any, Any]]:
-    """The columns of each row, rising, and what they cost where costs are to be little."""
-    n_rows, n_columns, sign = problem.n_rows, problem.n_columns, -1 if problem.maximize else 1
-    if problem.persons is None:
-        costs = plain(problem.costs)
-        if problem.maximize:
-            costs = -costs if problem.numpy else array("q", map(operator.neg, costs))
-        view = memoryview(costs)
-        return [(range(n_columns), view[row * n_columns:(row + 1) * n_columns]) for row in range(n_rows)]
-    held: List[Dict[int, int]] = [{} for _ in range(n_rows)]
-    for person, item, cost in zip(problem.persons.tolist(), problem.objects.tolist(), problem.costs.tolist()):
-        row = held[person - 1]
-        row[item - 1] = min(cost, row.get(item - 1, cost))
-    return [(sorted(row), [sign * row[column] for column in sorted(row)]) for row in held]
-
-
 class Ranking:
     """The plans of a problem with as many pairs as a result's."""
 
@@ -64,7 +49,7 @@ class Ranking:
         self.n_rows, self.n_columns = problem.n_rows, problem.n_columns
         self.sign = -1 if problem.maximize else 1
         self.rows_out, self.columns_out = len(rows) < self.n_rows, len(rows) < self.n_columns
-        self.lists = _lists_of(problem) + [(range(self.n_columns if self.columns_out else 0), repeat(0))]
+        self.lists = lists_of(problem) + [(range(self.n_columns if self.columns_out else 0), repeat(0))]
         self.waiting: List[Tuple[Any, ...]] = []
         self.costs: List[int] = []
         self.count = 0
@@ -300,3 +285,70 @@ def k_best(costs: Any, k: int, maximize: bool = False, decimals: Decimals = None
         raise ValueError(f"k is {k}: it must be 0 or more")
     problem = problem_of(costs, None, None, None, manner(maximize, decimals, missing))
     return best_plans(solve_problem(problem, None, partial), k)
+
+
+# Plans whose worst pair is as good as can be.
+
+
+def bottleneck(costs: Any, maximize: bool = False, decimals: Decimals = None, partial: bool = False,
+               missing: str = "refuse") -> Result:
+    """A plan whose dearest pair is as cheap as can be, and among those one of the best sum.
+
+    Parameters
+    ----------
+    costs : matrix
+        As in `solve`, or a sparse matrix of SciPy's.
+    maximize : bool, optional
+        Whether costs are to be great: then the least pair is as great as can be.
+    decimals, partial, missing
+        As in `solve`.
+
+    Returns
+    -------
+    Result
+        Of the problem that forbids each pair that is worse. That no plan is without a pair as bad as its worst one is shown by
+        the library as well.
+
+    Raises
+    ------
+    Infeasible, ValueError, TypeError, MemoryError, LibraryNotFound
+        As in `solve`.
+
+    Notes
+    -----
+    Solves twice; which pairs can be done without is found by matchings.
+    """
+    problem = problem_of(costs, None, None, None, manner(maximize, decimals, missing))
+    least = min(problem.n_rows, problem.n_columns)
+    served = least if problem.persons is None else most_served(problem)
+    if not served or served < least and not partial:
+        return solve_problem(problem, None, partial)
+    return _best_within(listed(problem), served)
+
+
+def _best_within(pairs: Problem, served: int) -> Result:
+    """The best plan of so many pairs among those whose worst pair is as good as can be."""
+    values = sorted(set(pairs.costs.tolist()), reverse=pairs.maximize)
+    lower, upper, fewest = -1, len(values) - 1, pairs
+    while upper - lower > 1:
+        middle = (lower + upper) // 2
+        tried = _within(fewest, values[middle])
+        if most_served(tried) == served:
+            upper, fewest = middle, tried
+        else:
+            lower = middle
+    result = solve_served(_within(fewest, values[upper]), served)
+    if result is None or lower >= 0 and solve_served(_within(pairs, values[lower]), served) is not None:
+        raise RuntimeError(f"{values[upper]} was found to be the worst cost that is needed, and the library says otherwise")
+    return result
+
+
+def _within(pairs: Problem, worst: int) -> Problem:
+    """The problem without the pairs that are worse than a cost."""
+    if pairs.numpy:
+        kept = pairs.costs >= worst if pairs.maximize else pairs.costs <= worst
+        return pairs._replace(costs=pairs.costs[kept], persons=pairs.persons[kept], objects=pairs.objects[kept])
+    places = [place for place, cost in enumerate(pairs.costs) if (cost >= worst if pairs.maximize else cost <= worst)]
+    costs, persons, objects = (array(held.typecode, [held[place] for place in places])
+                               for held in (pairs.costs, pairs.persons, pairs.objects))
+    return pairs._replace(costs=costs, persons=persons, objects=objects)

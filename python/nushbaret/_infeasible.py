@@ -1,0 +1,175 @@
+"""Problems without an assignment: the error that says so, how many rows can be served at all (a greatest matching, found by
+augmenting paths), and every group that is short: from one fullest matching, all whom somebody unmatched reaches, cut into
+connected parts."""
+from array import array
+from collections import deque
+from typing import Any, Dict, List, NamedTuple
+
+from . import _exact as exact, _problem as reading, _proved as proved
+
+
+def _shown(numbers):
+    """Some numbers in words, at most ten of them."""
+    shown = ", ".join(str(number) for number in list(numbers)[:10])
+    return shown if len(numbers) <= 10 else f"{shown}, .. ({len(numbers)} in all)"
+
+
+class Infeasible(ValueError):
+    """There is no assignment, and each group of rows and columns proves it.
+
+    Where a group has more rows, these rows may have its columns alone. Where it has more columns (in a problem of more rows
+    than columns, whose columns all want a row), these columns may go to its rows alone.
+
+    Attributes
+    ----------
+    groups : list of tuple
+        Rows and columns of each group that is short, in the order of their first rows (or columns). No two groups share any.
+    rows, columns : list of int, or NumPy arrays where an array came in
+        Those of the first group: numbers of the caller's rows and columns, from 0, rising.
+    """
+
+    def __init__(self, groups):
+        rows, columns = groups[0]
+        if len(rows) > len(columns):
+            why = f"rows {_shown(rows)} may have " + (f"columns {_shown(columns)} only" if len(columns) else "no column")
+        else:
+            why = f"columns {_shown(columns)} may go to " + (f"rows {_shown(rows)} only" if len(rows) else "no row")
+        more = f" (the first of {len(groups)} groups)" if len(groups) > 1 else ""
+        super().__init__(f"cost matrix is infeasible: {why}{more}")
+        self.groups = groups
+        self.rows = rows
+        self.columns = columns
+
+    def __reduce__(self):
+        return type(self), (self.groups,)
+
+
+# So many pairs are taken out of their arrays at once, since as Python's numbers they take many times the memory.
+AT_ONCE = 2**16
+
+
+def lists_of_nodes(count, nodes, others):
+    """What each of `count` nodes lists, from 0: node nodes[k] lists others[k], both from 1."""
+    lists = [array("H") for _ in range(count)]
+    for start in range(0, len(nodes), AT_ONCE):
+        some, more = nodes[start:start + AT_ONCE].tolist(), others[start:start + AT_ONCE].tolist()
+        for node, other in zip(some, more):
+            lists[node - 1].append(other - 1)
+    return lists
+
+
+def _augment(columns, owner, start, seen):
+    """Gives the row `start` a column, and others another one where need be; whether that could be done. `seen` are columns
+    from which no free one can be reached: those of a search that fails stay in it, since no later one would find more."""
+    reached, waiting, last = {}, deque([start]), None
+    while waiting and last is None:
+        row = waiting.popleft()
+        for column in columns[row]:
+            if column in seen or column in reached:
+                continue
+            reached[column] = row
+            if owner[column] is None:
+                last = column
+                break
+            waiting.append(owner[column])
+    if last is None:
+        seen.update(reached)
+        return False
+    held = {row: column for column, row in enumerate(owner) if row is not None} if reached[last] != start else {}
+    while last is not None:
+        row = reached[last]
+        owner[last], last = row, held.get(row) if row != start else None
+    return True
+
+
+def fullest(columns, n_columns):
+    """The row that has each column in a fullest matching, None where it is free; `columns` are those that each row may have."""
+    owner = [None] * n_columns
+    seen = set()
+    for row in range(len(columns)):
+        _augment(columns, owner, row, seen)
+    return owner
+
+
+def most_served(problem):
+    """The greatest number of rows that can have a column each."""
+    owner = fullest(lists_of_nodes(problem.n_rows, problem.persons, problem.objects), problem.n_columns)
+    return len(owner) - owner.count(None)
+
+
+class Group(NamedTuple):
+    """Nodes of one side, and all nodes of the other side that these list, which are fewer."""
+
+    many: List[int]
+    few: List[int]
+
+
+def infeasible(problem: Any) -> Infeasible:
+    """The proof that a problem which lists its pairs can't be solved: of its rows, or of its columns where these are fewer."""
+    of_columns = problem.n_rows > problem.n_columns
+    count, other = sorted((problem.n_rows, problem.n_columns))
+    nodes, others = (problem.objects, problem.persons) if of_columns else (problem.persons, problem.objects)
+    groups = [tuple(map(problem.numbers, group)) for group in groups_of(lists_of_nodes(count, nodes, others), other)]
+    return Infeasible([(few, many) if of_columns else (many, few) for many, few in groups])
+
+
+def groups_of(lists: List[array], other: int) -> List[Group]:
+    """The groups that are short on one side, in the order of their first nodes, each proved by the library.
+
+    Parameters
+    ----------
+    lists : list of arrays of int
+        What each node of that side lists.
+    other : int
+        How many nodes there are on the other side.
+    """
+    mates = fullest(lists, other)
+    served = set(mates)
+    waiting = [node for node in range(len(lists)) if node not in served]
+    reached = set(waiting)
+    while waiting:
+        for item in lists[waiting.pop()]:
+            if mates[item] not in reached:
+                reached.add(mates[item])
+                waiting.append(mates[item])
+    groups = _parts(sorted(reached), lists)
+    for group in groups:
+        _prove(group, lists)
+    return groups
+
+
+def _parts(reached: List[int], lists: List[array]) -> List[Group]:
+    """The connected parts of some nodes with what they list."""
+    who: Dict[int, List[int]] = {}
+    for node in reached:
+        for item in lists[node]:
+            who.setdefault(item, []).append(node)
+    left, parts = set(reached), []
+    for first in reached:
+        if first in left:
+            parts.append(_part(first, left, lists, who))
+    return parts
+
+
+def _part(first: int, left: set, lists: List[array], who: Dict[int, List[int]]) -> Group:
+    left.discard(first)
+    waiting, many, few = [first], [first], set()
+    while waiting:
+        fresh = [item for item in lists[waiting.pop()] if item not in few]
+        few.update(fresh)
+        near = sorted({node for item in fresh for node in who[item] if node in left})
+        left.difference_update(near)
+        many += near
+        waiting += near
+    return Group(sorted(many), sorted(few))
+
+
+def _prove(group: Group, lists: List[array]) -> None:
+    """Lets the library say that these nodes can't all be served by what they list."""
+    place = {item: number for number, item in enumerate(group.few)}
+    rows = array("q", [number for number, node in enumerate(group.many) for _ in lists[node]])
+    columns = array("q", [place[item] for node in group.many for item in lists[node]])
+    size = len(group.many)
+    problem = reading.of_pairs(size, size, rows, columns, array("q", bytes(8 * len(rows))), exact.manner(False))
+    if not isinstance(proved.answer(problem, proved.given(problem)), proved.Short):
+        raise RuntimeError("a group was found to be short, and the library says otherwise")

@@ -1,0 +1,267 @@
+"""Problems as the library wants them, and what its answers say of the caller's.
+
+The library gives each of n persons one of m objects, proved for n <= m. The fewer of rows and columns are the persons: where rows are
+more the problem is turned. Where persons may stay out each lists dummy objects beside its own, as many as are to stay out: then at
+least so many pairs are made as are wanted, and no more where there can't be more."""
+import decimal
+import math
+import numbers
+from array import array
+from fractions import Fraction
+from typing import Any, List, NamedTuple, Tuple
+
+from . import _library as library
+from ._exact import refuse_range
+from ._library import GREATEST_FIRST_PRICE, MOST_PERSONS, Halves
+from ._problem import costs_of_pairs, listed, lists_of, plain
+
+
+class Given(NamedTuple):
+    """What is passed to the library: how many persons and objects, and three lists, of which persons and objects are empty where
+    it is dense."""
+
+    n: int
+    m: int
+    persons: Any
+    objects: Any
+    costs: Any
+
+
+class Answer(NamedTuple):
+    """A best assignment: an object for each person, from 1 on, and prices in the unit of costs times m + 1."""
+
+    n: int
+    m: int
+    total: int
+    objects: Any
+    halves: Halves
+
+
+class Short(NamedTuple):
+    """Persons and objects, from 1 on, that prove that there is no assignment."""
+
+    persons: Any
+    objects: Any
+
+
+NONE = array("H")
+
+
+def is_turned(problem: Any) -> bool:
+    """Whether the columns are the persons."""
+    return problem.n_rows > problem.n_columns
+
+
+def sizes_of(problem: Any, served: Any) -> Tuple[int, int, int]:
+    """How many persons there are, how many objects, and how many of these are dummies."""
+    n, most = sorted((problem.n_rows, problem.n_columns))
+    dummies = 0 if served is None else n - served
+    if most + dummies > MOST_PERSONS:
+        raise ValueError(f"{problem.n_rows} rows and {problem.n_columns} columns, of which {served} can be paired, want {most + dummies} "
+                         f"with dummies: at most {MOST_PERSONS} can be had")
+    return n, most + dummies, dummies
+
+
+def _turned_costs(problem):
+    """The costs of a dense problem, column by column."""
+    n_rows, n_columns = problem.n_rows, problem.n_columns
+    if problem.numpy:
+        return problem.costs.reshape(n_rows, n_columns).T.ravel()
+    costs, turned = plain(problem.costs), array("q")
+    for column in range(n_columns):
+        turned.frombytes(costs[column::n_columns].tobytes())
+    return turned
+
+
+def given(problem: Any, served: Any = None, out: int = 0) -> Given:
+    """The problem in whose assignments `served` pairs are made, all that can be where it isn't given. `out` is what it costs to
+    stay out."""
+    n, m, dummies = sizes_of(problem, served)
+    if problem.persons is None and not dummies:
+        return Given(n, m, NONE, NONE, _turned_costs(problem) if is_turned(problem) else problem.costs)
+    problem = listed(problem)
+    lists = [problem.objects, problem.persons, problem.costs] if is_turned(problem) else [problem.persons, problem.objects, problem.costs]
+    if dummies:
+        lists = [_joined(problem.numpy, own, more) for own, more in zip(lists, _dummies(n, m, dummies, out))]
+    return Given(n, m, *lists)
+
+
+def _dummies(n, m, dummies, out):
+    """Persons, objects and costs of the pairs that dummies are in."""
+    everybody, objects = array("H", range(1, n + 1)), array("H")
+    for item in range(m - dummies + 1, m + 1):
+        objects.extend(array("H", (item,)) * n)
+    return everybody * dummies, objects, array("q", (out,)) * len(objects)
+
+
+def _joined(numpy, own, more):
+    return numpy.concatenate((own, more)) if numpy else own + more
+
+
+def refuse(problem: Any, asked: Given, code: str, told: Any) -> Any:
+    """Raises what a code of the library means that is no answer."""
+    if code == "COST":
+        if problem.persons is not None:
+            row, column = problem.place(told.place)
+        else:
+            row, column = reversed(divmod(told.place, asked.m)) if is_turned(problem) else divmod(told.place, asked.m)
+        refuse_range(f"row {row}, column {column}", problem.places)
+    raise RuntimeError(f"the library refused its lists: {code} at {told.place}")
+
+
+def answer(problem: Any, asked: Given, first: Any = None) -> Any:
+    """The library's answer, an Answer or a Short. `first` are first prices."""
+    n, m = asked.n, asked.m
+    objects, persons, halves = array("H", bytes(2 * n)), array("H", bytes(2 * n)), Halves(m)
+    is_dense = problem.persons is None and not len(asked.persons)
+    lists = [asked.costs] if is_dense else [asked.persons, asked.objects, asked.costs]
+    name = "dense" if is_dense else "sparse"
+    if first is not None:
+        name, lists = name + "_from", lists + [first]
+    code, told = library.call(name, problem.maximize, n, m, *lists, objects, persons, halves)
+    if code == "BEST":
+        return Answer(n, m, told.total, objects, halves)
+    if code == "HALL":
+        return Short(persons[:told.persons], objects[:told.objects])
+    return refuse(problem, asked, code, told)
+
+
+def no_pairs(problem: Any) -> Answer:
+    """The answer where there is no pair to make: all stay out, at prices of 0."""
+    n, most = sorted((problem.n_rows, problem.n_columns))
+    return Answer(n, most + n, 0, array("H", (most + 1,)) * n, Halves(most + n))
+
+
+def pairs_of(problem: Any, found: Answer) -> Tuple[List[int], List[int]]:
+    """Rows and columns of the pairs of an answer, rows rising: dummies stand in none."""
+    most = max(problem.n_rows, problem.n_columns)
+    own = [item - 1 for item in found.objects]
+    persons = list(range(found.n))
+    if found.m > most:
+        persons = [person for person in persons if own[person] < most]
+        own = [own[person] for person in persons]
+    if not is_turned(problem):
+        return persons, own
+    columns = sorted(range(len(own)), key=own.__getitem__)
+    return [own[place] for place in columns], [persons[place] for place in columns]
+
+
+def prices_of(problem: Any, found: Answer, rows: List[int], columns: List[int]) -> List[int]:
+    """One price for each column, in the library's unit: its own, or where rows are more those that follow from the rows' prices."""
+    prices = found.halves.prices()
+    if not is_turned(problem):
+        return prices[:problem.n_columns]
+    if not rows:
+        return [0] * problem.n_columns
+    unit = (found.m + 1) * (-1 if problem.maximize else 1)
+    worth = [prices[-1] if found.m > problem.n_rows else 0] * problem.n_columns
+    for row, column, cost in zip(rows, columns, costs_of_pairs(problem, list(zip(rows, columns)))):
+        worth[column] = unit * cost + prices[row]
+    most = max(worth)
+    return [most - held for held in worth]
+
+
+# Duals in the field's words, in whole costs.
+
+
+class Duals(NamedTuple):
+    """Whole duals of a problem whose costs are to be little (under maximize those of the costs with their signs turned): of each
+    row, of each column, and what rows have that stay unmatched."""
+
+    rows: List[int]
+    columns: List[int]
+    unmatched: int
+
+
+def duals_of(problem: Any, found: Answer, rows: List[int], columns: List[int]) -> Duals:
+    """The duals that an answer's prices tell: a row's and a column's are together no more than their pair's cost, and are that cost
+    in the plan. Columns have no dual above 0, and 0 where they are unmatched; where all are matched and rows are left over, this
+    holds for rows instead."""
+    n_rows, n_columns = problem.n_rows, problem.n_columns
+    if not rows:
+        return Duals([0] * n_rows, [0] * n_columns, 0)
+    prices, most, turned = _whole_prices(problem, found, len(rows)), max(n_rows, n_columns), is_turned(problem)
+    out = prices[-1] if found.m > most else 0
+    of_objects = [-price for price in prices[:most]]
+    of_persons = [out] * found.n
+    sign = -1 if problem.maximize else 1
+    for row, column, cost in zip(rows, columns, costs_of_pairs(problem, list(zip(rows, columns)))):
+        person, item = (column, row) if turned else (row, column)
+        of_persons[person] = sign * cost - of_objects[item]
+    if not turned:
+        return Duals(of_persons, of_objects, out)
+    return Duals([dual + out for dual in of_objects], [dual - out for dual in of_persons], out)
+
+
+def _whole_prices(problem, found, served):
+    """Prices without any slack, in whole costs, from prices with slackness 1 in the library's unit.
+
+    There are fewer prices than residues by the unit, so that one residue is had by none. Counted from behind it, no price's rest
+    is the unit less 1; so two rests and the slackness differ by less than the unit, and what is left of the slack in whole costs
+    is less than 1, hence none. The least is 0, and an object that nobody has, at most 1 above the least price, is at 0 too."""
+    prices, unit = found.halves.prices(), found.m + 1
+    rests = {price % unit for price in prices}
+    missing = next(rest for rest in range(unit) if rest not in rests)
+    whole = [(price - missing - 1) // unit for price in prices]
+    lowest = min(whole)
+    whole = [price - lowest for price in whole]
+    if len(rests) > 1:
+        asked = given(problem, served)
+        halves = Halves(prices=[price * unit for price in whole])
+        code, _ = library.call("check", problem.maximize, *asked, found.objects, halves)
+        if code != "BEST":
+            raise RuntimeError(f"prices without slack were found, and the library says otherwise: {code}")
+    return whole
+
+
+def rents(duals: Duals) -> List[int]:
+    """What columns cost beside their pairs: the least is 0."""
+    most = max(duals.columns, default=0)
+    return [most - dual for dual in duals.columns]
+
+
+# Prices of the caller's, in the unit of the costs, one for each column.
+
+
+def _whole(price, scale, place):
+    """A price times the scale, to the nearest whole number."""
+    if type(price) is int:
+        return price * scale
+    try:
+        if isinstance(price, (int, decimal.Decimal, numbers.Rational)):
+            return round(Fraction(price) * scale)
+        return round(Fraction(math.fsum((price,))) * scale)
+    except (ValueError, OverflowError):
+        raise ValueError(f"the price of column {place} is {price}: it must be finite") from None
+    except TypeError:
+        raise TypeError(f"the price of column {place} is {price!r}: it must be a number") from None
+
+
+def scaled(problem: Any, prices: Any, unit: int) -> List[int]:
+    """Prices become whole ones in the library's unit, the least 0."""
+    prices = list(prices)
+    if len(prices) != problem.n_columns:
+        raise ValueError(f"there are {len(prices)} prices, and {problem.n_columns} columns")
+    scale = unit * 10**problem.places
+    whole = [_whole(price, scale, place) for place, price in enumerate(prices)]
+    lowest = min(whole, default=0)
+    whole = [price - lowest for price in whole]
+    if max(whole, default=0) > GREATEST_FIRST_PRICE:
+        raise ValueError(f"prices are too far apart: the greatest is more than {GREATEST_FIRST_PRICE // scale} above the least")
+    return whole
+
+
+def first_prices(problem: Any, prices: Any, served: Any) -> Halves:
+    """First prices for the library; dummies begin at 0."""
+    _, m, dummies = sizes_of(problem, served)
+    first = scaled(problem, prices, m + 1)
+    if is_turned(problem):
+        first = _of_rows(problem, first, m + 1)
+    return Halves(prices=first + [0] * dummies)
+
+
+def _of_rows(problem, prices, unit):
+    """What rows gain at prices of columns, the least 0: first prices of the turned problem."""
+    paid = [min((unit * cost + prices[column] for column, cost in zip(*held)), default=None) for held in lists_of(problem)]
+    most = max((price for price in paid if price is not None), default=0)
+    return [0 if price is None else min(most - price, GREATEST_FIRST_PRICE) for price in paid]
