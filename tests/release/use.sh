@@ -24,7 +24,7 @@ without() {
 }
 
 has() {
-    command -v "$1" > /dev/null 2>&1
+    [ -x "$(type -P "$1")" ]
 }
 
 # expect NAME WANTED COMMAND..: the command succeeds, and prints lines of this pattern.
@@ -44,7 +44,7 @@ done_by() {
 }
 
 hidden() {
-    if has rt; then fail "the kit is on the path: $(command -v rt)"; fi
+    if has rt; then fail "the kit is on the path: $(type -P rt)"; fi
     if [ -n "${KIT-}" ] && ! grep -qx 'a mount namespace' "$work/without" && [ -e "$KIT/bin" ]; then fail "the kit is in sight: $KIT"; fi
 }
 
