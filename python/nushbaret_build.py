@@ -14,6 +14,8 @@ PACKAGE = TOP / "nushbaret"
 NAME = "libnushbaret.so"
 LIBRARIES = (PACKAGE / NAME, TOP.parent / "c" / "out" / NAME)
 DAY = (2020, 1, 1, 0, 0, 0)
+# What the wheel's tag says of the machine; release/make.sh sets it to what its library is looked at for.
+PLATFORM = sysconfig.get_platform()
 
 
 def _told(word):
@@ -32,10 +34,9 @@ def _library():
     raise SystemExit(f"{NAME} isn't there: run c/build.sh at the top of the checkout first, and then install again")
 
 
-def _tag(config_settings=None):
-    """The wheel's tag: for this machine, or for the platform that is set."""
-    platform = (config_settings or {}).get("platform") or sysconfig.get_platform()
-    return "py3-none-" + re.sub(r"[^a-zA-Z0-9]", "_", platform)
+def _tag():
+    platform = re.sub(r"[^a-zA-Z0-9]", "_", PLATFORM)
+    return f"py3-none-{platform}"
 
 
 def _metadata():
@@ -43,12 +44,12 @@ def _metadata():
             f"License: MIT OR Apache-2.0\nRequires-Python: {_told('requires-python')}\n")
 
 
-def _wheel_text(tag):
-    return f"Wheel-Version: 1.0\nGenerator: nushbaret_build\nRoot-Is-Purelib: false\nTag: {tag}\n"
+def _wheel_text():
+    return f"Wheel-Version: 1.0\nGenerator: nushbaret_build\nRoot-Is-Purelib: false\nTag: {_tag()}\n"
 
 
-def _info(tag):
-    return {f"{INFO}/METADATA": _metadata().encode(), f"{INFO}/WHEEL": _wheel_text(tag).encode(),
+def _info():
+    return {f"{INFO}/METADATA": _metadata().encode(), f"{INFO}/WHEEL": _wheel_text().encode(),
             f"{INFO}/entry_points.txt": b"[console_scripts]\nnushbaret = nushbaret.command:main\n"}
 
 
@@ -62,10 +63,9 @@ def _record(name, held):
     return f"{name},sha256={digest},{len(held)}\n"
 
 
-def _write_wheel(folder, held, tag):
+def _write_wheel(folder, held):
     """A wheel of these files, the same bytes for the same files."""
-    name = f"nushbaret-{VERSION}-{tag}.whl"
-    held = {**held, **_info(tag)}
+    name = f"nushbaret-{VERSION}-{_tag()}.whl"
     record = "".join(_record(*one) for one in held.items()) + f"{INFO}/RECORD,,\n"
     with zipfile.ZipFile(pathlib.Path(folder) / name, "w", zipfile.ZIP_DEFLATED) as wheel:
         for inside, text in [*held.items(), (f"{INFO}/RECORD", record.encode())]:
@@ -84,7 +84,7 @@ get_requires_for_build_sdist = get_requires_for_build_editable = get_requires_fo
 
 
 def prepare_metadata_for_build_wheel(metadata_directory, config_settings=None):
-    for name, text in _info(_tag(config_settings)).items():
+    for name, text in _info().items():
         place = pathlib.Path(metadata_directory) / name
         place.parent.mkdir(parents=True, exist_ok=True)
         place.write_bytes(text)
@@ -98,13 +98,13 @@ def build_wheel(wheel_directory, config_settings=None, metadata_directory=None):
     held = {f"nushbaret/{file.relative_to(PACKAGE).as_posix()}": file.read_bytes() for file in _sources()}
     held[f"nushbaret/{NAME}"] = _library().read_bytes()
     licenses = {f"{INFO}/licenses/{file.name}": file.read_bytes() for file in sorted(TOP.parent.glob("LICENSE-*"))}
-    return _write_wheel(wheel_directory, {**held, **licenses}, _tag(config_settings))
+    return _write_wheel(wheel_directory, {**held, **_info(), **licenses})
 
 
 def build_editable(wheel_directory, config_settings=None, metadata_directory=None):
     """A wheel that points at this folder; the library is then found in the checkout."""
     _library()
-    return _write_wheel(wheel_directory, {"nushbaret.pth": f"{TOP}\n".encode()}, _tag(config_settings))
+    return _write_wheel(wheel_directory, {"nushbaret.pth": f"{TOP}\n".encode(), **_info()})
 
 
 def build_sdist(sdist_directory, config_settings=None):

@@ -146,7 +146,8 @@ wheel() {
     (cd "$top/python" && python3 -c 'import sys, nushbaret_build as build
 if build.VERSION != sys.argv[2]:
     sys.exit("release/make.sh: python/pyproject.toml is of version %s, and VERSION is %s" % (build.VERSION, sys.argv[2]))
-build.build_wheel(sys.argv[1], {"platform": "manylinux2014_x86_64"})' "$made" "$version")
+build.PLATFORM = "manylinux2014_x86_64"
+build.build_wheel(sys.argv[1])' "$made" "$version")
 }
 
 if [ "${1-}" = --source ] && [ $# = 1 ]; then
