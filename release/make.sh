@@ -124,15 +124,16 @@ member() {
 
 # The Debian package, in the same layout under /usr, where Debian has its libraries and completions.
 package() {
-    local root=$work/package share=$work/package/usr/share
+    local root=$work/package share=$work/package/usr/share size
     stage "$root/usr" "lib/$multiarch" /usr
     mkdir -p "$share/zsh/vendor-completions"
     mv "$share"/zsh/site-functions/* "$share/zsh/vendor-completions/"
     rmdir "$share/zsh/site-functions"
     find "$share/man" -type f -exec gzip -9n {} +
-    cp "$parts/copyright" "$share/doc/nushbaret/"
+    install -m 644 "$parts/copyright" "$share/doc/nushbaret/"
     mkdir "$work/control"
-    filled control "lib/$multiarch" /usr | sed "s|@SIZE@|$(find "$root" -type f -printf '%s\n' | awk '{ kilobytes += int(($1 + 1023) / 1024) } END { print kilobytes }')|" > "$work/control/control"
+    size=$(find "$root" -type f -printf '%s\n' | awk '{ kilobytes += int(($1 + 1023) / 1024) } END { print kilobytes }')
+    filled control "lib/$multiarch" /usr | sed "s|@SIZE@|$size|" > "$work/control/control"
     echo 'activate-noawait ldconfig' > "$work/control/triggers"
     (cd "$root" && find usr -type f | sort | xargs md5sum) > "$work/control/md5sums"
     (cd "$work/control" && printf '%s\n' . ./control ./md5sums ./triggers | packed) > "$work/control.tar.gz"
