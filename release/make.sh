@@ -37,15 +37,20 @@ sources() {
     fi | sort -z | xargs -0 sha256sum | sha256sum | cut -d ' ' -f 1
 }
 
+# The first line that a tool tells of itself.
+told() {
+    { "$@" 2> /dev/null || echo none; } | head -n 1
+}
+
 # What a release is made of and by. Compilers, linkers and packers write bytes of it.
 source_text() {
     echo "nushbaret $version"
     echo "sources: $(sources)"
-    echo "kit: $(rt version 2> /dev/null || echo none)"
-    echo "compiler: $(cc --version | head -n 1)"
-    echo "binutils: $(ld --version | head -n 1)"
-    echo "C library: $(ldd --version | head -n 1)"
-    echo "packed by: $(tar --version | head -n 1), $(gzip --version | head -n 1), zlib $(python3 -c 'import zlib; print(zlib.ZLIB_RUNTIME_VERSION)')"
+    echo "kit: $(told rt version)"
+    echo "compiler: $(told cc --version)"
+    echo "binutils: $(told ld --version)"
+    echo "C library: $(told ldd --version)"
+    echo "packers: $(told tar --version), $(told gzip --version), zlib $(told python3 -c 'import zlib; print(zlib.ZLIB_RUNTIME_VERSION)')"
 }
 
 # The newest version of the C library that a file's symbols want.
@@ -53,13 +58,13 @@ wanted_glibc() {
     objdump -T "$1" | sed -n 's/.*(*GLIBC_\([0-9.]*\))* .*/\1/p' | sort -V | tail -n 1
 }
 
-# no_newer FILE MOST: stops where the file wants a newer C library.
-no_newer() {
-    local wanted
-    wanted=$(wanted_glibc "$1")
-    if [ "$(printf '%s\n' "$wanted" "$2" | sort -V | tail -n 1)" != "$2" ]; then
-        stop "$1 wants glibc $wanted, and $2 is promised"
-    fi
+# wants_only FILE GLIBC: stops where the file wants another library than that of C, or a newer one.
+wants_only() {
+    local libraries glibc
+    libraries=$(readelf -d "$1" | sed -n 's/.*(NEEDED).*\[\(.*\)\]/\1/p')
+    [ "$libraries" = libc.so.6 ] || stop "${1#"$top"/} wants other libraries than libc.so.6: $libraries"
+    glibc=$(wanted_glibc "$1")
+    [ "$(printf '%s\n' "$glibc" "$2" | sort -V | tail -n 1)" = "$2" ] || stop "${1#"$top"/} wants glibc $glibc, and $2 is promised"
 }
 
 # Whether all is there that is to be packed, is of this version, and wants no newer C library than is promised.
@@ -68,12 +73,12 @@ look() {
     for file in "$program" "$library.so" "$library.a"; do
         [ -e "$file" ] || stop "${file#"$top"/} isn't there: run ./prove, rt run in crates/auction_cli, and c/build.sh first"
     done
-    [ "$("$program" --version)" = "auction_cli $version" ] || stop "the program says $("$program" --version), and VERSION $version: build it anew"
+    [ "$("$program" --version)" = "auction_cli $version" ] || stop "the program isn't of version $version: build it anew"
     soname=$(readelf -d "$library.so" | sed -n 's/.*(SONAME).*\[\(.*\)\]/\1/p')
-    [ "$soname" = "libnushbaret.so.$major" ] || stop "c/out/libnushbaret.so has the name '$soname', and should have libnushbaret.so.$major: run c/build.sh"
-    grep -q "\"$version\"" "$top/c/nushbaret.h" || stop "c/nushbaret.h isn't of version $version"
-    no_newer "$program" "$program_glibc"
-    no_newer "$library.so" "$wheel_glibc"
+    [ "$soname" = "libnushbaret.so.$major" ] || stop "the SONAME of c/out/libnushbaret.so is '$soname', not libnushbaret.so.$major: run c/build.sh"
+    grep -q "^#define NUSHBARET_VERSION \"$version\"" "$top/c/nushbaret.h" || stop "c/nushbaret.h isn't of version $version"
+    wants_only "$program" "$program_glibc"
+    wants_only "$library.so" "$wheel_glibc"
 }
 
 # filled PART LIBDIR PREFIX: a file of parts/ with the places for what differs filled in. UP leads from its folder to the prefix.
@@ -119,7 +124,7 @@ tarball() {
 member() {
     printf '%-16s%-12d%-6d%-6d%-8s%-10d`\n' "$(basename "$1")" 0 0 0 100644 "$(stat -c %s "$1")"
     cat "$1"
-    [ $(($(stat -c %s "$1") % 2)) = 0 ] || printf '\n'
+    if [ $(($(stat -c %s "$1") % 2)) = 1 ]; then printf '\n'; fi
 }
 
 # The Debian package, in the same layout under /usr, where Debian has its libraries and completions.
@@ -139,7 +144,12 @@ package() {
     (cd "$work/control" && printf '%s\n' . ./control ./md5sums ./triggers | packed) > "$work/control.tar.gz"
     (cd "$root" && find . | sort | packed) > "$work/data.tar.gz"
     echo 2.0 > "$work/debian-binary"
-    { printf '!<arch>\n' && member "$work/debian-binary" && member "$work/control.tar.gz" && member "$work/data.tar.gz"; } > "$made/nushbaret_${version}_amd64.deb"
+    {
+        printf '!<arch>\n'
+        member "$work/debian-binary"
+        member "$work/control.tar.gz"
+        member "$work/data.tar.gz"
+    } > "$made/nushbaret_${version}_amd64.deb"
 }
 
 # The wheel, by the package's own backend.

@@ -9,7 +9,7 @@ set -uo pipefail
 top=$(cd "$(dirname "$0")/.." && pwd)
 given=${1:-$top/release}
 if [ ! -f "$given/SHA256SUMS" ]; then
-    echo "release: ${given#"$top"/} has no artefacts yet; release/make.sh makes them"
+    echo "release: no artefacts in ${given#"$top"/}/ yet; release/make.sh makes them of what is built"
     exit 0
 fi
 folder=$(cd "$given" && pwd)
@@ -31,24 +31,28 @@ sums() {
     echo sums >> "$work/ran"
 }
 
-# Packs again what is built here, and compares it byte for byte, where sources and tools are those of the release.
+# Packs again what is built here, and compares it byte for byte.
+compare_bytes() {
+    if ! "$top/release/make.sh" "$work/again" > "$work/log" 2>&1; then
+        fail "release/make.sh: $(tail -5 "$work/log")"
+    elif diff -r "$work/again" "$folder" | grep -v -x -e "Only in $folder: make.sh" -e "Only in $folder: parts" > "$work/log"; then
+        fail "what is built here gives other bytes: $(cat "$work/log")"
+    else
+        echo 'each byte as built here' >> "$work/ran"
+    fi
+}
+
+# Compares where the sources and the tools are those of the release, and says what differs where they aren't.
 compare() {
-    local name
     "$top/release/make.sh" --source > "$work/SOURCE" 2> "$work/log" || fail "release/make.sh --source: $(cat "$work/log")"
     if ! cmp -s "$folder/SOURCE" "$work/SOURCE"; then
-        echo "release: $(head -n 1 "$folder/SOURCE"), not compared with what is built here. Of the release (<), and here (>):"
+        echo "release: $(head -n 1 "$folder/SOURCE"), of other sources or tools than there are here. Of the release (<), and here (>):"
         diff "$folder/SOURCE" "$work/SOURCE" | grep '^[<>]'
         echo 'a comparison with what is built here (other sources or tools)' >> "$work/without"
     elif [ ! -e "$top/crates/auction_cli/out/auction_cli" ] && [ ! -e "$top/c/out/libnushbaret.so" ]; then
         echo 'a comparison with what is built here (nothing is)' >> "$work/without"
-    elif ! "$top/release/make.sh" "$work/again" > "$work/log" 2>&1; then
-        fail "release/make.sh: $(tail -5 "$work/log")"
     else
-        if diff -r "$work/again" "$folder" | grep -v -x -e "Only in $folder: make.sh" -e "Only in $folder: parts" > "$work/log"; then
-            fail "what is built here gives other bytes: $(cat "$work/log")"
-        else
-            echo 'each byte as built here' >> "$work/ran"
-        fi
+        compare_bytes
     fi
 }
 
