@@ -186,4 +186,4 @@ if [ -f "$folder/SHA256SUMS" ]; then
 fi
 cp -p "$made"/* "$work/SHA256SUMS" "$folder/"
 cat "$folder/SOURCE"
-ls -l "$folder" | awk 'NR > 1 && $1 ~ /^-/ { print $5, $9 }'
+(cd "$made" && stat -c '%s bytes: %n' -- *)
