@@ -36,7 +36,7 @@ waits() {
 case ${1-} in
 '')
     echo "c/build.sh: proves the library for C, and each crate below that isn't proved yet. This takes some 3 minutes" \
-        "behind ./prove, and up to an hour on a fresh clone; it waits for any other rt that works in these crates." >&2
+        "after ./prove, and up to an hour on a fresh clone. It waits for any other rt that works in these crates." >&2
     (cd "$crate" && rt lib 2>&1) | tee "$log" | waits || { tail -20 "$log"; exit 1; }
     ;;
 gate) (over_the_gates > "$log" 2>&1) || { tail -20 "$log"; exit 1; } ;;
