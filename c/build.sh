@@ -29,8 +29,17 @@ over_the_gates() {
     "$kit/bin/rattle" build "${words[@]}" --crate-type staticlib --toolchain "$kit/toolchain" --backend llvm -o "$archive"
 }
 
+# Shows of rt's lines those that say what it waits for, as they come.
+waits() {
+    grep --line-buffered '^rt: waiting' >&2 || true
+}
+
 case ${1-} in
-'') (cd "$crate" && rt lib > "$log" 2>&1) || { tail -20 "$log"; exit 1; } ;;
+'')
+    echo "c/build.sh: proves the library for C, and each crate below that isn't proved yet. This takes some 3 minutes" \
+        "after ./prove, and up to an hour on a fresh clone. It waits for any other rt that works in these crates." >&2
+    (cd "$crate" && rt lib 2>&1) | tee "$log" | waits || { tail -20 "$log"; exit 1; }
+    ;;
 gate) (over_the_gates > "$log" 2>&1) || { tail -20 "$log"; exit 1; } ;;
 *) echo 'usage: c/build.sh [gate]'; exit 2 ;;
 esac
@@ -46,3 +55,4 @@ cc -shared -o "$out/libnushbaret.so" "$out/nushbaret.o" -Wl,-soname,"$soname" \
     -Wl,--version-script="$top/c/exports.map" -Wl,-z,defs -Wl,-z,now -Wl,-z,relro
 ln -sf libnushbaret.so "$out/$soname"
 rm -f "$out/nushbaret.o"
+[ "${1-}" = gate ] || echo "c/build.sh: $out has libnushbaret.a and libnushbaret.so" >&2

@@ -14,6 +14,8 @@ PACKAGE = TOP / "nushbaret"
 NAME = "libnushbaret.so"
 LIBRARIES = (PACKAGE / NAME, TOP.parent / "c" / "out" / NAME)
 DAY = (2020, 1, 1, 0, 0, 0)
+# What the wheel's tag says of the machine; release/make.sh sets it to what its library is looked at for.
+PLATFORM = sysconfig.get_platform()
 
 
 def _told(word):
@@ -33,7 +35,7 @@ def _library():
 
 
 def _tag():
-    platform = re.sub(r"[^a-zA-Z0-9]", "_", sysconfig.get_platform())
+    platform = re.sub(r"[^a-zA-Z0-9]", "_", PLATFORM)
     return f"py3-none-{platform}"
 
 

@@ -3,7 +3,8 @@
 
 Runs each `$` line of the pages in RUN with the built program on the path (rt run in crates/auction_cli) and the
 Python package over the library that c/build.sh made, and compares what it prints, on both streams, with what
-stands below it. With --text it runs nothing, and needs no program.
+stands below it. Lines that use a release run over the files of release/; where it has none yet, or Python can't make a
+virtual environment, they are shown as not run. With --text it runs nothing, and needs no program.
 
 Then it looks at the text of all pages: links and names of files that lead nowhere, lines of more than 100 characters,
 sentences of more than 35 words, and words that docs/CONTRIBUTING.md lists to avoid. Tables, code and quoted output are
@@ -21,6 +22,8 @@ import tempfile
 TOP = os.path.dirname(os.path.dirname(os.path.abspath(__file__)))
 PROGRAM = os.path.join(TOP, "crates/auction_cli/out/auction_cli")
 RUN = ["README.md", "docs/MODELLING.md", "docs/MODES.md", "docs/SCRIPTS.md"]
+# A command that uses a release, or the environment that it was installed in.
+RELEASED = re.compile(r"\brelease/|\bplanner\b")
 GENERATED = "docs/DEFINITIONS.md"
 WIDEST = 100
 LONGEST = 35
@@ -31,9 +34,9 @@ END = re.compile(r"(?<!\be\.g)(?<!\bi\.e)(?<!\bvs)[.!?][)\"'*]*\s+(?=[\"'(*\[]*[
 CODE = re.compile(r"`[^`]*`")
 ITEM = re.compile(r"\A\s*(?:[-*]|\d+\.) ")
 LINK = re.compile(r"\]\(([^)\s]+)\)")
-FILE = re.compile(r"`((?:\.ci|bench|c|crates|docs|examples|programs|tests)/[\w./-]+)`")
-# Such a name is no file of a fresh clone: what a build makes.
-MADE = re.compile(r"/out(/|$)|/NAME")
+FILE = re.compile(r"`((?:\.ci|bench|c|crates|docs|examples|programs|release|tests)/[\w./-]+)`")
+# Such a name is no file of a fresh clone: what a build makes, and what release/make.sh does.
+MADE = re.compile(r"/out(/|$)|/NAME|^release/(auction_cli|SOURCE|SHA256SUMS)$")
 
 
 def lines_of(page):
@@ -74,17 +77,36 @@ def sessions(page):
         yield number, command, "\n".join(below)
 
 
+def unreleased():
+    """Why the commands that use a release can't run here, if they can't."""
+    if not os.path.exists(os.path.join(TOP, "release/SHA256SUMS")):
+        return "release/ has no artefacts yet"
+    if subprocess.run(["python3", "-c", "import ensurepip, venv"], capture_output=True).returncode:
+        return "Python can't make a virtual environment"
+    return None
+
+
+def surroundings(work, command):
+    """The environment of a command: the program on the path, and the Python package of the checkout or of the release."""
+    path = os.path.join(work, "bin") + os.pathsep + os.environ["PATH"]
+    found = {**os.environ, "PATH": path, "PYTHONDONTWRITEBYTECODE": "1", "PIP_NO_INDEX": "1", "PIP_DISABLE_PIP_VERSION_CHECK": "1"}
+    found.pop("PYTHONPATH", None)
+    return found if RELEASED.search(command) else {**found, "PYTHONPATH": os.path.join(TOP, "python")}
+
+
 def run_page(page, program, told):
     """Runs the commands of a page one after the other in a folder of their own."""
+    why = unreleased()
     with tempfile.TemporaryDirectory() as work:
         os.makedirs(os.path.join(work, "bin"))
         os.symlink(program, os.path.join(work, "bin", "auction_cli"))
-        for folder in ("examples", "tests"):
+        for folder in ("examples", "tests", "release"):
             os.symlink(os.path.join(TOP, folder), os.path.join(work, folder))
-        path = os.path.join(work, "bin") + os.pathsep + os.environ["PATH"]
-        places = {"PATH": path, "PYTHONPATH": os.path.join(TOP, "python"), "PYTHONDONTWRITEBYTECODE": "1"}
         for number, command, wanted in sessions(page):
-            ran = subprocess.run(["bash", "-c", command], cwd=work, env={**os.environ, **places}, text=True,
+            if why and RELEASED.search(command):
+                print(f"{page}:{number}: not run, {why}: {command}")
+                continue
+            ran = subprocess.run(["bash", "-c", command], cwd=work, env=surroundings(work, command), text=True,
                                  stdin=subprocess.DEVNULL, stdout=subprocess.PIPE, stderr=subprocess.STDOUT)
             if ran.stdout.rstrip("\n") != wanted:
                 told.append(f"{page}:{number}: {command}\nwanted:\n{wanted}\ngot:\n{ran.stdout}")

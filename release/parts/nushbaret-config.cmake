@@ -1,0 +1,20 @@
+# find_package(nushbaret) gives the targets nushbaret::nushbaret, the shared library, and nushbaret::static.
+get_filename_component(_nushbaret_prefix "${CMAKE_CURRENT_LIST_DIR}/@UP@" ABSOLUTE)
+foreach(_nushbaret_kind nushbaret static)
+    if(NOT TARGET nushbaret::${_nushbaret_kind})
+        if(_nushbaret_kind STREQUAL static)
+            add_library(nushbaret::static STATIC IMPORTED)
+            set(_nushbaret_file libnushbaret.a)
+        else()
+            add_library(nushbaret::nushbaret SHARED IMPORTED)
+            set(_nushbaret_file libnushbaret.so.@MAJOR@)
+            set_target_properties(nushbaret::nushbaret PROPERTIES IMPORTED_SONAME libnushbaret.so.@MAJOR@)
+        endif()
+        set_target_properties(nushbaret::${_nushbaret_kind} PROPERTIES
+            IMPORTED_LOCATION "${_nushbaret_prefix}/@LIBDIR@/${_nushbaret_file}"
+            INTERFACE_INCLUDE_DIRECTORIES "${_nushbaret_prefix}/include")
+    endif()
+endforeach()
+unset(_nushbaret_kind)
+unset(_nushbaret_file)
+unset(_nushbaret_prefix)
