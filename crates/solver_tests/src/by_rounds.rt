@@ -19,6 +19,15 @@ const TWO_PERSONS: [Pair; 4] = [(1, 1, 1), (1, 2, 2), (2, 1, 3), (2, 2, 5)];
 // Persons 1 and 2 list object 1 alone, and person 3 the two others.
 const CONTESTED: [Pair; 4] = [(1, 1, 4), (2, 1, 6), (3, 2, 1), (3, 3, 2)];
 
+// Both senses in turn.
+fn sense_of(turn: usize) -> Sense {
+    if turn % 2 == 0 {
+        Sense::Min
+    } else {
+        Sense::Max
+    }
+}
+
 // What became of a run: the objects and prices, or the persons and objects of a Hall set.
 #[derive(PartialEq, Eq, Drop)]
 enum Seen {

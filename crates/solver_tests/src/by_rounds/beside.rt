@@ -1,7 +1,7 @@
 // Rounds beside the plain transcription, one by one.
 use super::transcription::{Auction, PlainOffer, Round, auction_of, is_over, next_round};
 use super::*;
-use assign_core::Prices;
+use assign_core::{Person, Prices};
 use bidder::{Ask, Offer};
 use scaled_values::Scaled;
 
@@ -32,9 +32,10 @@ fn is_offer(phase: u16, offer: Offer, plain: PlainOffer) -> bool {
     }
 }
 
-// Whether each offer is that of a person who waits.
+// Whether there are offers, each that of a person who waits.
 fn are_offers(phase: u16, offers: &[Offer], plain: &[PlainOffer]) -> bool {
-    offers.iter().all(|offer| plain.iter().any(|other| is_offer(phase, *offer, *other)))
+    !offers.is_empty()
+        && offers.iter().all(|offer| plain.iter().any(|other| is_offer(phase, *offer, *other)))
 }
 
 // Whether a round is the plain one.
@@ -58,7 +59,7 @@ impl<O: Offering> Offering for Beside<O> {
         scaled: &Scaled,
         prices: &Prices,
         ask: Ask,
-        persons: &[assign_core::Person],
+        persons: &[Person],
         offers: &mut Vec<Offer>,
     ) -> Result<(), AllocError> {
         self.offering.make(scaled, prices, ask, persons, offers)?;

@@ -31,11 +31,7 @@ fn agreeing(
     let mut seed = seed;
     let mut count: usize = 0;
     for turn in 0..turns {
-        let sense = if turn % 2 == 0 {
-            Sense::Min
-        } else {
-            Sense::Max
-        };
+        let sense = sense_of(turn);
         let (n, pairs) = drawn(alloc, &mut seed)?;
         let pieces = InPieces { rt, least };
         if agrees(pieces, alloc, n, pairs.as_slice(), sense, true)? {

@@ -84,12 +84,7 @@ fn agreeing(
     let mut seed = seed;
     let mut count: usize = 0;
     for turn in 0..turns {
-        let sense = if turn % 2 == 0 {
-            Sense::Min
-        } else {
-            Sense::Max
-        };
-        if drawn_agrees(rt, alloc, &mut seed, most, sense)? {
+        if drawn_agrees(rt, alloc, &mut seed, most, sense_of(turn))? {
             count = count.wrapping_add(1);
         }
     }
