@@ -2,6 +2,7 @@
 ghost use Rattle.std.specs.Prelude.{◌≡◌, ℕ, ◌<◌, ◌≤◌, length, All, IfOk, OnOk, IsTrue, slice_index_or};
 ghost use Rattle.assign_core.specs.Numbered.{IsNumber, numbered};
 ghost use Rattle.assign_core.specs.Rows.{IsSize};
+ghost use Rattle.scaled_values.specs.Scaled.{ScaledProblem};
 ghost use Rattle.bidder.specs.Offers.{benefits_at};
 ghost use Rattle.rounds.specs.Offers.{CanOffer, named, offers_of};
 ghost use Rattle.rounds.specs.inside.Kinds.{AreKinds, HasAlike, IsGathered, IsPlaced};
@@ -13,33 +14,36 @@ use scaled_values::{Row, Scaled};
 use std::alloc::{AllocError, Global};
 use std::hash::{FoldHasher, Hasher};
 
-// The hash of a row of benefits. It finds who may be alike, and a comparison decides.
-fn hash_of_benefits(benefits: &[Benefit]) -> u64 {
+// Rows that differ mostly differ in so many entries at their start.
+const START: usize = 16;
+
+// The hash of so many benefits at a row's start. It finds who may be alike, and a comparison decides.
+fn hash_of_benefits(benefits: &[Benefit], most: usize) -> u64 {
     let mut hasher = FoldHasher::default();
-    for benefit in benefits {
+    for benefit in benefits.iter().take(most) {
         hasher.write_i64(*benefit);
     }
     hasher.finish()
 }
 
-// The hash of objects with their benefits.
-fn hash_of_pairs(pairs: &[(Object, Benefit)]) -> u64 {
+// The hash of so many objects at a row's start, with their benefits.
+fn hash_of_pairs(pairs: &[(Object, Benefit)], most: usize) -> u64 {
     let mut hasher = FoldHasher::default();
-    for (object, benefit) in pairs {
+    for (object, benefit) in pairs.iter().take(most) {
         hasher.write_u16(object.0);
         hasher.write_i64(*benefit);
     }
     hasher.finish()
 }
 
-fn hash_of(row: Row<'_>) -> u64 {
+fn hash_of(row: Row<'_>, most: usize) -> u64 {
     match row {
-        Row::Full(benefits) => hash_of_benefits(benefits),
-        Row::Pairs(pairs) => hash_of_pairs(pairs),
+        Row::Full(benefits) => hash_of_benefits(benefits, most),
+        Row::Pairs(pairs) => hash_of_pairs(pairs, most),
     }
 }
 
-// All persons, each with the hash of its row.
+// All persons, each with the hash of its row's start.
 fn hashed_persons(alloc: Global, scaled: &Scaled) -> Result<Vec<(u64, Person)>, AllocError>
     ensures { IfOk result
         (λ hashed. All (λ e. IsNumber (length scaled.now.problem) e.1) hashed.items) }
@@ -48,9 +52,38 @@ fn hashed_persons(alloc: Global, scaled: &Scaled) -> Result<Vec<(u64, Person)>, 
     let mut hashed = Vec::with_capacity(alloc, n as usize)?;
     for i in 0..n {
         let person = Person(i + 1);
-        hashed.push((hash_of(scaled.row(person)), person))?;
+        hashed.push((hash_of(scaled.row(person), START), person))?;
     }
     Ok(hashed)
+}
+
+// Whether a neighbour in a sorted list has the same hash.
+fn has_neighbour(hashed: &[(u64, Person)], place: usize) -> bool
+    requires { place < length hashed.now }
+{
+    let hash = hashed[place].0;
+    place > 0 && hashed[place - 1].0 == hash
+        || place + 1 < hashed.len() && hashed[place + 1].0 == hash
+}
+
+// Those of a sorted list whose hash another one has, each with the hash of its whole row.
+fn rehashed_persons(
+    alloc: Global,
+    scaled: &Scaled,
+    hashed: &[(u64, Person)],
+) -> Result<Vec<(u64, Person)>, AllocError>
+    requires { All (λ e. IsNumber (length scaled.now.problem) e.1) hashed.now }
+    ensures { IfOk result
+        (λ again. All (λ e. IsNumber (length scaled.now.problem) e.1) again.items) }
+{
+    let mut again = Vec::new(alloc);
+    for i in 0..hashed.len() {
+        if has_neighbour(hashed, i) {
+            let person = hashed[i].1;
+            again.push((hash_of(scaled.row(person), usize::MAX), person))?;
+        }
+    }
+    Ok(again)
 }
 
 // For each person its own number.
@@ -194,13 +227,14 @@ fn hand_out(
 }
 
 /// Which persons of a problem have the same row, and what a round needs to let one of them bid for
-/// all: 4 bytes a person, and lists that grow with the rounds in which some are alike.
+/// all. Where no two are known to be alike it takes no memory, and else 4 bytes a person and lists
+/// that grow with the rounds in which some are alike.
 #[derive(Drop)]
 pub struct Kinds {
+    // Some two persons are known to be alike. If not, the lists are empty.
+    some: bool,
     // For each person one whose row is the same.
     alike: Vec<Person>,
-    // Some two persons are known to be alike.
-    some: bool,
     // Where the first person of a kind may stand in the list of them, by the person in `alike`: whoever reads it looks
     // there, so it is never wiped.
     marks: Vec<u16>,
@@ -210,23 +244,52 @@ pub struct Kinds {
 }
 
 impl Kinds {
-    /// The kinds of a problem's persons, in one pass over what they list and at most one comparison
+    // No two persons are known to be alike.
+    fn none(alloc: Global) -> Kinds
+        ensures { (s : ScaledProblem) → AreKinds s result }
+    {
+        Kinds {
+            some: false,
+            alike: Vec::new(alloc),
+            marks: Vec::new(alloc),
+            firsts: Vec::new(alloc),
+            places: Vec::new(alloc),
+            made: Vec::new(alloc),
+        }
+    }
+
+    // The kinds of persons that are sorted by the hashes of their rows.
+    fn among(alloc: Global, scaled: &Scaled, hashed: &[(u64, Person)]) -> Result<Kinds, AllocError>
+        requires { All (λ e. IsNumber (length scaled.now.problem) e.1) hashed.now }
+        ensures { IfOk result (AreKinds scaled.now) }
+    {
+        let mut alike = all_apart(alloc, scaled)?;
+        if !find_alike(scaled, hashed, alike.as_mut_slice()) {
+            return Ok(Kinds::none(alloc));
+        }
+        Ok(Kinds {
+            some: true,
+            alike,
+            marks: vec![in alloc; 0; scaled.n() as usize]?,
+            firsts: Vec::new(alloc),
+            places: Vec::new(alloc),
+            made: Vec::new(alloc),
+        })
+    }
+
+    /// The kinds of a problem's persons, in at most one pass over what they list and one comparison
     /// a person.
     pub fn find(alloc: Global, scaled: &Scaled) -> Result<Kinds, AllocError>
         ensures { IfOk result (AreKinds scaled.now) }
     {
         let mut hashed = hashed_persons(alloc, scaled)?;
         hashed.sort_unstable();
-        let mut alike = all_apart(alloc, scaled)?;
-        let some = find_alike(scaled, hashed.as_slice(), alike.as_mut_slice());
-        Ok(Kinds {
-            alike,
-            some,
-            marks: vec![in alloc; 0; scaled.n() as usize]?,
-            firsts: Vec::new(alloc),
-            places: Vec::new(alloc),
-            made: Vec::new(alloc),
-        })
+        let mut again = rehashed_persons(alloc, scaled, hashed.as_slice())?;
+        if again.is_empty() {
+            return Ok(Kinds::none(alloc));
+        }
+        again.sort_unstable();
+        Kinds::among(alloc, scaled, again.as_slice())
     }
 
     /// The offers of the persons, of whom the first of each kind makes its own.

@@ -1,5 +1,5 @@
 -- Persons whose rows are the same, and the first ones of a round.
-use Rattle.std.specs.Prelude.{◌≡◌, ℕ, ◌<◌, ◌++◌, ◌⊎◌, List, [], ◌∷◌, All, length, slice_index_or}
+use Rattle.std.specs.Prelude.{◌≡◌, ℕ, ◌<◌, ◌++◌, ◌⊎◌, List, [], ◌∷◌, All, IsTrue, length, slice_index_or}
 use Rattle.assign_core.specs.Numbered.{IsNumber, numbered}
 use Rattle.scaled_values.specs.Scaled.{ScaledProblem}
 use Rattle.bidder.specs.Offers.{benefits_at}
@@ -11,10 +11,10 @@ pub record HasAlike (s : ScaledProblem) (alike : List ℕ) : Type 0 where
   pub numbers : All (IsNumber (length s.problem)) alike
   pub same : (i : ℕ) → IsNumber (length s.problem) i → benefits_at s (numbered alike i 0) ≡ benefits_at s i
 
--- and room for a mark for each person
+-- and room for a mark for each person, where some are known to be alike
 pub record AreKinds (s : ScaledProblem) (kinds : Kinds) : Type 0 where
-  pub alike : HasAlike s kinds.alike.items
-  pub marks : length kinds.marks.items ≡ length s.problem
+  pub alike : IsTrue kinds.some → HasAlike s kinds.alike.items
+  pub marks : IsTrue kinds.some → length kinds.marks.items ≡ length s.problem
 
 -- a person of a round was given a place among first ones, which may have got one more: who stands there is of its kind
 pub record IsPlaced (alike old new : List ℕ) (person place : ℕ) : Type 0 where

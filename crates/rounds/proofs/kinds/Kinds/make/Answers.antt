@@ -1,4 +1,5 @@
-use Rattle.std.proofs.Common.{ap, sym, ◌∙◌, subst}
+use Rattle.std.proofs.Common.{rules, ap, sym, ◌∙◌, subst}
+use Rattle.std.specs.Bool.{IsTrue}
 use Rattle.rounds.specs.Offers.{offers_of}
 use Rattle.rounds.specs.inside.Kinds.{IsGathered}
 use Rattle.rounds.proofs.Alike.{shared_offers}
@@ -8,12 +9,13 @@ pub returns-clause-made : goal.returns-clause-made
 returns-clause-made g c =
     let s = c.args.scaled.now in
     let persons = c.args.persons.now in
+    let some : IsTrue c.args.self.now.some = search rules in
     let alike = c.args.self.now.alike.items in
     let firsts = c.gather.new.firsts.items in
     let places = c.as_slice-4.result.now in
     let offers = offers_of s c.args.prices.now c.args.ask in
     let gathered = subst (λ xs. IsGathered xs persons firsts c.gather.new.places.items) c.as_slice.ensures.value c.in_ok-gather.ensures in
-    shared_offers s c.args.prices.now c.args.ask alike persons firsts places c.as_slice-3.result.now c.hand_out.new.offers.items c.requires.kinds.alike c.requires.can.numbers
+    shared_offers s c.args.prices.now c.args.ask alike persons firsts places c.as_slice-3.result.now c.hand_out.new.offers.items (c.requires.kinds.alike some) c.requires.can.numbers
     (subst (IsGathered alike persons firsts) (sym c.as_slice-4.ensures.value) gathered)
     (c.as_slice-3.ensures.value ∙ c.in_ok-make.ensures ∙ ap offers c.as_slice-2.ensures.value)
     c.in_ok-hand_out.ensures.long
