@@ -9,8 +9,8 @@ use Rattle.auction_book.specs.Book.{BookData}
 use Rattle.async_workers.specs.declared.working.Worker.{Worker}
 use Rattle.async_workers.specs.PlaceRule.{Extends}
 use Rattle.async_workers.specs.Desk.{DeskData, IsAway, IsReady, IsTrueOf, new_desk, new_desks}
-use Rattle.async_workers.specs.inside.Working.{HasWorked, IsMemory, desk_in, fault_in}
-use Rattle.async_workers.specs.Turns.{CanTurn, WorksOn}
+use Rattle.async_workers.specs.inside.Working.{HasWorked, desk_in, fault_in}
+use Rattle.async_workers.specs.Turns.{CanTurn, IsMemory, WorksOn}
 use Rattle.async_workers.proofs.Desks.{new_desks_can}
 use Rattle.async_workers.proofs.Extending.{extends_itself, extends_through}
 

@@ -1,5 +1,5 @@
 -- One thread goes on with a book as worker 1.
-use Rattle.std.proofs.Common.{◌≡◌, ℕ, ℤ, zero, suc, ◌+◌, ◌<◌, ◌≤◌, inl, inr, List, ◌∷◌, Option, None, Some, length, get_or, refl, sym, ap, ◌∙◌, subst, arith, false}
+use Rattle.std.proofs.Common.{◌≡◌, ℕ, ℤ, zero, suc, ◌+◌, ◌<◌, ◌≤◌, inl, inr, List, ◌∷◌, Option, None, Some, Result, Ok, Err, OnOk, OnErr, length, get_or, refl, sym, ap, ◌∙◌, subst, arith, false}
 use Rattle.std.proofs.lemmas.Bool.{cond_both}
 use Rattle.std.proofs.lemmas.Bool.Decides.{eqb_tells}
 use Rattle.assign_core.specs.Numbered.{IsNumber, numbered}
@@ -22,6 +22,11 @@ use Rattle.auction_book.proofs.Claiming.{claim_by}
 use Rattle.auction_book.proofs.Following.{given_up_follows, goes_on_through, phased_follows, stop_follows}
 use Rattle.auction_book.proofs.Places.{claimed_person}
 use Rattle.async_workers.proofs.Turning.{given_up_none}
+
+-- what holds whether there is a value or an error
+pub either_way : {T E : Type 0} (P : Type 0) (r : Result T E) → OnOk r P → OnErr r P → P
+either_way P (Ok x) ok err = ok
+either_way P (Err e) ok err = err
 
 -- the first so many workers have no claim
 abbrev pub HaveNone : List (Option ℕ) → ℕ → Type 0

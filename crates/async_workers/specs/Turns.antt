@@ -1,7 +1,9 @@
 -- What a turn, a leave and a stop make of a place and a desk.
-use Rattle.std.specs.Prelude.{◌≡◌, ℕ, None, Some, Bool, true, false, MatchOption, ◌||◌, cond}
+use Rattle.std.specs.Prelude.{◌≡◌, ℕ, Option, None, Some, Bool, true, false, MatchOption, ◌||◌, cond}
 use Rattle.atomic_table.specs.Seated.{TableId}
 use Rattle.assign_core.specs.Numbered.{numbered}
+use Rattle.assign_core.specs.declared.outcome.SolveFault.{SolveFault}
+use Rattle.assign_core.specs.declared.outcome.SolveFault.TheVariants as fault
 use Rattle.bidder.specs.Offers.{IsOffer}
 use Rattle.auction_book.specs.declared.answers.Claim.{Claim}
 use Rattle.auction_book.specs.declared.answers.Claim.TheVariants as claim
@@ -84,6 +86,14 @@ EndsRun turn.Done = Unit {0}
 EndsRun turn.Refuted = Unit {0}
 EndsRun turn.Stopped = Unit {0}
 EndsRun t = ⊥
+
+-- no other fault than want of memory
+abbrev pub IsMemory : Option SolveFault → Type 0
+IsMemory met = MatchOption met (Unit {0}) (λ f. f ≡ fault.Memory)
+
+-- the turn that ends a worker's run: one that answers so, or one that met a fault
+abbrev pub IsLastTurn : ℕ → DeskData → DeskData → Option SolveFault → Type 0
+IsLastTurn refresh before after met = MatchOption met ((answer : Turn) × Turned refresh before after answer × EndsRun answer) (λ f. Faulted refresh before after)
 
 -- through a session a desk stays of its place and its problem, and the book that it puts back extends the one that it
 -- put back before

@@ -2,5 +2,4 @@
 pub mod Boxed
 pub mod Hand
 pub mod Passing
-pub mod Pauses
 pub mod Working

@@ -58,7 +58,7 @@ fn offer_alone(alloc: Global, book: &mut Book) -> Result<(), AllocError>
 fn step_alone(alloc: Global, book: &mut Book) -> Result<(), AllocError>
     requires worker { IsNumber (length book.old.claims) 1 }
     requires none { numbered book.old.claims 1 None ≡ None }
-    ensures goes_on { OnOk result (GoesOn book.old book.new) }
+    ensures goes_on { GoesOn book.old book.new }
     ensures none { OnOk result (numbered book.new.claims 1 None ≡ None) }
     ensures free { IsFree book.new }
 {
@@ -70,10 +70,10 @@ fn step_alone(alloc: Global, book: &mut Book) -> Result<(), AllocError>
 /// answer.
 ///
 /// # Errors
-/// Only where memory is refused.
+/// Only where memory is refused. The book may be gone on with.
 pub fn go_alone<R: Wait>(rt: &R, alloc: Global, book: &mut Book) -> Result<Outcome, AllocError>
     requires { 0 < length book.old.claims }
-    ensures goes_on { OnOk result (GoesOn book.old book.new) }
+    ensures goes_on { GoesOn book.old book.new }
     ensures answers { IfOk result (IsAnsweredBy book.new) }
     ensures free { IsFree book.new }
 {

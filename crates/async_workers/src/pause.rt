@@ -1,6 +1,6 @@
 // How long a worker waits that finds nobody to claim.
 ghost use Rattle.std.specs.Prelude.{◌≡◌};
-ghost use Rattle.async_workers.specs.inside.Pauses.{longer_than};
+ghost use Rattle.async_workers.specs.Pauses.{longer_than};
 
 use std::sync::Wait;
 use std::thread;

@@ -7,7 +7,7 @@ ghost use Rattle.auction_book.specs.Follows.{GoesOn};
 ghost use Rattle.auction_book.specs.Free.{IsFree};
 ghost use Rattle.async_workers.specs.PlaceRule.{Extends, IsUntouched};
 ghost use Rattle.async_workers.specs.Solving.{IsAnsweredBy, IsEndOf, IsEnough, IsSolved, tallies};
-ghost use Rattle.async_workers.specs.inside.Working.{IsMemory};
+ghost use Rattle.async_workers.specs.Turns.{IsMemory};
 
 use crate::alone::{go_alone, outcome_of};
 use crate::gate::{Gate, TurnFault};
@@ -68,7 +68,7 @@ fn tally_all(alloc: Global, book: &Book) -> Result<Vec<Tally>, AllocError>
 // What the book answers. Where it has no answer yet this thread goes on with it alone.
 fn finish<R: Wait>(rt: &R, alloc: Global, book: &mut Book) -> Result<Outcome, AllocError>
     requires { 0 < length book.old.claims }
-    ensures goes_on { OnOk result (GoesOn book.old book.new) }
+    ensures goes_on { GoesOn book.old book.new }
     ensures answers { IfOk result (IsAnsweredBy book.new) }
     ensures free { IsFree book.new }
 {

@@ -1,8 +1,8 @@
 // Each worker's run, in a thread of its own where one can be started.
 ghost use Rattle.std.specs.Prelude.{◌≡◌, ◌<◌, ◌≤◌, [], All, IfOk, OnSome, length, map, slice_index_or, true, vec_capacity, vec_len, ℕ};
 ghost use Rattle.async_workers.specs.Desk.{DeskData};
-ghost use Rattle.async_workers.specs.inside.Working.{HasWorked, IsLastTurn, IsMemory, desk_in, fault_in};
-ghost use Rattle.async_workers.specs.Turns.{CanTurn, WorksOn};
+ghost use Rattle.async_workers.specs.Turns.{CanTurn, IsLastTurn, IsMemory, WorksOn};
+ghost use Rattle.async_workers.specs.inside.Working.{HasWorked, desk_in, fault_in};
 
 use crate::gate::{Gate, Turn, TurnFault};
 use crate::pause::FIRST_PAUSE;
@@ -20,8 +20,12 @@ pub struct Worker {
     pub fault: Option<TurnFault>,
 }
 
-// A worker's turns, until one ends its run. The fault, if there was one.
-pub(super) fn take_turns<G: Gate, R: Wait>(
+/// A worker's turns, until one ends its run: what each worker of `solve_workers_from` does in its
+/// thread. Where it finds nobody to claim it pauses, each time longer than the time before.
+///
+/// The fault, if there was one, which is only where memory is refused. The desk has then no claim and
+/// no offer, and may take turns again.
+pub fn take_turns<G: Gate, R: Wait>(
     rt: &R,
     alloc: Global,
     place: &BookPlace,

@@ -5,8 +5,6 @@ mod kinds;
 mod law;
 mod offers;
 mod rounds;
-#[cfg(test)]
-mod tests;
 
 pub use law::{like_persons_share_an_offer, rounds_end_once, rounds_have_one_outcome};
 pub use offers::{Alone, InPieces, LEAST_PAIRS, Offering, make_offers};

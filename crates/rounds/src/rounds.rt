@@ -143,23 +143,6 @@ fn run_shared_round<O: Offering>(
     }
 }
 
-// One round, before which the persons are looked through for those who are alike.
-#[cfg(test)]
-pub(super) fn run_round<O: Offering>(
-    offering: &mut O,
-    book: &mut Book,
-    persons: &mut Vec<Person>,
-    offers: &mut Vec<Offer>,
-) -> Result<Round, AllocError>
-    requires ready { O.ready }
-    requires rest { IsAtRest book.old }
-    ensures round { IfOk result (λ came. IsRound book.old came book.new) }
-    ensures base { OnOk result (book.new.base ≡ book.old.base) }
-{
-    let mut kinds = Kinds::find(*persons.allocator(), book.scaled())?;
-    run_shared_round(offering, &mut kinds, book, persons, offers)
-}
-
 // What everybody owns in the last phase.
 fn finish(alloc: Global, book: &Book) -> Result<Outcome, AllocError>
     requires rest { IsAtRest book.now }

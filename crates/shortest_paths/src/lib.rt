@@ -15,8 +15,6 @@ mod reach;
 mod rows;
 mod search;
 mod solve;
-#[cfg(test)]
-mod tests;
 mod ties;
 
 pub use observer::{Observer, Unobserved};

@@ -3,7 +3,8 @@ use Rattle.std.specs.List.{All}
 use Rattle.std.proofs.lemmas.List.{length_push}
 use Rattle.std.proofs.lemmas.List.Elements.{All-tail}
 use Rattle.async_workers.specs.declared.working.Worker.{Worker}
-use Rattle.async_workers.specs.inside.Working.{IsMemory, desk_in, fault_in}
+use Rattle.async_workers.specs.Turns.{IsMemory}
+use Rattle.async_workers.specs.inside.Working.{desk_in, fault_in}
 use Rattle.async_workers.proofs.Runs.{moved_out}
 use Rattle.async_workers.proofs.working.unseat_workers.Goals as goal
 

@@ -1,6 +1,7 @@
 use Rattle.std.proofs.Common.{◌≡◌, ◌≤◌, ◌+◌, ◌++◌, map, length, vec_len, vec_capacity}
 use Rattle.std.specs.List.{All}
-use Rattle.async_workers.specs.inside.Working.{IsMemory, desk_in, fault_in}
+use Rattle.async_workers.specs.Turns.{IsMemory}
+use Rattle.async_workers.specs.inside.Working.{desk_in, fault_in}
 use Rattle.async_workers.proofs.working.unseat_workers.Given as goal
 
 abbrev pub invariant-loop-worker : goal.invariant-loop-worker

@@ -1,0 +1,232 @@
+// Problems whose outcomes are known, and the public calls.
+use super::*;
+use std::sync::atomic::{AtomicBool, AtomicU64, Ordering};
+use std::test::Fail;
+
+#[test]
+fn small_problems(rt: HostRuntime) -> Result<(), Fail> {
+    let most = GREATEST_COST;
+    for (n, pairs, sense, wanted) in [
+        (1, [(1, 1, 7)].as_slice(), Sense::Min, Finding::Best(7)),
+        (1, &[], Sense::Min, Finding::Hall),
+        (
+            2,
+            &[(1, 1, 1), (1, 2, 2), (2, 1, 3), (2, 2, 5)],
+            Sense::Min,
+            Finding::Best(5),
+        ),
+        (
+            2,
+            &[(1, 1, most), (1, 2, -most), (2, 1, -most), (2, 2, most)],
+            Sense::Max,
+            Finding::Best(2 * most),
+        ),
+        (
+            3,
+            &[(1, 1, 4), (2, 1, 6), (3, 2, 1), (3, 3, 2)],
+            Sense::Min,
+            Finding::Hall,
+        ),
+        (
+            3,
+            &[(1, 1, 0), (2, 1, 0), (2, 2, 7), (3, 2, 0), (3, 3, 9)],
+            Sense::Min,
+            Finding::Best(16),
+        ),
+    ] {
+        assert_eq!(rt; found(rt.alloc(), n, pairs, sense, None)?, wanted);
+    }
+    Ok(())
+}
+
+// A war of prices for an auction, which here is one search; and prices between multiples of n + 1.
+#[test]
+fn first_prices_of_any_size(rt: HostRuntime) -> Result<(), Fail> {
+    let mut pairs = [(1, 1, 2); 9];
+    for (k, pair) in pairs.iter_mut().enumerate() {
+        *pair = (k as u16 / 3 + 1, k as u16 % 3 + 1, 2);
+    }
+    for first in [[0, 0, GREATEST_FIRST_PRICE], [1, 5, 7]] {
+        let seen = found(rt.alloc(), 3, &pairs, Sense::Min, Some(&first))?;
+        assert_eq!(rt; seen, Finding::Best(6));
+    }
+    Ok(())
+}
+
+// Each person lists the object of its own number at one cost and the one before at another.
+pub fn chain(alloc: Global, n: u16, own: Cost, other: Cost) -> Result<Vec<Pair>, AllocError> {
+    let mut pairs = Vec::new(alloc);
+    for i in 0..n {
+        pairs.push((i + 1, i + 1, own))?;
+        if i > 0 {
+            pairs.push((i + 1, i, other))?;
+        }
+    }
+    Ok(pairs)
+}
+
+#[test]
+fn as_many_persons_as_there_may_be(rt: HostRuntime) -> Result<(), Fail> {
+    let pairs = chain(rt.alloc(), MOST_PERSONS, 3, 1)?;
+    let seen = found(rt.alloc(), MOST_PERSONS, pairs.as_slice(), Sense::Min, None)?;
+    assert_eq!(rt; seen, Finding::Best(3 * Cost::from(MOST_PERSONS)));
+    Ok(())
+}
+
+// The sum of the costs of these objects of persons 1, 2, ..
+fn cost_by(scaled: &Scaled, objects: &[Object]) -> Cost {
+    let mut sum: Cost = 0;
+    for i in 0..scaled.n() {
+        if let Some(object) = objects.get(i as usize) {
+            let cost = scaled.problem().cost_of(Person(i + 1), *object);
+            sum = sum.wrapping_add(cost.unwrap_or(0));
+        }
+    }
+    sum
+}
+
+// What the public calls come to, from first prices where they are given: the cost, and none where
+// there is no assignment.
+fn solved(
+    alloc: Global,
+    n: u16,
+    pairs: &[Pair],
+    first: Option<&[Price]>,
+) -> Result<Option<Cost>, AllocError> {
+    let n = size(n);
+    let scaled = scaled_of(alloc, n, pairs, Sense::Min)?;
+    let again = scaled.clone()?;
+    let outcome = match first {
+        Some(first) => solve_paths_from(alloc, scaled, first_prices(alloc, n, first)?)?,
+        None => solve_paths(alloc, scaled)?,
+    };
+    match outcome {
+        Outcome::Best(best) => Ok(Some(cost_by(&again, best.assignment.objects()))),
+        Outcome::Hall(_) => Ok(None),
+    }
+}
+
+#[test]
+fn public_calls(rt: HostRuntime) -> Result<(), Fail> {
+    let pairs = [(1, 1, 1), (1, 2, 2), (2, 1, 3), (2, 2, 5)];
+    for first in [None, Some([14, 12].as_slice())] {
+        assert_eq!(rt; solved(rt.alloc(), 2, &pairs, first)?, Some(5));
+    }
+    Ok(())
+}
+
+// Follows a search: how often it told a number, the last one, whether it told that nobody has an
+// object, and whether it told a number that can't be.
+#[derive(Drop)]
+struct Follower {
+    persons: u16,
+    told: AtomicU64,
+    last: AtomicU64,
+    nobody: AtomicBool,
+    wrong: AtomicBool,
+}
+
+fn new_follower(persons: u16) -> Follower {
+    Follower {
+        persons,
+        told: AtomicU64::new(0),
+        last: AtomicU64::new(0),
+        nobody: AtomicBool::new(false),
+        wrong: AtomicBool::new(false),
+    }
+}
+
+impl Observer for Follower {
+    fn assigned(&self, persons: u16) {
+        self.told.fetch_add(1, Ordering::SeqCst);
+        let before = self.last.swap(u64::from(persons), Ordering::SeqCst);
+        let fell = persons > 0 && before > u64::from(persons);
+        if persons == 0 {
+            self.nobody.store(true, Ordering::SeqCst);
+        }
+        if fell || persons > self.persons {
+            self.wrong.store(true, Ordering::SeqCst);
+        }
+    }
+}
+
+// The cost of what is found while this follower is told of it.
+fn followed(
+    alloc: Global,
+    pairs: &[Pair],
+    first: Option<&[Price]>,
+    follower: &Follower,
+) -> Result<Option<Cost>, AllocError> {
+    let n = size(follower.persons);
+    let scaled = scaled_of(alloc, n, pairs, Sense::Min)?;
+    let again = scaled.clone()?;
+    let outcome = match first {
+        Some(first) => {
+            let first = first_prices(alloc, n, first)?;
+            solve_paths_from_watched(alloc, scaled, first, follower)?
+        }
+        None => solve_paths_watched(alloc, scaled, follower)?,
+    };
+    match outcome {
+        Outcome::Best(best) => Ok(Some(cost_by(&again, best.assignment.objects()))),
+        Outcome::Hall(_) => Ok(None),
+    }
+}
+
+// Each person pays the product of the two numbers, which takes long searches.
+fn products(alloc: Global, n: u16) -> Result<Vec<Pair>, AllocError> {
+    let mut pairs = Vec::new(alloc);
+    for place in 0..u32::from(n) * u32::from(n) {
+        let person = (place / u32::from(n) + 1) as u16;
+        let object = (place % u32::from(n) + 1) as u16;
+        pairs.push((person, object, Cost::from(person) * Cost::from(object)))?;
+    }
+    Ok(pairs)
+}
+
+// The cost of the products of 120 persons from such first prices, and what an observer was told: how often, how many
+// persons have an object in the end, and whether it was something that can't be.
+fn products_followed(
+    alloc: Global,
+    first: Option<&[Price]>,
+) -> Result<(Option<Cost>, [u64; 2], bool), AllocError> {
+    let pairs = products(alloc, 120)?;
+    let follower = new_follower(120);
+    let seen = followed(alloc, pairs.as_slice(), first, &follower)?;
+    let told = [&follower.told, &follower.last].map(|count| count.load(Ordering::SeqCst));
+    Ok((seen, told, follower.wrong.load(Ordering::SeqCst)))
+}
+
+// The dearest objects go to the first persons: the sum of i * (n + 1 - i) is n (n + 1) (n + 2) / 6.
+#[test]
+fn numbers_of_assigned_persons(rt: HostRuntime) -> Result<(), Fail> {
+    for first in [None, Some([5].as_slice())] {
+        let (cost, [told, last], wrong) = products_followed(rt.alloc(), first)?;
+        assert_eq!(rt; cost, Some(295_240));
+        assert!(rt; told > 2 && last > 0 && !wrong);
+    }
+    Ok(())
+}
+
+// The cost of a problem of two persons from first prices, and whether all began without an object.
+fn cost_and_beginning(
+    alloc: Global,
+    pairs: &[Pair],
+    first: &[Price],
+) -> Result<(Option<Cost>, bool), AllocError> {
+    let follower = new_follower(2);
+    let seen = followed(alloc, pairs, Some(first), &follower)?;
+    Ok((seen, follower.nobody.load(Ordering::SeqCst)))
+}
+
+// Both persons like object 1 best, so that the price of the other one falls below 0. The start is
+// kept all the same: nothing begins anew.
+#[test]
+fn a_start_whose_prices_fall(rt: HostRuntime) -> Result<(), Fail> {
+    let pairs = [(1, 1, 1), (1, 2, 5), (2, 1, 3), (2, 2, 4)];
+    assert_eq!(rt;
+        cost_and_beginning(rt.alloc(), &pairs, &[5, 5])?,
+        (Some(5), false)
+    );
+    Ok(())
+}

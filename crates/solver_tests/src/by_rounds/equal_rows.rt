@@ -1,0 +1,159 @@
+// Drawn problems in which many persons have the same row, beside a search of all assignments and the plain
+// transcription, and how many offers are made for them.
+ghost use Rattle.std.specs.Prelude.{◌<◌};
+
+use super::beside::agrees;
+use super::*;
+use assign_core::{Person, Prices};
+use bidder::{Ask, Offer};
+use scaled_values::Scaled;
+use std::test::Fail;
+
+// A row of n costs. Of four pairs so many are listed as the share says.
+fn drawn_row(
+    alloc: Global,
+    seed: &mut u64,
+    n: u16,
+    range: u16,
+    share: u16,
+) -> Result<Vec<(u16, Cost)>, AllocError>
+    requires { 0 < range }
+{
+    let mut row = Vec::new(alloc);
+    for j in 0..n {
+        let cost = Cost::from(draw(seed, range)) - 2;
+        if draw(seed, 4) < share {
+            row.push((j + 1, cost))?;
+        }
+    }
+    Ok(row)
+}
+
+// Pairs of n persons, each of whom has one of a few rows: dense where all four of four pairs are listed.
+fn drawn_kinds(alloc: Global, seed: &mut u64, n: u16, share: u16) -> Result<Vec<Pair>, AllocError> {
+    let range = if draw(seed, 2) == 0 { 3 } else { 1000 };
+    let mut rows = Vec::new(alloc);
+    let kinds = draw(seed, 3) + 1;
+    for _ in 0..kinds {
+        rows.push(drawn_row(alloc, seed, n, range, share)?)?;
+    }
+    let mut pairs = Vec::new(alloc);
+    for i in 0..n {
+        let kind = draw(seed, kinds) as usize;
+        if let Some(row) = rows.get(kind) {
+            for (object, cost) in row.iter() {
+                pairs.push((i + 1, *object, *cost))?;
+            }
+        }
+    }
+    Ok(pairs)
+}
+
+// Whether rounds on one drawn problem agree, by the calling thread and in pieces of drawn lengths.
+fn drawn_agrees(
+    rt: &(impl Threads + Sync),
+    alloc: Global,
+    seed: &mut u64,
+    most: u16,
+    sense: Sense,
+) -> Result<bool, AllocError>
+    requires { 0 < most }
+{
+    let n = draw(seed, most).saturating_add(1);
+    let share = match sense {
+        Sense::Min => 4,
+        Sense::Max => draw(seed, 3) + 1,
+    };
+    let pairs = drawn_kinds(alloc, seed, n, share)?;
+    let pairs = pairs.as_slice();
+    let alone = agrees(Alone, alloc, n, pairs, sense, n <= 6)?;
+    let least = draw(seed, 9) as usize + 1;
+    Ok(alone && agrees(InPieces { rt, least }, alloc, n, pairs, sense, n <= 6)?)
+}
+
+// How many of so many problems drawn from a seed agree, of up to so many persons.
+fn agreeing(
+    rt: &(impl Threads + Sync),
+    alloc: Global,
+    most: u16,
+    turns: usize,
+    seed: u64,
+) -> Result<usize, AllocError>
+    requires { 0 < most }
+{
+    let mut seed = seed;
+    let mut count: usize = 0;
+    for turn in 0..turns {
+        let sense = if turn % 2 == 0 {
+            Sense::Min
+        } else {
+            Sense::Max
+        };
+        if drawn_agrees(rt, alloc, &mut seed, most, sense)? {
+            count = count.wrapping_add(1);
+        }
+    }
+    Ok(count)
+}
+
+#[test]
+fn drawn_problems_of_a_few_kinds(rt: HostRuntime) -> Result<(), Fail> {
+    assert_eq!(rt; agreeing(&rt, rt.alloc(), 6, 300, 40)?, 300);
+    Ok(())
+}
+
+#[test]
+fn larger_problems_of_a_few_kinds(rt: HostRuntime) -> Result<(), Fail> {
+    assert_eq!(rt; agreeing(&rt, rt.alloc(), 24, 60, 41)?, 60);
+    Ok(())
+}
+
+// What the persons who wait offer, each its own; how many rounds began, how many persons waited in all of them, and the
+// most offers that were asked for in one.
+#[derive(Drop)]
+struct Counted {
+    rounds: u64,
+    waited: u64,
+    most: usize,
+}
+
+impl Offering for Counted {
+    ghost ready = { Unit };
+
+    fn begin(&mut self, _ask: Ask, waiting: usize) {
+        self.rounds = self.rounds.wrapping_add(1);
+        self.waited = self.waited.wrapping_add(waiting as u64);
+    }
+
+    fn make(
+        &mut self,
+        scaled: &Scaled,
+        prices: &Prices,
+        ask: Ask,
+        persons: &[Person],
+        offers: &mut Vec<Offer>,
+    ) -> Result<(), AllocError> {
+        self.most = self.most.max(persons.len());
+        Alone.make(scaled, prices, ask, persons, offers)
+    }
+}
+
+// How many rounds began, how many persons waited in all of them, and the most offers that were made in one.
+fn counts_of(alloc: Global, n: u16, pairs: &[Pair]) -> Result<(u64, u64, usize), AllocError> {
+    let mut counted = Counted {
+        rounds: 0,
+        waited: 0,
+        most: 0,
+    };
+    solved_by(&mut counted, alloc, n, pairs, Sense::Min, &[])?;
+    Ok((counted.rounds, counted.waited, counted.most))
+}
+
+// All costs are 1, so eps is 1 in the only phase, and each person's bid is a price of 1 for the first free object. Four
+// wait in the first round and three of them in the second, for one of the four gets object 1.
+#[test]
+fn equal_persons_make_one_offer(rt: HostRuntime) -> Result<(), Fail> {
+    let pairs = dense(rt.alloc(), 4, &[1; 16])?;
+    assert_eq!(rt; counts_of(rt.alloc(), 4, pairs.as_slice())?, (4, 10, 1));
+    Ok(())
+}

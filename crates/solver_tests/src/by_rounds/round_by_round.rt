@@ -1,0 +1,230 @@
+// Runs told round by round: what each phase asks, its table, and the offers with their answers. The plain
+// transcription tells them, and each round of the run has to be the plain one.
+use super::beside::alike;
+use super::transcription::{Auction, PlainOffer, Round, auction_of, is_over, next_round};
+use super::*;
+use std::test::Fail;
+
+// What a phase asks and the prices from which it is asked, in a line.
+fn phase_line(
+    alloc: Global,
+    phase: u16,
+    eps: i128,
+    floor: i128,
+    prices: &[Price],
+) -> Result<String, AllocError> {
+    let mut line = format!(in alloc; "phase {phase}, eps {eps}, floor {floor}, prices")?;
+    for price in prices {
+        write!(line, " {price}")?;
+    }
+    Ok(line)
+}
+
+// An offer in a line, with its answer.
+fn offer_line(alloc: Global, offer: PlainOffer, accepted: bool) -> Result<String, AllocError> {
+    let person = offer.person.wrapping_add(1);
+    let answer = if accepted { "accepted" } else { "refused" };
+    match offer.bid {
+        Some((object, level)) => {
+            let object = object.wrapping_add(1);
+            format!(in alloc; "{person} bids {level} for {object}, {answer}")
+        }
+        None => format!(in alloc; "{person} is below the floor"),
+    }
+}
+
+// A round told: what its phase asks, its table, and one by one the offers that went in.
+fn tell_round(alloc: Global, round: &Round, lines: &mut Vec<String>) -> Result<(), AllocError> {
+    let prices = round.prices.as_slice();
+    lines.push(phase_line(alloc, round.phase, round.eps, round.floor, prices)?)?;
+    for (offer, accepted) in round.offers.iter().zip(round.answers.iter()) {
+        lines.push(offer_line(alloc, *offer, *accepted)?)?;
+    }
+    Ok(())
+}
+
+// The rounds of a plain auction, at most a hundred.
+fn tell_rounds(alloc: Global, auction: &mut Auction) -> Result<Vec<String>, AllocError> {
+    let mut lines = Vec::new(alloc);
+    for _ in 0..100 {
+        if is_over(auction) {
+            break;
+        }
+        let round = next_round(alloc, auction)?;
+        tell_round(alloc, &round, &mut lines)?;
+    }
+    Ok(lines)
+}
+
+// The rounds that the plain transcription takes, and its table in the end where everybody has an object.
+fn plainly_told(
+    alloc: Global,
+    n: u16,
+    pairs: &[Pair],
+    first: &[Price],
+) -> Result<Vec<String>, AllocError> {
+    let mut auction = auction_of(alloc, n, pairs, Sense::Min, first)?;
+    let mut lines = tell_rounds(alloc, &mut auction)?;
+    if auction.halted.is_none() {
+        let prices = auction.prices.as_slice();
+        lines.push(phase_line(alloc, auction.phase, auction.eps, auction.floor, prices)?)?;
+    }
+    Ok(lines)
+}
+
+// The place of the first line that is told otherwise, and whether each round of the run is the plain one.
+fn told_otherwise(
+    alloc: Global,
+    n: u16,
+    pairs: &[Pair],
+    first: &[Price],
+    lines: &[&str],
+) -> Result<(Option<usize>, bool), AllocError> {
+    let told = plainly_told(alloc, n, pairs, first)?;
+    let same = told
+        .iter()
+        .zip(lines.iter())
+        .take_while(|(told, line)| told.as_str() == **line)
+        .count();
+    let whole = same == told.len() && same == lines.len();
+    Ok(((!whole).then_some(same), is_run(alloc, n, pairs, first)?))
+}
+
+// Whether rounds are those of the plain transcription.
+fn is_run(alloc: Global, n: u16, pairs: &[Pair], first: &[Price]) -> Result<bool, AllocError> {
+    Ok(alike(Alone, alloc, n, pairs, Sense::Min, first)?.is_some())
+}
+
+#[test]
+fn two_persons_from_zeros(rt: HostRuntime) -> Result<(), Fail> {
+    let lines = [
+        "phase 1, eps 2, floor -29, prices 0 0",
+        "1 bids 5 for 1, accepted",
+        "2 bids 8 for 1, accepted",
+        "phase 1, eps 2, floor -29, prices 8 0",
+        "1 bids 7 for 2, accepted",
+        "phase 2, eps 1, floor -36, prices 8 7",
+        "1 bids 11 for 1, accepted",
+        "2 bids 14 for 1, accepted",
+        "phase 2, eps 1, floor -36, prices 14 7",
+        "1 bids 12 for 2, accepted",
+        "phase 2, eps 1, floor -36, prices 14 12",
+    ];
+    assert_eq!(rt;
+        told_otherwise(rt.alloc(), 2, &TWO_PERSONS, &[], &lines)?,
+        (None, true)
+    );
+    Ok(())
+}
+
+#[test]
+fn two_persons_from_first_prices(rt: HostRuntime) -> Result<(), Fail> {
+    let lines = [
+        "phase 1, eps 2, floor -43, prices 14 12",
+        "1 bids 17 for 1, accepted",
+        "2 bids 20 for 1, accepted",
+        "phase 1, eps 2, floor -43, prices 20 12",
+        "1 bids 19 for 2, accepted",
+        "phase 2, eps 1, floor -48, prices 20 19",
+        "1 bids 23 for 1, accepted",
+        "2 bids 26 for 1, accepted",
+        "phase 2, eps 1, floor -48, prices 26 19",
+        "1 bids 24 for 2, accepted",
+        "phase 2, eps 1, floor -48, prices 26 24",
+    ];
+    assert_eq!(rt;
+        told_otherwise(rt.alloc(), 2, &TWO_PERSONS, &[14, 12], &lines)?,
+        (None, true)
+    );
+    Ok(())
+}
+
+#[test]
+fn three_persons_who_are_alike(rt: HostRuntime) -> Result<(), Fail> {
+    let alike = dense(rt.alloc(), 3, &[2, 2, 2, 2, 2, 2, 2, 2, 2])?;
+    let lines = [
+        "phase 1, eps 1, floor -10, prices 0 0 0",
+        "1 bids 1 for 1, accepted",
+        "2 bids 1 for 1, refused",
+        "3 bids 1 for 1, refused",
+        "phase 1, eps 1, floor -10, prices 1 0 0",
+        "2 bids 1 for 2, accepted",
+        "3 bids 1 for 2, refused",
+        "phase 1, eps 1, floor -10, prices 1 1 0",
+        "3 bids 2 for 3, accepted",
+        "phase 1, eps 1, floor -10, prices 1 1 2",
+    ];
+    assert_eq!(rt;
+        told_otherwise(rt.alloc(), 3, alike.as_slice(), &[], &lines)?,
+        (None, true)
+    );
+    Ok(())
+}
+
+#[test]
+fn three_persons_below_the_floor(rt: HostRuntime) -> Result<(), Fail> {
+    let lines = [
+        "phase 1, eps 4, floor -72, prices 0 0 0",
+        "1 bids 60 for 1, accepted",
+        "2 bids 52 for 1, refused",
+        "3 bids 8 for 2, accepted",
+        "phase 1, eps 4, floor -72, prices 60 8 0",
+        "2 is below the floor",
+    ];
+    assert_eq!(rt;
+        told_otherwise(rt.alloc(), 3, &CONTESTED, &[], &lines)?,
+        (None, true)
+    );
+    Ok(())
+}
+
+// A phase of one round, in which two persons get different objects at prices that are alike.
+fn tell_phase(
+    alloc: Global,
+    (phase, eps, floor): (u16, i128, i128),
+    price: Price,
+    level: Price,
+    lines: &mut Vec<String>,
+) -> Result<(), AllocError> {
+    lines.push(phase_line(alloc, phase, eps, floor, &[price, price])?)?;
+    lines.push(format!(in alloc; "1 bids {level} for 2, accepted")?)?;
+    lines.push(format!(in alloc; "2 bids {level} for 1, accepted")?)?;
+    Ok(())
+}
+
+// Two persons who want different objects: in each phase one round, in which both prices rise by the
+// spread and eps.
+fn ten_phases(alloc: Global) -> Result<Vec<String>, AllocError> {
+    let mut lines = Vec::new(alloc);
+    for (phase, eps, floor, price, level) in [
+        (1, 1200000, -10200000, 0, 7200000),
+        (2, 240000, -16440000, 7200000, 13440000),
+        (3, 48000, -22488000, 13440000, 19488000),
+        (4, 9600, -28497600, 19488000, 25497600),
+        (5, 1920, -34499520, 25497600, 31499520),
+        (6, 384, -40499904, 31499520, 37499904),
+        (7, 76, -46499980, 37499904, 43499980),
+        (8, 15, -52499995, 43499980, 49499995),
+        (9, 3, -58499998, 49499995, 55499998),
+        (10, 1, -64499999, 55499998, 61499999),
+    ] {
+        tell_phase(alloc, (phase, eps, floor), price, level, &mut lines)?;
+    }
+    let end = format!(in alloc; "phase 10, eps 1, floor -64499999, prices 61499999 61499999")?;
+    lines.push(end)?;
+    Ok(lines)
+}
+
+// Whether the rounds on two such persons are told so, and each round of the run is so.
+fn are_ten_phases(alloc: Global) -> Result<(bool, bool), AllocError> {
+    let pairs = dense(alloc, 2, &[1_000_000, -1_000_000, -1_000_000, 1_000_000])?;
+    let told = plainly_told(alloc, 2, pairs.as_slice(), &[])?;
+    let same = told == ten_phases(alloc)?;
+    Ok((same, is_run(alloc, 2, pairs.as_slice(), &[])?))
+}
+
+#[test]
+fn ten_phases_round_by_round(rt: HostRuntime) -> Result<(), Fail> {
+    assert_eq!(rt; are_ten_phases(rt.alloc())?, (true, true));
+    Ok(())
+}

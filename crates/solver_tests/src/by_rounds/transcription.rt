@@ -1,0 +1,253 @@
+// A plain transcription of rounds, on wide numbers and with no thought of memory.
+use super::*;
+
+// An offer of a person: an object at a level, or none where nothing is worth the floor.
+#[derive(Clone, Copy)]
+pub(super) struct PlainOffer {
+    pub person: usize,
+    pub bid: Option<(usize, i128)>,
+}
+
+// A round: what its phase asks, its table, the offers of all who wait, and for each of those that went in whether it was
+// accepted.
+#[derive(Drop)]
+pub(super) struct Round {
+    pub phase: u16,
+    pub eps: i128,
+    pub floor: i128,
+    pub prices: Vec<i128>,
+    pub offers: Vec<PlainOffer>,
+    pub answers: Vec<bool>,
+}
+
+// An auction of n persons: benefits row by row, none where a pair isn't listed.
+#[derive(Drop)]
+pub(super) struct Auction {
+    n: usize,
+    benefits: Vec<Option<i128>>,
+    least: i128,
+    spread: i128,
+    pub phase: u16,
+    pub eps: i128,
+    pub floor: i128,
+    pub prices: Vec<i128>,
+    owners: Vec<Option<usize>>,
+    queue: Vec<usize>,
+    // Who found nothing worth the floor, which ends the run.
+    pub halted: Option<usize>,
+}
+
+// What a person offers: an object at a level, if any is worth the floor.
+fn bid_of(auction: &Auction, person: usize) -> Option<(usize, i128)> {
+    let mut best: Option<(usize, i128)> = None;
+    let mut second: Option<i128> = None;
+    for j in 0..auction.n {
+        let at = person.wrapping_mul(auction.n).wrapping_add(j);
+        let Some(benefit) = auction.benefits.get(at).copied().flatten() else {
+            continue;
+        };
+        let price = auction.prices.get(j).copied().unwrap_or(0);
+        let value = benefit.wrapping_sub(price);
+        match best {
+            Some((_, most)) if value <= most => second = second.max(Some(value)),
+            Some((_, most)) => {
+                second = Some(most);
+                best = Some((j, value));
+            }
+            None => best = Some((j, value)),
+        }
+    }
+    let (object, value) = best?;
+    if value < auction.floor {
+        return None;
+    }
+    let bar = second.unwrap_or(auction.floor).max(auction.floor);
+    let price = auction.prices.get(object).copied().unwrap_or(0);
+    let level = value
+        .wrapping_add(price)
+        .wrapping_sub(bar)
+        .wrapping_add(auction.eps);
+    Some((object, level))
+}
+
+// A bid is submitted. Whether it is accepted.
+fn submit(
+    auction: &mut Auction,
+    person: usize,
+    object: usize,
+    level: i128,
+) -> Result<bool, AllocError> {
+    let price = auction.prices.get(object).copied().unwrap_or(0);
+    if level < price.wrapping_add(auction.eps) {
+        auction.queue.push(person)?;
+        return Ok(false);
+    }
+    if let Some(place) = auction.prices.get_mut(object) {
+        *place = level;
+    }
+    if let Some(place) = auction.owners.get_mut(object) {
+        let before = place.replace(person);
+        if let Some(evicted) = before {
+            auction.queue.push(evicted)?;
+        }
+    }
+    Ok(true)
+}
+
+// The offers of all who wait, none of whom waits from here on.
+fn offers_of(alloc: Global, auction: &mut Auction) -> Result<Vec<PlainOffer>, AllocError> {
+    let mut offers = Vec::new(alloc);
+    for person in auction.queue.iter() {
+        offers.push(PlainOffer {
+            person: *person,
+            bid: bid_of(auction, *person),
+        })?;
+    }
+    auction.queue.clear();
+    Ok(offers)
+}
+
+// Offers are submitted one by one. A person that finds nothing worth the floor ends the run.
+fn submit_all(
+    alloc: Global,
+    auction: &mut Auction,
+    offers: &[PlainOffer],
+) -> Result<Vec<bool>, AllocError> {
+    let mut answers = Vec::new(alloc);
+    for offer in offers {
+        let Some((object, level)) = offer.bid else {
+            auction.halted = Some(offer.person);
+            answers.push(false)?;
+            return Ok(answers);
+        };
+        answers.push(submit(auction, offer.person, object, level)?)?;
+    }
+    Ok(answers)
+}
+
+// The greatest of some numbers and 0.
+fn greatest(numbers: &[i128]) -> i128 {
+    let mut most = 0;
+    for number in numbers {
+        most = most.max(*number);
+    }
+    most
+}
+
+// A phase begins with all persons waiting.
+fn begin(alloc: Global, auction: &mut Auction) -> Result<(), AllocError> {
+    let n = auction.n;
+    let steps = (n as i128).wrapping_sub(1);
+    auction.phase = auction.phase.wrapping_add(1);
+    auction.floor = auction
+        .least
+        .wrapping_sub(greatest(auction.prices.as_slice()))
+        .wrapping_sub(steps.wrapping_mul(auction.spread.wrapping_add(auction.eps)));
+    auction.owners = vec![in alloc; None; n]?;
+    auction.queue.clear();
+    for person in 0..n {
+        auction.queue.push(person)?;
+    }
+    Ok(())
+}
+
+// The least benefit, and how far the greatest is above it.
+fn range_of(benefits: &[Option<i128>]) -> (i128, i128) {
+    let mut least = None;
+    let mut most = None;
+    for benefit in benefits {
+        if let Some(benefit) = *benefit {
+            least = Some(benefit.min(least.unwrap_or(benefit)));
+            most = Some(benefit.max(most.unwrap_or(benefit)));
+        }
+    }
+    let least = least.unwrap_or(0);
+    (least, most.unwrap_or(0).wrapping_sub(least))
+}
+
+// Whether the run is over: a person halted it, or nobody waits in the last phase.
+pub(super) fn is_over(auction: &Auction) -> bool {
+    auction.halted.is_some() || (auction.queue.is_empty() && auction.eps == 1)
+}
+
+// The next round of a run that isn't over, in the next phase where nobody waits in this one.
+pub(super) fn next_round(alloc: Global, auction: &mut Auction) -> Result<Round, AllocError> {
+    if auction.queue.is_empty() {
+        auction.eps = auction.eps.wrapping_div(5).max(1);
+        begin(alloc, auction)?;
+    }
+    let (phase, eps, floor) = (auction.phase, auction.eps, auction.floor);
+    let prices = auction.prices.as_slice().to_vec(alloc)?;
+    let offers = offers_of(alloc, auction)?;
+    let answers = submit_all(alloc, auction, offers.as_slice())?;
+    Ok(Round {
+        phase,
+        eps,
+        floor,
+        prices,
+        offers,
+        answers,
+    })
+}
+
+// The benefits of these pairs, row by row.
+fn benefits_of(
+    alloc: Global,
+    n: u16,
+    pairs: &[Pair],
+    sense: Sense,
+) -> Result<Vec<Option<i128>>, AllocError> {
+    let wide = n as usize;
+    let factor: i128 = match sense {
+        Sense::Min => -(i128::from(n) + 1),
+        Sense::Max => i128::from(n) + 1,
+    };
+    let mut benefits = vec![in alloc; None; wide * wide]?;
+    for (person, object, cost) in pairs {
+        let at = (*person as usize)
+            .wrapping_sub(1)
+            .wrapping_mul(wide)
+            .wrapping_add(*object as usize)
+            .wrapping_sub(1);
+        if let Some(place) = benefits.get_mut(at) {
+            *place = Some(factor.wrapping_mul(i128::from(*cost)));
+        }
+    }
+    Ok(benefits)
+}
+
+// The first prices of n objects: those given, and 0 for the rest.
+fn prices_of(alloc: Global, n: u16, first: &[Price]) -> Result<Vec<i128>, AllocError> {
+    let mut prices = Vec::new(alloc);
+    for i in 0..n {
+        prices.push(first.get(i as usize).copied().unwrap_or(0))?;
+    }
+    Ok(prices)
+}
+
+// The auction of these pairs from these prices, in its first phase.
+pub(super) fn auction_of(
+    alloc: Global,
+    n: u16,
+    pairs: &[Pair],
+    sense: Sense,
+    first: &[Price],
+) -> Result<Auction, AllocError> {
+    let benefits = benefits_of(alloc, n, pairs, sense)?;
+    let (least, spread) = range_of(benefits.as_slice());
+    let mut auction = Auction {
+        n: n as usize,
+        benefits,
+        least,
+        spread,
+        phase: 0,
+        eps: spread.wrapping_div(5).max(1),
+        floor: 0,
+        prices: prices_of(alloc, n, first)?,
+        owners: Vec::new(alloc),
+        queue: Vec::new(alloc),
+        halted: None,
+    };
+    begin(alloc, &mut auction)?;
+    Ok(auction)
+}

@@ -1,0 +1,15 @@
+//! Tests of a book that workers share: turns from one thread, and threads of workers.
+#![tactic(auto)]
+
+#[cfg(test)]
+mod beside;
+#[cfg(test)]
+mod drawn;
+#[cfg(test)]
+mod pauses;
+#[cfg(test)]
+mod scripts;
+#[cfg(test)]
+mod whole_runs;
+#[cfg(test)]
+mod worked;

@@ -1,0 +1,543 @@
+// Worked problems under gates that hold workers back, and drawn ones beside a search of all
+// assignments.
+use assign_core::{Cost, Outcome, Price, Sense};
+use async_workers::{Gate, Note, OpenGate, Standing, Tally, solve_workers};
+use auction_book::Refused;
+use std::alloc::{AllocError, Global};
+use std::sync::Wait;
+use std::sync::atomic::{AtomicU64, Ordering};
+use std::test::Fail;
+use std::thread;
+use std::thread::Threads;
+use test_helpers::{
+    Pair, draw, drawn_pairs, drawn_sense, numbers_of, plain_best, problem_of, scaled_of, size,
+};
+
+// The pairs of a dense problem, from its costs row by row.
+fn dense(alloc: Global, n: u16, costs: &[Cost]) -> Result<Vec<Pair>, AllocError> {
+    let mut pairs = Vec::new(alloc);
+    for i in 0..n {
+        for j in 0..n {
+            let at = i as usize * n as usize + j as usize;
+            pairs.push((i + 1, j + 1, costs.get(at).copied().unwrap_or(0)))?;
+        }
+    }
+    Ok(pairs)
+}
+
+// What became of a run: the objects and prices, or the persons and objects of a Hall set; and how
+// many bids of each worker were accepted.
+#[derive(Drop)]
+enum Seen {
+    Best(Vec<u16>, Vec<Price>, Vec<u128>),
+    Hall(Vec<u16>, Vec<u16>),
+    Refused,
+}
+
+fn counts_of(alloc: Global, tallies: &[Tally]) -> Result<Vec<u128>, AllocError> {
+    let mut accepted = Vec::new(alloc);
+    for tally in tallies {
+        accepted.push(tally.accepted)?;
+    }
+    Ok(accepted)
+}
+
+fn told(alloc: Global, outcome: &Outcome, tallies: &[Tally]) -> Result<Seen, AllocError> {
+    match outcome {
+        Outcome::Best(certificate) => {
+            let objects = numbers_of(alloc, certificate.assignment.objects())?;
+            let prices = certificate.prices.as_slice().to_vec(alloc)?;
+            Ok(Seen::Best(objects, prices, counts_of(alloc, tallies)?))
+        }
+        Outcome::Hall(hall) => {
+            let persons = numbers_of(alloc, hall.persons())?;
+            Ok(Seen::Hall(persons, numbers_of(alloc, hall.objects())?))
+        }
+    }
+}
+
+// What these workers come to.
+fn solved<G: Gate + Sync, R: Threads + Wait + Sync>(
+    rt: &R,
+    alloc: Global,
+    n: u16,
+    pairs: &[Pair],
+    sense: Sense,
+    workers: u16,
+    refresh: u64,
+    gate: &G,
+) -> Result<Seen, AllocError> {
+    let scaled = scaled_of(alloc, size(n), pairs, sense)?;
+    match solve_workers(rt, alloc, scaled, workers.max(1), refresh, gate) {
+        Ok((outcome, tallies)) => told(alloc, &outcome, tallies.as_slice()),
+        Err(_) => Ok(Seen::Refused),
+    }
+}
+
+// What workers come to on a dense problem, under `Min`.
+fn dense_solved<G: Gate + Sync, R: Threads + Wait + Sync>(
+    rt: &R,
+    alloc: Global,
+    n: u16,
+    costs: &[Cost],
+    workers: u16,
+    refresh: u64,
+    gate: &G,
+) -> Result<Seen, AllocError> {
+    let pairs = dense(alloc, n, costs)?;
+    solved(
+        rt,
+        alloc,
+        n,
+        pairs.as_slice(),
+        Sense::Min,
+        workers,
+        refresh,
+        gate,
+    )
+}
+
+// ---- gates
+// So many turns a gate holds a worker at most.
+const TURNS: u32 = 1_000_000;
+
+// Holds the first offers, and where `waiting` is above 0 the first submissions, until as many workers
+// have reached theirs; and then that of worker 1 until worker 2 was told so many acceptances.
+#[derive(Drop)]
+struct Holding {
+    workers: u64,
+    offers: AtomicU64,
+    submissions: AtomicU64,
+    waiting: u64,
+    accepted: AtomicU64,
+    refused: AtomicU64,
+    late: AtomicU64,
+}
+
+fn new_gate(workers: u64, waiting: u64) -> Holding {
+    Holding {
+        workers,
+        offers: AtomicU64::new(0),
+        submissions: AtomicU64::new(0),
+        waiting,
+        accepted: AtomicU64::new(0),
+        refused: AtomicU64::new(0),
+        late: AtomicU64::new(0),
+    }
+}
+
+// Whether this is the worker's first time here.
+fn is_first(reached: &AtomicU64, worker: u16) -> bool {
+    let bit = 1u64.wrapping_shl(u32::from(worker));
+    reached.fetch_or(bit, Ordering::SeqCst) & bit == 0
+}
+
+// Waits, but not for ever, until `reached` has so many bits, or is so great.
+fn hold(reached: &AtomicU64, least: u64, bits: bool, late: &AtomicU64) {
+    for _ in 0..TURNS {
+        let now = reached.load(Ordering::SeqCst);
+        let now = if bits {
+            u64::from(now.count_ones())
+        } else {
+            now
+        };
+        if now >= least {
+            return;
+        }
+        thread::yield_now();
+    }
+    late.store(1, Ordering::SeqCst);
+}
+
+impl Gate for Holding {
+    fn before_offer(&self, worker: u16) {
+        if is_first(&self.offers, worker) {
+            hold(&self.offers, self.workers, true, &self.late);
+        }
+    }
+
+    fn before_submit(&self, worker: u16, _turns: u64) {
+        if self.waiting > 0 && is_first(&self.submissions, worker) {
+            hold(&self.submissions, self.workers, true, &self.late);
+            if worker == 1 {
+                hold(&self.accepted, self.waiting, false, &self.late);
+            }
+        }
+    }
+
+    fn after_session(&self, worker: u16, note: Note) {
+        match note {
+            Note::Accepted => {
+                if worker == 2 {
+                    self.accepted.fetch_add(1, Ordering::SeqCst);
+                }
+            }
+            Note::Refused(Refused::TooLow(1)) => {
+                self.refused.fetch_add(1, Ordering::SeqCst);
+            }
+            _ => {}
+        }
+    }
+}
+
+// Holds each worker after its first session until the other one was told of one.
+#[derive(Drop)]
+struct Telling {
+    told: AtomicU64,
+    late: AtomicU64,
+}
+
+impl Gate for Telling {
+    fn before_offer(&self, _worker: u16) {}
+
+    fn before_submit(&self, _worker: u16, _turns: u64) {}
+
+    fn after_session(&self, worker: u16, _note: Note) {
+        if is_first(&self.told, worker) {
+            hold(&self.told, 2, true, &self.late);
+        }
+    }
+}
+
+// Follows a run of one worker: what it was told last, the bids that it heard were accepted, and whether it was told
+// something that can't come after what it was told before.
+#[derive(Drop)]
+struct Following {
+    sessions: AtomicU64,
+    phase: AtomicU64,
+    eps: AtomicU64,
+    assigned: AtomicU64,
+    accepted: AtomicU64,
+    heard: AtomicU64,
+    wrong: AtomicU64,
+}
+
+fn new_following() -> Following {
+    Following {
+        sessions: AtomicU64::new(0),
+        phase: AtomicU64::new(1),
+        eps: AtomicU64::new(u64::MAX),
+        assigned: AtomicU64::new(0),
+        accepted: AtomicU64::new(0),
+        heard: AtomicU64::new(0),
+        wrong: AtomicU64::new(0),
+    }
+}
+
+impl Gate for Following {
+    fn before_offer(&self, _worker: u16) {}
+
+    fn before_submit(&self, _worker: u16, _turns: u64) {}
+
+    fn after_session(&self, _worker: u16, note: Note) {
+        if note == Note::Accepted {
+            self.heard.fetch_add(1, Ordering::SeqCst);
+        }
+    }
+
+    fn after_standing(&self, worker: u16, sessions: u64, standing: Standing) {
+        let phase = u64::from(standing.phase);
+        let eps = u64::try_from(standing.eps).unwrap_or(0);
+        let accepted = u64::try_from(standing.accepted).unwrap_or(0);
+        self.assigned
+            .store(u64::from(standing.assigned), Ordering::SeqCst);
+        let rises = self.phase.swap(phase, Ordering::SeqCst) <= phase
+            && self.eps.swap(eps, Ordering::SeqCst) >= eps
+            && self.accepted.swap(accepted, Ordering::SeqCst) <= accepted
+            && self.sessions.fetch_add(1, Ordering::SeqCst).wrapping_add(1) == sessions;
+        if worker != 1 || standing.assigned > 8 || !rises {
+            self.wrong.store(1, Ordering::SeqCst);
+        }
+    }
+}
+
+// ---- worked problems
+// Costs with one least assignment: person i pays u_i + v_j, and more where it isn't given j.
+const EIGHT: [Cost; 64] = [
+    14, 20, 22, 28, 34, 40, 46, 48, 8, 14, 21, 24, 31, 34, 41, 44, 18, 22, 26, 29, 38, 42, 46, 50,
+    10, 15, 20, 25, 30, 35, 40, 44, 15, 18, 27, 29, 35, 41, 47, 49, 10, 13, 20, 23, 30, 33, 37, 43,
+    15, 19, 23, 27, 31, 39, 43, 47, 11, 16, 21, 26, 31, 35, 41, 46,
+];
+
+// The objects of their one least assignment.
+const LEAST_OF_EIGHT: [u16; 8] = [3, 1, 4, 8, 2, 7, 5, 6];
+
+// Whether some workers give these to the eight persons.
+fn eight<G: Gate + Sync, R: Threads + Wait + Sync>(
+    rt: &R,
+    alloc: Global,
+    workers: u16,
+    refresh: u64,
+    gate: &G,
+) -> Result<bool, AllocError> {
+    match dense_solved(rt, alloc, 8, &EIGHT, workers, refresh, gate)? {
+        Seen::Best(objects, _, _) => Ok(objects.as_slice() == LEAST_OF_EIGHT.as_slice()),
+        _ => Ok(false),
+    }
+}
+
+#[test]
+fn eight_persons(rt: HostRuntime) -> Result<(), Fail> {
+    for (workers, refresh) in [(1, 1), (4, 1), (64, 1), (4, 0), (4, 1000), (64, 1000)] {
+        let least = eight(&rt, rt.alloc(), workers, refresh, &OpenGate)?;
+        assert!(rt; least, "{workers} workers, refresh {refresh}");
+    }
+    Ok(())
+}
+
+fn number_at(place: &AtomicU64) -> u64 {
+    place.load(Ordering::SeqCst)
+}
+
+// The acceptances of a run of one worker that found an assignment.
+fn accepted_by_one(seen: &Seen) -> Option<u128> {
+    match seen {
+        Seen::Best(_, _, accepted) if accepted.len() == 1 => accepted.first().copied(),
+        _ => None,
+    }
+}
+
+// The acceptances of one worker on the eight persons, those that were told last, and those that it heard; the last
+// phase, slackness and number of assigned persons; and 1 where something was told that can't be.
+fn followed<R: Threads + Wait + Sync>(
+    rt: &R,
+    alloc: Global,
+) -> Result<(Option<u128>, [u64; 2], [u64; 4]), AllocError> {
+    let gate = new_following();
+    let seen = dense_solved(rt, alloc, 8, &EIGHT, 1, 1, &gate)?;
+    let accepted = [number_at(&gate.accepted), number_at(&gate.heard)];
+    let last = [
+        number_at(&gate.phase),
+        number_at(&gate.eps),
+        number_at(&gate.assigned),
+        number_at(&gate.wrong),
+    ];
+    Ok((accepted_by_one(&seen), accepted, last))
+}
+
+// The spread is 378, nine times that of the costs, so the phases have slackness 75, 15, 3 and 1.
+#[test]
+fn one_worker_is_followed(rt: HostRuntime) -> Result<(), Fail> {
+    let (accepted, [told, heard], last) = followed(&rt, rt.alloc())?;
+    assert_eq!(rt; accepted, Some(u128::from(told)));
+    assert_eq!(rt; (heard, last), (told, [4, 1, 8, 0]));
+    Ok(())
+}
+
+// Whether eight workers whose first offers are held find the least assignment, whether one was held too long, and how
+// many there were.
+fn eight_at_once<R: Threads + Wait + Sync>(
+    rt: &R,
+    alloc: Global,
+) -> Result<(bool, u64, u32), AllocError> {
+    let gate = new_gate(8, 0);
+    let least = eight(rt, alloc, 8, 1, &gate)?;
+    let (late, offers) = (number_at(&gate.late), number_at(&gate.offers));
+    Ok((least, late, offers.count_ones()))
+}
+
+#[test]
+fn all_workers_start(rt: HostRuntime) -> Result<(), Fail> {
+    assert_eq!(rt; eight_at_once(&rt, rt.alloc())?, (true, 0, 8));
+    Ok(())
+}
+
+// An assignment with one of these lists of objects, these prices and these acceptances.
+#[derive(Clone, Copy)]
+struct Wanted<'a> {
+    lists: &'a [&'a [u16]],
+    prices: &'a [Price],
+    accepted: &'a [u128],
+}
+
+fn is_wanted(seen: &Seen, wanted: Wanted) -> bool {
+    let Seen::Best(objects, prices, accepted) = seen else {
+        return false;
+    };
+    wanted.lists.contains(&objects.as_slice())
+        && prices.as_slice() == wanted.prices
+        && accepted.as_slice() == wanted.accepted
+}
+
+// Whether two workers that never catch up by themselves come to what is wanted, where worker 1 is held until worker 2
+// was told so many acceptances; how many bids were refused at price 1; and whether one was held too long.
+fn stale_bid<R: Threads + Wait + Sync>(
+    rt: &R,
+    alloc: Global,
+    waiting: u64,
+    n: u16,
+    costs: &[Cost],
+    wanted: Wanted,
+) -> Result<(bool, u64, u64), AllocError> {
+    let gate = new_gate(2, waiting);
+    let seen = dense_solved(rt, alloc, n, costs, 2, 0, &gate)?;
+    let (refused, late) = (number_at(&gate.refused), number_at(&gate.late));
+    Ok((is_wanted(&seen, wanted), refused, late))
+}
+
+// Whether two workers that wait for each other find the least assignment, how many were told of a session, and whether
+// one was held too long.
+fn eight_told<R: Threads + Wait + Sync>(
+    rt: &R,
+    alloc: Global,
+) -> Result<(bool, u32, u64), AllocError> {
+    let gate = Telling {
+        told: AtomicU64::new(0),
+        late: AtomicU64::new(0),
+    };
+    let least = eight(rt, alloc, 2, 1, &gate)?;
+    let (told, late) = (number_at(&gate.told), number_at(&gate.late));
+    Ok((least, told.count_ones(), late))
+}
+
+#[test]
+fn a_session_is_told_without_the_book(rt: HostRuntime) -> Result<(), Fail> {
+    assert_eq!(rt; eight_told(&rt, rt.alloc())?, (true, 2, 0));
+    Ok(())
+}
+
+#[test]
+fn stale_bid_refused(rt: HostRuntime) -> Result<(), Fail> {
+    let wanted = Wanted {
+        lists: &[&[1, 2], &[2, 1]],
+        prices: &[1, 2],
+        accepted: &[1, 1],
+    };
+    let seen = stale_bid(&rt, rt.alloc(), 1, 2, &[2, 2, 2, 2], wanted)?;
+    assert_eq!(rt; seen, (true, 1, 0));
+    Ok(())
+}
+
+#[test]
+fn stale_bid_accepted(rt: HostRuntime) -> Result<(), Fail> {
+    let costs = [0, 1, 1, 1, 0, 1, 1, 1, 0];
+    let wanted = Wanted {
+        lists: &[&[1, 2, 3]],
+        prices: &[5, 5, 5],
+        accepted: &[1, 2],
+    };
+    let seen = stale_bid(&rt, rt.alloc(), 2, 3, &costs, wanted)?;
+    assert_eq!(rt; seen, (true, 0, 0));
+    Ok(())
+}
+
+// Whether workers find on these pairs that these persons list these objects alone.
+fn is_hall<R: Threads + Wait + Sync>(
+    rt: &R,
+    alloc: Global,
+    n: u16,
+    pairs: &[Pair],
+    workers: u16,
+    persons: &[u16],
+    objects: &[u16],
+) -> Result<bool, AllocError> {
+    match solved(rt, alloc, n, pairs, Sense::Min, workers, 1, &OpenGate)? {
+        Seen::Hall(found, listed) => {
+            Ok(found.as_slice() == persons && listed.as_slice() == objects)
+        }
+        _ => Ok(false),
+    }
+}
+
+#[test]
+fn three_persons_and_no_assignment(rt: HostRuntime) -> Result<(), Fail> {
+    let pairs = [(1, 1, 4), (2, 1, 6), (3, 2, 1), (3, 3, 2)];
+    for workers in [1, 2, 3] {
+        assert!(rt; is_hall(&rt, rt.alloc(), 3, &pairs, workers, &[1, 2], &[1])?);
+    }
+    Ok(())
+}
+
+// ---- drawn problems
+// A problem of at most eight persons, of which each may list some objects or all. Few are the
+// greatest, since the search that they are compared with tries all assignments.
+fn drawn(alloc: Global, seed: &mut u64) -> Result<(u16, Vec<Pair>), AllocError> {
+    let n = draw(seed, 8).min(draw(seed, 8)) + 1;
+    let share = draw(seed, 4) + 1;
+    let costs = draw(seed, 30) + 1;
+    Ok((n, drawn_pairs(alloc, seed, n, share, costs)?))
+}
+
+// The sum of the costs of the objects given to persons 1, 2, ..
+fn cost_of(pairs: &[Pair], objects: &[u16]) -> Cost {
+    let mut sum: Cost = 0;
+    for (person, object, cost) in pairs {
+        let given = objects.get((*person as usize).wrapping_sub(1)).copied();
+        if given == Some(*object) {
+            sum = sum.wrapping_add(*cost);
+        }
+    }
+    sum
+}
+
+// The cost of the least assignment, or of the greatest, if there is one.
+fn best_cost(
+    alloc: Global,
+    n: u16,
+    pairs: &[Pair],
+    sense: Sense,
+) -> Result<Option<Cost>, AllocError> {
+    let problem = problem_of(alloc, size(n), pairs)?;
+    match plain_best(alloc, &problem, sense)? {
+        Some(best) => Ok(Some(problem.total(&best))),
+        None => Ok(None),
+    }
+}
+
+// Whether workers agree with a search of all assignments on a problem that is drawn.
+fn agrees<R: Threads + Wait + Sync>(
+    rt: &R,
+    alloc: Global,
+    seed: &mut u64,
+) -> Result<bool, AllocError> {
+    let (n, pairs) = drawn(alloc, seed)?;
+    let sense = drawn_sense(seed);
+    let workers = draw(seed, 8) + 1;
+    let refresh = u64::from(draw(seed, 4));
+    let cost = best_cost(alloc, n, pairs.as_slice(), sense)?;
+    match solved(
+        rt,
+        alloc,
+        n,
+        pairs.as_slice(),
+        sense,
+        workers,
+        refresh,
+        &OpenGate,
+    )? {
+        Seen::Best(objects, _, _) => Ok(
+            cost == Some(cost_of(pairs.as_slice(), objects.as_slice())),
+        ),
+        Seen::Hall(_, _) => Ok(cost.is_none()),
+        Seen::Refused => Ok(false),
+    }
+}
+
+// How many of so many problems drawn from a seed agree.
+fn agreeing<R: Threads + Wait + Sync>(
+    rt: &R,
+    alloc: Global,
+    turns: u32,
+    seed: u64,
+) -> Result<u32, AllocError> {
+    let mut seed = seed;
+    let mut count: u32 = 0;
+    for _ in 0..turns {
+        if agrees(rt, alloc, &mut seed)? {
+            count = count.wrapping_add(1);
+        }
+    }
+    Ok(count)
+}
+
+#[test]
+fn drawn_problems(rt: HostRuntime) -> Result<(), Fail> {
+    assert_eq!(rt; agreeing(&rt, rt.alloc(), 500, 2026)?, 500);
+    Ok(())
+}
+
+#[test]
+fn more_drawn_problems(rt: HostRuntime) -> Result<(), Fail> {
+    assert_eq!(rt; agreeing(&rt, rt.alloc(), 500, 11)?, 500);
+    Ok(())
+}
