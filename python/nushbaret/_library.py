@@ -153,16 +153,17 @@ class Room:
         self.rows, self.objects = numpy.arange(n), numpy.frombuffer(self.words, numpy.uint16, n, _TOLD + 16 * m)
         told = self.words.buffer_info()[0]
         prices, objects, persons = told + _TOLD, told + _TOLD + 16 * m, told + _TOLD + 16 * m + 2 * n
-        many, few, address = ctypes.c_size_t(m), ctypes.c_size_t(n), ctypes.c_void_p
-        self.minimized, self.maximized, self.sizes = ctypes.c_uint32(0), ctypes.c_uint32(1), (few, many)
-        self.rest = (ctypes.c_size_t(n * m), address(objects), few, address(persons), few, address(prices), many, address(told))
+        sense, count, address = ctypes.c_uint32.from_param, ctypes.c_size_t.from_param, ctypes.c_void_p.from_param
+        many, few = count(m), count(n)
+        self.minimized, self.maximized, self.sizes = sense(0), sense(1), (few, many)
+        self.rest = count(n * m), address(objects), few, address(persons), few, address(prices), many, address(told)
         self.call, self.doubles, self.numbers, self.own = _calls["dense, made ready"], None, None, None
 
     def held(self, numbers):
         """The address of an array of 64-bit numbers, which stays as long as this does. NumPy tells it slowly: a copy of a small
         array, as bytes, is had sooner."""
         self.numbers = numbers
-        return ctypes.c_void_p(numbers.__array_interface__["data"][0])
+        return ctypes.c_void_p.from_param(numbers.__array_interface__["data"][0])
 
     def hold_doubles(self, numpy, shape):
         """Makes memory for costs that are to become whole numbers."""

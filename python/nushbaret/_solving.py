@@ -214,9 +214,13 @@ class _Arrays:
         elif costs.dtype is self.float64:
             lent = self._taken(costs, room)
         else:
-            lent = None
-        if lent is None or room.call(room.maximized if maximize else room.minimized, *room.sizes, lent, *room.rest):
             return None
+        sense = room.maximized if maximize else room.minimized
+        if lent is None or room.call(sense, *room.sizes, lent, *room.rest):
+            # Costs below 0 may be too far out for a power of two that the greatest cost told.
+            lent = self._scaled(costs, room, -costs.min()) if costs.dtype is self.float64 else None
+            if lent is None or room.call(sense, *room.sizes, lent, *room.rest):
+                return None
         found = room.rows.copy(), self.from_zero(room.objects)
         rooms.append(room)
         return found
@@ -231,9 +235,10 @@ class _Arrays:
             numbers = exact.whole_numbers(self.numpy, costs.ravel())
             if numbers is not None:
                 return numbers.tobytes() if numbers.size <= FEW else room.held(numbers)
-        most, least = item(seen.argmax()), -item(seen.argmin())
-        if least > most:
-            most = least
+        return self._scaled(costs, room, item(seen.argmax()))
+
+    def _scaled(self, costs, room, most):
+        """The costs times the greatest power of two that leaves `most` within range."""
         if not 0 < most < math.inf:
             return None
         shift = exact.shift_of(most)

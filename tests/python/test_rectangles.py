@@ -92,7 +92,7 @@ class Prices(unittest.TestCase):
             n_rows, n_columns, maximize = draw.randint(1, 5), draw.randint(1, 5), draw.random() < 0.5
             costs = matrix(draw, n_rows, n_columns, draw.choice([1, 9, 10**6]), draw.choice([0.5, 1.0]))
             result = nushbaret.solve(costs, maximize, partial=True)
-            self.assertEqual((len(result.prices), min(result.prices)), (n_columns, 0))
+            self.assertEqual((len(result.prices), min(result.prices) >= 0), (n_columns, True))
             self.assertEqual(len(result.row_duals), n_rows)
             if not result.rows:
                 continue
