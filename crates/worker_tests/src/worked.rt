@@ -269,8 +269,8 @@ fn prices_found<R: Wait>(
         return None;
     }
     let own = two_of(desks[0].table());
-    let found = look(rt, place, &mut desks[0]);
-    Some((own, found.prices))
+    let Found { prices, .. } = look(rt, place, &mut desks[0]);
+    Some((own, prices))
 }
 
 // The same after a script of one desk.
