@@ -1,11 +1,17 @@
 // Few persons among many objects.
-ghost use Rattle.std.specs.Prelude.{◌≡◌, ◌≤◌, length, IfOk};
+ghost use Rattle.std.specs.Prelude.{◌≡◌, ◌≤◌, length, IfOk, IfSome};
 ghost use Rattle.std.specs.Arc.{arc_value};
 ghost use Rattle.assign_core.specs.Outcomes.{IsProof};
 ghost use Rattle.rectangles.specs.Filled.{filled_up};
 ghost use Rattle.shortest_paths.specs.Among.{IsDecidedAmong, IsProofAmong};
 
-use super::solve::{solve_paths, solve_paths_from};
+use super::answer::{best_among, hall_among};
+use super::market::Market;
+use super::number::Number;
+use super::observer::{Telling, Unobserved};
+use super::plan::plan_among;
+use super::search::End;
+use super::solve::{Searched, bid_and_search, solve_paths, solve_paths_from};
 use assign_core::{Outcome, Prices};
 use rectangles::{dummies_change_nothing, filled_up, of_first};
 use scaled_values::{Scaled, scale};
@@ -51,40 +57,140 @@ fn solve_filled_up(alloc: Global, scaled: &Scaled, n: u16) -> Result<Outcome, Al
     of_square(alloc, scaled, n, outcome)
 }
 
+// The answer where all persons are meant: no dummy is wanted.
+fn solve_whole(alloc: Global, scaled: &Arc<Scaled>, n: u16) -> Result<Outcome, AllocError>
+    requires { n ≡ length (arc_value scaled.now).problem }
+    ensures { IfOk result (IsProofAmong (arc_value scaled.now) n) }
+{
+    let outcome = solve_paths(alloc, scaled.clone()?)?;
+    of_square(alloc, scaled, n, outcome)
+}
+
 // The same from first prices on.
-fn solve_filled_up_from(
+fn solve_whole_from(
     alloc: Global,
-    scaled: &Scaled,
+    scaled: &Arc<Scaled>,
     n: u16,
     prices: Prices,
 ) -> Result<Outcome, AllocError>
-    requires persons { n ≤ length scaled.now.problem }
-    requires prices { length prices ≡ length scaled.now.problem }
+    requires persons { n ≡ length (arc_value scaled.now).problem }
+    requires prices { length prices ≡ length (arc_value scaled.now).problem }
+    ensures { IfOk result (IsProofAmong (arc_value scaled.now) n) }
+{
+    let outcome = solve_paths_from(alloc, scaled.clone()?, prices)?;
+    of_square(alloc, scaled, n, outcome)
+}
+
+// What searches for the first `n` persons found, if they found something.
+fn answer_among<W: Number>(
+    alloc: Global,
+    scaled: &Scaled,
+    n: u16,
+    market: &Market<W>,
+    searched: &Searched<W>,
+) -> Result<Option<Outcome>, AllocError>
+    requires { n ≤ length scaled.now.problem }
+    ensures { IfOk result (λ found. IfSome found (IsProofAmong scaled.now n)) }
+{
+    match searched.end {
+        None => best_among(alloc, scaled, n, market),
+        Some(End::Blocked) => hall_among(alloc, scaled, n, &searched.search),
+        Some(_) => Ok(None),
+    }
+}
+
+// Paths of the first `n` persons from equal prices. Bids and searches raise prices of owned objects
+// alone, and none of these is left, so what nobody owns stays cheapest.
+fn paths_among<W: Number>(
+    alloc: Global,
+    scaled: &Scaled,
+    n: u16,
+) -> Result<Option<Outcome>, AllocError>
+    requires { n ≤ length scaled.now.problem }
+    ensures { IfOk result (λ found. IfSome found (IsProofAmong scaled.now n)) }
+{
+    let prices = vec![in alloc; W::of(0); scaled.n() as usize]?;
+    let mut market = Market::new(alloc, prices, n as usize)?;
+    let mut telling = Telling::new(&Unobserved);
+    let plan = plan_among(scaled, n);
+    let searched = bid_and_search(alloc, scaled, &mut market, plan, &mut telling)?;
+    answer_among(alloc, scaled, n, &market, &searched)
+}
+
+// What is found for the first `n` persons. Where distances leave 64 bits the first search finds no
+// proof.
+fn find_among(alloc: Global, scaled: &Scaled, n: u16) -> Result<Option<Outcome>, AllocError>
+    requires { n ≤ length scaled.now.problem }
+    ensures { IfOk result (λ found. IfSome found (IsProofAmong scaled.now n)) }
+{
+    match paths_among::<i64>(alloc, scaled, n)? {
+        None => paths_among::<i128>(alloc, scaled, n),
+        found => Ok(found),
+    }
+}
+
+// What is found for the first `n` persons, and where nothing is found the answer by way of the square
+// with dummies.
+fn solve_first(alloc: Global, scaled: &Scaled, n: u16) -> Result<Outcome, AllocError>
+    requires { n ≤ length scaled.now.problem }
     ensures { IfOk result (IsProofAmong scaled.now n) }
 {
-    let square = square_of(alloc, scaled, n)?;
-    let outcome = solve_paths_from(alloc, square, prices)?;
-    of_square(alloc, scaled, n, outcome)
+    match find_among(alloc, scaled, n)? {
+        Some(outcome) => Ok(outcome),
+        None => solve_filled_up(alloc, scaled, n),
+    }
+}
+
+// The answer for all persons or for fewer.
+fn solve_among(alloc: Global, scaled: &Arc<Scaled>, n: u16) -> Result<Outcome, AllocError>
+    requires { n ≤ length (arc_value scaled.now).problem }
+    ensures { IfOk result (IsProofAmong (arc_value scaled.now) n) }
+{
+    if n == scaled.n() {
+        solve_whole(alloc, scaled, n)
+    } else {
+        solve_first(alloc, scaled, n)
+    }
+}
+
+// The same from first prices on, where all persons are meant.
+fn solve_among_from(
+    alloc: Global,
+    scaled: &Arc<Scaled>,
+    n: u16,
+    prices: Prices,
+) -> Result<Outcome, AllocError>
+    requires persons { n ≤ length (arc_value scaled.now).problem }
+    requires prices { length prices ≡ length (arc_value scaled.now).problem }
+    ensures { IfOk result (IsProofAmong (arc_value scaled.now) n) }
+{
+    if n == scaled.n() {
+        solve_whole_from(alloc, scaled, n, prices)
+    } else {
+        solve_first(alloc, scaled, n)
+    }
 }
 
 /// Solves the problem of the first `n` persons among all objects: a best assignment with prices that
 /// prove it where they have an assignment, and a Hall set where they have none.
 ///
+/// Paths are looked for from equal prices, and the time is at most that of twice `n` searches over the
+/// pairs of these persons, and mostly far less. Where the checkers refuse what was found, which is not
+/// known to happen, dummies fill the problem up to a square, which `solve_paths` solves. None of this
+/// is proved but the answer.
+///
 /// # Errors
 /// Only where memory is refused.
-pub fn solve_paths_among(
-    alloc: Global,
-    scaled: Arc<Scaled>,
-    n: u16,
-) -> Result<Outcome, AllocError>
+pub fn solve_paths_among(alloc: Global, scaled: Arc<Scaled>, n: u16) -> Result<Outcome, AllocError>
     requires { n ≤ length (arc_value scaled).problem }
     ensures proof { IfOk result (IsProofAmong (arc_value scaled) n) }
     ensures decided { IfOk result (IsDecidedAmong (arc_value scaled) n) }
 {
-    solve_filled_up(alloc, &scaled, n)
+    solve_among(alloc, &scaled, n)
 }
 
-/// Solves as `solve_paths_among` does, beginning at these prices, one for each object.
+/// Solves as `solve_paths_among` does, beginning at these prices, one for each object, where all
+/// persons are meant. Where they are fewer the prices are left for equal ones.
 ///
 /// # Errors
 /// Only where memory is refused.
@@ -99,5 +205,5 @@ pub fn solve_paths_among_from(
     ensures proof { IfOk result (IsProofAmong (arc_value scaled) n) }
     ensures decided { IfOk result (IsDecidedAmong (arc_value scaled) n) }
 {
-    solve_filled_up_from(alloc, &scaled, n, prices)
+    solve_among_from(alloc, &scaled, n, prices)
 }

@@ -1,13 +1,15 @@
 // What was found, where the checkers take it.
-ghost use Rattle.std.specs.Prelude.{◌≤◌, IfOk, IfSome};
+ghost use Rattle.std.specs.Prelude.{◌≤◌, ◌↔◌, All, IfOk, IfSome, IsTrue, length};
 ghost use Rattle.rounds.specs.Outcomes.{IsProof};
+ghost use Rattle.shortest_paths.specs.Among.{IsProofAmong};
 
 use super::market::Market;
 use super::number::Number;
 use super::reach::least_in;
 use super::search::Search;
 use assign_core::{MOST_PERSONS, Numbered, Object, Outcome, Person, Price};
-use dual_checker::{confirm_best, confirm_hall};
+use dual_checker::{confirm_best, confirm_best_among, confirm_hall};
+use rectangles::persons_of_a_hall_set;
 use scaled_values::Scaled;
 use std::alloc::{AllocError, Global};
 
@@ -98,4 +100,56 @@ pub fn hall_of<W: Number>(
     let persons = persons_of(alloc, n, search)?;
     let objects: Vec<Object> = rising(alloc, n, search.passed.as_slice())?;
     confirm_hall(alloc, scaled.problem(), persons, objects)
+}
+
+// The objects of the first `n` persons with the prices of all objects.
+pub fn best_among<W: Number>(
+    alloc: Global,
+    scaled: &Scaled,
+    n: u16,
+    market: &Market<W>,
+) -> Result<Option<Outcome>, AllocError>
+    requires { n ≤ length scaled.now.problem }
+    ensures { IfOk result (λ found. IfSome found (IsProofAmong scaled.now n)) }
+{
+    let objects = objects_of(alloc, market)?;
+    let prices = prices_of(alloc, market)?;
+    let m = scaled.n();
+    confirm_best_among(
+        alloc,
+        scaled.problem(),
+        n,
+        m,
+        scaled.sense(),
+        objects,
+        prices,
+    )
+}
+
+// Whether all persons are among the first `n`.
+fn are_first(n: u16, persons: &[Person]) -> bool
+    ensures { IsTrue result ↔ All (λ i. i ≤ n) persons.now }
+{
+    persons.iter().all(|person| person.0 <= n)
+}
+
+// The persons that a search of the first `n` scanned with the objects that it passed.
+pub fn hall_among<W: Number>(
+    alloc: Global,
+    scaled: &Scaled,
+    n: u16,
+    search: &Search<W>,
+) -> Result<Option<Outcome>, AllocError>
+    requires { n ≤ length scaled.now.problem }
+    ensures { IfOk result (λ found. IfSome found (IsProofAmong scaled.now n)) }
+{
+    let m = scaled.n();
+    let persons = persons_of(alloc, n, search)?;
+    let named: Vec<Object> = rising(alloc, m, search.passed.as_slice())?;
+    if !are_first(n, persons.as_slice()) {
+        return Ok(None);
+    }
+    // That these persons' Hall set is one of the first rows follows from this call.
+    persons_of_a_hall_set();
+    confirm_hall(alloc, scaled.problem(), persons, named)
 }

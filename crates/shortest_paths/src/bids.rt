@@ -183,7 +183,7 @@ pub fn bid_all<W: Number, O: Observer>(
     requires { length market.old.prices.items ≡ length scaled.now.problem }
     ensures { length market.new.prices.items ≡ length scaled.now.problem }
 {
-    let n = scaled.n() as usize;
+    let n = market.objects.len();
     let mut left = n.saturating_mul(most.a_person as usize);
     telling.tell(market);
     for person in 0..n {

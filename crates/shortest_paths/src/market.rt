@@ -4,7 +4,7 @@ ghost use Rattle.std.specs.Prelude.{◌≡◌, length, IfOk};
 use super::number::Number;
 use std::alloc::{AllocError, Global};
 
-// The price and the owner of each object, and the object of each person, by places from 0. The price
+// The price and the owner of each object, and the object of each person that is meant, by places from 0. The price
 // of an object that nobody owns stands here less 1: benefits and prices are multiples of one number
 // above 1, so of objects that are alike to a person those come first that nobody owns.
 #[derive(Drop)]
@@ -40,15 +40,15 @@ fn leave<W: Number>(owners: &mut [Option<usize>], prices: &mut [W]) {
 }
 
 impl<W: Number> Market<W> {
-    // Nobody owns anything.
-    pub fn new(alloc: Global, prices: Vec<W>) -> Result<Market<W>, AllocError>
+    // So many persons, of whom nobody owns anything.
+    pub fn new(alloc: Global, prices: Vec<W>, persons: usize) -> Result<Market<W>, AllocError>
         ensures { IfOk result (λ m. length m.prices.items ≡ length prices.items) }
     {
         let n = prices.len();
         let mut prices = prices;
         lower(prices.as_mut_slice());
         let owners = vec![in alloc; None; n]?;
-        let objects = vec![in alloc; None; n]?;
+        let objects = vec![in alloc; None; persons]?;
         Ok(Market {
             prices,
             owners,

@@ -1,6 +1,8 @@
 // How much of what is tried: each number was found by measuring, and none is needed for an answer.
+ghost use Rattle.std.specs.Prelude.{◌≤◌};
+
 use super::bids::Bids;
-use assign_core::Person;
+use assign_core::{MOST_PERSONS, Person};
 use scaled_values::Scaled;
 
 // A problem is sparse where fewer than one in so many pairs are listed.
@@ -39,20 +41,20 @@ impl Plan {
     }
 }
 
-// Whether so few pairs are listed.
-fn is_sparse(scaled: &Scaled) -> bool {
-    let n = scaled.n();
+// Whether the first persons, so many, list so few pairs.
+fn is_sparse(scaled: &Scaled, persons: u16) -> bool {
     let mut pairs = 0usize;
-    for i in 0..n {
+    for i in 0..persons.min(scaled.n()) {
         pairs = pairs.saturating_add(scaled.problem().row(Person(i + 1)).len());
     }
-    pairs < n as usize * n as usize / SPARSE_BELOW
+    pairs < persons as usize * scaled.n() as usize / SPARSE_BELOW
 }
 
-// The plan for a problem without first prices.
-pub fn plan_of(scaled: &Scaled) -> Plan {
-    let n = scaled.n() as usize;
-    if is_sparse(scaled) {
+// The plan for so many persons without first prices.
+fn plan_by(n: usize, is_sparse: bool) -> Plan
+    requires { n ≤ MOST_PERSONS }
+{
+    if is_sparse {
         Plan {
             most_unserved: n / 64,
             most_scans: n,
@@ -69,6 +71,20 @@ pub fn plan_of(scaled: &Scaled) -> Plan {
             by_heap: false,
         }
     }
+}
+
+// The plan for a problem without first prices.
+pub fn plan_of(scaled: &Scaled) -> Plan {
+    let n = scaled.n();
+    plan_by(n as usize, is_sparse(scaled, n))
+}
+
+// The plan for the first `n` persons among more objects. Searches go on until they find something: an
+// auction before them would leave objects dear that nobody owns.
+pub fn plan_among(scaled: &Scaled, n: u16) -> Plan
+    requires { n ≤ MOST_PERSONS }
+{
+    plan_by(n as usize, is_sparse(scaled, n)).to_the_end()
 }
 
 // The plan from first prices: little is tried, since the other plan is as good where they tell

@@ -64,7 +64,7 @@ fn augment_all<W: Number, O: Observer>(
 {
     let mut left = most;
     telling.tell(market);
-    for person in 0..scaled.n() as usize {
+    for person in 0..market.objects.len() {
         if market.object(person).is_none() {
             match augment(scaled, market, search, person)? {
                 End::Free(_) => left = left.saturating_sub(search.scanned.len()),
@@ -110,13 +110,13 @@ fn auction<W: Number, O: Observer>(
 
 // What searches left: the last of them, and how it ended where it found no object.
 #[derive(Drop)]
-struct Searched<W: Number> {
-    search: Search<W>,
-    end: Option<End>,
+pub struct Searched<W: Number> {
+    pub search: Search<W>,
+    pub end: Option<End>,
 }
 
 // Bids, and then searches for those who are left, as far as the plan goes.
-fn bid_and_search<W: Number, O: Observer>(
+pub fn bid_and_search<W: Number, O: Observer>(
     alloc: Global,
     scaled: &Scaled,
     market: &mut Market<W>,
@@ -162,7 +162,7 @@ fn paths_after_auction<W: Number, O: Observer>(
     requires { length prices.items ≡ length scaled.now.problem }
     ensures { IfOk result (λ found. IfSome found (IsProof scaled.now)) }
 {
-    let mut market = Market::new(alloc, prices)?;
+    let mut market = Market::new(alloc, prices, scaled.n() as usize)?;
     auction(scaled, &mut market, plan, telling);
     let searched = bid_and_search(alloc, scaled, &mut market, plan.to_the_end(), telling)?;
     answer_of(alloc, scaled, &market, &searched)
@@ -180,7 +180,8 @@ fn paths_from<W: Number, O: Observer>(
     requires { length prices.items ≡ length scaled.now.problem }
     ensures { IfOk result (λ found. IfSome found (IsProof scaled.now)) }
 {
-    let mut market = Market::new(alloc, prices.as_slice().to_vec(alloc)?)?;
+    let begun = prices.as_slice().to_vec(alloc)?;
+    let mut market = Market::new(alloc, begun, scaled.n() as usize)?;
     let mut telling = Telling::new(observer);
     let searched = bid_and_search(alloc, scaled, &mut market, plan, &mut telling)?;
     if let Some(End::Long) = searched.end {
@@ -230,7 +231,7 @@ fn started_paths<O: Observer>(
     ensures { IfOk result (λ found. IfSome found (IsProof scaled.now)) }
 {
     let plan = started_plan(scaled);
-    let mut market = Market::new(alloc, prices)?;
+    let mut market = Market::new(alloc, prices, scaled.n() as usize)?;
     let Some(values) = match_ties(alloc, scaled, &mut market, plan.most_unserved)? else {
         return Ok(None);
     };

@@ -1,0 +1,180 @@
+// Problems of n persons and m objects, and answers as plain data.
+ghost use Rattle.std.specs.Prelude.{◌≡◌, ◌≤◌, IfOk, length, max};
+ghost use Rattle.std.specs.Arc.{arc_value};
+ghost use Rattle.assign_core.specs.Rows.{IsAmong, IsSize};
+ghost use Rattle.rectangles.specs.Sparse.{IsTripleAmong};
+
+use assign_core::{Certificate, Cost, HallSet, Object, Outcome, Person, Prices, Problem, Sense};
+use dual_checker::{HallVerdict, Verdict, VerdictAmong, check_among, check_hall};
+use rectangles::sparse_among;
+use scaled_values::{Scaled, scale};
+use shortest_paths::{solve_paths_among, solve_paths_among_from};
+use std::alloc::{AllocError, Global};
+use std::sync::Arc;
+use test_helpers::{Pair, cost_in_range, number, plain_best, problem_of};
+
+// A person of n and an object of m with a cost.
+fn triple_among(n: u16, m: u16, pair: Pair) -> (Person, Object, Cost)
+    requires persons { IsSize n }
+    requires objects { IsSize m }
+    ensures { IsTripleAmong n m result }
+{
+    (
+        Person(number(n, pair.0)),
+        Object(number(m, pair.1)),
+        cost_in_range(pair.2),
+    )
+}
+
+// The problem of n persons and m objects that lists these pairs.
+pub fn rectangle(alloc: Global, n: u16, m: u16, pairs: &[Pair]) -> Result<Problem, AllocError>
+    requires persons { IsSize n }
+    requires objects { IsSize m }
+    ensures among { IfOk result (IsAmong n m) }
+    ensures count { IfOk result (λ problem. length problem ≡ max n m) }
+{
+    let mut triples = Vec::with_capacity(alloc, pairs.len())?;
+    for pair in pairs {
+        triples.push(triple_among(n, m, *pair))?;
+    }
+    sparse_among(alloc, n, m, triples.as_slice())
+}
+
+// The same with its benefits.
+pub fn scaled_rectangle(
+    alloc: Global,
+    n: u16,
+    m: u16,
+    pairs: &[Pair],
+    sense: Sense,
+) -> Result<Arc<Scaled>, AllocError>
+    requires persons { IsSize n }
+    requires objects { IsSize m }
+    ensures few { IfOk result (λ scaled. n ≤ length (arc_value scaled).problem) }
+    ensures count { IfOk result (λ scaled. length (arc_value scaled).problem ≡ max n m) }
+{
+    let problem = rectangle(alloc, n, m, pairs)?;
+    Ok(Arc::new(alloc, scale(alloc, problem, sense)?)?)
+}
+
+// The sum of what the objects of persons 1, 2, .. cost.
+fn sum_of(problem: &Problem, objects: &[Object]) -> Cost {
+    let mut sum: Cost = 0;
+    let mut person = 0u16;
+    for object in objects {
+        person = person.wrapping_add(1);
+        let cost = problem.cost_of(Person(person), *object).unwrap_or(0);
+        sum = sum.wrapping_add(cost);
+    }
+    sum
+}
+
+// What an answer comes to.
+#[derive(Clone, Copy, PartialEq, Eq, Debug)]
+pub enum Came {
+    // A certificate of an assignment that costs so much.
+    Best(Cost),
+    // A Hall set of the first persons.
+    Hall,
+    // No proof.
+    Nothing,
+}
+
+fn came_of_best(
+    alloc: Global,
+    problem: &Problem,
+    n: u16,
+    m: u16,
+    sense: Sense,
+    best: &Certificate,
+) -> Result<Came, AllocError>
+    requires { IsAmong n m problem.now }
+{
+    let objects = best.assignment.objects();
+    let verdict = check_among(alloc, problem, n, m, sense, objects, best.prices.as_slice())?;
+    if verdict == VerdictAmong::Usual(Verdict::Yes) {
+        Ok(Came::Best(sum_of(problem, objects)))
+    } else {
+        Ok(Came::Nothing)
+    }
+}
+
+fn came_of_hall(alloc: Global, problem: &Problem, n: u16, hall: &HallSet) -> Result<Came, AllocError> {
+    let verdict = check_hall(alloc, problem, hall.persons(), hall.objects())?;
+    if verdict == HallVerdict::Yes && hall.persons().iter().all(|person| person.0 <= n) {
+        Ok(Came::Hall)
+    } else {
+        Ok(Came::Nothing)
+    }
+}
+
+// What an outcome comes to, held against the problem anew.
+pub fn came_of(
+    alloc: Global,
+    n: u16,
+    m: u16,
+    pairs: &[Pair],
+    sense: Sense,
+    outcome: &Outcome,
+) -> Result<Came, AllocError>
+    requires persons { IsSize n }
+    requires objects { IsSize m }
+{
+    let problem = rectangle(alloc, n, m, pairs)?;
+    match outcome {
+        Outcome::Best(best) => came_of_best(alloc, &problem, n, m, sense, best),
+        Outcome::Hall(hall) => came_of_hall(alloc, &problem, n, hall),
+    }
+}
+
+// What the solver comes to.
+pub fn solved(alloc: Global, n: u16, m: u16, pairs: &[Pair], sense: Sense) -> Result<Came, AllocError>
+    requires persons { IsSize n }
+    requires objects { IsSize m }
+{
+    let scaled = scaled_rectangle(alloc, n, m, pairs, sense)?;
+    let outcome = solve_paths_among(alloc, scaled, n)?;
+    came_of(alloc, n, m, pairs, sense, &outcome)
+}
+
+// The same from first prices on, one for each of as many objects as there are persons or objects.
+pub fn solved_from(
+    alloc: Global,
+    n: u16,
+    m: u16,
+    pairs: &[Pair],
+    sense: Sense,
+    prices: Prices,
+) -> Result<Came, AllocError>
+    requires persons { IsSize n }
+    requires objects { IsSize m }
+    requires prices { length prices ≡ max n m }
+{
+    let scaled = scaled_rectangle(alloc, n, m, pairs, sense)?;
+    let outcome = solve_paths_among_from(alloc, scaled, n, prices)?;
+    came_of(alloc, n, m, pairs, sense, &outcome)
+}
+
+// The pairs with those of dummies, who list all of as many objects as there are persons then.
+fn with_dummies(alloc: Global, n: u16, m: u16, pairs: &[Pair]) -> Result<Vec<Pair>, AllocError> {
+    let mut all = pairs.to_vec(alloc)?;
+    for k in 0..u32::from(m.saturating_sub(n)) * u32::from(m) {
+        let person = k / u32::from(m).max(1) + u32::from(n) + 1;
+        let object = k % u32::from(m).max(1) + 1;
+        all.push((person as u16, object as u16, 0))?;
+    }
+    Ok(all)
+}
+
+// What a slow search of the square with dummies comes to.
+pub fn tried(alloc: Global, n: u16, m: u16, pairs: &[Pair], sense: Sense) -> Result<Came, AllocError>
+    requires persons { IsSize n }
+    requires objects { IsSize m }
+{
+    let all = with_dummies(alloc, n, m, pairs)?;
+    let square = problem_of(alloc, n.max(m), all.as_slice())?;
+    match plain_best(alloc, &square, sense)? {
+        Some(best) => Ok(Came::Best(sum_of(&square, best.objects()))),
+        None => Ok(Came::Hall),
+    }
+}

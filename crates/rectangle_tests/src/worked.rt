@@ -1,0 +1,87 @@
+// Worked rectangles.
+use super::helpers::{Came, rectangle, solved, solved_from, tried};
+use assign_core::{Cost, Person, Price, Sense};
+use rectangles::{dummies_change_nothing, filled_up, persons_of_a_hall_set};
+use std::alloc::{AllocError, Global};
+use std::test::Fail;
+use test_helpers::{Pair, first_prices};
+
+// Two persons and four objects.
+const FOUR: [Pair; 6] = [
+    (1, 1, 3),
+    (1, 2, 5),
+    (1, 4, 9),
+    (2, 1, 2),
+    (2, 3, 8),
+    (2, 4, 7),
+];
+
+#[test]
+fn two_persons_of_four_objects(rt: HostRuntime) -> Result<(), Fail> {
+    let alloc = rt.alloc();
+    assert_eq!(rt; solved(alloc, 2, 4, &FOUR, Sense::Min)?, Came::Best(7));
+    assert_eq!(rt; solved(alloc, 2, 4, &FOUR, Sense::Max)?, Came::Best(17));
+    assert_eq!(rt; tried(alloc, 2, 4, &FOUR, Sense::Max)?, Came::Best(17));
+    Ok(())
+}
+
+// Both want object 2 alone; the third has a choice.
+#[test]
+fn two_persons_of_one_object(rt: HostRuntime) -> Result<(), Fail> {
+    let pairs = [(1, 2, 1), (2, 2, 1), (3, 2, 1), (3, 5, 1)];
+    assert_eq!(rt; solved(rt.alloc(), 3, 5, &pairs, Sense::Min)?, Came::Hall);
+    Ok(())
+}
+
+#[test]
+fn more_persons_than_objects_have_none(rt: HostRuntime) -> Result<(), Fail> {
+    let pairs = [(1, 1, 1), (1, 2, 1), (2, 1, 1), (2, 2, 1), (3, 1, 1), (3, 2, 1)];
+    assert_eq!(rt; solved(rt.alloc(), 3, 2, &pairs, Sense::Min)?, Came::Hall);
+    assert_eq!(rt; solved(rt.alloc(), 3, 3, &pairs, Sense::Min)?, Came::Hall);
+    Ok(())
+}
+
+#[test]
+fn from_first_prices(rt: HostRuntime) -> Result<(), Fail> {
+    let alloc = rt.alloc();
+    let good = first_prices(alloc, 4, &[1, 0, 0, 0])?;
+    assert_eq!(rt; solved_from(alloc, 2, 4, &FOUR, Sense::Min, good)?, Came::Best(7));
+    let bad = first_prices(alloc, 4, &[0, 0, 1_000_000_000_000_000_000_000, 50])?;
+    assert_eq!(rt; solved_from(alloc, 2, 4, &FOUR, Sense::Min, bad)?, Came::Best(7));
+    Ok(())
+}
+
+// Costs of one person to so many objects, the last the least.
+fn one_row(alloc: Global, m: u16) -> Result<Vec<Pair>, AllocError> {
+    let mut pairs = Vec::with_capacity(alloc, m as usize)?;
+    for j in 0..m {
+        pairs.push((1, j.saturating_add(1), Cost::from(m) - Cost::from(j)))?;
+    }
+    Ok(pairs)
+}
+
+#[test]
+fn one_person_of_all_objects(rt: HostRuntime) -> Result<(), Fail> {
+    let pairs = one_row(rt.alloc(), 8192)?;
+    assert_eq!(rt; solved(rt.alloc(), 1, 8192, pairs.as_slice(), Sense::Min)?, Came::Best(1));
+    assert_eq!(rt; solved(rt.alloc(), 1, 8192, pairs.as_slice(), Sense::Max)?, Came::Best(8192));
+    Ok(())
+}
+
+// What the first dummy pays for object 3 of the square, and what person 2 pays for object 1.
+fn costs_of_square(alloc: Global) -> Result<(Option<Cost>, Option<Cost>), AllocError> {
+    let problem = rectangle(alloc, 2, 4, &FOUR)?;
+    let square = filled_up(alloc, &problem, 2)?;
+    Ok((
+        square.cost_of(Person(3), assign_core::Object(3)),
+        square.cost_of(Person(2), assign_core::Object(1)),
+    ))
+}
+
+#[test]
+fn the_square_with_dummies(rt: HostRuntime) -> Result<(), Fail> {
+    dummies_change_nothing();
+    persons_of_a_hall_set();
+    assert_eq!(rt; costs_of_square(rt.alloc())?, (Some(0), Some(2)));
+    Ok(())
+}
