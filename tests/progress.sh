@@ -1,6 +1,7 @@
 #!/usr/bin/env bash
 # What is told of a run's progress: on a terminal, which python3's pty stands for, and off it, with --progress and
-# without, in both modes and by shortest paths; and that a report and a status are the same with and without it.
+# without, in both modes and by shortest paths; and that a report and a status are the same with and without it. And what
+# a terminal is told where the problem is to be typed.
 # Wants the built program (rt run in crates/auction_cli, or rt ci) and python3: tests/progress.sh [PROGRAM]
 set -euo pipefail
 top=$(cd "$(dirname "$0")/.." && pwd)
@@ -100,6 +101,26 @@ def on(words, pieces=(WAR,), wait=0.0):
         told += some
     out = run.stdout.read()
     return run.wait(), out, told.decode(), shown(told.decode())
+
+
+def typed(words, problem):
+    """Status, standard output and what the terminal was told, of a run whose problem is typed at a terminal and ended by Ctrl-D."""
+    keys, read = pty.openpty()
+    screen, written = pty.openpty()
+    run = subprocess.Popen([PROGRAM, *words], stdin=read, stdout=subprocess.PIPE, stderr=written)
+    os.close(read)
+    os.close(written)
+    os.write(keys, problem + b"\x04")
+    out = run.stdout.read()
+    status, told = run.wait(), b""
+    while select.select([screen], [], [], 0)[0]:
+        try:
+            told += os.read(screen, 4096)
+        except OSError:
+            break
+    os.close(keys)
+    os.close(screen)
+    return status, out, told.decode()
 
 
 def shown(told):
@@ -229,6 +250,20 @@ persons, (status, out, told) = lasting_paths()
 expect("paths", status == 0 and PATHS.fullmatch(told) and spaced(told), told)
 expect("paths, their report", out.startswith(b"sense min\ncost ") and out.count(b"\nassign ") == persons, out[:99])
 expect("paths, persons", all(some <= every == persons for some, every in assigned(told)), told)
+
+# Where the problem is to be typed, that is said once.
+waiting = "waiting for a problem on standard input; Ctrl-D ends it, --input names a file\r\n"
+answer = b"sense min\ncost 7\nassign 1 1 7\nprice 1 0\n"
+problem, answered = (os.path.join(folder.name, name) for name in ("problem", "answer"))
+for name, text in ((problem, b"1 7"), (answered, answer)):
+    with open(name, "wb") as file:
+        file.write(text)
+seen = typed(["solve", "--prices"], b"1\n7\n")
+expect("a typed problem", seen[0] == 0 and seen[1].startswith(b"sense min\ncost 7\n") and seen[2] == waiting, seen)
+seen = typed(["verify", answered], b"1 7\n")
+expect("a typed problem of a report", seen == (0, b"verified cost 7\n", waiting), seen)
+seen = typed(["solve", "--input", problem], b"")
+expect("a problem in a file", seen == (0, b"sense min\ncost 7\nassign 1 1 7\n", ""), seen)
 
 # A standard error that fails ends it.
 for name in ("/dev/full", None):

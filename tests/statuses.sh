@@ -138,6 +138,9 @@ expect '3 1 1 4 2 1 6 3 2 1 3 3 2' 0 'verified infeasible\n' '' verify --sparse 
 expect '3 1 1 4 2 1 6 3 2 1 3 3 2' 5 'not verified: sense\n' '' verify --sparse --sense max "$work/refusal"
 firsts 0 'Read a problem from standard input, and write a best assignment or why there is none' '' solve --help
 firsts 0 'Read a problem from standard input, and check a report on it' '' verify --help
+hint=$'\n\nFor more information, try \'--help\'.\n\nTo read the problem from a file, write \'--input\' before its name.'
+expect '1 7' 2 '' $'error: unexpected argument \'costs.txt\' found\n\nUsage: auction_cli solve [OPTIONS]'"$hint" solve costs.txt
+expect '1 7' 2 '' $'error: unexpected argument \'costs.txt\' found\n\nUsage: auction_cli verify [OPTIONS] <REPORT>'"$hint" verify "$work/report" costs.txt
 firsts 0 'Solve assignment problems and check reports; the problem comes on standard input' '' --help
 expect '' 0 'auction_cli 2.0.0\n' '' --version
 firsts 2 '' "error: unexpected argument '-V' found" -V

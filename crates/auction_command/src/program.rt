@@ -21,7 +21,7 @@ use assign_core::Sense;
 use async_workers::OpenGate;
 use clap::Error;
 use report::{WriteFault, write_text};
-use std::alloc::Global;
+use std::alloc::{AllocError, Global};
 use std::convert::AsStr;
 use std::fmt::Write as FmtWrite;
 use std::io::{Read, Write};
@@ -139,6 +139,26 @@ fn fail<E: Write>(e: &mut E, fault: CliFault) -> ProgramEnd
     }
 }
 
+// What stands beneath clap's words where they are of a word that could be the problem's file.
+const FILE_HINT: &str = "
+To read the problem from a file, write '--input' before its name.
+";
+
+// Whether clap's words are of such a word: one that it has no place for, and that is no option.
+fn may_be_file(text: &str) -> bool {
+    text.starts_with("error: unexpected argument '")
+        && !text.starts_with("error: unexpected argument '-")
+}
+
+// What clap has to say, with a hint where one may help.
+fn text_of(alloc: Global, error: &Error) -> Result<String, AllocError> {
+    let mut text = format!(in alloc; "{error}")?;
+    if may_be_file(text.as_str()) {
+        text.push_str(FILE_HINT)?;
+    }
+    Ok(text)
+}
+
 // Prints what clap has to say: help that was asked for, or why the words are refused.
 fn refuse<W: Write, E: Write>(alloc: Global, error: Error, w: &mut W, e: &mut E) -> ProgramEnd
     ensures output { (words : List Text) → WordsOutcome words (Err (Clap error))
@@ -146,7 +166,7 @@ fn refuse<W: Write, E: Write>(alloc: Global, error: Error, w: &mut W, e: &mut E)
     ensures errors { (words : List Text) → WordsOutcome words (Err (Clap error))
         → ErrorOutcome (Ok words) (E.contents e.old) (E.contents e.new) result }
 {
-    let text = match format!(in alloc; "{error}") {
+    let text = match text_of(alloc, &error) {
         Ok(text) => text,
         Err(_) => return fail(e, CliFault::Memory),
     };
@@ -282,7 +302,7 @@ fn solve_named<F: Files, R: Read, W: Write, E: Write, V: Watch + Sync>(
 }
 
 // Checks a report on the problem of the file that is named for it, or else of the stream.
-fn verify_named<F: Files, R: Read, W: Write, E: Write>(
+fn verify_named<F: Files, R: Read, W: Write, E: Write, V: Watch + Sync>(
     alloc: Global,
     sparse: bool,
     wanted: Option<Sense>,
@@ -292,6 +312,7 @@ fn verify_named<F: Files, R: Read, W: Write, E: Write>(
     r: &mut R,
     w: &mut W,
     e: &mut E,
+    watch: &V,
 ) -> ProgramEnd
     ensures output { (name : String Global)
         → F.may_open files.now (string_bytes name) (Ok (F.File.remaining report))
@@ -302,6 +323,7 @@ fn verify_named<F: Files, R: Read, W: Write, E: Write>(
     ensures unread { IsReadWhere (option_map string_bytes input ≡ None)
         (R.remaining r.old) (R.remaining r.new) result }
 {
+    watch.begin(false, input.is_some());
     match open_named(files, input) {
         Ok(None) => verify(alloc, sparse, wanted, report, r, w, e),
         Ok(Some(mut input)) => verify(alloc, sparse, wanted, report, &mut input, w, e),
@@ -343,7 +365,9 @@ fn run_asked<F: Files, R: Read, W: Write, E: Write, V: Watch + Sync>(
             report,
             input,
         } => match files.open(report.as_str()) {
-            Ok(report) => verify_named(alloc, sparse, sense, input, report, files, r, w, e),
+            Ok(report) => {
+                verify_named(alloc, sparse, sense, input, report, files, r, w, e, watch)
+            }
             Err(absent) => tell_absent(Named::Report, absent, e),
         },
     }

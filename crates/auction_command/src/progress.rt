@@ -31,8 +31,8 @@ pub struct Progress {
 /// Who is told how far a run is. A method may be called by several threads at once, and often, so it
 /// should cost little; it can't stop the run.
 pub trait Watch {
-    /// A run of `solve` begins: whether the words ask for its progress, and whether they name a file
-    /// for the problem.
+    /// A run begins: whether the words ask for its progress, and whether they name a file for the
+    /// problem. A run of `verify` is told as one that nobody asked to tell more of.
     fn begin(&self, asked: bool, named: bool);
 
     /// So many bytes of the problem are read by now.

@@ -24,6 +24,10 @@ const SLOW: u64 = 10_000;
 
 const FASTER: &str = "; --method paths may be faster";
 
+// What is told where nothing comes unless it is typed.
+const WAITING: &str =
+    "waiting for a problem on standard input; Ctrl-D ends it, --input names a file\n";
+
 // No time: nothing is told any more, or not yet.
 const NEVER: u64 = u64::MAX;
 
@@ -155,7 +159,8 @@ pub struct Teller<C> {
 }
 
 impl<C: Console> Teller<C> {
-    /// Begins to count the time. On a terminal one line is written over, and typing isn't disturbed.
+    /// Begins to count the time. On a terminal one line is written over, and typing isn't disturbed:
+    /// where the problem is to be typed, a line says so once.
     pub fn new(console: C, in_place: bool, typed: bool) -> Teller<C> {
         let began = console.now();
         Teller {
@@ -264,6 +269,9 @@ impl<C: Console> Watch for Teller<C> {
             let wait = if asked { BETWEEN } else { UNASKED };
             self.next
                 .store(began.saturating_add(wait), Ordering::SeqCst);
+        }
+        if self.typed && self.in_place && !named {
+            self.put(WAITING);
         }
     }
 

@@ -198,7 +198,7 @@ fn sparse_flag<'a>(alloc: Global) -> Arg<'a>
     flag(
         alloc,
         "sparse",
-        "The problem names the pairs that are allowed: a person, an object and a cost each",
+        "The problem names the allowed pairs: a person, an object and a cost each",
     )
 }
 
@@ -275,7 +275,7 @@ fn method_option<'a>(alloc: Global) -> Arg<'a>
         "METHOD",
         "auction",
         METHODS.as_slice(),
-        "Solve by an auction, or by shortest paths, which make no use of --mode, --workers and --refresh",
+        "Solve by an auction, or by shortest paths; --mode, --workers and --refresh\nare the auction's",
     )
 }
 
@@ -310,7 +310,7 @@ fn plain_solve_command<'a>(alloc: Global) -> Result<Command<'a>, AllocError>
         .arg(flag(
             alloc,
             "prices",
-            "Write the objects' prices too, by which anybody can check that no assignment is better",
+            "Write the objects' prices too, which prove that no assignment is better",
         ))?
         .arg(start_option(alloc))
 }
@@ -326,7 +326,7 @@ fn solve_command<'a>(alloc: Global) -> Result<Command<'a>, AllocError>
             "mode",
             "MODE",
             "rounds",
-            "Solve in rounds, or by workers that bid at any time: rounds or workers",
+            "Solve in rounds, or by workers that bid at any time:\nrounds or workers",
         ))?
         .arg(numbered(
             alloc,
@@ -342,7 +342,7 @@ fn solve_command<'a>(alloc: Global) -> Result<Command<'a>, AllocError>
             "R",
             "1",
             (0, MOST_REFRESH),
-            "After how many turns a worker takes the newest prices, 0 to 1000000; 0: only after a bid that was too low",
+            "After how many turns a worker takes the newest prices, 0 to 1000000;\n0: only after a bid that was too low",
         ))?
         .arg(flag(
             alloc,

@@ -122,6 +122,50 @@ fn lines_that_are_refused(rt: HostRuntime) -> Result<(), Fail> {
     Ok(())
 }
 
+const FILE_HINT: &[u8] = b"\n\nTo read the problem from a file, write '--input' before its name.\n";
+
+// The option is named beneath clap's words where one of the words may be the problem's file.
+#[test]
+fn a_file_without_its_option(rt: HostRuntime) -> Result<(), Fail> {
+    for (line, is_hinted) in [
+        ("solve costs.txt", true),
+        ("solve --max costs.txt --prices", true),
+        ("verify report costs.txt", true),
+        ("solve --fast", false),
+        ("solve --input", false),
+        ("costs.txt", false),
+        ("verify", false),
+    ] {
+        let seen = run_with(&rt, rt.alloc(), line, TEXT, REPORT, 100)?;
+        assert_eq!(rt; seen.status, 2);
+        assert!(rt;
+            seen.errors.as_slice().ends_with(FILE_HINT) == is_hinted,
+            "{line}"
+        );
+    }
+    Ok(())
+}
+
+// How long the longest line is.
+fn width(text: &[u8]) -> usize {
+    let (mut most, mut columns) = (0, 0);
+    for byte in text {
+        columns = if *byte == b'\n' { 0 } else { columns + 1 };
+        most = most.max(columns);
+    }
+    most
+}
+
+#[test]
+fn help_has_short_lines(rt: HostRuntime) -> Result<(), Fail> {
+    for line in ["--help", "solve --help", "verify --help"] {
+        let seen = run_with(&rt, rt.alloc(), line, TEXT, REPORT, 100)?;
+        let columns = width(seen.out.as_slice());
+        assert!(rt; columns > 50 && columns <= 100, "{line}: {columns}");
+    }
+    Ok(())
+}
+
 // The program's own name may be any text.
 #[test]
 fn no_name(rt: HostRuntime) -> Result<(), Fail> {

@@ -350,3 +350,25 @@ fn a_long_auction_is_told_what_is_faster(rt: HostRuntime) -> Result<(), Fail> {
     }
     Ok(())
 }
+
+const WAITING: &str =
+    "waiting for a problem on standard input; Ctrl-D ends it, --input names a file\n";
+
+// A run whose problem is to be typed says so where somebody sees it.
+#[test]
+fn a_typed_problem_is_waited_for(rt: HostRuntime) -> Result<(), Fail> {
+    for (in_place, typed, named, wanted) in [
+        (true, true, false, WAITING),
+        (true, true, true, ""),
+        (true, false, false, ""),
+        (false, true, false, ""),
+    ] {
+        let written = RefCell::new(Vec::new(rt.alloc()));
+        let teller = Teller::new(new_screen(&written, 600, 9), in_place, typed);
+        teller.begin(false, named);
+        teller.bytes(12_345_678);
+        drop(teller);
+        assert_eq!(rt; written.into_inner().as_slice(), wanted.as_bytes());
+    }
+    Ok(())
+}
