@@ -11,7 +11,7 @@ use assign_core::{Cost, GREATEST_COST, GREATEST_FIRST_PRICE, Outcome, Price, Sen
 use rounds::{Alone, InPieces, LEAST_PAIRS, Offering, solve_rounds_by};
 use std::alloc::{AllocError, Global};
 use std::thread::Threads;
-use test_helpers::{Pair, draw, first_prices, next_number, numbers_of, scaled_of, size};
+use test_helpers::{Pair, draw, first_prices, numbers_of, scaled_of, size};
 
 // Persons 1 and 2 list objects 1 and 2 at costs 1, 2 and 3, 5.
 const TWO_PERSONS: [Pair; 4] = [(1, 1, 1), (1, 2, 2), (2, 1, 3), (2, 2, 5)];
