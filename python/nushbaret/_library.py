@@ -1,4 +1,5 @@
 """The shared library, by ctypes: where it is, its calls, codes and limits. The codes are those of c/nushbaret.h."""
+import contextlib
 import ctypes
 import pathlib
 import threading
@@ -66,6 +67,8 @@ def _load():
         call.argtypes = sense + [ctypes.c_size_t] * 2 + [ctypes.c_void_p, ctypes.c_size_t] * lists + [ctypes.c_void_p]
         call.restype = ctypes.c_int32
         _calls[name] = call
+    with contextlib.suppress(MemoryError):
+        bytes(_KEPT)
     # Without types, so that what is made ready isn't looked at once more.
     _calls["dense, made ready"] = library["nushbaret_dense"]
 
@@ -83,6 +86,9 @@ class Lent:
 
 
 _SPARE = array("Q", [0])
+# A block of this size, which nobody writes to, makes the C library of GNU keep up to twice as much for later calls once it is freed.
+# Otherwise each call on a large problem takes all its pages from the system again, which takes about as long as to solve it.
+_KEPT = 2**25 - 2**16
 # NumPy tells an array's address slowly: up to so many numbers a copy is had sooner.
 FEW = 1024
 _FEW_BYTES = 8 * FEW

@@ -50,6 +50,7 @@ class Asked(unittest.TestCase):
             flat = [cost for row in costs for cost in row]
             self.assertEqual(asked(lambda: nushbaret.solve_sparse(n_rows, n_columns, rows, columns, flat)), [("sparse", n, m, cells)])
             result = nushbaret.solve(costs)
+            self.assertEqual(len(result.row_duals), n_rows)
             self.assertEqual([call[:3] for call in asked(result.verify)], [("check", n, m)])
             self.assertEqual(asked(lambda: nushbaret.solve(costs, start=result)), [("dense_from", n, m, cells)])
 

@@ -6,7 +6,7 @@ from decimal import Decimal
 from fractions import Fraction
 
 import nushbaret
-from nushbaret import _library as library
+from nushbaret import _library as library, _proved as proved
 from drawn import best, drawing, matrix
 
 
@@ -170,7 +170,7 @@ class Drawn(unittest.TestCase):
 
 class Duals(unittest.TestCase):
     def test_prices_of_any_slack_that_proves_give_whole_duals(self):
-        """Prices needn't be multiples of the unit: here each is raised by 0 or 1, as slackness 1 allows, and all by one number."""
+        """Prices needn't be multiples of the unit: here such are raised by 0 or 1, as slackness 1 allows, and all by one number."""
         draw, settled = drawing(8), 0
         for _ in range(300):
             n_rows, n_columns = draw.randint(1, 5), draw.randint(1, 5)
@@ -179,8 +179,9 @@ class Duals(unittest.TestCase):
             if not result.rows:
                 continue
             answer = result._answer
-            shift = draw.randint(0, 2 * answer.m + 2)
-            prices = [price + shift + draw.randint(0, 1) for price in answer.halves.prices()]
+            unit, shift = answer.m + 1, draw.randint(0, 2 * answer.m + 2)
+            exact = proved._whole_prices(result._problem, answer, len(result.rows))
+            prices = [unit * price + shift + draw.randint(0, 1) for price in exact]
             settled += len(set(prices)) > 1
             result._answer = answer._replace(halves=library.Halves(prices=prices))
             self.assertTrue(proves(costs, result, maximize))
