@@ -148,9 +148,13 @@ fn a_file_without_its_option(rt: HostRuntime) -> Result<(), Fail> {
 
 // How long the longest line is.
 fn width(text: &[u8]) -> usize {
-    let (mut most, mut columns) = (0, 0);
+    let (mut most, mut columns) = (0usize, 0usize);
     for byte in text {
-        columns = if *byte == b'\n' { 0 } else { columns + 1 };
+        columns = if *byte == b'\n' {
+            0
+        } else {
+            columns.saturating_add(1)
+        };
         most = most.max(columns);
     }
     most
