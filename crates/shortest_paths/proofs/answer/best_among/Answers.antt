@@ -1,4 +1,4 @@
-use Rattle.std.proofs.Common.{length, sym, subst}
+use Rattle.std.proofs.Common.{sym, subst}
 use Rattle.assign_core.specs.Rows.{IsAmong}
 use Rattle.shortest_paths.proofs.Deciding.{first_among}
 use Rattle.shortest_paths.proofs.answer.best_among.Goals as goal

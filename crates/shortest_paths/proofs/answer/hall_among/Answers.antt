@@ -1,4 +1,4 @@
-use Rattle.std.proofs.Common.{All, IfOk, IsTrue, ◌≤◌, List, length, rules, subst, sym, take}
+use Rattle.std.proofs.Common.{All, IfOk, IsTrue, ◌≤◌, List, rules, subst}
 use Rattle.std.proofs.lemmas.Result.{IfOk-weaker}
 use Rattle.assign_core.specs.Hall.{IsHallSet}
 use Rattle.assign_core.specs.Rows.{Listing}
