@@ -99,7 +99,7 @@ def solve(costs: Any, maximize: bool = False, decimals: Decimals = None, start: 
 
     Notes
     -----
-    Takes time that grows as the cube of the size at worst, and 16 bytes a pair beside the costs. Runs without the interpreter's
+    Takes time that grows as the cube of the size at worst, and 24 bytes a pair beside the costs. Runs without the interpreter's
     lock, and can't be interrupted while it does.
     """
     return solve_problem(reading.of_matrix(costs, exact.manner(maximize, decimals, missing)), start, partial)
