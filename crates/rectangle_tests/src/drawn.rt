@@ -1,11 +1,12 @@
 // Drawn rectangles beside a slow search.
+ghost use Rattle.std.specs.Prelude.{◌<◌};
 ghost use Rattle.assign_core.specs.Rows.{IsSize};
 
-use super::helpers::{Came, solved, solved_from, tried};
+use super::helpers::{solved, solved_from, tried};
 use assign_core::{Cost, Sense};
 use std::alloc::{AllocError, Global};
 use std::test::Fail;
-use test_helpers::{Pair, draw, drawn_prices, drawn_sense, first_prices};
+use test_helpers::{Pair, draw, drawn_prices, drawn_sense};
 
 // Pairs of n persons and m objects: some `share` of four, at so many costs, half of them below 0.
 fn pairs_among(

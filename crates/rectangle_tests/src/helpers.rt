@@ -99,7 +99,12 @@ fn came_of_best(
     }
 }
 
-fn came_of_hall(alloc: Global, problem: &Problem, n: u16, hall: &HallSet) -> Result<Came, AllocError> {
+fn came_of_hall(
+    alloc: Global,
+    problem: &Problem,
+    n: u16,
+    hall: &HallSet,
+) -> Result<Came, AllocError> {
     let verdict = check_hall(alloc, problem, hall.persons(), hall.objects())?;
     if verdict == HallVerdict::Yes && hall.persons().iter().all(|person| person.0 <= n) {
         Ok(Came::Hall)
@@ -128,7 +133,13 @@ pub fn came_of(
 }
 
 // What the solver comes to.
-pub fn solved(alloc: Global, n: u16, m: u16, pairs: &[Pair], sense: Sense) -> Result<Came, AllocError>
+pub fn solved(
+    alloc: Global,
+    n: u16,
+    m: u16,
+    pairs: &[Pair],
+    sense: Sense,
+) -> Result<Came, AllocError>
     requires persons { IsSize n }
     requires objects { IsSize m }
 {
@@ -167,7 +178,13 @@ fn with_dummies(alloc: Global, n: u16, m: u16, pairs: &[Pair]) -> Result<Vec<Pai
 }
 
 // What a slow search of the square with dummies comes to.
-pub fn tried(alloc: Global, n: u16, m: u16, pairs: &[Pair], sense: Sense) -> Result<Came, AllocError>
+pub fn tried(
+    alloc: Global,
+    n: u16,
+    m: u16,
+    pairs: &[Pair],
+    sense: Sense,
+) -> Result<Came, AllocError>
     requires persons { IsSize n }
     requires objects { IsSize m }
 {

@@ -1,6 +1,6 @@
 // Worked rectangles.
 use super::helpers::{Came, rectangle, solved, solved_from, tried};
-use assign_core::{Cost, Person, Price, Sense};
+use assign_core::{Cost, Object, Person, Sense};
 use rectangles::{dummies_change_nothing, filled_up, persons_of_a_hall_set};
 use std::alloc::{AllocError, Global};
 use std::test::Fail;
@@ -35,7 +35,14 @@ fn two_persons_of_one_object(rt: HostRuntime) -> Result<(), Fail> {
 
 #[test]
 fn more_persons_than_objects_have_none(rt: HostRuntime) -> Result<(), Fail> {
-    let pairs = [(1, 1, 1), (1, 2, 1), (2, 1, 1), (2, 2, 1), (3, 1, 1), (3, 2, 1)];
+    let pairs = [
+        (1, 1, 1),
+        (1, 2, 1),
+        (2, 1, 1),
+        (2, 2, 1),
+        (3, 1, 1),
+        (3, 2, 1),
+    ];
     assert_eq!(rt; solved(rt.alloc(), 3, 2, &pairs, Sense::Min)?, Came::Hall);
     assert_eq!(rt; solved(rt.alloc(), 3, 3, &pairs, Sense::Min)?, Came::Hall);
     Ok(())
@@ -45,9 +52,15 @@ fn more_persons_than_objects_have_none(rt: HostRuntime) -> Result<(), Fail> {
 fn from_first_prices(rt: HostRuntime) -> Result<(), Fail> {
     let alloc = rt.alloc();
     let good = first_prices(alloc, 4, &[1, 0, 0, 0])?;
-    assert_eq!(rt; solved_from(alloc, 2, 4, &FOUR, Sense::Min, good)?, Came::Best(7));
+    assert_eq!(rt;
+        solved_from(alloc, 2, 4, &FOUR, Sense::Min, good)?,
+        Came::Best(7)
+    );
     let bad = first_prices(alloc, 4, &[0, 0, 1_000_000_000_000_000_000_000, 50])?;
-    assert_eq!(rt; solved_from(alloc, 2, 4, &FOUR, Sense::Min, bad)?, Came::Best(7));
+    assert_eq!(rt;
+        solved_from(alloc, 2, 4, &FOUR, Sense::Min, bad)?,
+        Came::Best(7)
+    );
     Ok(())
 }
 
@@ -63,8 +76,14 @@ fn one_row(alloc: Global, m: u16) -> Result<Vec<Pair>, AllocError> {
 #[test]
 fn one_person_of_all_objects(rt: HostRuntime) -> Result<(), Fail> {
     let pairs = one_row(rt.alloc(), 8192)?;
-    assert_eq!(rt; solved(rt.alloc(), 1, 8192, pairs.as_slice(), Sense::Min)?, Came::Best(1));
-    assert_eq!(rt; solved(rt.alloc(), 1, 8192, pairs.as_slice(), Sense::Max)?, Came::Best(8192));
+    assert_eq!(rt;
+        solved(rt.alloc(), 1, 8192, pairs.as_slice(), Sense::Min)?,
+        Came::Best(1)
+    );
+    assert_eq!(rt;
+        solved(rt.alloc(), 1, 8192, pairs.as_slice(), Sense::Max)?,
+        Came::Best(8192)
+    );
     Ok(())
 }
 
@@ -73,8 +92,8 @@ fn costs_of_square(alloc: Global) -> Result<(Option<Cost>, Option<Cost>), AllocE
     let problem = rectangle(alloc, 2, 4, &FOUR)?;
     let square = filled_up(alloc, &problem, 2)?;
     Ok((
-        square.cost_of(Person(3), assign_core::Object(3)),
-        square.cost_of(Person(2), assign_core::Object(1)),
+        square.cost_of(Person(3), Object(3)),
+        square.cost_of(Person(2), Object(1)),
     ))
 }
 
