@@ -3,7 +3,7 @@ from collections import Counter
 from typing import Any, Dict, List, NamedTuple, Optional, Sequence, Set, Tuple
 
 from ._infeasible import Group, Infeasible
-from ._nodes import Listed, Nodes, Swap, changed, face_of, fewest_changes, least_costs, nodes_of, swaps_of
+from ._nodes import Listed, Nodes, Swap, changed, face_of, fewest_changes, least_costs, next_best_more, nodes_of, swaps_of
 from ._roster import PlanLine, Roster
 from ._solving import solve_sparse
 
@@ -109,13 +109,18 @@ def _plan(roster: Roster, wish: Wish, nodes: Nodes, costs: List[int], result: An
     else:
         chosen = fewest_changes(nodes, face, result, wish.kept)
     plan = plan_of(roster, wish.fixed, chosen, rents)._replace(swaps=swaps_of(nodes, face, chosen))
-    # Nodes of one name are alike, and a plan in which they change is no other one.
-    if plan.swaps or not wish.others or roster.counts:
+    if plan.swaps or not wish.others:
         return plan
+    more = _more(roster, nodes, costs, chosen, result)
+    return plan if more is None else plan._replace(next_cost=plan.cost + more * (-1 if wish.maximize else 1))
+
+
+def _more(roster: Roster, nodes: Nodes, costs: List[int], chosen: List[Tuple[int, int]], result: Any) -> Optional[int]:
+    """How much worse the best other plan is. Nodes of one name are alike, and a plan in which they change is no other one."""
+    if roster.counts:
+        return next_best_more(nodes, costs, chosen)
     other = result.next_best()
-    if other is None:
-        return plan
-    return plan._replace(next_cost=plan.cost + (other.cost - result.cost) * (-1 if wish.maximize else 1))
+    return None if other is None else other.cost - result.cost
 
 
 def shortages(nodes: Nodes, found: Infeasible) -> List[Short]:

@@ -10,7 +10,8 @@ is in some best plan and not in all stands, as an arrow from the object to its p
 where it isn't, in a round of such arrows. What stays out is held by one vertex on each side.
 """
 from array import array
-from collections import Counter
+from collections import Counter, deque
+from heapq import heappop, heappush
 from typing import Any, Collection, Dict, List, NamedTuple, Optional, Sequence, Set, Tuple
 
 from ._library import MOST_PERSONS
@@ -268,3 +269,80 @@ def _finished(leads: List[List[int]]) -> List[int]:
                 seen[end] = True
                 way.append((end, iter(leads[end])))
     return order
+
+
+# The best other plan, where no other one is as good.
+
+
+class Changes(NamedTuple):
+    """What each step of a change costs, as arrows from vertex to vertex: persons, then objects from `first_object` on, and from `out`
+    on one vertex for who stays out on each side. A person takes an object, and an object leaves a person that has it."""
+
+    leads: List[Dict[int, int]]
+    first_object: int
+    out: int
+
+
+def _changes(nodes: Nodes, costs: List[int], chosen: List[Pair]) -> Changes:
+    tasks, places = Counter(nodes.of_rows), Counter(nodes.of_columns)
+    first_object = max(tasks, default=0) + 1
+    out = first_object + max(places, default=0) + 1
+    leads: List[Dict[int, int]] = [{} for _ in range(out + 2)]
+    own = set(chosen)
+    for pair, cost in zip(nodes.edges, costs):
+        if pair in own:
+            leads[first_object + pair[1]][pair[0]] = -cost
+        elif pair != NO_PAIR:
+            leads[pair[0]][first_object + pair[1]] = cost
+    had, used = Counter(person for person, _ in chosen), Counter(object_ for _, object_ in chosen)
+    for person in [person for person in tasks if person >= 0]:
+        leads[person][out] = 0
+        leads[out].update({person: 0} if had[person] < tasks[person] else {})
+    for object_ in [object_ for object_ in places if object_ >= 0]:
+        leads[out + 1][first_object + object_] = 0
+        leads[first_object + object_].update({out + 1: 0} if used[object_] < places[object_] else {})
+    return Changes(leads, first_object, out)
+
+
+def _potentials(leads: List[Dict[int, int]]) -> List[int]:
+    """Numbers under which no arrow costs less than 0: Bellman (1958) and Ford, over a graph without a round below 0."""
+    potentials, waiting, waits = [0] * len(leads), deque(range(len(leads))), [True] * len(leads)
+    while waiting:
+        vertex = waiting.popleft()
+        waits[vertex] = False
+        for end, cost in leads[vertex].items():
+            if potentials[vertex] + cost < potentials[end]:
+                potentials[end] = potentials[vertex] + cost
+                if not waits[end]:
+                    waiting.append(end)
+                    waits[end] = True
+    return potentials
+
+
+def _shortest_round(changes: Changes, potentials: List[int], person: int, most: float) -> float:
+    """The least cost of a round of changes in which a person leaves an object; `most` where none costs less (Dijkstra 1959)."""
+    far: Dict[int, float] = {person: 0}
+    waiting: List[Tuple[float, int]] = [(0, person)]
+    while waiting and waiting[0][0] < most:
+        length, vertex = heappop(waiting)
+        if length > far[vertex]:
+            continue
+        for end, cost in changes.leads[vertex].items():
+            longer = length + cost + potentials[vertex] - potentials[end]
+            if end == person:
+                most = min(most, longer) if changes.first_object <= vertex < changes.out else most
+            elif longer < far.get(end, most):
+                far[end] = longer
+                heappush(waiting, (longer, end))
+    return most
+
+
+def next_best_more(nodes: Nodes, costs: List[int], chosen: List[Pair]) -> Optional[int]:
+    """By how much the best other plan with as many pairs costs more than the chosen one, whose cost is to be least; None where there
+    is no other plan. Two plans differ by rounds of changes, in each of which some person leaves an object."""
+    changes = _changes(nodes, costs, chosen)
+    potentials = _potentials(changes.leads)
+    most = float("inf")
+    for person in sorted({person for person, _ in chosen}):
+        most = _shortest_round(changes, potentials, person, most)
+    return None if most == float("inf") else int(most)

@@ -109,15 +109,20 @@ class Others(unittest.TestCase):
         self.assertGreater(found, 50)
 
     def test_places_and_tasks_beside_all_plans(self):
-        draw, found = random.Random(5), 0
+        draw, swapped, told = random.Random(5), 0, 0
         for case in range(CASES):
             costs, tasks, places = PlacesAndTasks().drawn(draw)
-            costs, maximize = {pair: cost % 2 for pair, cost in costs.items()}, draw.random() < 0.5
+            most, maximize = draw.choice((2, 40)), draw.random() < 0.5
+            costs = {pair: cost % most for pair, cost in costs.items()}
             roster = roster_of(len(tasks), len(places), costs, dict(enumerate(tasks)), dict(enumerate(places)))
-            answer = answer_of(roster, Wish((), maximize, True))
+            answer = answer_of(roster, Wish((), maximize, True, None, None, True))
+            every = plans(costs, tasks, places)
+            others = {those for those in map(lambda plan: tuple(sorted(plan)), every) if len(those) == len(answer.plan.pairs)}
             with self.subTest(case=case):
-                found += self.judge(answer, costs, plans(costs, tasks, places), maximize)[1]
-        self.assertGreater(found, 50)
+                next_cost, is_free = self.judge(answer, costs, every, maximize)
+                self.assertEqual(next_cost is not None, not is_free and len(others) > 1)
+                swapped, told = swapped + is_free, told + (next_cost is not None)
+        self.assertGreater(min(swapped, told), 50)
 
 
 class Kept(unittest.TestCase):
