@@ -328,19 +328,51 @@ def bottleneck(costs: Any, maximize: bool = False, decimals: Decimals = None, pa
 
 def _best_within(pairs: Problem, served: int) -> Result:
     """The best plan of so many pairs among those whose worst pair is as good as can be."""
-    values = sorted(set(pairs.costs.tolist()), reverse=pairs.maximize)
-    lower, upper, fewest = -1, len(values) - 1, pairs
+    values = _values(pairs)
+    lower, upper, fewest = values.index(_unavoidable(pairs, served, values[0])) - 1, len(values) - 1, pairs
+    # What is wanted is mostly near the least that is possible, where few pairs have to be looked at.
+    width, is_bounded = max(len(values) // 1024, 1), False
     while upper - lower > 1:
-        middle = (lower + upper) // 2
+        middle = (lower + upper) // 2 if is_bounded else min(lower + width, upper - 1)
         tried = _within(fewest, values[middle])
         if most_served(tried) == served:
-            upper, fewest = middle, tried
+            upper, fewest, is_bounded = middle, tried, True
         else:
-            lower = middle
+            lower, width = middle, 2 * width
     result = solve_served(_within(fewest, values[upper]), served)
     if result is None or lower >= 0 and solve_served(_within(pairs, values[lower]), served) is not None:
         raise RuntimeError(f"{values[upper]} was found to be the worst cost that is needed, and the library says otherwise")
     return result
+
+
+def _values(pairs: Problem) -> List[int]:
+    """The different costs, the best first."""
+    values: List[int] = pairs.numpy.unique(pairs.costs).tolist() if pairs.numpy else sorted(set(pairs.costs))
+    return values[::-1] if pairs.maximize else values
+
+
+def _unavoidable(pairs: Problem, served: int, best: int) -> int:
+    """A cost as bad as which some pair of each plan is: where all rows have a pair, the worst of what is best for each; likewise of
+    columns."""
+    worse = min if pairs.maximize else max
+    for count, nodes in ((pairs.n_rows, pairs.persons), (pairs.n_columns, pairs.objects)):
+        if count == served:
+            best = worse(best, *_best_of_each(pairs, nodes))
+    return best
+
+
+def _best_of_each(pairs: Problem, nodes: Any) -> List[int]:
+    """The best cost of each row, or of each column."""
+    if pairs.numpy:
+        order = nodes.argsort(kind="stable")
+        starts = pairs.numpy.flatnonzero(pairs.numpy.diff(nodes[order], prepend=0))
+        better = pairs.numpy.maximum if pairs.maximize else pairs.numpy.minimum
+        costs: List[int] = better.reduceat(pairs.costs[order], starts).tolist()
+        return costs
+    least: Dict[int, int] = {}
+    for node, cost in zip(nodes, pairs.costs):
+        least[node] = (max if pairs.maximize else min)(cost, least.get(node, cost))
+    return list(least.values())
 
 
 def _within(pairs: Problem, worst: int) -> Problem:
