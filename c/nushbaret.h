@@ -135,8 +135,8 @@ int32_t nushbaret_dense(uint32_t sense, size_t n, size_t m,
     struct nushbaret_price *prices, size_t prices_count,
     struct nushbaret_told *told);
 
-/* The same, with m first prices at which the search begins, as those of a similar problem. Whatever they are, the answer
-   is optimal. */
+/* The same, with m first prices, as those of a similar problem. Where n is m the search begins at them if they fit;
+   elsewhere it begins at equal prices. Whatever they are, the answer is optimal. */
 int32_t nushbaret_dense_from(uint32_t sense, size_t n, size_t m,
     const int64_t *costs, size_t costs_count,
     const struct nushbaret_price *first, size_t first_count,
