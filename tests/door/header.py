@@ -11,7 +11,7 @@ CALLS = TOP / "crates/nushbaret/src"
 LISTS = TOP / "crates/lent_lists/src"
 HEADER = re.sub(r"/\*.*?\*/", "", (TOP / "c/nushbaret.h").read_text(), flags=re.S)
 NUMBERS = {"u8": "uint8_t", "u16": "uint16_t", "u32": "uint32_t", "u64": "uint64_t", "usize": "size_t", "i32": "int32_t", "i64": "int64_t",
-           "Halves": "struct nushbaret_price", "Told": "struct nushbaret_told"}
+           "SplitPrice": "struct nushbaret_price", "Told": "struct nushbaret_told"}
 # What a code's variant is called in the header, where that isn't its own name.
 CALLED = {"Verdict::Length": "ANSWER_LENGTH", "Verdict::PriceRange": "PRICE_RANGE", "HallVerdict::Range": "HALL_RANGE", "HallVerdict::Order": "HALL_ORDER",
           "HallVerdict::Missing": "HALL_MISSING", "HallVerdict::Extra": "HALL_EXTRA", "HallVerdict::Count": "HALL_COUNT"}
@@ -72,7 +72,7 @@ compare("calls", sorted(declared), sorted(calls))
 for name in sorted(calls.keys() & declared.keys()):
     compare(name, declared[name], calls[name])
 compare("codes", dict(sorted((name, int(code)) for name, code in re.findall(r"NUSHBARET_(\w+) = (\d+)", HEADER))), dict(sorted(crate_codes())))
-compare("nushbaret_price", fields("nushbaret_price"), crate_fields("halves.rt", "Halves"))
+compare("nushbaret_price", fields("nushbaret_price"), crate_fields("split_price.rt", "SplitPrice"))
 compare("nushbaret_told", fields("nushbaret_told"), crate_fields("told.rt", "Told"))
 text = (TOP / "crates/assign_core/src/numbers.rt").read_text().replace("_", "")
 for name in ["MOST_PERSONS", "GREATEST_COST"]:

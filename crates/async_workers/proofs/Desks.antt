@@ -10,7 +10,7 @@ use Rattle.async_workers.specs.declared.rule.View.{View}
 use Rattle.async_workers.specs.declared.rule.View.TheVariants.{Away}
 use Rattle.async_workers.specs.Desk.{DeskData, new_desk, new_desks}
 use Rattle.async_workers.specs.Turns.{CanTurn}
-use Rattle.async_workers.specs.Views.{first_known, told_first}
+use Rattle.async_workers.specs.Views.{first_known, first_session}
 
 -- a new desk made of these parts
 abbrev pub desk_of : BookData → ScaledProblem → TableId → View → ℕ → Known → DeskData
@@ -18,7 +18,7 @@ desk_of b base place view number known = record (new_desk place b number) { base
 
 -- one desk more
 pub desks_more : (place p : TableId) (b : BookData) (made : ℕ) (base : ScaledProblem) (view : View) (table : List ℤ) (known : Known) (before between after : List DeskData) →
-    base ≡ b.base → p ≡ place → view ≡ Away (told_first b (made + 1)) → table ≡ prices_of b → (let k : Known = first_known b (made + 1) in known ≡ record k { table = table }) → before ≡ new_desks place b made → between ≡ before →
+    base ≡ b.base → p ≡ place → view ≡ Away (first_session b (made + 1)) → table ≡ prices_of b → (let k : Known = first_known b (made + 1) in known ≡ record k { table = table }) → before ≡ new_desks place b made → between ≡ before →
     after ≡ between ++ desk_of b base p view (made + 1) known ∷ [] → after ≡ new_desks place b (made + 1)
 desks_more place p b made base view table known before between after same_base same_place same_view same_table same_known was kept is =
     let k : Known = first_known b (made + 1) in

@@ -10,21 +10,21 @@ use Rattle.auction_book.proofs.Following.{caught_up_follows, follows_itself}
 use Rattle.auction_book.proofs.OtherChanges.{caught_up_free}
 use Rattle.auction_book.proofs.Runs.{IsOwn, caught_up_own, own_kept}
 use Rattle.async_workers.specs.declared.rule.Known.{Known}
-use Rattle.async_workers.specs.declared.rule.Told.{Told}
+use Rattle.async_workers.specs.declared.rule.LastSession.{LastSession}
 use Rattle.async_workers.specs.declared.rule.View.TheVariants.{Away, Holding}
 use Rattle.async_workers.specs.PlaceRule.{Gave, Took}
-use Rattle.async_workers.specs.Desk.{DeskData, IsAway, told_by}
+use Rattle.async_workers.specs.Desk.{DeskData, IsAway, session_by}
 use Rattle.async_workers.specs.inside.Hand.{IsInHand}
 use Rattle.async_workers.specs.Session.{counted, with_table}
 use Rattle.async_workers.specs.Turns.{Serves, WorksOn}
-use Rattle.async_workers.specs.Views.{told_of}
+use Rattle.async_workers.specs.Views.{known_after}
 use Rattle.async_workers.proofs.Extending.{extends_by, extends_by_through, extends_through}
 use Rattle.async_workers.proofs.Steps.{same_held}
 
 -- a take
 pub hand_taken : (d e : DeskData) (b taken put : BookData) → IsAway d taken put → Took d.view b e.view → e ≡ record d { view = e.view; offer = None } → IsInHand e b b
 hand_taken d e b taken put away took same =
-    let t : Told = told_by d taken put in
+    let t : LastSession = session_by d taken put in
     let k = took t away in
     subst (λ (e : DeskData). IsInHand e b b) (sym same) record {
       told = t;
@@ -94,9 +94,9 @@ hand_kept_up d e taken b new hand is_e is_new =
 
 -- a session, from its take to its give
 pub serves : (EndsSo : BookData → Known → BookData → Bool → Type 0) (d e f k : DeskData) (b new : BookData) (caught : Bool) (taken put : BookData) → IsAway d taken put → Took d.view b e.view → e ≡ record d { view = e.view; offer = None } → f ≡ record e { known = f.known } → IsInHand f b new →
-    EndsSo b f.known new caught → Gave f.known f.view new k.view → k ≡ counted caught (record f { view = k.view; known = told_of f.known new }) → Serves d k EndsSo
+    EndsSo b f.known new caught → Gave f.known f.view new k.view → k ≡ counted caught (record f { view = k.view; known = known_after f.known new }) → Serves d k EndsSo
 serves EndsSo d e f k b new caught taken put away took same is_f hand ends gave now =
-    let t : Told = told_by d taken put in
+    let t : LastSession = session_by d taken put in
     let takes = took t away in
     let f_is : f ≡ record d { view = e.view; offer = None; known = f.known } = is_f ∙ ap (λ (e : DeskData). record e { known = f.known }) same in
     let view : Holding hand.told b ≡ Holding t b = sym hand.holding ∙ ap (λ (d : DeskData). d.view) is_f ∙ takes.view in
@@ -106,13 +106,13 @@ serves EndsSo d e f k b new caught taken put away took same is_f hand ends gave 
       left = f.known;
       caught = caught;
       free = takes.free;
-      told = λ a p away. (took (told_by d a p) away).told;
-      number = sym hand.same_number ∙ ap (λ (t : Told). t.known.number) (same_held hand.told t b b view).0;
+      told = λ a p away. (took (session_by d a p) away).told;
+      number = sym hand.same_number ∙ ap (λ (t : LastSession). t.known.number) (same_held hand.told t b b view).0;
       may = hand.may;
       ends = ends;
-      away = subst (λ (k : DeskData). k.view ≡ Away (told_by k b new)) (sym now)
-          (gave hand.told b hand.holding hand.same_number ∙ (λ i. Away (record { base = sym hand.same_base i; known = told_of f.known new; taken = b; put = new })));
-      desk = now ∙ ap (λ (f' : DeskData). counted caught (record f' { view = k.view; known = told_of f.known new })) f_is;
+      away = subst (λ (k : DeskData). k.view ≡ Away (session_by k b new)) (sym now)
+          (gave hand.told b hand.holding hand.same_number ∙ (λ i. Away (record { base = sym hand.same_base i; known = known_after f.known new; taken = b; put = new })));
+      desk = now ∙ ap (λ (f' : DeskData). counted caught (record f' { view = k.view; known = known_after f.known new })) f_is;
     }
 
 -- and what a run relies on of it
@@ -125,6 +125,6 @@ serves_on EndsSo d k s = record {
 }
 
 -- the problem of a desk is that of the book in hand, so its table has a price for each object
-pub table_long : (f k : DeskData) (b new : BookData) (caught : Bool) → IsInHand f b new → k ≡ counted caught (record f { view = k.view; known = told_of f.known new }) → length k.known.table ≡ length k.base.problem
+pub table_long : (f k : DeskData) (b new : BookData) (caught : Bool) → IsInHand f b new → k ≡ counted caught (record f { view = k.view; known = known_after f.known new }) → length k.known.table ≡ length k.base.problem
 table_long f k b new caught hand now =
     ap (λ (d : DeskData). length d.known.table) now ∙ hand.may.below.long ∙ hand.may.free.sizes.priced ∙ ap (λ (s : ScaledProblem). length s.problem) (sym hand.same_base ∙ sym (ap (λ (d : DeskData). d.base) now))

@@ -9,13 +9,13 @@ use Rattle.assign_core.specs.Numbered.{IsNumber, numbered}
 use Rattle.auction_book.specs.Book.{BookData}
 use Rattle.auction_book.specs.Free.{IsFree}
 use Rattle.async_workers.specs.declared.rule.Known.{Known}
-use Rattle.async_workers.specs.declared.rule.Told.{Told}
+use Rattle.async_workers.specs.declared.rule.LastSession.{LastSession}
 use Rattle.async_workers.specs.declared.rule.View.{View}
 use Rattle.async_workers.specs.declared.rule.View.TheVariants.{Fresh, Opening, Away, Holding, Meeting, Spent}
-use Rattle.async_workers.specs.Views.{claim_in, claim_with, desk_made, keeps_empty, met, opener_next, told_at, told_first}
+use Rattle.async_workers.specs.Views.{claim_in, claim_with, desk_made, keeps_empty, met, opener_next, session_at, first_session}
 use Rattle.async_workers.specs.inside.Passing.{opener_at}
-use Rattle.async_workers.specs.PlaceRule.{ExtendsBy, Fits, Gave, HasItsNumber, IsRunning, IsTold, IsUnopened, IsUntouched, MayFollow, Rule, Takes, Took, content}
-use Rattle.async_workers.specs.inside.Passing.{IsClosing, IsVacant, MetIsTold}
+use Rattle.async_workers.specs.PlaceRule.{ExtendsBy, Fits, Gave, HasItsNumber, IsRunning, IsCurrent, IsUnopened, IsUntouched, MayFollow, Rule, Takes, Took, content}
+use Rattle.async_workers.specs.inside.Passing.{IsClosing, IsVacant, MetIsCurrent}
 use Rattle.async_workers.proofs.Extending.{extends_itself, extends_through, own_extended}
 use Rattle.async_workers.proofs.Untouched.{first_told}
 
@@ -48,13 +48,13 @@ running : (items : List BookData) (views : List View) (pass : ℕ) (v : View) �
 running items views pass v rule at other =
     ⊎_elim (λ (x : IsUnopened items views). absurd (other (only_fresh views pass v x.1 at))) (λ (x : IsRunning items views). x) rule
 
-fresh_away : (t : Told) → Fresh ≢ Away t
+fresh_away : (t : LastSession) → Fresh ≢ Away t
 fresh_away t e = cc
 
-fresh_holding : (t : Told) (b : BookData) → Fresh ≢ Holding t b
+fresh_holding : (t : LastSession) (b : BookData) → Fresh ≢ Holding t b
 fresh_holding t b e = cc
 
-fresh_meeting : (t : Told) (b : BookData) (u : Told) → Fresh ≢ Meeting t b u
+fresh_meeting : (t : LastSession) (b : BookData) (u : LastSession) → Fresh ≢ Meeting t b u
 fresh_meeting t b u e = cc
 
 fresh_opening : (b : BookData) (n : ℕ) → Fresh ≢ Opening b n
@@ -69,7 +69,7 @@ claim_kept b c number k (Some person) follows other is =
     ap (λ x. claim_with x b.ask) is ∙ ap (λ a. claim_with (Some person) a) asked ∙ sym (ap (λ x. claim_with x c.ask) (follows.claims k other ∙ is))
 
 -- what a desk was told stays true through a change by another worker
-told_kept : (b c : BookData) (number : ℕ) (t : Told) → IsFree b → IsTold b t → ExtendsBy number b c → (b.stopped ≡ true → c.stopped ≡ true) → t.known.number ≢ number → IsTold c t
+told_kept : (b c : BookData) (number : ℕ) (t : LastSession) → IsFree b → IsCurrent b t → ExtendsBy number b c → (b.stopped ≡ true → c.stopped ≡ true) → t.known.number ≢ number → IsCurrent c t
 told_kept b c number t free told follows stays other =
     let on = follows.goes_on in
     let own = own_extended b c t.known.table t.known.version free on told.below told.earlier in
@@ -108,7 +108,7 @@ others_taken b holder made pass_of pass j (Meeting t taken u) empty apart f = ab
 others_taken b holder made pass_of pass j Spent empty apart f = λ e. apart (sym (some-injective pass j e))
 
 -- take
-takes : (pass : ℕ) (t : Told) → Pops Rule pass (Away t) (λ x w. Takes t x w)
+takes : (pass : ℕ) (t : LastSession) → Pops Rule pass (Away t) (λ x w. Takes t x w)
 takes pass t x items views rule at =
     let g : IsRunning (x ∷ items) views = running (x ∷ items) views pass (Away t) rule at (fresh_away t) in
     let lies = lies_there g.holder g.book x items g.place in
@@ -126,7 +126,7 @@ takes pass t x items views rule at =
         held = λ q e. (w, subst (λ q. get_elem? (set views pass w) q ≡ some w) (some-injective pass q e) (set_here views pass w (there_is views pass (Away t) at)), refl);
         each = each_set F views pass w (refl, lies.1, mine.1, mine.2) (λ j u apart e. others_taken g.book g.holder g.made g.pass_of pass j u lies.0 apart (g.each j u e));
       },
-      record { view = refl; free = subst IsFree (sym lies.1) g.free; told = subst (λ b. IsTold b t) (sym lies.1) mine.1 },
+      record { view = refl; free = subst IsFree (sym lies.1) g.free; told = subst (λ b. IsCurrent b t) (sym lies.1) mine.1 },
     )
 
 -- the other views when a pass puts the book x in place of b
@@ -142,7 +142,7 @@ others_given b x holder made pass_of pass j number (Meeting t taken u) free held
 others_given b x holder made pass_of pass j number Spent free held apart mine follows stays f = λ e. some-ne-none j (sym e)
 
 -- what the giver was told is true of the book that it puts back
-told_given : (k : Known) (taken x : BookData) → IsFree taken → IsNumber (length taken.claims) k.number → MayFollow k taken x → IsTold x (told_at k taken x)
+told_given : (k : Known) (taken x : BookData) → IsFree taken → IsNumber (length taken.claims) k.number → MayFollow k taken x → IsCurrent x (session_at k taken x)
 told_given k taken x free number may = record {
   taken_free = free;
   put_free = may.free;
@@ -158,12 +158,12 @@ told_given k taken x free number may = record {
 }
 
 -- give
-gives : (pass : ℕ) (t : Told) (taken x : BookData) (k : Known) → t.known.number ≡ k.number → MayFollow k taken x → Pushes Rule 1 pass (Holding t taken) x (λ w. w ≡ Away (told_at k taken x))
+gives : (pass : ℕ) (t : LastSession) (taken x : BookData) (k : Known) → t.known.number ≡ k.number → MayFollow k taken x → Pushes Rule 1 pass (Holding t taken) x (λ w. w ≡ Away (session_at k taken x))
 gives pass t taken x k same may items views room rule at =
     let g : IsRunning items views = running items views pass (Holding t taken) rule at (fresh_holding t taken) in
     let mine = g.each pass (Holding t taken) at in
     let empty : items ≡ [] = g.place ∙ ap (λ h. content h g.book) mine.0 in
-    let w : View = Away (told_at k taken x) in
+    let w : View = Away (session_at k taken x) in
     let F : ℕ → View → Type 0 = Fits x none g.made g.pass_of in
     let free : IsFree taken = subst IsFree (sym mine.1) g.free in
     let number : IsNumber (length taken.claims) k.number = subst (λ (z : BookData × ℕ). IsNumber (length z.0.claims) z.1) (λ i. (sym mine.1 i, same i)) mine.2.number in
@@ -187,7 +187,7 @@ gives pass t taken x k same may items views room rule at =
     )
 
 -- miss: while a pass holds the book, the place is empty
-sees_vacant : (pass : ℕ) (t : Told) (taken : BookData) → Learns Rule pass (Holding t taken) (λ items. items ≡ [])
+sees_vacant : (pass : ℕ) (t : LastSession) (taken : BookData) → Learns Rule pass (Holding t taken) (λ items. items ≡ [])
 sees_vacant pass t taken items views rule at =
     let g : IsRunning items views = running items views pass (Holding t taken) rule at (fresh_holding t taken) in
     let mine = g.each pass (Holding t taken) at in
@@ -219,11 +219,11 @@ others_split b holder made pass_of pass j new Spent held apart f = f
 
 -- split
 splits : (items : List BookData) (views : List View) (pass : ℕ) (b : BookData) (made : ℕ) → IsUntouched b → IsRunning items views → get_elem? views pass ≡ some (Opening b made) → made < length b.claims →
-    IsRunning items (set views pass (Opening b (made + 1)) ++ Away (told_first b (made + 1)) ∷ [])
+    IsRunning items (set views pass (Opening b (made + 1)) ++ Away (first_session b (made + 1)) ∷ [])
 splits items views pass b made untouched g at few =
     let mine = g.each pass (Opening b made) at in
     let left : View = Opening b (made + 1) in
-    let right : View = Away (told_first b (made + 1)) in
+    let right : View = Away (first_session b (made + 1)) in
     let vs : List View = set views pass left in
     let new : ℕ = length vs in
     let long : new ≡ length views = length-set views pass left in
@@ -234,10 +234,10 @@ splits items views pass b made untouched g at few =
     let is : made ≡ g.made = mine.2 in
     let old : (j : ℕ) (u : View) → get_elem? vs j ≡ some u → F j u =
     each_set F views pass left (mine.0, mine.1, ap (λ k. k + 1) mine.2) (λ j u apart e. others_split g.book g.holder g.made g.pass_of pass j new u mine.0 apart (g.each j u e)) in
-    let told : IsTold b (told_first b (made + 1)) = first_told b (made + 1) free untouched (record { first = omega arith; last = omega arith }) in
+    let told : IsCurrent b (first_session b (made + 1)) = first_told b (made + 1) free untouched (record { first = omega arith; last = omega arith }) in
     let added : F new right = (
       (λ e. let same : new ≡ pass = same_pass new pass g.holder e mine.0 in omega arith),
-      subst (λ c. IsTold c (told_first b (made + 1))) mine.1 told,
+      subst (λ c. IsCurrent c (first_session b (made + 1))) mine.1 told,
       (ap (λ k. pass_of (k + 1)) is ∙ with_pass-same g.pass_of (g.made + 1) new, omega arith),
     ) in
     record {
@@ -251,7 +251,7 @@ splits items views pass b made untouched g at few =
       each = λ j u e. ⊎_elim (λ (x : (j ≡ new) × (right ≡ u)). subst (λ (y : ℕ × View). F y.0 y.1) (λ i. (sym x.0 i, x.1 i)) added) (λ x. old j u x) (at_end vs right u j e);
     }
 
-forks : (pass : ℕ) (b : BookData) (made : ℕ) → IsUntouched b → made < length b.claims → Forks Rule pass (Opening b made) (Opening b (made + 1)) (Away (told_first b (made + 1)))
+forks : (pass : ℕ) (b : BookData) (made : ℕ) → IsUntouched b → made < length b.claims → Forks Rule pass (Opening b made) (Opening b (made + 1)) (Away (first_session b (made + 1)))
 forks pass b made untouched few items views rule at =
     inr (splits items views pass b made untouched (running items views pass (Opening b made) rule at (fresh_opening b made)) at few)
 
@@ -279,11 +279,11 @@ unopened : (items : List BookData) (views : List View) (pass : ℕ) → Rule ite
 unopened items views pass rule at = ⊎_elim (λ (x : IsUnopened items views). x) (λ (x : IsRunning items views). absurd (x.each pass Fresh at)) rule
 
 -- the first split brings the book
-forks_first : (pass : ℕ) (b : BookData) → IsFree b → IsUntouched b → 0 < length b.claims → Forks Rule pass Fresh (Opening b 1) (Away (told_first b 1))
+forks_first : (pass : ℕ) (b : BookData) → IsFree b → IsUntouched b → 0 < length b.claims → Forks Rule pass Fresh (Opening b 1) (Away (first_session b 1))
 forks_first pass b free untouched some_worker items views rule at =
     let start : View = Opening b 0 in
     let g = opened_hand items views pass b free (unopened items views pass rule at) at in
-    inr (subst (λ l. IsRunning items (l ++ Away (told_first b 1) ∷ [])) (set-set views pass start (Opening b 1))
+    inr (subst (λ l. IsRunning items (l ++ Away (first_session b 1) ∷ [])) (set-set views pass start (Opening b 1))
     (splits items (set views pass start) pass b 0 untouched g (set_here views pass start (there_is views pass Fresh at)) some_worker))
 
 -- the other views when the opener puts the book in
@@ -323,8 +323,8 @@ opens pass b (suc made) free items views room rule at =
     (Spent, inr (put_in items views pass b (suc made) (running items views pass (Opening b (suc made)) rule at (fresh_opening b (suc made))) at), refl)
 
 -- join
-merged : (items : List BookData) (views : List View) (pass other : ℕ) (v : View) (t : Told) (taken : BookData) (u : Told) (g : IsRunning items views) → get_elem? views pass ≡ some v →
-    (g.holder ≡ some pass) × (taken ≡ g.book) × IsTold g.book t × HasItsNumber g.made g.pass_of pass t → ¬ (other ≡ pass) → get_elem? (set views pass (Meeting t taken u)) other ≡ some (Away u) →
+merged : (items : List BookData) (views : List View) (pass other : ℕ) (v : View) (t : LastSession) (taken : BookData) (u : LastSession) (g : IsRunning items views) → get_elem? views pass ≡ some v →
+    (g.holder ≡ some pass) × (taken ≡ g.book) × IsCurrent g.book t × HasItsNumber g.made g.pass_of pass t → ¬ (other ≡ pass) → get_elem? (set views pass (Meeting t taken u)) other ≡ some (Away u) →
     IsRunning items (set (set views pass (Meeting t taken u)) other Spent)
 merged items views pass other v t taken u g at mine apart theirs_at =
     let both : View = Meeting t taken u in
@@ -349,45 +349,45 @@ merged items views pass other v t taken u g at mine apart theirs_at =
       each = each_set F vs other Spent theirs.0 (λ j y _ e. now j y e);
     }
 
-merges : (pass : ℕ) (t : Told) (taken : BookData) (other : ℕ) (u : Told) → Merges Rule pass (Holding t taken) other (Away u) (Meeting t taken u) Spent
+merges : (pass : ℕ) (t : LastSession) (taken : BookData) (other : ℕ) (u : LastSession) → Merges Rule pass (Holding t taken) other (Away u) (Meeting t taken u) Spent
 merges pass t taken other u items views rule at apart theirs_at =
     let g : IsRunning items views = running items views pass (Holding t taken) rule at (fresh_holding t taken) in
     inr (merged items views pass other (Holding t taken) t taken u g at (g.each pass (Holding t taken) at) apart theirs_at)
 
-merges_more : (pass : ℕ) (t : Told) (taken : BookData) (s : Told) (other : ℕ) (u : Told) → Merges Rule pass (Meeting t taken s) other (Away u) (Meeting t taken u) Spent
+merges_more : (pass : ℕ) (t : LastSession) (taken : BookData) (s : LastSession) (other : ℕ) (u : LastSession) → Merges Rule pass (Meeting t taken s) other (Away u) (Meeting t taken u) Spent
 merges_more pass t taken s other u items views rule at apart theirs_at =
     let g : IsRunning items views = running items views pass (Meeting t taken s) rule at (fresh_meeting t taken s) in
     let mine = g.each pass (Meeting t taken s) at in
     inr (merged items views pass other (Meeting t taken s) t taken u g at (mine.0, mine.1, mine.2, mine.3) apart theirs_at)
 
 -- what a closer learns of the desk that it met last
-hears : (pass : ℕ) (t : Told) (taken : BookData) (u : Told) → Learns Rule pass (Meeting t taken u) (λ items. IsTold taken u)
+hears : (pass : ℕ) (t : LastSession) (taken : BookData) (u : LastSession) → Learns Rule pass (Meeting t taken u) (λ items. IsCurrent taken u)
 hears pass t taken u items views rule at =
     let g : IsRunning items views = running items views pass (Meeting t taken u) rule at (fresh_meeting t taken u) in
     let mine = g.each pass (Meeting t taken u) at in
-    subst (λ b. IsTold b u) (sym mine.1) mine.4
+    subst (λ b. IsCurrent b u) (sym mine.1) mine.4
 
 -- before the first step
 pub begins : Rule [] (Fresh ∷ [])
 begins = inl (refl, refl)
 
 -- the same steps from a view that is known by an equation
-same_told : (t u : Told) → Away t ≡ Away u → t ≡ u
+same_told : (t u : LastSession) → Away t ≡ Away u → t ≡ u
 same_told t u e = cc
 
-pub same_held : (t u : Told) (b c : BookData) → Holding t b ≡ Holding u c → (t ≡ u) × (b ≡ c)
+pub same_held : (t u : LastSession) (b c : BookData) → Holding t b ≡ Holding u c → (t ≡ u) × (b ≡ c)
 same_held t u b c e = (cc, cc)
 
-pub takes_from : (pass : ℕ) (v : View) (t : Told) → v ≡ Away t → Pops Rule pass v (Took v)
+pub takes_from : (pass : ℕ) (v : View) (t : LastSession) → v ≡ Away t → Pops Rule pass v (Took v)
 takes_from pass v t is = subst (λ u. Pops Rule pass u (Took u)) (sym is) (λ x items views rule at.
     let r = takes pass t x items views rule at in (r.0, r.1, λ u e. subst (λ s. Takes s x r.0) (same_told t u e) r.2))
 
-pub gives_from : (pass : ℕ) (v : View) (t : Told) (taken x : BookData) (k : Known) → v ≡ Holding t taken → t.known.number ≡ k.number → MayFollow k taken x → Pushes Rule 1 pass v x (Gave k v x)
+pub gives_from : (pass : ℕ) (v : View) (t : LastSession) (taken x : BookData) (k : Known) → v ≡ Holding t taken → t.known.number ≡ k.number → MayFollow k taken x → Pushes Rule 1 pass v x (Gave k v x)
 gives_from pass v t taken x k is same may = subst (λ u. Pushes Rule 1 pass u x (Gave k u x)) (sym is) (λ items views room rule at.
     let r = gives pass t taken x k same may items views room rule at in
-    (r.0, r.1, λ u c e number. r.2 ∙ ap (λ c. Away (told_at k c x)) (same_held t u taken c e).1))
+    (r.0, r.1, λ u c e number. r.2 ∙ ap (λ c. Away (session_at k c x)) (same_held t u taken c e).1))
 
-pub sees_vacant_from : (pass : ℕ) (v : View) (t : Told) (taken : BookData) → v ≡ Holding t taken → Learns Rule pass v (IsVacant v)
+pub sees_vacant_from : (pass : ℕ) (v : View) (t : LastSession) (taken : BookData) → v ≡ Holding t taken → Learns Rule pass v (IsVacant v)
 sees_vacant_from pass v t taken is = subst (λ u. Learns Rule pass u (IsVacant u)) (sym is) (λ items views rule at _. sees_vacant pass t taken items views rule at)
 
 pub opens_from : (pass : ℕ) (v : View) (b : BookData) (made : ℕ) → IsFree b → v ≡ opener_at b made → Pushes Rule 1 pass v b (λ w. w ≡ Spent)
@@ -417,28 +417,28 @@ pub opener_next-at : (b : BookData) (made : ℕ) → opener_next b (opener_at b 
 opener_next-at b zero = refl
 opener_next-at b (suc made) = rw add-one refl
 
-pub desk_made-at : (b : BookData) (made : ℕ) → desk_made b (opener_at b made) ≡ Away (told_first b (made + 1))
+pub desk_made-at : (b : BookData) (made : ℕ) → desk_made b (opener_at b made) ≡ Away (first_session b (made + 1))
 desk_made-at b zero = refl
 desk_made-at b (suc made) = refl
 
-pub met-closing : (v : View) (t : Told) (taken : BookData) (u : Told) → IsClosing v t taken → met v (Away u) ≡ Meeting t taken u
-met-closing v t taken u c = ⊎_elim (λ (e : v ≡ Holding t taken). ap (λ x. met x (Away u)) e) (λ (e : (s : Told) × (v ≡ Meeting t taken s)). ap (λ x. met x (Away u)) e.1) c
+pub met-closing : (v : View) (t : LastSession) (taken : BookData) (u : LastSession) → IsClosing v t taken → met v (Away u) ≡ Meeting t taken u
+met-closing v t taken u c = ⊎_elim (λ (e : v ≡ Holding t taken). ap (λ x. met x (Away u)) e) (λ (e : (s : LastSession) × (v ≡ Meeting t taken s)). ap (λ x. met x (Away u)) e.1) c
 
-pub merges_from : (pass : ℕ) (v : View) (t : Told) (taken : BookData) (other : ℕ) (w : View) (u : Told) → IsClosing v t taken → w ≡ Away u → Merges Rule pass v other w (met v w) Spent
+pub merges_from : (pass : ℕ) (v : View) (t : LastSession) (taken : BookData) (other : ℕ) (w : View) (u : LastSession) → IsClosing v t taken → w ≡ Away u → Merges Rule pass v other w (met v w) Spent
 merges_from pass v t taken other w u c is = subst (λ y. Merges Rule pass v other y (met v y) Spent) (sym is) (⊎_elim
     (λ (e : v ≡ Holding t taken). subst (λ x. Merges Rule pass x other (Away u) (met x (Away u)) Spent) (sym e) (merges pass t taken other u))
-    (λ (e : (s : Told) × (v ≡ Meeting t taken s)). subst (λ x. Merges Rule pass x other (Away u) (met x (Away u)) Spent) (sym e.1) (merges_more pass t taken e.0 other u))
+    (λ (e : (s : LastSession) × (v ≡ Meeting t taken s)). subst (λ x. Merges Rule pass x other (Away u) (met x (Away u)) Spent) (sym e.1) (merges_more pass t taken e.0 other u))
     c)
 
-same_meeting : (t u s x : Told) (b c : BookData) → Meeting t b s ≡ Meeting u c x → (b ≡ c) × (s ≡ x)
+same_meeting : (t u s x : LastSession) (b c : BookData) → Meeting t b s ≡ Meeting u c x → (b ≡ c) × (s ≡ x)
 same_meeting t u s x b c e = (cc, cc)
 
-hears_from : (pass : ℕ) (v : View) (t : Told) (taken : BookData) (u : Told) → v ≡ Meeting t taken u → Learns Rule pass v (λ items. MetIsTold v)
-hears_from pass v t taken u is = subst (λ x. Learns Rule pass x (λ items. MetIsTold x)) (sym is) (λ items views rule at s b x e.
+hears_from : (pass : ℕ) (v : View) (t : LastSession) (taken : BookData) (u : LastSession) → v ≡ Meeting t taken u → Learns Rule pass v (λ items. MetIsCurrent v)
+hears_from pass v t taken u is = subst (λ x. Learns Rule pass x (λ items. MetIsCurrent x)) (sym is) (λ items views rule at s b x e.
     let same = same_meeting t s u x taken b e in
-    subst (λ (y : BookData × Told). IsTold y.0 y.1) (λ i. (same.0 i, same.1 i)) (hears pass t taken u items views rule at))
+    subst (λ (y : BookData × LastSession). IsCurrent y.0 y.1) (λ i. (same.0 i, same.1 i)) (hears pass t taken u items views rule at))
 
-pub hears_meeting : (pass : ℕ) (v w : View) (t : Told) (taken : BookData) (u : Told) → IsClosing v t taken → w ≡ Away u → Learns Rule pass (met v w) (λ items. MetIsTold (met v w))
+pub hears_meeting : (pass : ℕ) (v w : View) (t : LastSession) (taken : BookData) (u : LastSession) → IsClosing v t taken → w ≡ Away u → Learns Rule pass (met v w) (λ items. MetIsCurrent (met v w))
 hears_meeting pass v w t taken u c is = hears_from pass (met v w) t taken u (ap (met v) is ∙ met-closing v t taken u c)
 
 -- a place of one isn't full and empty at once

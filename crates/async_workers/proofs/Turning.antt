@@ -17,7 +17,7 @@ use Rattle.auction_book.specs.Changes.{given_up}
 use Rattle.auction_book.specs.Claims.{after_claim, claim_of}
 use Rattle.auction_book.specs.Follows.{Follows}
 use Rattle.auction_book.specs.Free.{IsFree}
-use Rattle.auction_book.specs.Schedule.{IsSeat}
+use Rattle.auction_book.specs.Schedule.{IsWorkerState}
 use Rattle.auction_book.specs.Session.{IsPrepared, book_left, book_next, book_kept_up, prepared, table_kept_up, version_kept_up}
 use Rattle.auction_book.proofs.Claiming.{claim_by}
 use Rattle.auction_book.proofs.Following.{given_up_follows}
@@ -26,13 +26,13 @@ use Rattle.auction_book.proofs.Runs.{IsAttended, attended, next_workers, same_of
 use Rattle.auction_book.specs.declared.answers.Note.{Note}
 use Rattle.async_workers.specs.declared.gate.Turn.{Turn}
 use Rattle.async_workers.specs.declared.place.Claimed.{Claimed}
-use Rattle.async_workers.specs.Desk.{DeskData, HeldData, IsAway, told_by}
+use Rattle.async_workers.specs.Desk.{DeskData, HeldData, IsAway, session_by}
 use Rattle.async_workers.specs.inside.Hand.{IsInHand}
 use Rattle.async_workers.specs.declared.rule.Known.{Known}
-use Rattle.async_workers.specs.PlaceRule.{IsTold, Took}
+use Rattle.async_workers.specs.PlaceRule.{IsCurrent, Took}
 use Rattle.async_workers.specs.Session.{EndsUndone, EndsWell, with_table}
-use Rattle.async_workers.specs.Turns.{CanTurn, EndsRun, Faulted, HasOffer, Leaving, Serves, StepsOut, Turned, WorksOn, seat_of, stopped_if, turn_of, without_claim}
-use Rattle.async_workers.specs.Views.{claim_in, claim_with, told_of}
+use Rattle.async_workers.specs.Turns.{CanTurn, EndsRun, Faulted, HasOffer, Leaving, Serves, StepsOut, Turned, WorksOn, state_of, stopped_if, turn_of, without_claim}
+use Rattle.async_workers.specs.Views.{claim_in, claim_with, known_after}
 use Rattle.async_workers.proofs.Hands.{hand_follows}
 use Rattle.async_workers.proofs.Sessions.{next_stopped, taken_stopped}
 
@@ -58,13 +58,13 @@ prepared_from (Some offer) told base table version b worker has is same =
 
 pub prepared_taken : (d e : DeskData) (b taken put : BookData) (offer : Option Offer) → IsAway d taken put → HasOffer d → Took d.view b e.view → e ≡ record d { view = e.view; offer = None } → offer ≡ d.offer → IsPrepared b e.known.number e.known.table e.known.version offer
 prepared_taken d e b taken put offer away has took same is =
-    let told = (took (told_by d taken put) away).told in
+    let told = (took (session_by d taken put) away).told in
     let k = d.known in
     let prepared = prepared_from d.offer k.claim d.base k.table k.version b k.number has told.claim told.base in
     subst (λ (z : DeskData × Option Offer). IsPrepared b z.0.known.number z.0.known.table z.0.known.version z.1) (λ i. (sym same i, sym is i)) prepared
 
 -- a desk is a worker of the core
-seated : (d : DeskData) (b taken put : BookData) → HasOffer d → IsTold b (told_by d taken put) → IsSeat b d.known.number (seat_of d)
+seated : (d : DeskData) (b taken put : BookData) → HasOffer d → IsCurrent b (session_by d taken put) → IsWorkerState b d.known.number (state_of d)
 seated d b taken put has told = record {
   long = told.below;
   earlier = told.earlier;
@@ -101,7 +101,7 @@ event : (refresh : ℕ) (d k : DeskData) (told : Note) (answer : Claim) (taken p
     IsAttended d.known.number g.caught g.taken g.ends.submitted d.known.table d.known.version
 event refresh d k told answer taken put away has g =
     let t = g.told taken put away in
-    attended d.known.number g.caught g.taken g.ends.submitted (seat_of d) g.free t.number (seated d g.taken taken put has t) (told, g.ends.noted)
+    attended d.known.number g.caught g.taken g.ends.submitted (state_of d) g.free t.number (seated d g.taken taken put has t) (told, g.ends.noted)
 
 -- the problem of the book before the claim is the desk's
 event_base : (refresh : ℕ) (d k : DeskData) (told : Note) (answer : Claim) (taken put : BookData) → IsAway d taken put → HasOffer d → (g : Gives refresh d k told answer) →
@@ -112,8 +112,8 @@ event_base refresh d k told answer taken put away has g =
 
 -- what the desk knows, in the words of the core
 given_known : (refresh : ℕ) (d k : DeskData) (told : Note) (answer : Claim) → (g : Gives refresh d k told answer) →
-    k.known ≡ told_of (with_table g.caught g.ends.submitted d.known) (book_left g.caught g.ends.submitted d.known.number)
-given_known refresh d k told answer g = ap (λ (d : DeskData). d.known) g.desk ∙ (λ i. told_of (g.ends.known i) (g.ends.book i))
+    k.known ≡ known_after (with_table g.caught g.ends.submitted d.known) (book_left g.caught g.ends.submitted d.known.number)
+given_known refresh d k told answer g = ap (λ (d : DeskData). d.known) g.desk ∙ (λ i. known_after (g.ends.known i) (g.ends.book i))
 
 -- a desk that has claimed and prepared may take a turn again
 pub can_turn_again : (place : TableId) (refresh : ℕ) (d k e : DeskData) (told : Note) (answer : Claim) → CanTurn place d → Gives refresh d k told answer → e ≡ record k { offer = prepared k.base k.known.table k.known.version answer } → CanTurn place e
@@ -152,7 +152,7 @@ turned refresh place d k e told answer t can g is turn_is =
       claimed = answer;
       given = k;
       serves = g;
-      seat = ap seat_of is ∙ (λ i. record { table = (known i).table; version = (known i).version; offer = offer i; accepted = ((ap (λ (k : Known). k.accepted) known ∙ counts) i) });
+      state = ap state_of is ∙ (λ i. record { table = (known i).table; version = (known i).version; offer = offer i; accepted = ((ap (λ (k : Known). k.accepted) known ∙ counts) i) });
       desk = is ∙ ap (λ o. record k { offer = o }) (sym (ap (λ (d : DeskData). d.offer) is));
       answered = turn_is;
     }

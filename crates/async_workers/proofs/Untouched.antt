@@ -10,8 +10,8 @@ use Rattle.auction_book.specs.Book.{BookData, prices_of}
 use Rattle.auction_book.specs.Free.{IsFree}
 use Rattle.auction_book.specs.Phases.{opened}
 use Rattle.scaled_values.specs.Scaled.{ScaledProblem}
-use Rattle.async_workers.specs.PlaceRule.{IsTold, IsUntouched}
-use Rattle.async_workers.specs.Views.{claim_with, told_first}
+use Rattle.async_workers.specs.PlaceRule.{IsCurrent, IsUntouched}
+use Rattle.async_workers.specs.Views.{claim_with, first_session}
 use Rattle.async_workers.proofs.Extending.{extends_itself}
 
 zero_each : (counts : List ℕ) (k : ℕ) → sum counts ≡ 0 → get_or counts k 0 ≡ 0
@@ -33,7 +33,7 @@ first_earlier log none = record {
 }
 
 -- what a new desk knows is true of the book
-pub first_told : (b : BookData) (number : ℕ) → IsFree b → IsUntouched b → IsNumber (length b.claims) number → IsTold b (told_first b number)
+pub first_told : (b : BookData) (number : ℕ) → IsFree b → IsUntouched b → IsNumber (length b.claims) number → IsCurrent b (first_session b number)
 first_told b number free untouched in_range = record {
   taken_free = free;
   put_free = free;

@@ -5,11 +5,11 @@ use Rattle.scaled_values.specs.Scaled.{ScaledProblem}
 use Rattle.bidder.specs.declared.offers.Offer.{Offer}
 use Rattle.auction_book.specs.Book.{BookData}
 use Rattle.async_workers.specs.declared.rule.Known.{Known}
-use Rattle.async_workers.specs.declared.rule.Told.{Told}
+use Rattle.async_workers.specs.declared.rule.LastSession.{LastSession}
 use Rattle.async_workers.specs.declared.rule.View.{View}
 use Rattle.async_workers.specs.declared.rule.View.TheVariants.{Away, Holding}
-use Rattle.async_workers.specs.PlaceRule.{IsTold, MayFollow}
-use Rattle.async_workers.specs.Views.{first_known, told_first}
+use Rattle.async_workers.specs.PlaceRule.{IsCurrent, MayFollow}
+use Rattle.async_workers.specs.Views.{first_known, first_session}
 
 -- the problem, the place, what the desk's pass knows, what the desk knows, its offer, and how many sessions are over, in
 -- all and since its table last became today's
@@ -29,12 +29,12 @@ pub record HeldData : Type 0 where
   pub caught_up : Bool
 
 -- what the desk knows, where these are the books that it last took and put back
-abbrev pub told_by : DeskData → BookData → BookData → Told
-told_by d taken put = record { base = d.base; known = d.known; taken = taken; put = put }
+abbrev pub session_by : DeskData → BookData → BookData → LastSession
+session_by d taken put = record { base = d.base; known = d.known; taken = taken; put = put }
 
 -- the desk is without the book, having last taken the first book and put back the second
 abbrev pub IsAway : DeskData → BookData → BookData → Type 0
-IsAway d taken put = d.view ≡ Away (told_by d taken put)
+IsAway d taken put = d.view ≡ Away (session_by d taken put)
 
 -- a desk of this place, without the book
 abbrev pub IsReady : TableId → DeskData → Type 0
@@ -42,7 +42,7 @@ IsReady place d = (d.place ≡ place) × ((taken put : BookData) × IsAway d tak
 
 -- the desk has the book that it took in this state
 abbrev pub IsHolding : DeskData → BookData → Type 0
-IsHolding d taken = (t : Told) × (d.view ≡ Holding t taken) × (t.known.number ≡ d.known.number)
+IsHolding d taken = (t : LastSession) × (d.view ≡ Holding t taken) × (t.known.number ≡ d.known.number)
 
 -- the desk may put this book back
 abbrev pub MayGive : DeskData → BookData → Type 0
@@ -50,14 +50,14 @@ MayGive d b = (taken : BookData) × IsHolding d taken × MayFollow d.known taken
 
 -- what the desk was told is true of the book
 abbrev pub IsTrueOf : BookData → DeskData → Type 0
-IsTrueOf b d = (taken put : BookData) → IsAway d taken put → IsTold b (told_by d taken put)
+IsTrueOf b d = (taken put : BookData) → IsAway d taken put → IsCurrent b (session_by d taken put)
 
 -- a desk as a place is opened with it
 abbrev pub new_desk : TableId → BookData → ℕ → DeskData
 new_desk place b number = record {
   base = b.base;
   place = place;
-  view = Away (told_first b number);
+  view = Away (first_session b number);
   known = first_known b number;
   offer = None;
   sessions = 0;

@@ -9,10 +9,10 @@ use Rattle.auction_book.specs.Book.{BookData, prices_of, version_of}
 use Rattle.auction_book.specs.Follows.{Follows, GoesOn}
 use Rattle.auction_book.specs.Free.{IsFree}
 use Rattle.async_workers.specs.declared.rule.Known.{Known}
-use Rattle.async_workers.specs.declared.rule.Told.{Told}
+use Rattle.async_workers.specs.declared.rule.LastSession.{LastSession}
 use Rattle.async_workers.specs.declared.rule.View.{View}
 use Rattle.async_workers.specs.declared.rule.View.TheVariants.{Fresh, Opening, Away, Holding, Meeting, Spent}
-use Rattle.async_workers.specs.Views.{claim_in, keeps_empty, told_at}
+use Rattle.async_workers.specs.Views.{claim_in, keeps_empty, session_at}
 
 -- the later book is of the same problem and number of workers, no price is lower, and its log continues. It may have no
 -- Hall set where one was recorded
@@ -26,9 +26,9 @@ ExtendsBy worker old new = Follows worker (record old { refuted = None }) new
 
 -- what a desk was told is true of the book. Valid books: those that the desk names are free, and of the book's problem
 -- and workers. Prices and logs extend: the book extends the one that the desk put back, its prices are above the
--- desk's table, and the table is the log's as far back as the log reaches. Told facts hold: acceptances, the claim and
--- what is asked of its bid are the book's. Told of a stop: where the desk asked for one the book is stopped
-pub record IsTold (b : BookData) (t : Told) : Type 0 where
+-- desk's table, and the table is the log's as far back as the log reaches. LastSession facts hold: acceptances, the claim and
+-- what is asked of its bid are the book's. LastSession of a stop: where the desk asked for one the book is stopped
+pub record IsCurrent (b : BookData) (t : LastSession) : Type 0 where
   pub taken_free : IsFree t.taken
   pub put_free : IsFree t.put
   pub taken_on : Extends t.taken t.put
@@ -42,16 +42,16 @@ pub record IsTold (b : BookData) (t : Told) : Type 0 where
   pub stopped : t.known.stop ≡ true → b.stopped ≡ true
 
 -- distinct numbers: only this pass has the number of its desk, which is one of those that the opener has given out
-abbrev pub HasItsNumber : ℕ → (ℕ → Maybe ℕ) → ℕ → Told → Type 0
+abbrev pub HasItsNumber : ℕ → (ℕ → Maybe ℕ) → ℕ → LastSession → Type 0
 HasItsNumber made pass_of pass t = (pass_of t.known.number ≡ some pass) × (t.known.number ≤ made)
 
 -- one view and the book, who holds it, and the numbers given out
 abbrev pub Fits : BookData → Maybe ℕ → ℕ → (ℕ → Maybe ℕ) → ℕ → View → Type 0
 Fits b holder made pass_of pass Fresh = ⊥
 Fits b holder made pass_of pass (Opening o n) = (holder ≡ some pass) × (o ≡ b) × (n ≡ made)
-Fits b holder made pass_of pass (Away t) = (holder ≢ some pass) × IsTold b t × HasItsNumber made pass_of pass t
-Fits b holder made pass_of pass (Holding t taken) = (holder ≡ some pass) × (taken ≡ b) × IsTold b t × HasItsNumber made pass_of pass t
-Fits b holder made pass_of pass (Meeting t taken u) = (holder ≡ some pass) × (taken ≡ b) × IsTold b t × HasItsNumber made pass_of pass t × IsTold b u
+Fits b holder made pass_of pass (Away t) = (holder ≢ some pass) × IsCurrent b t × HasItsNumber made pass_of pass t
+Fits b holder made pass_of pass (Holding t taken) = (holder ≡ some pass) × (taken ≡ b) × IsCurrent b t × HasItsNumber made pass_of pass t
+Fits b holder made pass_of pass (Meeting t taken u) = (holder ≡ some pass) × (taken ≡ b) × IsCurrent b t × HasItsNumber made pass_of pass t × IsCurrent b u
 Fits b holder made pass_of pass Spent = holder ≢ some pass
 
 -- the book lies in the place exactly where no pass holds it
@@ -87,10 +87,10 @@ pub record IsUntouched (b : BookData) : Type 0 where
   pub no_acceptances : version_of b ≡ 0
 
 -- what a desk that was told this learns when it takes the book
-pub record Takes (t : Told) (b : BookData) (after : View) : Type 0 where
+pub record Takes (t : LastSession) (b : BookData) (after : View) : Type 0 where
   pub view : after ≡ Holding t b
   pub free : IsFree b
-  pub told : IsTold b t
+  pub told : IsCurrent b t
 
 -- the book that may be put back after a change by one worker: free, extending the book taken by that worker alone,
 -- stopped if that was, and as what the desk knows wants it: its table, the table's version and its having asked for a stop
@@ -103,8 +103,8 @@ pub record MayFollow (k : Known) (taken b : BookData) : Type 0 where
   pub stopped : k.stop ≡ true → b.stopped ≡ true
 
 abbrev pub Took : View → BookData → View → Type 0
-Took before b after = (t : Told) → before ≡ Away t → Takes t b after
+Took before b after = (t : LastSession) → before ≡ Away t → Takes t b after
 
 -- what a desk that knows this learns when it puts the book back
 abbrev pub Gave : Known → View → BookData → View → Type 0
-Gave k before b after = (t : Told) (taken : BookData) → before ≡ Holding t taken → t.known.number ≡ k.number → after ≡ Away (told_at k taken b)
+Gave k before b after = (t : LastSession) (taken : BookData) → before ≡ Holding t taken → t.known.number ≡ k.number → after ≡ Away (session_at k taken b)

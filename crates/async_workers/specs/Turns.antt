@@ -8,20 +8,20 @@ use Rattle.bidder.specs.Offers.{IsOffer}
 use Rattle.auction_book.specs.declared.answers.Claim.{Claim}
 use Rattle.auction_book.specs.declared.answers.Claim.TheVariants as claim
 use Rattle.auction_book.specs.declared.schedule.Event.{Event}
-use Rattle.auction_book.specs.declared.schedule.Seat.{Seat}
+use Rattle.auction_book.specs.declared.schedule.WorkerState.{WorkerState}
 use Rattle.auction_book.specs.Book.{BookData}
 use Rattle.auction_book.specs.Changes.{given_up}
 use Rattle.auction_book.specs.Free.{IsFree}
-use Rattle.auction_book.specs.Schedule.{seat_next}
+use Rattle.auction_book.specs.Schedule.{state_next}
 use Rattle.auction_book.specs.declared.answers.Note.{Note}
 use Rattle.async_workers.specs.declared.gate.Turn.{Turn}
 use Rattle.async_workers.specs.declared.gate.Turn.TheVariants as turn
 use Rattle.async_workers.specs.declared.place.Claimed.{Claimed}
 use Rattle.async_workers.specs.declared.rule.Known.{Known}
-use Rattle.async_workers.specs.Desk.{DeskData, IsAway, IsReady, told_by}
-use Rattle.async_workers.specs.PlaceRule.{Extends, IsTold, MayFollow}
+use Rattle.async_workers.specs.Desk.{DeskData, IsAway, IsReady, session_by}
+use Rattle.async_workers.specs.PlaceRule.{Extends, IsCurrent, MayFollow}
 use Rattle.async_workers.specs.Session.{EndsUndone, EndsWell, counted}
-use Rattle.async_workers.specs.Views.{told_of}
+use Rattle.async_workers.specs.Views.{known_after}
 
 -- a desk with a claim has prepared the offer of its person from its table, and one without a claim has none
 abbrev pub HasOffer : DeskData → Type 0
@@ -34,8 +34,8 @@ pub record CanTurn (place : TableId) (d : DeskData) : Type 0 where
   pub offer : HasOffer d
 
 -- the desk as a worker of the core
-abbrev pub seat_of : DeskData → Seat
-seat_of d = record { table = d.known.table; version = d.known.version; offer = d.offer; accepted = d.known.accepted }
+abbrev pub state_of : DeskData → WorkerState
+state_of d = record { table = d.known.table; version = d.known.version; offer = d.offer; accepted = d.known.accepted }
 
 abbrev pub event_of : DeskData → Bool → Event
 event_of d caught = record { worker = d.known.number; catch_up = caught }
@@ -56,12 +56,12 @@ pub record Serves (d after : DeskData) (EndsSo : BookData → Known → BookData
   pub left : Known
   pub caught : Bool
   pub free : IsFree taken
-  pub told : (a p : BookData) → IsAway d a p → IsTold taken (told_by d a p)
+  pub told : (a p : BookData) → IsAway d a p → IsCurrent taken (session_by d a p)
   pub number : left.number ≡ d.known.number
   pub may : MayFollow left taken put
   pub ends : EndsSo taken left put caught
   pub away : IsAway after taken put
-  pub desk : after ≡ counted caught (record d { view = after.view; known = told_of left put; offer = None })
+  pub desk : after ≡ counted caught (record d { view = after.view; known = known_after left put; offer = None })
 
 -- a turn without a fault: a session that ends well, after which an offer is prepared. Book put back, desk and answer are
 -- what one event of the core makes of the book taken and the desk
@@ -70,7 +70,7 @@ pub record Turned (refresh : ℕ) (d after : DeskData) (answer : Turn) : Type 0 
   pub claimed : Claim
   pub given : DeskData
   pub serves : Serves d given (EndsWell refresh d.since d.known d.offer note claimed)
-  pub seat : seat_of after ≡ seat_next (event_of d serves.caught) serves.ends.submitted (seat_of d)
+  pub state : state_of after ≡ state_next (event_of d serves.caught) serves.ends.submitted (state_of d)
   pub desk : after ≡ record given { offer = after.offer }
   pub answered : answer ≡ turn_of claimed
 

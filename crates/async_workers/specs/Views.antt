@@ -5,7 +5,7 @@ use Rattle.bidder.specs.declared.offers.Ask.{Ask}
 use Rattle.auction_book.specs.Book.{BookData, prices_of}
 use Rattle.async_workers.specs.declared.place.Claimed.{Claimed}
 use Rattle.async_workers.specs.declared.rule.Known.{Known}
-use Rattle.async_workers.specs.declared.rule.Told.{Told}
+use Rattle.async_workers.specs.declared.rule.LastSession.{LastSession}
 use Rattle.async_workers.specs.declared.rule.View.{View}
 use Rattle.async_workers.specs.declared.rule.View.TheVariants.{Fresh, Opening, Away, Holding, Meeting, Spent}
 
@@ -18,12 +18,12 @@ abbrev pub claim_in : BookData → ℕ → Option Claimed
 claim_in b worker = claim_with (numbered b.claims worker None) b.ask
 
 -- what a desk knows once it was told of the book that it put back
-abbrev pub told_of : Known → BookData → Known
-told_of k put = record k { accepted = numbered put.counts k.number 0; claim = claim_in put k.number }
+abbrev pub known_after : Known → BookData → Known
+known_after k put = record k { accepted = numbered put.counts k.number 0; claim = claim_in put k.number }
 
 -- a desk that has put a book back
-abbrev pub told_at : Known → BookData → BookData → Told
-told_at k taken put = record { base = put.base; known = told_of k put; taken = taken; put = put }
+abbrev pub session_at : Known → BookData → BookData → LastSession
+session_at k taken put = record { base = put.base; known = known_after k put; taken = taken; put = put }
 
 -- what a new desk knows: the opening book's prices as version 0, no claim and no acceptance
 abbrev pub first_known : BookData → ℕ → Known
@@ -37,8 +37,8 @@ first_known b number = record {
 }
 
 -- a new desk
-abbrev pub told_first : BookData → ℕ → Told
-told_first b number = record { base = b.base; known = first_known b number; taken = b; put = b }
+abbrev pub first_session : BookData → ℕ → LastSession
+first_session b number = record { base = b.base; known = first_known b number; taken = b; put = b }
 
 -- the opener's view after one desk more
 abbrev pub opener_next : BookData → View → View
@@ -48,8 +48,8 @@ opener_next b v = Spent
 
 -- that desk's view
 abbrev pub desk_made : BookData → View → View
-desk_made b Fresh = Away (told_first b 1)
-desk_made b (Opening o made) = Away (told_first o (made + 1))
+desk_made b Fresh = Away (first_session b 1)
+desk_made b (Opening o made) = Away (first_session o (made + 1))
 desk_made b v = Spent
 
 -- a closer's view when it has taken in a desk

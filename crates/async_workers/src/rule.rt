@@ -25,7 +25,7 @@ pub struct Known {
 
 /// A desk while it is without the book: what it knows, and the books that it last took and put back.
 /// No value of it is made.
-pub struct Told {
+pub struct LastSession {
     pub base: Scaled,
     pub known: Known,
     pub taken: Book,
@@ -38,10 +38,10 @@ pub enum View {
     Fresh,
     /// The opener has this book in hand, and has made so many desks.
     Opening(Book, u16),
-    Away(Told),
-    Holding(Told, Book),
+    Away(LastSession),
+    Holding(LastSession, Book),
     /// A closer, with the book in hand, has taken in the desk that was told this.
-    Meeting(Told, Book, Told),
+    Meeting(LastSession, Book, LastSession),
     Spent,
 }
 
@@ -151,9 +151,9 @@ impl Join<View> for Meet {
 }
 
 impl Lesson<BoxedBook, View> for Meet {
-    ghost use Rattle.async_workers.specs.inside.Passing.{MetIsTold};
+    ghost use Rattle.async_workers.specs.inside.Passing.{MetIsCurrent};
 
-    ghost fact = { λ v items. MetIsTold v };
+    ghost fact = { λ v items. MetIsCurrent v };
 }
 
 pub type Queue = RuledArrayQueue<BoxedBook, View, PassRule>;

@@ -25,14 +25,14 @@ use Rattle.auction_book.specs.declared.answers.Refused.TheVariants.{NotClaimed, 
 use Rattle.auction_book.specs.declared.answers.Claim.{Claim}
 use Rattle.auction_book.specs.declared.answers.Claim.TheVariants as claim
 use Rattle.auction_book.specs.declared.schedule.Event.{Event}
-use Rattle.auction_book.specs.declared.schedule.Seat.{Seat}
+use Rattle.auction_book.specs.declared.schedule.WorkerState.{WorkerState}
 use Rattle.auction_book.specs.Book.{BookData, Holds, persons_of, prices_of, version_of}
 use Rattle.auction_book.specs.Changes.{caught_up, claimed, phased, released}
 use Rattle.auction_book.specs.Claims.{after_claim, claim_of}
 use Rattle.auction_book.specs.Follows.{Follows, GoesOn}
 use Rattle.auction_book.specs.Free.{IsFree}
 use Rattle.auction_book.specs.Phases.{is_over, opened}
-use Rattle.auction_book.specs.Schedule.{CoreData, Happens, IsFit, IsSeat, Run, core_next, core_opened, is_worker, seat_at, seat_next, seat_of_prices}
+use Rattle.auction_book.specs.Schedule.{CoreData, Happens, IsFit, IsWorkerState, Run, core_next, core_opened, is_worker, state_at, state_next, state_of_prices}
 use Rattle.auction_book.specs.Session.{EndsClaim, IsHandedIn, IsNoted, IsPrepared, IsUndone, Submits, book_left, book_next, book_kept_up, next_if_over, prepared, table_kept_up, version_kept_up}
 use Rattle.auction_book.specs.Submissions.{IsSubmitted}
 use Rattle.auction_book.proofs.Accepting.{accepted_follows, accepted_free, released_follows, released_free}
@@ -62,15 +62,15 @@ prepared_kept w k b new table version (Some offer) f ne h = (
       (subst (λ ask. IsOffer b.base table version ask h.0 offer) (sym (f.asked k h.0 ne h.1)) h.2),
 )
 
--- another worker's seat
-seat_kept : (w k : ℕ) (b new : BookData) (seat : Seat) → IsFree b → Follows w b new → k ≢ w → IsSeat b k seat → IsSeat new k seat
-seat_kept w k b new seat free f ne is =
-    let own = own_kept b new seat.table seat.version free f.goes_on (record { long = is.long; earlier = is.earlier }) in
+-- another worker's state
+state_kept : (w k : ℕ) (b new : BookData) (state : WorkerState) → IsFree b → Follows w b new → k ≢ w → IsWorkerState b k state → IsWorkerState new k state
+state_kept w k b new state free f ne is =
+    let own = own_kept b new state.table state.version free f.goes_on (record { long = is.long; earlier = is.earlier }) in
     record {
       long = own.long;
       earlier = own.earlier;
       told = is.told ∙ sym (f.counts k ne);
-      prepared = prepared_kept w k b new seat.table seat.version seat.offer f ne is.prepared;
+      prepared = prepared_kept w k b new state.table state.version state.offer f ne is.prepared;
     }
 
 -- a step of an event of one worker
@@ -235,45 +235,45 @@ pub record IsEvent (core new : CoreData) : Type 0 where
   pub fit : IsFit new
   pub on : GoesOn core.book new.book
 
-happened_fit : (core : CoreData) (e : Event) (b : BookData) → IsFit core → IsNumber (length core.seats) e.worker → Submits core.book e.worker (seat_at core e.worker).offer b → IsEvent core (core_next core e (seat_at core e.worker) b)
+happened_fit : (core : CoreData) (e : Event) (b : BookData) → IsFit core → IsNumber (length core.states) e.worker → Submits core.book e.worker (state_at core e.worker).offer b → IsEvent core (core_next core e (state_at core e.worker) b)
 happened_fit core e b fit number submits =
     let w = e.worker in
-    let seat = seat_at core w in
+    let state = state_at core w in
     let is = fit.each w number in
-    let one = noted_left w core.book b seat.table seat.version seat.offer submits.0 fit.book is.long is.prepared submits.1 in
+    let one = noted_left w core.book b state.table state.version state.offer submits.0 fit.book is.long is.prepared submits.1 in
     let left = one.ends in
-    let own = own_kept core.book b seat.table seat.version fit.book left.follows.goes_on (record { long = is.long; earlier = is.earlier }) in
-    let r = ready w e.catch_up b seat.table seat.version one.free left.none own in
+    let own = own_kept core.book b state.table state.version fit.book left.follows.goes_on (record { long = is.long; earlier = is.earlier }) in
+    let r = ready w e.catch_up b state.table state.version one.free left.none own in
     let taken = book_kept_up e.catch_up b w in
     let next = book_next e.catch_up b w in
     let more = left.follows.goes_on.workers in
     let more2 = r.taken.follows.goes_on.workers in
     let more3 = r.next.follows.goes_on.workers in
-    let in_claims : w ≤ length next.claims = let x = fit.seats in let l = number.last in omega arith in
-    let table = table_kept_up e.catch_up b seat.table in
-    let version = version_kept_up e.catch_up b seat.version in
+    let in_claims : w ≤ length next.claims = let x = fit.states in let l = number.last in omega arith in
+    let table = table_kept_up e.catch_up b state.table in
+    let version = version_kept_up e.catch_up b state.version in
     let four = claim_is w next table version r.next.free r.none (record { first = number.first; last = in_claims }) in
     let own3 = four.own r.own in
     let last_book = book_left e.catch_up b w in
-    let mine : IsSeat last_book w (seat_next e b seat) = record {
+    let mine : IsWorkerState last_book w (state_next e b state) = record {
       long = own3.long;
       earlier = own3.earlier;
       told = ap (λ c. numbered c w 0) (sym (four.counts ∙ r.counts));
       prepared = four.prepared;
     } in
-    let long = length-renumbered core.seats w (seat_next e b seat) in
+    let long = length-renumbered core.states w (state_next e b state) in
     record {
       fit = record {
         book = four.step.free;
-        seats = let x = fit.seats in let v = four.step.follows.goes_on.workers in omega arith;
-        each = λ k in_seats. elim (eqb_tells k w) [
-          | inl t ↦ subst (λ m. IsSeat last_book m (numbered (renumbered core.seats w (seat_next e b seat)) m (seat_of_prices []))) (sym t.1)
-              (subst (IsSeat last_book w) (sym (numbered-same core.seats w (seat_next e b seat) (seat_of_prices []) number.first number.last)) mine)
-          | inr t ↦ subst (IsSeat last_book k) (sym (numbered-other core.seats w k (seat_next e b seat) (seat_of_prices []) t.1))
-              (seat_kept w k next last_book (seat_at core k) r.next.free four.step.follows t.1
-              (seat_kept w k taken next (seat_at core k) r.taken.free r.next.follows t.1
-              (seat_kept w k b taken (seat_at core k) one.free r.taken.follows t.1
-              (seat_kept w k core.book b (seat_at core k) fit.book left.follows t.1 (fit.each k (record { first = in_seats.first; last = let l = in_seats.last in omega arith }))))))
+        states = let x = fit.states in let v = four.step.follows.goes_on.workers in omega arith;
+        each = λ k in_states. elim (eqb_tells k w) [
+          | inl t ↦ subst (λ m. IsWorkerState last_book m (numbered (renumbered core.states w (state_next e b state)) m (state_of_prices []))) (sym t.1)
+              (subst (IsWorkerState last_book w) (sym (numbered-same core.states w (state_next e b state) (state_of_prices []) number.first number.last)) mine)
+          | inr t ↦ subst (IsWorkerState last_book k) (sym (numbered-other core.states w k (state_next e b state) (state_of_prices []) t.1))
+              (state_kept w k next last_book (state_at core k) r.next.free four.step.follows t.1
+              (state_kept w k taken next (state_at core k) r.taken.free r.next.follows t.1
+              (state_kept w k b taken (state_at core k) one.free r.taken.follows t.1
+              (state_kept w k core.book b (state_at core k) fit.book left.follows t.1 (fit.each k (record { first = in_states.first; last = let l = in_states.last in omega arith }))))))
         ];
       };
       on = goes_on_through core.book b last_book left.follows.goes_on
@@ -282,8 +282,8 @@ happened_fit core e b fit number submits =
     }
 
 event_fit : (core : CoreData) (e : Event) (new : CoreData) (t : Bool) → is_worker core e.worker ≡ t → IsFit core →
-    MatchBool t ((b : BookData) × Submits core.book e.worker (seat_at core e.worker).offer b × (new ≡ core_next core e (seat_at core e.worker) b)) (new ≡ core) → IsEvent core new
-event_fit core e new true is fit h = subst (IsEvent core) (sym h.2) (happened_fit core e h.0 fit (in_range (length core.seats) e.worker is) h.1)
+    MatchBool t ((b : BookData) × Submits core.book e.worker (state_at core e.worker).offer b × (new ≡ core_next core e (state_at core e.worker) b)) (new ≡ core) → IsEvent core new
+event_fit core e new true is fit h = subst (IsEvent core) (sym h.2) (happened_fit core e h.0 fit (in_range (length core.states) e.worker is) h.1)
 event_fit core e new false is fit h = subst (IsEvent core) (sym h) (record { fit = fit; on = goes_on_itself core.book })
 
 pub run_fit : (core : CoreData) (events : List Event) (new : CoreData) → IsFit core → Run core events new → IsEvent core new
@@ -293,17 +293,17 @@ run_fit core (e ∷ events) new fit run =
     let rest = run_fit run.0 events new first.fit run.2 in
     record { fit = rest.fit; on = goes_on_through core.book run.0.book new.book first.on rest.on }
 
-same_seat : (n w : ℕ) (seat d : Seat) → 0 < w → w ≤ n → numbered (replicate n seat) w d ≡ seat
-same_seat n zero seat d h l = absurd (omega arith)
-same_seat n (suc k) seat d h l = get_or-replicate n k seat d (omega arith)
+same_state : (n w : ℕ) (state d : WorkerState) → 0 < w → w ≤ n → numbered (replicate n state) w d ≡ state
+same_state n zero state d h l = absurd (omega arith)
+same_state n (suc k) state d h l = get_or-replicate n k state d (omega arith)
 
 pub opened_fit : (s : ScaledProblem) (prices : List ℤ) (workers : ℕ) → IsProblem s.problem → IsTable prices → length prices ≡ length s.problem → greatest_of prices ≤ℤ GREATEST_FIRST_PRICE → IsFit (core_opened s prices workers)
 opened_fit s prices workers problem table long low =
-    let l = length-replicate workers (seat_of_prices prices) in
+    let l = length-replicate workers (state_of_prices prices) in
     record {
       book = opened_free s prices workers problem table long low;
-      seats = l ∙ sym (length-replicate workers None);
-      each = λ w number. subst (IsSeat (opened s prices workers) w) (sym (same_seat workers w (seat_of_prices prices) (seat_of_prices []) number.first (let x = number.last in omega arith))) (record {
+      states = l ∙ sym (length-replicate workers None);
+      each = λ w number. subst (IsWorkerState (opened s prices workers) w) (sym (same_state workers w (state_of_prices prices) (state_of_prices []) number.first (let x = number.last in omega arith))) (record {
         long = below_itself prices;
         earlier = record { reached = omega arith; same = λ h. refl; below = λ h. absurd (omega arith) };
         told = sym (numbered-replicate workers w 0);
@@ -321,16 +321,16 @@ run_more core mid new [] e run h = (new, subst (λ c. Happens c e new) run h, re
 run_more core mid new (x ∷ events) e run h = (run.0, run.1, run_more run.0 mid new events e run.2 h)
 
 -- an event of a worker
-pub happens_at : (core : CoreData) (e : Event) (b : BookData) (new : CoreData) → IsNumber (length core.seats) e.worker → Submits core.book e.worker (seat_at core e.worker).offer b → new ≡ core_next core e (seat_at core e.worker) b → Happens core e new
+pub happens_at : (core : CoreData) (e : Event) (b : BookData) (new : CoreData) → IsNumber (length core.states) e.worker → Submits core.book e.worker (state_at core e.worker).offer b → new ≡ core_next core e (state_at core e.worker) b → Happens core e new
 happens_at core e b new number submits is =
-    let t : is_worker core e.worker ≡ true = yes (length core.seats) e.worker number.first number.last in
-    subst (λ t. MatchBool t ((b : BookData) × Submits core.book e.worker (seat_at core e.worker).offer b × (new ≡ core_next core e (seat_at core e.worker) b)) (new ≡ core)) (sym t) (b, submits, is) where
+    let t : is_worker core e.worker ≡ true = yes (length core.states) e.worker number.first number.last in
+    subst (λ t. MatchBool t ((b : BookData) × Submits core.book e.worker (state_at core e.worker).offer b × (new ≡ core_next core e (state_at core e.worker) b)) (new ≡ core)) (sym t) (b, submits, is) where
       yes : (n w : ℕ) → 0 < w → w ≤ n → (nat_le 1 w && nat_le w n) ≡ true
       yes n w h l = grind (arith, nat_tests)
 
-pub same_core : (b d : BookData) (s t : List Seat) (x y : CoreData) → x ≡ record { book = b; seats = s } → y ≡ record { book = d; seats = t } → b ≡ d → s ≡ t → x ≡ y
+pub same_core : (b d : BookData) (s t : List WorkerState) (x y : CoreData) → x ≡ record { book = b; states = s } → y ≡ record { book = d; states = t } → b ≡ d → s ≡ t → x ≡ y
 same_core b d s t x y p q e f =
-    p ∙ ap (λ z. let c : CoreData = record { book = z; seats = s } in c) e ∙ ap (λ z. let c : CoreData = record { book = d; seats = z } in c) f ∙ sym q
+    p ∙ ap (λ z. let c : CoreData = record { book = z; states = s } in c) e ∙ ap (λ z. let c : CoreData = record { book = d; states = z } in c) f ∙ sym q
 
 -- what stands once the offer was submitted
 pub record IsAttended (w : ℕ) (catch_up : Bool) (b new : BookData) (table : List ℤ) (version : ℕ) : Type 0 where
@@ -339,14 +339,14 @@ pub record IsAttended (w : ℕ) (catch_up : Bool) (b new : BookData) (table : Li
   pub ready : IsReady w catch_up new table version
   pub number : IsNumber (length new.claims) w
 
-pub attended : (w : ℕ) (catch_up : Bool) (b new : BookData) (seat : Seat) → IsFree b → IsNumber (length b.claims) w → IsSeat b w seat → Submits b w seat.offer new → IsAttended w catch_up b new seat.table seat.version
-attended w catch_up b new seat free number is submits =
-    let left = noted_left w b new seat.table seat.version seat.offer submits.0 free is.long is.prepared submits.1 in
-    let own = own_kept b new seat.table seat.version free left.ends.follows.goes_on (record { long = is.long; earlier = is.earlier }) in
+pub attended : (w : ℕ) (catch_up : Bool) (b new : BookData) (state : WorkerState) → IsFree b → IsNumber (length b.claims) w → IsWorkerState b w state → Submits b w state.offer new → IsAttended w catch_up b new state.table state.version
+attended w catch_up b new state free number is submits =
+    let left = noted_left w b new state.table state.version state.offer submits.0 free is.long is.prepared submits.1 in
+    let own = own_kept b new state.table state.version free left.ends.follows.goes_on (record { long = is.long; earlier = is.earlier }) in
     record {
       left = left;
       own = own;
-      ready = ready w catch_up new seat.table seat.version left.free left.ends.none own;
+      ready = ready w catch_up new state.table state.version left.free left.ends.none own;
       number = subst (λ n. IsNumber n w) (sym left.ends.follows.goes_on.workers) number;
     }
 
@@ -362,9 +362,9 @@ next_long w catch_up b new table version is = is.ready.own.long.long ∙ is.read
 pub after_claim-base : (b : BookData) (w : ℕ) (answer : Claim) → (after_claim b w answer).base ≡ b.base
 after_claim-base b w answer = after_claim_by (λ (n : BookData). n.base ≡ b.base) b w answer refl refl
 
-pub same_seats : (t u : List ℤ) (v w : ℕ) (o p : Option Offer) (m n : ℕ) → t ≡ u → v ≡ w → o ≡ p → m ≡ n →
-    let first : Seat = record { table = t; version = v; offer = o; accepted = m } in let second : Seat = record { table = u; version = w; offer = p; accepted = n } in first ≡ second
-same_seats t u v w o p m n e f g h = rw (e, f, g, h) refl
+pub same_states : (t u : List ℤ) (v w : ℕ) (o p : Option Offer) (m n : ℕ) → t ≡ u → v ≡ w → o ≡ p → m ≡ n →
+    let first : WorkerState = record { table = t; version = v; offer = o; accepted = m } in let second : WorkerState = record { table = u; version = w; offer = p; accepted = n } in first ≡ second
+same_states t u v w o p m n e f g h = rw (e, f, g, h) refl
 
 -- the offer that is prepared
 pub same_offers : (s r : ScaledProblem) (t u : List ℤ) (v w : ℕ) (x y : Claim) → s ≡ r → t ≡ u → v ≡ w → x ≡ y → prepared s t v x ≡ prepared r u w y

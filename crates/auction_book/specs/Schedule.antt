@@ -5,7 +5,7 @@ use Rattle.assign_core.specs.Prices.{IsBelow}
 use Rattle.scaled_values.specs.Scaled.{ScaledProblem}
 use Rattle.price_log.specs.History.{IsEarlier}
 use Rattle.auction_book.specs.declared.schedule.Event.{Event}
-use Rattle.auction_book.specs.declared.schedule.Seat.{Seat}
+use Rattle.auction_book.specs.declared.schedule.WorkerState.{WorkerState}
 use Rattle.auction_book.specs.Book.{BookData, prices_of}
 use Rattle.auction_book.specs.Claims.{claim_of}
 use Rattle.auction_book.specs.Free.{IsFree}
@@ -15,41 +15,41 @@ use Rattle.auction_book.specs.Session.{IsPrepared, Submits, book_left, book_next
 -- the book, and for each worker its table with its version, its prepared offer and the acceptances that it was told
 pub record CoreData : Type 0 where
   pub book : BookData
-  pub seats : List Seat
+  pub states : List WorkerState
 
-abbrev pub seat_of_prices : List ℤ → Seat
-seat_of_prices prices = record { table = prices; version = 0; offer = None; accepted = 0 }
+abbrev pub state_of_prices : List ℤ → WorkerState
+state_of_prices prices = record { table = prices; version = 0; offer = None; accepted = 0 }
 
 -- before the first event
 abbrev pub core_opened : ScaledProblem → List ℤ → ℕ → CoreData
-core_opened s prices workers = record { book = opened s prices workers; seats = replicate workers (seat_of_prices prices) }
+core_opened s prices workers = record { book = opened s prices workers; states = replicate workers (state_of_prices prices) }
 
 -- the rest of an event, once the offer was submitted
-abbrev pub seat_next : Event → BookData → Seat → Seat
-seat_next e b seat = record {
-  table = table_kept_up e.catch_up b seat.table;
-  version = version_kept_up e.catch_up b seat.version;
-  offer = prepared (book_next e.catch_up b e.worker).base (table_kept_up e.catch_up b seat.table) (version_kept_up e.catch_up b seat.version) (claim_of (book_next e.catch_up b e.worker));
+abbrev pub state_next : Event → BookData → WorkerState → WorkerState
+state_next e b state = record {
+  table = table_kept_up e.catch_up b state.table;
+  version = version_kept_up e.catch_up b state.version;
+  offer = prepared (book_next e.catch_up b e.worker).base (table_kept_up e.catch_up b state.table) (version_kept_up e.catch_up b state.version) (claim_of (book_next e.catch_up b e.worker));
   accepted = numbered b.counts e.worker 0;
 }
 
-abbrev pub core_next : CoreData → Event → Seat → BookData → CoreData
-core_next core e seat b = record {
+abbrev pub core_next : CoreData → Event → WorkerState → BookData → CoreData
+core_next core e state b = record {
   book = book_left e.catch_up b e.worker;
-  seats = renumbered core.seats e.worker (seat_next e b seat);
+  states = renumbered core.states e.worker (state_next e b state);
 }
 
 -- there is such a worker
 abbrev pub is_worker : CoreData → ℕ → Bool
-is_worker core worker = nat_le 1 worker && nat_le worker (length core.seats)
+is_worker core worker = nat_le 1 worker && nat_le worker (length core.states)
 
-abbrev pub seat_at : CoreData → ℕ → Seat
-seat_at core worker = numbered core.seats worker (seat_of_prices [])
+abbrev pub state_at : CoreData → ℕ → WorkerState
+state_at core worker = numbered core.states worker (state_of_prices [])
 
 -- an event of a number that no worker has changes nothing
 abbrev pub Happens : CoreData → Event → CoreData → Type 0
 Happens core e new = MatchBool (is_worker core e.worker)
-    ((b : BookData) × Submits core.book e.worker (seat_at core e.worker).offer b × (new ≡ core_next core e (seat_at core e.worker) b))
+    ((b : BookData) × Submits core.book e.worker (state_at core e.worker).offer b × (new ≡ core_next core e (state_at core e.worker) b))
     (new ≡ core)
 
 -- one event after another
@@ -59,14 +59,14 @@ Run core (e ∷ events) new = (mid : CoreData) × Happens core e mid × Run mid 
 
 -- what holds of each worker: no price of its table is above the book's, the table is the log's as far back as the log
 -- reaches, what it was told is the book's, and its prepared offer is that of the person that it claimed
-pub record IsSeat (b : BookData) (worker : ℕ) (seat : Seat) : Type 0 where
-  pub long : IsBelow seat.table (prices_of b)
-  pub earlier : IsEarlier b.log seat.table seat.version
-  pub told : seat.accepted ≡ numbered b.counts worker 0
-  pub prepared : IsPrepared b worker seat.table seat.version seat.offer
+pub record IsWorkerState (b : BookData) (worker : ℕ) (state : WorkerState) : Type 0 where
+  pub long : IsBelow state.table (prices_of b)
+  pub earlier : IsEarlier b.log state.table state.version
+  pub told : state.accepted ≡ numbered b.counts worker 0
+  pub prepared : IsPrepared b worker state.table state.version state.offer
 
 -- what holds after each event
 pub record IsFit (core : CoreData) : Type 0 where
   pub book : IsFree core.book
-  pub seats : length core.seats ≡ length core.book.claims
-  pub each : (worker : ℕ) → IsNumber (length core.seats) worker → IsSeat core.book worker (seat_at core worker)
+  pub states : length core.states ≡ length core.book.claims
+  pub each : (worker : ℕ) → IsNumber (length core.states) worker → IsWorkerState core.book worker (state_at core worker)

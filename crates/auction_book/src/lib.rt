@@ -15,6 +15,6 @@ pub use law::{
     phase_is_bounded, submissions_follow,
 };
 pub use schedule::{
-    Event, Seat, World, run_schedule, run_schedule_from, runs_are_fit, worlds_go_on,
+    Event, WorkerState, World, run_schedule, run_schedule_from, runs_are_fit, worlds_go_on,
 };
 pub use session::{begin_next_if_over, prepare, submit_offer};

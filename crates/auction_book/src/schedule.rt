@@ -9,7 +9,7 @@ ghost use Rattle.auction_book.specs.declared.schedule.Event.{Event};
 ghost use Rattle.auction_book.specs.Book.{BookData};
 ghost use Rattle.auction_book.specs.Follows.{GoesOn};
 ghost use Rattle.auction_book.specs.Free.{IsFree};
-ghost use Rattle.auction_book.specs.Schedule.{CoreData, Happens, IsFit, IsSeat, Run, core_opened, seat_next, seat_of_prices};
+ghost use Rattle.auction_book.specs.Schedule.{CoreData, Happens, IsFit, IsWorkerState, Run, core_opened, state_next, state_of_prices};
 ghost use Rattle.auction_book.specs.Session.{Submits, book_left};
 
 use super::book::Book;
@@ -31,7 +31,7 @@ pub struct Event {
 
 /// What a worker has.
 #[derive(Drop)]
-pub struct Seat {
+pub struct WorkerState {
     /// Its own table of prices.
     pub table: Prices,
     /// The table's version.
@@ -47,7 +47,7 @@ pub struct Seat {
 pub struct World {
     pub book: Book,
     /// What workers 1, 2, .. have.
-    pub seats: Vec<Seat>,
+    pub states: Vec<WorkerState>,
 }
 
 /// Whatever the events: the book is free, each table is below its prices and, as far back as the log
@@ -68,28 +68,33 @@ pub fn worlds_go_on()
 {}
 
 // One worker's session with the book, and the offer that it prepares after it.
-fn attend(alloc: Global, book: &mut Book, seat: &mut Seat, event: Event) -> Result<(), AllocError>
+fn attend(
+    alloc: Global,
+    book: &mut Book,
+    state: &mut WorkerState,
+    event: Event,
+) -> Result<(), AllocError>
     requires worker { IsNumber (length book.old.claims) event.worker }
-    requires seat { IsSeat book.old event.worker seat.old }
-    ensures { IfOk result (λ _. (b : BookData) × Submits book.old event.worker seat.old.offer b
+    requires state { IsWorkerState book.old event.worker state.old }
+    ensures { IfOk result (λ _. (b : BookData) × Submits book.old event.worker state.old.offer b
         × (book.new ≡ book_left event.catch_up b event.worker)
-        × (seat.new ≡ seat_next event b seat.old)) }
+        × (state.new ≡ state_next event b state.old)) }
 {
     let worker = event.worker;
     book.invariant();
-    let offer = seat.offer.take();
+    let offer = state.offer.take();
     submit_offer(alloc, book, worker, offer).outcome?;
-    seat.accepted = book.accepted_by(worker);
+    state.accepted = book.accepted_by(worker);
     take_prices(
         book,
         worker,
-        &mut seat.table,
-        &mut seat.version,
+        &mut state.table,
+        &mut state.version,
         event.catch_up,
     );
     begin_next_if_over(alloc, book)?;
     let claim = book.claim(worker);
-    seat.offer = prepare(book.scaled(), &seat.table, seat.version, claim);
+    state.offer = prepare(book.scaled(), &state.table, state.version, claim);
     Ok(())
 }
 
@@ -97,36 +102,36 @@ fn attend(alloc: Global, book: &mut Book, seat: &mut Seat, event: Event) -> Resu
 fn happen(
     alloc: Global,
     book: &mut Book,
-    seats: &mut [Seat],
+    states: &mut [WorkerState],
     event: Event,
 ) -> Result<(), AllocError>
-    requires { IsFit (record { book = book.old; seats = seats.old }) }
-    ensures { IfOk result (λ _. Happens (record { book = book.old; seats = seats.old }) event
-        (record { book = book.new; seats = seats.new })) }
+    requires { IsFit (record { book = book.old; states = states.old }) }
+    ensures { IfOk result (λ _. Happens (record { book = book.old; states = states.old }) event
+        (record { book = book.new; states = states.new })) }
 {
     let worker = event.worker;
-    if worker == 0 || worker as usize > seats.len() {
+    if worker == 0 || worker as usize > states.len() {
         return Ok(());
     }
-    attend(alloc, book, &mut seats[worker as usize - 1], event)?;
+    attend(alloc, book, &mut states[worker as usize - 1], event)?;
     Ok(())
 }
 
-// A seat for each worker, with these prices.
-fn open_seats(alloc: Global, prices: &Prices, workers: u16) -> Result<Vec<Seat>, AllocError>
-    ensures { IfOk result (λ seats. seats.items ≡ replicate workers (seat_of_prices prices.now)) }
+// A state for each worker, with these prices.
+fn open_states(alloc: Global, prices: &Prices, workers: u16) -> Result<Vec<WorkerState>, AllocError>
+    ensures { IfOk result (λ states. states.items ≡ replicate workers (state_of_prices prices.now)) }
 {
-    let mut seats = Vec::with_capacity(alloc, workers as usize)?;
+    let mut states = Vec::with_capacity(alloc, workers as usize)?;
     for _ in 0..workers {
         let table = prices.copy(alloc)?;
-        seats.push(Seat {
+        states.push(WorkerState {
             table,
             version: 0,
             offer: None,
             accepted: 0,
         })?;
     }
-    Ok(seats)
+    Ok(states)
 }
 
 /// Runs a list of events with all first prices 0, for at least one worker.
@@ -142,8 +147,8 @@ pub fn run_schedule(
     requires { 0 < workers }
     ensures run { IfOk result (λ w. let base = arc_value scaled in
         Run (core_opened base (replicate (length base.problem) (pos 0)) workers) events.now
-        (record { book = w.book; seats = w.seats.items })) }
-    ensures fit { IfOk result (λ w. IsFit (record { book = w.book; seats = w.seats.items })) }
+        (record { book = w.book; states = w.states.items })) }
+    ensures fit { IfOk result (λ w. IsFit (record { book = w.book; states = w.states.items })) }
 {
     let prices = Prices::zeros(alloc, scaled.n())?;
     run_schedule_from(alloc, scaled, prices, workers, events)
@@ -172,16 +177,16 @@ pub fn run_schedule_from(
     requires long { length prices ≡ length (arc_value scaled).problem }
     requires low { greatest_of prices ≤ℤ GREATEST_FIRST_PRICE }
     ensures run { IfOk result (λ w. Run (core_opened (arc_value scaled) prices workers) events.now
-        (record { book = w.book; seats = w.seats.items })) }
-    ensures fit { IfOk result (λ w. IsFit (record { book = w.book; seats = w.seats.items })) }
+        (record { book = w.book; states = w.states.items })) }
+    ensures fit { IfOk result (λ w. IsFit (record { book = w.book; states = w.states.items })) }
 {
     // For the proof alone: the number of persons is in range, and the prices are a table.
     let _n = scaled.n();
     let _table = prices.as_slice();
-    let mut seats = open_seats(alloc, &prices, workers)?;
+    let mut states = open_states(alloc, &prices, workers)?;
     let mut book = Book::open_from(alloc, scaled, prices, workers)?;
     for event in events {
-        happen(alloc, &mut book, seats.as_mut_slice(), *event)?;
+        happen(alloc, &mut book, states.as_mut_slice(), *event)?;
     }
-    Ok(World { book, seats })
+    Ok(World { book, states })
 }

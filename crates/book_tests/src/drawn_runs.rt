@@ -2,9 +2,9 @@
 use super::drawn::{Case, drawn_case};
 use super::plain::PlainBook;
 use super::plain_calls::answer;
-use super::plain_world::{PlainSeat, PlainWorld, plain_run};
+use super::plain_world::{PlainState, PlainWorld, plain_run};
 use super::sequences::{same, same_answer};
-use auction_book::{Event, Seat, World, run_schedule_from};
+use auction_book::{Event, WorkerState, World, run_schedule_from};
 use std::alloc::{AllocError, Global};
 use std::test::Fail;
 use test_helpers::{draw_wide, first_prices, scaled_of, size};
@@ -29,21 +29,21 @@ fn drawn_events(
     Ok(events)
 }
 
-fn same_seat(seat: &Seat, plain: &PlainSeat) -> bool {
-    seat.table.as_slice() == plain.table.as_slice()
-        && seat.version == plain.version
-        && seat.offer == plain.offer
-        && seat.accepted == plain.accepted
+fn same_state(state: &WorkerState, plain: &PlainState) -> bool {
+    state.table.as_slice() == plain.table.as_slice()
+        && state.version == plain.version
+        && state.offer == plain.offer
+        && state.accepted == plain.accepted
 }
 
-fn same_seats(seats: &[Seat], plain: &[PlainSeat]) -> bool {
-    for i in 0..seats.len() {
+fn same_states(states: &[WorkerState], plain: &[PlainState]) -> bool {
+    for i in 0..states.len() {
         match plain.get(i) {
-            Some(other) if same_seat(&seats[i], other) => {}
+            Some(other) if same_state(&states[i], other) => {}
             _ => return false,
         }
     }
-    seats.len() == plain.len()
+    states.len() == plain.len()
 }
 
 // The world of a case after these events.
@@ -87,7 +87,7 @@ fn note_and_compare(
 
 fn same_world(alloc: Global, world: &World, plain: &PlainWorld) -> Result<bool, AllocError> {
     Ok(
-        same_seats(world.seats.as_slice(), plain.seats.as_slice())
+        same_states(world.states.as_slice(), plain.states.as_slice())
             && same(alloc, &world.book, &plain.book)?
             && same_answer(alloc, &world.book, &plain.book)?,
     )

@@ -9,16 +9,16 @@ use std::alloc::{AllocError, Global};
 
 // What a worker has.
 #[derive(Drop)]
-pub(crate) struct PlainSeat {
+pub(crate) struct PlainState {
     pub table: Vec<Price>,
     pub version: u128,
     pub offer: Option<Offer>,
     pub accepted: u128,
 }
 
-// A seat with these prices.
-fn open_seat(alloc: Global, first: &[Price]) -> Result<PlainSeat, AllocError> {
-    Ok(PlainSeat {
+// A state with these prices.
+fn open_state(alloc: Global, first: &[Price]) -> Result<PlainState, AllocError> {
+    Ok(PlainState {
         table: first.to_vec(alloc)?,
         version: 0,
         offer: None,
@@ -26,15 +26,15 @@ fn open_seat(alloc: Global, first: &[Price]) -> Result<PlainSeat, AllocError> {
     })
 }
 
-// A seat more for each worker, with these prices.
-fn add_seats(
+// A state more for each worker, with these prices.
+fn add_states(
     alloc: Global,
-    seats: &mut Vec<PlainSeat>,
+    states: &mut Vec<PlainState>,
     first: &[Price],
     workers: u16,
 ) -> Result<(), AllocError> {
     for _ in 0..workers {
-        seats.push(open_seat(alloc, first)?)?;
+        states.push(open_state(alloc, first)?)?;
     }
     Ok(())
 }
@@ -83,27 +83,27 @@ fn offer_from(plain: &PlainBook, table: &[Price], version: u128, person: Person)
 fn happen(
     alloc: Global,
     plain: &mut PlainBook,
-    seats: &mut [PlainSeat],
+    states: &mut [PlainState],
     event: Event,
 ) -> Result<(), AllocError> {
     let worker = event.worker;
-    let Some(seat) = seats.get_mut((worker as usize).wrapping_sub(1)) else {
+    let Some(state) = states.get_mut((worker as usize).wrapping_sub(1)) else {
         return Ok(());
     };
-    let offer = seat.offer.take();
+    let offer = state.offer.take();
     submit(alloc, plain, worker, offer)?;
-    seat.accepted = at(plain.counts.as_slice(), worker).unwrap_or(0);
+    state.accepted = at(plain.counts.as_slice(), worker).unwrap_or(0);
     if event.catch_up {
         plain_calls::catch_up(plain, worker);
-        seat.table = prices(plain).to_vec(alloc)?;
-        seat.version = version(plain);
+        state.table = prices(plain).to_vec(alloc)?;
+        state.version = version(plain);
     }
     if plain_calls::phase_over(plain) {
         plain_calls::next_phase(alloc, plain)?;
     }
-    seat.offer = match plain_calls::claim(plain, worker) {
+    state.offer = match plain_calls::claim(plain, worker) {
         Claim::Person(person, _) => {
-            Some(offer_from(plain, seat.table.as_slice(), seat.version, person))
+            Some(offer_from(plain, state.table.as_slice(), state.version, person))
         }
         _ => None,
     };
@@ -114,15 +114,15 @@ fn happen(
 #[derive(Drop)]
 pub(crate) struct PlainWorld {
     pub book: PlainBook,
-    pub seats: Vec<PlainSeat>,
+    pub states: Vec<PlainState>,
 }
 
-// The plain world of a case before the first event, without its workers' seats.
+// The plain world of a case before the first event, without its workers' states.
 fn open_world(alloc: Global, case: &Case) -> Result<PlainWorld, AllocError> {
     let book = opened(alloc, case)?;
     Ok(PlainWorld {
         book,
-        seats: Vec::new(alloc),
+        states: Vec::new(alloc),
     })
 }
 
@@ -133,9 +133,14 @@ fn all_happen(
     case: &Case,
     events: &[Event],
 ) -> Result<(), AllocError> {
-    add_seats(alloc, &mut world.seats, case.first.as_slice(), case.workers)?;
+    add_states(
+        alloc,
+        &mut world.states,
+        case.first.as_slice(),
+        case.workers,
+    )?;
     for event in events {
-        happen(alloc, &mut world.book, world.seats.as_mut_slice(), *event)?;
+        happen(alloc, &mut world.book, world.states.as_mut_slice(), *event)?;
     }
     Ok(())
 }

@@ -1,7 +1,7 @@
 // Runs of the core on small problems, worked by hand.
 use super::seen::{answers, records};
 use assign_core::{Object, Person, Price, Problem, Sense};
-use auction_book::{Book, Event, Seat, World, run_schedule};
+use auction_book::{Book, Event, WorkerState, World, run_schedule};
 use bidder::Offer;
 use scaled_values::{Scaled, scale};
 use std::alloc::{AllocError, Global};
@@ -63,11 +63,11 @@ fn bid_of(offer: Option<Offer>) -> Option<(u16, u16, Price)> {
 
 fn is_step(world: &World, worker: u16, step: Step) -> bool {
     let (table, of_table, bid, prices, version) = step;
-    match world.seats.get((worker as usize).wrapping_sub(1)) {
-        Some(seat) => {
-            seat.table.as_slice() == table.as_slice()
-                && seat.version == of_table
-                && bid_of(seat.offer) == bid
+    match world.states.get((worker as usize).wrapping_sub(1)) {
+        Some(state) => {
+            state.table.as_slice() == table.as_slice()
+                && state.version == of_table
+                && bid_of(state.offer) == bid
                 && world.book.prices().as_slice() == prices.as_slice()
                 && world.book.version() == version
         }
@@ -109,8 +109,8 @@ fn known_events(alloc: Global) -> Result<Vec<Event>, AllocError> {
 }
 
 // Whether the workers were told so many acceptances.
-fn told(seats: &[Seat]) -> bool {
-    match seats {
+fn told(states: &[WorkerState]) -> bool {
+    match states {
         [first, second] => first.accepted == 2 && second.accepted == 3,
         _ => false,
     }
@@ -123,7 +123,7 @@ fn ends(alloc: Global, world: &World) -> Result<bool, AllocError> {
         answered
             && world.book.owners() == [Some(Person(2)), Some(Person(1))].as_slice()
             && world.book.first_kept() == 2
-            && told(world.seats.as_slice()),
+            && told(world.states.as_slice()),
     )
 }
 
@@ -155,14 +155,14 @@ fn ends_between(book: &Book) -> bool {
     book.prices().as_slice() == [14, 9].as_slice() && book.version() == 5 && book.first_kept() == 2
 }
 
-fn alike(first: &Seat, second: &Seat) -> bool {
+fn alike(first: &WorkerState, second: &WorkerState) -> bool {
     first.table.as_slice() == second.table.as_slice()
         && first.version == second.version
         && first.offer == second.offer
         && first.accepted == second.accepted
 }
 
-fn both_alike(first: &[Seat], second: &[Seat]) -> bool {
+fn both_alike(first: &[WorkerState], second: &[WorkerState]) -> bool {
     match (first, second) {
         ([a, b], [c, d]) => alike(a, c) && alike(b, d),
         _ => false,
@@ -179,11 +179,11 @@ fn world_between(alloc: Global) -> Result<World, AllocError> {
     run_two(alloc, events.as_slice())
 }
 
-// Whether the book and all seats end as without the events between.
+// Whether the book and all states end as without the events between.
 fn between_end(alloc: Global) -> Result<bool, AllocError> {
     let plain = known_world(alloc)?;
     let world = world_between(alloc)?;
-    Ok(ends_between(&world.book) && both_alike(world.seats.as_slice(), plain.seats.as_slice()))
+    Ok(ends_between(&world.book) && both_alike(world.states.as_slice(), plain.states.as_slice()))
 }
 
 #[test]

@@ -1,4 +1,4 @@
--- Answers fit into rooms of one place for each person.
+-- Answers fit into buffers of one place for each person.
 use Rattle.std.proofs.Common.{◌≡◌, ℕ, zero, suc, ◌<◌, ◌≤◌, ◌+◌, List, [], ◌∷◌, ◌++◌, length, slice_index, drop, map, ap, ◌∙◌, add-one, arith}
 use Rattle.std.specs.List.{All}
 use Rattle.std.specs.List.Sorted.{IsStrictlyIncreasing}
@@ -24,8 +24,8 @@ few_rise (x ∷ xs) n rise within =
     let most : slice_index (x ∷ xs) (length xs) ≤ n = number.last in
     omega arith
 
--- numbers that fill a room
-pub filled : (room old xs : List ℕ) → length old ≡ length xs → room ≡ map (λ x. x) xs ++ drop (length xs) old → room ≡ xs
-filled room old xs long is =
+-- numbers that fill a buffer
+pub filled : (buffer old xs : List ℕ) → length old ≡ length xs → buffer ≡ map (λ x. x) xs ++ drop (length xs) old → buffer ≡ xs
+filled buffer old xs long is =
     let none : drop (length xs) old ≡ [] = drop_of_length-le old (omega arith) in
     is ∙ ap (λ l. map (λ x. x) xs ++ l) none ∙ append-nil (map (λ x. x) xs) ∙ map-id xs

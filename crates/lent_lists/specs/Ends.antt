@@ -1,4 +1,4 @@
--- What a solving call tells, and what it leaves in the rooms.
+-- What a solving call tells, and what it leaves in the buffers.
 use Rattle.std.specs.Prelude.{◌≡◌, ℕ, ℤ, pos, List, Result, Ok, Err, length, map, drop, ◌++◌}
 use Rattle.assign_core.specs.declared.sense.Sense.{Sense}
 use Rattle.assign_core.specs.Rows.{Listing}
@@ -10,7 +10,7 @@ use Rattle.lent_lists.specs.declared.fault.Fault.TheVariants as fault
 use Rattle.lent_lists.specs.declared.end.End.{End}
 use Rattle.lent_lists.specs.declared.end.End.TheVariants.{Best, Hall}
 use Rattle.lent_lists.specs.declared.told.Told.{Told}
-use Rattle.lent_lists.specs.declared.halves.Halves.{Halves}
+use Rattle.lent_lists.specs.declared.split_price.SplitPrice.{SplitPrice}
 use Rattle.lent_lists.specs.Prices.{price_in}
 use Rattle.lent_lists.specs.Given.{GivenLists}
 use Rattle.lent_lists.specs.Faults.{HasFault, IsOfGiven}
@@ -43,26 +43,26 @@ end_code (Ok Best) = pos 0
 end_code (Ok Hall) = pos 1
 end_code (Err f) = fault_code f
 
--- the caller's rooms
-pub record Rooms : Type 0 where
+-- the caller's buffers
+pub record Buffers : Type 0 where
   pub objects : List ℕ
   pub persons : List ℕ
-  pub prices : List Halves
+  pub prices : List SplitPrice
   pub told : Told
 
-abbrev pub rooms : List ℕ → List ℕ → List Halves → Told → Rooms
-rooms objects persons prices told =
+abbrev pub buffers : List ℕ → List ℕ → List SplitPrice → Told → Buffers
+buffers objects persons prices told =
     record { objects = objects; persons = persons; prices = prices; told = told }
 
 -- a best assignment among m objects, with prices that prove it, and the sum of its costs
-pub record HoldsBest (sense : Sense) (m : ℕ) (rows : List Listing) (before after : Rooms) : Type 0 where
+pub record HoldsBest (sense : Sense) (m : ℕ) (rows : List Listing) (before after : Buffers) : Type 0 where
   pub proof : IsCertificateAmong sense m rows after.objects (map price_in after.prices)
   pub best : IsBest sense rows after.objects
   pub sum : after.told ≡ record before.told { total = total rows after.objects }
   pub persons : after.persons ≡ before.persons
 
--- a Hall set, at the beginning of two rooms
-pub record HoldsHall (rows : List Listing) (before after : Rooms) : Type 0 where
+-- a Hall set, at the beginning of two buffers
+pub record HoldsHall (rows : List Listing) (before after : Buffers) : Type 0 where
   pub some : List ℕ
   pub few : List ℕ
   pub proof : IsHallSet rows some few
@@ -72,26 +72,26 @@ pub record HoldsHall (rows : List Listing) (before after : Rooms) : Type 0 where
   pub prices : after.prices ≡ before.prices
 
 -- an answer to a problem among m objects
-abbrev pub HoldsEnd : Sense → ℕ → List Listing → Rooms → Rooms → End → Type 0
+abbrev pub HoldsEnd : Sense → ℕ → List Listing → Buffers → Buffers → End → Type 0
 HoldsEnd sense m rows before after Best = HoldsBest sense m rows before after
 HoldsEnd sense m rows before after Hall = HoldsHall rows before after
 
 -- an answer to the problem that is given
-abbrev pub IsAnswered : GivenLists → Rooms → Rooms → End → Type 0
+abbrev pub IsAnswered : GivenLists → Buffers → Buffers → End → Type 0
 IsAnswered g before after end = IsOfGiven g (λ sense rows. HoldsEnd sense g.m rows before after end)
 
--- the rooms with the place of a fault, if it has one, and else as they were
-abbrev pub with_place : Fault → Rooms → Rooms
+-- the buffers with the place of a fault, if it has one, and else as they were
+abbrev pub with_place : Fault → Buffers → Buffers
 with_place f before =
     record before { told = record before.told { place = fault_place before.told.place f } }
 
 -- an answer, or the first fault
-abbrev pub IsSolved : GivenLists → Rooms → Rooms → Result End Fault → Type 0
+abbrev pub IsSolved : GivenLists → Buffers → Buffers → Result End Fault → Type 0
 IsSolved g before after (Ok end) = IsAnswered g before after end
 IsSolved g before after (Err f) = HasFault g f × (after ≡ with_place f before)
 
 -- the end that a code tells
-pub record IsTold (g : GivenLists) (before after : Rooms) (code : ℤ) : Type 0 where
+pub record IsReported (g : GivenLists) (before after : Buffers) (code : ℤ) : Type 0 where
   pub end : Result End Fault
   pub is : code ≡ end_code end
   pub solved : IsSolved g before after end

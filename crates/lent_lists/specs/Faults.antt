@@ -5,7 +5,7 @@ use Rattle.assign_core.specs.Rows.{Listing, IsCost, IsSize}
 use Rattle.assign_core.specs.declared.sense.Sense.{Sense as Wanted}
 use Rattle.lent_lists.specs.declared.fault.Fault.{Fault}
 use Rattle.lent_lists.specs.declared.fault.Fault.TheVariants.{Sense, Size, Length, Person, Object, Cost, Price, Memory}
-use Rattle.lent_lists.specs.Prices.{StandsForFirstPrice}
+use Rattle.lent_lists.specs.Prices.{IsSplitFirstPrice}
 use Rattle.lent_lists.specs.Given.{GivenLists, sense_of, HasLengths, HasRows}
 
 -- the element at place k lacks the property, and those before it have it
@@ -35,7 +35,7 @@ pub record IsWhole (g : GivenLists) : Type 0 where
   pub shape : HasShape g
   pub numbers : AreNumbers g
   pub costs : All IsCost g.costs
-  pub first : All StandsForFirstPrice g.first
+  pub first : All IsSplitFirstPrice g.first
 
 -- the first fault in the order of the variants, by the first place that has it
 abbrev pub HasFault : GivenLists → Fault → Type 0
@@ -47,7 +47,7 @@ HasFault g (Object k) =
     HasShape g × All (IsNumber g.n) g.persons × IsFirstWithout (IsNumber g.m) g.objects k
 HasFault g (Cost k) = HasShape g × AreNumbers g × IsFirstWithout IsCost g.costs k
 HasFault g (Price k) =
-    HasShape g × AreNumbers g × All IsCost g.costs × IsFirstWithout StandsForFirstPrice g.first k
+    HasShape g × AreNumbers g × All IsCost g.costs × IsFirstWithout IsSplitFirstPrice g.first k
 HasFault g Memory = IsWhole g
 
 -- what holds of the problem that is given, under the sense that is wanted

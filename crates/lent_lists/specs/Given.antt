@@ -8,7 +8,7 @@ use Rattle.assign_core.specs.Sparse.{Triple}
 use Rattle.rectangles.specs.Sparse.{IsSparseAmong}
 use Rattle.lent_lists.specs.declared.form.Form.{Form}
 use Rattle.lent_lists.specs.declared.form.Form.TheVariants.{Dense, Sparse}
-use Rattle.lent_lists.specs.declared.halves.Halves.{Halves}
+use Rattle.lent_lists.specs.declared.split_price.SplitPrice.{SplitPrice}
 
 -- a problem as it is given: which costs are wanted, how many persons there are and how many objects,
 -- by number; how many values the lists have that want one for each person, and those that want one for
@@ -23,7 +23,7 @@ pub record GivenLists : Type 0 where
   pub persons : List ℕ
   pub objects : List ℕ
   pub costs : List ℤ
-  pub first : List Halves
+  pub first : List SplitPrice
 
 -- the sense that a number stands for
 abbrev pub sense_of : ℕ → Option Sense
@@ -48,7 +48,7 @@ pub record HasLengths (g : GivenLists) : Type 0 where
   pub by_object : All (λ k. k ≡ g.m) g.by_object
 
 -- a dense problem: each person lists each object
-abbrev pub dense : ℕ → ℕ → ℕ → List ℕ → List ℕ → List ℤ → List Halves → GivenLists
+abbrev pub dense : ℕ → ℕ → ℕ → List ℕ → List ℕ → List ℤ → List SplitPrice → GivenLists
 dense sense n m by_person by_object costs first = record {
   form = Dense;
   sense = sense;
@@ -63,7 +63,7 @@ dense sense n m by_person by_object costs first = record {
 }
 
 -- a sparse problem: the pairs are listed
-abbrev pub sparse : ℕ → ℕ → ℕ → List ℕ → List ℕ → List ℕ → List ℕ → List ℤ → List Halves → GivenLists
+abbrev pub sparse : ℕ → ℕ → ℕ → List ℕ → List ℕ → List ℕ → List ℕ → List ℤ → List SplitPrice → GivenLists
 sparse sense n m by_person by_object persons objects costs first = record {
   form = Sparse;
   sense = sense;

@@ -1,10 +1,10 @@
 -- Prices in two halves.
 use Rattle.std.specs.Prelude.{ℤ, pos, ◌+ℤ◌, ◌*ℤ◌, ◌^◌, ◌≤ℤ◌}
 use Rattle.assign_core.specs.declared.numbers.TheConstants.{GREATEST_FIRST_PRICE}
-use Rattle.lent_lists.specs.declared.halves.Halves.{Halves}
+use Rattle.lent_lists.specs.declared.split_price.SplitPrice.{SplitPrice}
 
 -- the upper half counts 2^64 times, and is below 0 where the price is
-abbrev pub price_in : Halves → ℤ
+abbrev pub price_in : SplitPrice → ℤ
 price_in h = pos h.low +ℤ (pos (2 ^ 64) *ℤ h.high)
 
 -- a run may begin at this price
@@ -12,5 +12,5 @@ pub record IsFirstPrice (p : ℤ) : Type 0 where
   pub least : pos 0 ≤ℤ p
   pub greatest : p ≤ℤ GREATEST_FIRST_PRICE
 
-abbrev pub StandsForFirstPrice : Halves → Type 0
-StandsForFirstPrice h = IsFirstPrice (price_in h)
+abbrev pub IsSplitFirstPrice : SplitPrice → Type 0
+IsSplitFirstPrice h = IsFirstPrice (price_in h)

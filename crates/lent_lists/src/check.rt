@@ -7,12 +7,12 @@ ghost use Rattle.lent_lists.specs.Faults.{HasFault, IsOfGiven};
 ghost use Rattle.lent_lists.specs.HallSets.{IsHallVerdictAmong};
 ghost use Rattle.lent_lists.specs.Prices.{price_in};
 
+use crate::buffers::{numbered, prices_of};
 use crate::fault::Fault;
 use crate::given::Given;
-use crate::halves::Halves;
 use crate::judge::{first_wrong, judge};
 use crate::problem::problem_of;
-use crate::rooms::{numbered, prices_of};
+use crate::split_price::SplitPrice;
 use crate::told::Told;
 use assign_core::{Object, Person};
 use dual_checker::{HallVerdict, Verdict, VerdictAmong, check_among, check_hall};
@@ -23,7 +23,7 @@ pub fn verdict_on(
     alloc: Global,
     given: &Given<'_>,
     objects: &[u16],
-    prices: &[Halves],
+    prices: &[SplitPrice],
 ) -> Result<VerdictAmong, Fault>
     ensures verdict { IfOk result (λ v. IsOfGiven given.now (λ sense rows.
         IsVerdictAmong sense given.now.m rows objects.now (map price_in prices.now) v)) }
@@ -75,7 +75,7 @@ pub fn hall_verdict_on(
 }
 
 // The code of a verdict on persons, with what it names told.
-fn tell_usual(verdict: Verdict, told: &mut Told) -> i32
+fn report_usual(verdict: Verdict, told: &mut Told) -> i32
     ensures code { result ≡ verdict_code (VerdictAmong.Usual verdict) }
     ensures names { told.new ≡ with_verdict (VerdictAmong.Usual verdict) told.old }
 {
@@ -103,12 +103,12 @@ fn tell_usual(verdict: Verdict, told: &mut Told) -> i32
 }
 
 /// The code of a verdict, with what it names told.
-pub fn tell_verdict(verdict: VerdictAmong, told: &mut Told) -> i32
+pub fn report_verdict(verdict: VerdictAmong, told: &mut Told) -> i32
     ensures code { result ≡ verdict_code verdict }
     ensures names { told.new ≡ with_verdict verdict told.old }
 {
     match verdict {
-        VerdictAmong::Usual(verdict) => tell_usual(verdict, told),
+        VerdictAmong::Usual(verdict) => report_usual(verdict, told),
         VerdictAmong::Dear(object) => {
             told.object = u64::from(object.0);
             20
@@ -117,7 +117,7 @@ pub fn tell_verdict(verdict: VerdictAmong, told: &mut Told) -> i32
 }
 
 /// The code of a verdict on a Hall set, with what it names told.
-pub fn tell_hall_verdict(verdict: HallVerdict, told: &mut Told) -> i32
+pub fn report_hall_verdict(verdict: HallVerdict, told: &mut Told) -> i32
     ensures code { result ≡ hall_code verdict }
     ensures names { told.new ≡ with_hall_verdict verdict told.old }
 {

@@ -9,7 +9,7 @@ pub enum Fault {
     Sense,
     /// There is nobody or nothing, or there are more persons or objects than `MOST_PERSONS`.
     Size,
-    /// A list or a room isn't as long as it has to be.
+    /// A list or a buffer isn't as long as it has to be.
     Length,
     /// The first person of a pair that isn't one of 1 to n.
     Person(usize),

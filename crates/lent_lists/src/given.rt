@@ -4,7 +4,7 @@ ghost use Rattle.assign_core.specs.Rows.{IsSize};
 ghost use Rattle.lent_lists.specs.Given.{GivenLists, HasPairs};
 
 use crate::form::Form;
-use crate::halves::Halves;
+use crate::split_price::SplitPrice;
 use assign_core::Cost;
 use std::marker::Model;
 
@@ -17,14 +17,14 @@ pub struct Given<'a> {
     pub n: usize,
     /// How many objects there are.
     pub m: usize,
-    /// How many values each further list and room has that wants one for each person.
+    /// How many values each further list and buffer has that wants one for each person.
     pub by_person: &'a [usize],
     /// The same for those that want one for each object.
     pub by_object: &'a [usize],
     pub persons: &'a [u16],
     pub objects: &'a [u16],
     pub costs: &'a [Cost],
-    pub first: &'a [Halves],
+    pub first: &'a [SplitPrice],
 }
 
 impl<'a> Model for Given<'a> {

@@ -3,12 +3,12 @@ ghost use Rattle.std.specs.Prelude.{◌≡◌, ◌<◌, ◌↔◌, ℕ, Some, No
 ghost use Rattle.assign_core.specs.Numbered.{IsNumber};
 ghost use Rattle.assign_core.specs.Rows.{IsCost, IsSize};
 ghost use Rattle.lent_lists.specs.Given.{sense_of};
-ghost use Rattle.lent_lists.specs.Prices.{StandsForFirstPrice};
+ghost use Rattle.lent_lists.specs.Prices.{IsSplitFirstPrice};
 ghost use Rattle.lent_lists.specs.Faults.{HasFault, HasShape, IsFirstWithout, IsWhole};
 
 use crate::fault::Fault;
 use crate::given::{Given, has_pairs};
-use crate::halves::Halves;
+use crate::split_price::SplitPrice;
 use assign_core::{Cost, GREATEST_COST, GREATEST_FIRST_PRICE, MOST_PERSONS, Sense};
 
 // What stands in a list, each of which has to be right where numbers go up to `n`.
@@ -35,8 +35,8 @@ impl Judged for Cost {
     }
 }
 
-impl Judged for Halves {
-    ghost is_right = { λ _ first. StandsForFirstPrice first };
+impl Judged for SplitPrice {
+    ghost is_right = { λ _ first. IsSplitFirstPrice first };
 
     fn is_right_among(self, _n: u16) -> bool {
         let price = self.price();

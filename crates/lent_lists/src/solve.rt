@@ -1,21 +1,21 @@
-// From what is given to an answer in the caller's rooms.
+// From what is given to an answer in the caller's buffers.
 ghost use Rattle.std.specs.Prelude.{◌≡◌, ◌≤◌, All, IfErr, IfOk, OnErr, length, take};
 ghost use Rattle.std.specs.Arc.{arc_value};
 ghost use Rattle.assign_core.specs.Assignment.{IsAssignment, total};
 ghost use Rattle.assign_core.specs.Outcomes.{IsProofAmong};
 ghost use Rattle.assign_core.specs.Rows.{IsAmong};
-ghost use Rattle.lent_lists.specs.Ends.{HoldsEnd, IsAnswered, IsTold, rooms};
+ghost use Rattle.lent_lists.specs.Ends.{HoldsEnd, IsAnswered, IsReported, buffers};
 ghost use Rattle.lent_lists.specs.Faults.{HasFault};
 ghost use Rattle.lent_lists.specs.Given.{HasLengths};
-ghost use Rattle.lent_lists.specs.Prices.{StandsForFirstPrice};
+ghost use Rattle.lent_lists.specs.Prices.{IsSplitFirstPrice};
 
+use crate::buffers::{first_prices, put_numbers, put_prices};
 use crate::end::{End, answer};
 use crate::fault::Fault;
 use crate::given::Given;
-use crate::halves::Halves;
 use crate::judge::judge;
 use crate::problem::problem_of;
-use crate::rooms::{first_prices, put_numbers, put_prices};
+use crate::split_price::SplitPrice;
 use crate::told::Told;
 use assign_core::{Assignment, Outcome, Problem, Sense, slack_means_best_among};
 use rectangles::total_of_first;
@@ -30,10 +30,10 @@ fn outcome_of(
     alloc: Global,
     scaled: Arc<Scaled>,
     n: u16,
-    first: &[Halves],
+    first: &[SplitPrice],
 ) -> Result<Outcome, AllocError>
     requires persons { n ≤ length (arc_value scaled).problem }
-    requires first { All StandsForFirstPrice first.now }
+    requires first { All IsSplitFirstPrice first.now }
     ensures { IfOk result (λ outcome. let s = arc_value scaled in
         IsProofAmong s.sense (length s.problem) (take n s.problem) outcome) }
 {
@@ -54,7 +54,7 @@ fn tell_sum(problem: &Problem, n: u16, assignment: &Assignment, told: &mut Told)
     told.total = total_of_first(problem, n, assignment);
 }
 
-// Writes an answer that is a proof for the first `n` persons, among as many objects as the room for
+// Writes an answer that is a proof for the first `n` persons, among as many objects as the buffer for
 // prices has places.
 fn give(
     problem: &Problem,
@@ -63,7 +63,7 @@ fn give(
     outcome: &Outcome,
     objects: &mut [u16],
     persons: &mut [u16],
-    prices: &mut [Halves],
+    prices: &mut [SplitPrice],
     told: &mut Told,
 ) -> End
     requires among { IsAmong n (length prices.old) problem.now }
@@ -71,8 +71,8 @@ fn give(
     requires objects { length objects.old ≡ n }
     requires persons { length persons.old ≡ n }
     ensures { HoldsEnd sense (length prices.old) (take n problem.now)
-        (rooms objects.old persons.old prices.old told.old)
-        (rooms objects.new persons.new prices.new told.new) result }
+        (buffers objects.old persons.old prices.old told.old)
+        (buffers objects.new persons.new prices.new told.new) result }
 {
     // That an assignment with such prices is best follows from this call.
     slack_means_best_among();
@@ -102,24 +102,24 @@ fn shared(alloc: Global, problem: Problem, sense: Sense) -> Result<Arc<Scaled>, 
     Ok(Arc::new(alloc, scaled)?)
 }
 
-// An answer to what is given, in the rooms, which are as they were where there is none.
+// An answer to what is given, in the buffers, which are as they were where there is none.
 fn solve(
     alloc: Global,
     given: &Given<'_>,
     objects: &mut [u16],
     persons: &mut [u16],
-    prices: &mut [Halves],
+    prices: &mut [SplitPrice],
     told: &mut Told,
 ) -> Result<End, Fault>
     requires objects { HasLengths given.now → length objects.old ≡ given.now.n }
     requires persons { HasLengths given.now → length persons.old ≡ given.now.n }
     requires prices { HasLengths given.now → length prices.old ≡ given.now.m }
     ensures end { IfOk result (IsAnswered given.now
-        (rooms objects.old persons.old prices.old told.old)
-        (rooms objects.new persons.new prices.new told.new)) }
+        (buffers objects.old persons.old prices.old told.old)
+        (buffers objects.new persons.new prices.new told.new)) }
     ensures fault { IfErr result (HasFault given.now) }
-    ensures same { OnErr result (rooms objects.new persons.new prices.new told.new
-        ≡ rooms objects.old persons.old prices.old told.old) }
+    ensures same { OnErr result (buffers objects.new persons.new prices.new told.new
+        ≡ buffers objects.old persons.old prices.old told.old) }
 {
     let sense = judge(given)?;
     let problem = problem_of(alloc, given)?;
@@ -139,21 +139,21 @@ fn solve(
     ))
 }
 
-/// Solves what is given, writes the answer into the rooms, and tells its code.
+/// Solves what is given, writes the answer into the buffers, and tells its code.
 pub fn solve_given(
     alloc: Global,
     given: &Given<'_>,
     objects: &mut [u16],
     persons: &mut [u16],
-    prices: &mut [Halves],
+    prices: &mut [SplitPrice],
     told: &mut Told,
 ) -> i32
     requires objects { HasLengths given.now → length objects.old ≡ given.now.n }
     requires persons { HasLengths given.now → length persons.old ≡ given.now.n }
     requires prices { HasLengths given.now → length prices.old ≡ given.now.m }
-    ensures { IsTold given.now
-        (rooms objects.old persons.old prices.old told.old)
-        (rooms objects.new persons.new prices.new told.new) result }
+    ensures { IsReported given.now
+        (buffers objects.old persons.old prices.old told.old)
+        (buffers objects.new persons.new prices.new told.new) result }
 {
     let end = solve(alloc, given, objects, persons, prices, told);
     answer(end, told)

@@ -1,13 +1,13 @@
 // The calls, as `c/nushbaret.h` declares them.
 ghost use Rattle.std.specs.Prelude.{[], ◌∷◌, ◌⊎◌, length, map};
 ghost use Rattle.lent_lists.specs.Checks.{IsHallJudged, IsJudged, IsRefused};
-ghost use Rattle.lent_lists.specs.Ends.{IsTold, rooms};
+ghost use Rattle.lent_lists.specs.Ends.{IsReported, buffers};
 ghost use Rattle.lent_lists.specs.Given.{dense, either, sparse};
 ghost use Rattle.lent_lists.specs.Prices.{price_in};
 
 use lent_lists::{
-    Form, Given, Halves, Told, form_of, hall_verdict_on, refuse, solve_given, tell_hall_verdict,
-    tell_verdict, verdict_on,
+    Form, Given, SplitPrice, Told, form_of, hall_verdict_on, refuse, report_hall_verdict,
+    report_verdict, solve_given, verdict_on,
 };
 use std::alloc::Global;
 
@@ -21,14 +21,14 @@ pub extern "C" fn nushbaret_dense(
     costs: &[i64],
     objects: &mut [u16],
     persons: &mut [u16],
-    prices: &mut [Halves],
+    prices: &mut [SplitPrice],
     told: &mut Told,
 ) -> i32
-    ensures { IsTold
+    ensures { IsReported
         (dense sense n m (length objects.old ∷ length persons.old ∷ []) (length prices.old ∷ [])
         costs.now [])
-        (rooms objects.old persons.old prices.old told.old)
-        (rooms objects.new persons.new prices.new told.new) result }
+        (buffers objects.old persons.old prices.old told.old)
+        (buffers objects.new persons.new prices.new told.new) result }
 {
     let by_person = [objects.len(), persons.len()];
     let by_object = [prices.len()];
@@ -55,18 +55,18 @@ pub extern "C" fn nushbaret_dense_from(
     n: usize,
     m: usize,
     costs: &[i64],
-    first: &[Halves],
+    first: &[SplitPrice],
     objects: &mut [u16],
     persons: &mut [u16],
-    prices: &mut [Halves],
+    prices: &mut [SplitPrice],
     told: &mut Told,
 ) -> i32
-    ensures { IsTold
+    ensures { IsReported
         (dense sense n m (length objects.old ∷ length persons.old ∷ [])
         (length prices.old ∷ length first.now ∷ [])
         costs.now first.now)
-        (rooms objects.old persons.old prices.old told.old)
-        (rooms objects.new persons.new prices.new told.new) result }
+        (buffers objects.old persons.old prices.old told.old)
+        (buffers objects.new persons.new prices.new told.new) result }
 {
     let by_person = [objects.len(), persons.len()];
     let by_object = [prices.len(), first.len()];
@@ -98,14 +98,14 @@ pub extern "C" fn nushbaret_sparse(
     costs: &[i64],
     objects: &mut [u16],
     persons: &mut [u16],
-    prices: &mut [Halves],
+    prices: &mut [SplitPrice],
     told: &mut Told,
 ) -> i32
-    ensures { IsTold
+    ensures { IsReported
         (sparse sense n m (length objects.old ∷ length persons.old ∷ []) (length prices.old ∷ [])
         of_persons.now of_objects.now costs.now [])
-        (rooms objects.old persons.old prices.old told.old)
-        (rooms objects.new persons.new prices.new told.new) result }
+        (buffers objects.old persons.old prices.old told.old)
+        (buffers objects.new persons.new prices.new told.new) result }
 {
     let by_person = [objects.len(), persons.len()];
     let by_object = [prices.len()];
@@ -134,18 +134,18 @@ pub extern "C" fn nushbaret_sparse_from(
     of_persons: &[u16],
     of_objects: &[u16],
     costs: &[i64],
-    first: &[Halves],
+    first: &[SplitPrice],
     objects: &mut [u16],
     persons: &mut [u16],
-    prices: &mut [Halves],
+    prices: &mut [SplitPrice],
     told: &mut Told,
 ) -> i32
-    ensures { IsTold
+    ensures { IsReported
         (sparse sense n m (length objects.old ∷ length persons.old ∷ [])
         (length prices.old ∷ length first.now ∷ [])
         of_persons.now of_objects.now costs.now first.now)
-        (rooms objects.old persons.old prices.old told.old)
-        (rooms objects.new persons.new prices.new told.new) result }
+        (buffers objects.old persons.old prices.old told.old)
+        (buffers objects.new persons.new prices.new told.new) result }
 {
     let by_person = [objects.len(), persons.len()];
     let by_object = [prices.len(), first.len()];
@@ -176,7 +176,7 @@ pub extern "C" fn nushbaret_check(
     of_objects: &[u16],
     costs: &[i64],
     objects: &[u16],
-    prices: &[Halves],
+    prices: &[SplitPrice],
     told: &mut Told,
 ) -> i32
     ensures { let given = either sense n m of_persons.now of_objects.now costs.now in
@@ -196,7 +196,7 @@ pub extern "C" fn nushbaret_check(
         first: &[],
     };
     match verdict_on(alloc, &given, objects, prices) {
-        Ok(verdict) => tell_verdict(verdict, told),
+        Ok(verdict) => report_verdict(verdict, told),
         Err(fault) => refuse(fault, told),
     }
 }
@@ -231,7 +231,7 @@ pub extern "C" fn nushbaret_check_hall(
         first: &[],
     };
     match hall_verdict_on(alloc, &given, persons, objects) {
-        Ok(verdict) => tell_hall_verdict(verdict, told),
+        Ok(verdict) => report_hall_verdict(verdict, told),
         Err(fault) => refuse(fault, told),
     }
 }

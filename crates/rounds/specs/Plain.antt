@@ -27,9 +27,9 @@ pub data End : Type 0 where
   Halted : ℕ → Plain → End
 
 -- a run goes on, or has ended
-pub data Course : Type 0 where
-  Goes : Plain → Course
-  Ends : End → Course
+pub data RunState : Type 0 where
+  Goes : Plain → RunState
+  Ends : End → RunState
 
 -- after a bid, which is too low or is accepted
 abbrev pub after_bid : Bool → Plain → Bid → Plain
@@ -45,22 +45,22 @@ abbrev pub submitted : Plain → Bid → Plain
 submitted b bid = after_bid (lt_z bid.level (price_of b.prices bid.object +ℤ b.ask.eps)) b bid
 
 -- after an offer, which is submitted, or ends the run
-abbrev pub after_offer : Plain → Offer → Course
+abbrev pub after_offer : Plain → Offer → RunState
 after_offer b (made.Bid bid) = Goes (submitted b bid)
 after_offer b (made.Below below) = Ends (Halted below.person b)
 
 -- what comes next, where the run goes on
-abbrev pub and_then : Course → (Plain → Course) → Course
+abbrev pub and_then : RunState → (Plain → RunState) → RunState
 and_then (Goes b) next = next b
 and_then (Ends e) next = Ends e
 
 -- after offers, one by one, up to one of a person that finds nothing worth the floor
-abbrev pub after_offers : List Offer → Plain → Course
+abbrev pub after_offers : List Offer → Plain → RunState
 after_offers [] b = Goes b
 after_offers (offer ∷ offers) b = and_then (after_offer b offer) (after_offers offers)
 
 -- nobody waits, each person who waited makes an offer from the same table, and these are submitted one by one
-abbrev pub round : ScaledProblem → Plain → Course
+abbrev pub round : ScaledProblem → Plain → RunState
 round s b = after_offers (offers_of s b.prices b.ask b.queue) (record b { queue = [] })
 
 -- the start of a phase: nobody owns anything, all persons wait, and prices are kept
@@ -85,14 +85,14 @@ abbrev pub ready : ScaledProblem → Plain → Option Plain
 ready s b = ready_by s b b.queue
 
 -- one round more, of a phase that has begun
-abbrev pub round_or_end : ScaledProblem → Plain → Option Plain → Course
+abbrev pub round_or_end : ScaledProblem → Plain → Option Plain → RunState
 round_or_end s b None = Ends (Finished b)
 round_or_end s b (Some c) = round s c
 
-abbrev pub next_round : ScaledProblem → Plain → Course
+abbrev pub next_round : ScaledProblem → Plain → RunState
 next_round s b = round_or_end s b (ready s b)
 
 -- what m rounds come to
-unfoldable pub run : ScaledProblem → ℕ → Plain → Course
+unfoldable pub run : ScaledProblem → ℕ → Plain → RunState
 run s zero b = Goes b
 run s (suc m) b = and_then (run s m b) (next_round s)

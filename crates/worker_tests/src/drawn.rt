@@ -9,7 +9,7 @@ use crate::beside;
 use crate::scripts::{Heard, Shown, Story, new_book, played};
 use assign_core::{GREATEST_FIRST_PRICE, HallSet, Prices};
 use async_workers::Note;
-use auction_book::{Book, Event, Refused, Seat, World, run_schedule_from};
+use auction_book::{Book, Event, Refused, WorkerState, World, run_schedule_from};
 use scaled_values::Scaled;
 use std::alloc::{AllocError, Global};
 use std::sync::{Arc, Wait};
@@ -85,7 +85,7 @@ pub(crate) fn all_alike<T: Alike>(shown: &[Shown], others: &[T]) -> bool {
             .all(|(desk, other)| other.is_alike(desk))
 }
 
-impl Alike for Seat {
+impl Alike for WorkerState {
     fn is_alike(&self, shown: &Shown) -> bool {
         shown.table.as_slice() == self.table.as_slice()
             && shown.version == self.version
@@ -139,7 +139,7 @@ pub(crate) fn is_book(book: &Book, other: &Book) -> bool {
 fn is_world(story: &Story, world: &World) -> bool {
     match &story.book {
         Some(book) => {
-            all_alike(story.shown.as_slice(), world.seats.as_slice()) && is_book(book, &world.book)
+            all_alike(story.shown.as_slice(), world.states.as_slice()) && is_book(book, &world.book)
         }
         None => false,
     }

@@ -7,7 +7,7 @@ use Rattle.auction_book.specs.declared.answers.Claim.{Claim}
 use Rattle.auction_book.specs.declared.answers.Note.{Note}
 use Rattle.auction_book.specs.Book.{BookData}
 use Rattle.async_workers.specs.declared.rule.Known.{Known}
-use Rattle.async_workers.specs.declared.rule.Told.{Told}
+use Rattle.async_workers.specs.declared.rule.LastSession.{LastSession}
 use Rattle.async_workers.specs.declared.rule.View.{View}
 use Rattle.async_workers.specs.declared.rule.View.TheVariants.{Holding}
 use Rattle.async_workers.specs.PlaceRule.{MayFollow}
@@ -16,7 +16,7 @@ use Rattle.async_workers.specs.Session.{EndsUndone, EndsWell}
 
 -- the book b stands where the book `taken` was taken, and may be put back by a desk with this view that knows this
 pub record HasInHand (base : ScaledProblem) (view : View) (k : Known) (taken b : BookData) : Type 0 where
-  pub told : Told
+  pub told : LastSession
   pub holding : view ≡ Holding told taken
   pub same_number : told.known.number ≡ k.number
   pub same_base : base ≡ b.base

@@ -3,10 +3,10 @@ ghost use Rattle.std.specs.Prelude.{◌≡◌, ◌<◌, [], All, vec_len};
 ghost use Rattle.crossbeam_queue.specs.Passes.{view, IsPassOf, IsSamePass};
 ghost use Rattle.auction_book.specs.Book.{BookData};
 ghost use Rattle.auction_book.specs.Free.{IsFree};
-ghost use Rattle.async_workers.specs.PlaceRule.{IsTold};
+ghost use Rattle.async_workers.specs.PlaceRule.{IsCurrent};
 ghost use Rattle.async_workers.specs.inside.Passing.{IsClosing};
 ghost use Rattle.async_workers.specs.Desk.{IsReady, IsTrueOf};
-ghost use Rattle.async_workers.specs.declared.rule.Told.{Told};
+ghost use Rattle.async_workers.specs.declared.rule.LastSession.{LastSession};
 ghost use Rattle.async_workers.specs.declared.rule.View.TheVariants.{Away};
 
 use super::taking::take_book;
@@ -47,9 +47,9 @@ impl Desk {
 // Takes in these desks, while the book is in hand.
 fn meet_all(queue: &Queue, pass: &mut DeskPass, mut desks: Vec<Desk>)
     requires queue { IsPassOf queue.now pass.old }
-    requires closing { (t : Told) × (taken : BookData) × IsClosing (view pass.old) t taken }
+    requires closing { (t : LastSession) × (taken : BookData) × IsClosing (view pass.old) t taken }
     requires ready { All (IsReady queue.now.table.shared.table_id) desks.items }
-    ensures { (t : Told) (taken : BookData) → IsClosing (view pass.old) t taken
+    ensures { (t : LastSession) (taken : BookData) → IsClosing (view pass.old) t taken
         → All (IsTrueOf taken) desks.items }
 {
     while let Some(desk) = desks.pop() {
@@ -60,13 +60,13 @@ fn meet_all(queue: &Queue, pass: &mut DeskPass, mut desks: Vec<Desk>)
 // Takes in one desk, and compares what it was told with the book in hand.
 fn meet(queue: &Queue, pass: &mut DeskPass, other: DeskPass)
     requires queue { IsPassOf queue.now pass.old × IsPassOf queue.now other }
-    requires closing { (t : Told) × (taken : BookData) × IsClosing (view pass.old) t taken }
-    requires away { (u : Told) × (view other ≡ Away u) }
+    requires closing { (t : LastSession) × (taken : BookData) × IsClosing (view pass.old) t taken }
+    requires away { (u : LastSession) × (view other ≡ Away u) }
     ensures queue { IsSamePass pass.old pass.new }
-    ensures closing { (t : Told) (taken : BookData) → IsClosing (view pass.old) t taken
+    ensures closing { (t : LastSession) (taken : BookData) → IsClosing (view pass.old) t taken
         → IsClosing (view pass.new) t taken }
-    ensures told { (t : Told) (taken : BookData) (u : Told) → IsClosing (view pass.old) t taken
-        → view other ≡ Away u → IsTold taken u }
+    ensures told { (t : LastSession) (taken : BookData) (u : LastSession) → IsClosing (view pass.old) t taken
+        → view other ≡ Away u → IsCurrent taken u }
 {
     queue.absorb::<Meet>(pass, other);
     queue.learn_as::<Meet>(pass);

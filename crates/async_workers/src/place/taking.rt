@@ -7,10 +7,10 @@ ghost use Rattle.auction_book.specs.Book.{BookData};
 ghost use Rattle.auction_book.specs.Changes.{caught_up};
 ghost use Rattle.auction_book.specs.Free.{IsFree};
 ghost use Rattle.async_workers.specs.PlaceRule.{Gave, MayFollow, Took};
-ghost use Rattle.async_workers.specs.Views.{claim_in, told_of};
+ghost use Rattle.async_workers.specs.Views.{claim_in, known_after};
 ghost use Rattle.async_workers.specs.Desk.{IsAway, MayGive};
 ghost use Rattle.async_workers.specs.Session.{counted, one_more, with_table};
-ghost use Rattle.async_workers.specs.declared.rule.Told.{Told};
+ghost use Rattle.async_workers.specs.declared.rule.LastSession.{LastSession};
 ghost use Rattle.async_workers.specs.declared.rule.View.TheVariants.{Away, Holding};
 
 use super::{BookPlace, Claimed, Desk, Held};
@@ -24,7 +24,7 @@ use std::thread;
 // Tries until the book lies in the place.
 pub(super) fn take_book<R: Wait>(rt: &R, queue: &Queue, pass: &mut DeskPass) -> BoxedBook
     requires queue { IsPassOf queue.now pass.old }
-    requires away { (t : Told) × (view pass.old ≡ Away t) }
+    requires away { (t : LastSession) × (view pass.old ≡ Away t) }
     ensures queue { IsSamePass pass.old pass.new }
     ensures took { Took (view pass.old) result (view pass.new) }
 {
@@ -47,7 +47,7 @@ fn put_back<G: Giver, R: Wait>(
 )
     requires queue { IsPassOf queue.now pass.old × (ruled_capacity queue.now ≡ 1) }
     requires giver { G.known ≡ known.now }
-    requires held { (t : Told) × (taken : BookData) × (view pass.old ≡ Holding t taken)
+    requires held { (t : LastSession) × (taken : BookData) × (view pass.old ≡ Holding t taken)
         × (t.known.number ≡ known.now.number) × MayFollow known.now taken book }
     ensures queue { IsSamePass pass.old pass.new }
     ensures gave { Gave known.now (view pass.old) book (view pass.new) }
@@ -134,7 +134,7 @@ impl Held {
         requires held { MayGive desk.old self.book }
         requires number { IsNumber (length self.book.claims) desk.old.known.number }
         ensures gave { Gave desk.old.known desk.old.view self.book desk.new.view }
-        ensures same { desk.new ≡ counted self.caught_up (record desk.old { view = desk.new.view; known = told_of desk.old.known self.book }) }
+        ensures same { desk.new ≡ counted self.caught_up (record desk.old { view = desk.new.view; known = known_after desk.old.known self.book }) }
     {
         let Held {
             book,

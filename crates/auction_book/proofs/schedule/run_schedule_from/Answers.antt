@@ -4,7 +4,7 @@ use Rattle.std.proofs.lemmas.List.{take_at, take_more}
 use Rattle.assign_core.specs.Rows.{IsProblem}
 use Rattle.scaled_values.specs.Scaled.{ScaledProblem}
 use Rattle.auction_book.specs.declared.schedule.Event.{Event}
-use Rattle.auction_book.specs.declared.schedule.Seat.{Seat}
+use Rattle.auction_book.specs.declared.schedule.WorkerState.{WorkerState}
 use Rattle.auction_book.specs.Schedule.{CoreData, Happens, Run, core_opened}
 use Rattle.auction_book.proofs.Runs.{run_more, runs_fit}
 use Rattle.auction_book.proofs.schedule.run_schedule_from.Goals as goal
@@ -21,12 +21,12 @@ loop-event-preserved c =
     let i = c.loop-event.event-index in
     let lt = c.loop-event-test.true in
     let e : Event = get_or events i (record { worker = 0; catch_up = false }) in
-    let mid : CoreData = record { book = c.loop-event.book; seats = c.loop-event.seats.items } in
-    let new : CoreData = record { book = c.happen.new.book; seats = c.happen.new.seats } in
-    let happens = subst (λ (s : List Seat). Happens (record { book = c.loop-event.book; seats = s }) e new) c.as_mut_slice.ensures.value c.in_ok-happen.ensures in
+    let mid : CoreData = record { book = c.loop-event.book; states = c.loop-event.states.items } in
+    let new : CoreData = record { book = c.happen.new.book; states = c.happen.new.states } in
+    let happens = subst (λ (s : List WorkerState). Happens (record { book = c.loop-event.book; states = s }) e new) c.as_mut_slice.ensures.value c.in_ok-happen.ensures in
     let step : Run start (take i events ++ e ∷ []) new = run_more start mid new (take i events) e c.loop-event.invariant happens in
-    let whole = take_at c.happen.new.seats (drop (length c.happen.new.seats) c.loop-event.seats.items) c.loop-event.seats.len (c.happen.auto.seats ∙ ap length c.as_mut_slice.ensures.value ∙ sym c.loop-event.seats.ok.0) in
-    subst (λ (s : List Seat). Run start (take (i + 1) events) (record { book = c.happen.new.book; seats = s })) (sym whole) (subst (λ es. Run start es new) (sym (take_more events i (record { worker = 0; catch_up = false }) lt)) step)
+    let whole = take_at c.happen.new.states (drop (length c.happen.new.states) c.loop-event.states.items) c.loop-event.states.len (c.happen.auto.states ∙ ap length c.as_mut_slice.ensures.value ∙ sym c.loop-event.states.ok.0) in
+    subst (λ (s : List WorkerState). Run start (take (i + 1) events) (record { book = c.happen.new.book; states = s })) (sym whole) (subst (λ es. Run start es new) (sym (take_more events i (record { worker = 0; catch_up = false }) lt)) step)
 
 pub returns-clause-fit : goal.returns-clause-fit
 returns-clause-fit c =

@@ -38,13 +38,13 @@ returns-in-Best c =
     let long = length_zip _ _ _ proof.assigned.listed in
     let front = length-take-le c.args.n c.args.problem.now c.requires.among.persons in
     let same = ap (λ ys. length ys) c.objects.ensures.objects in
-    let room : c.put_numbers.new.room ≡ xs = filled c.put_numbers.new.room c.args.objects.now c.objects.result.now (omega (arith, c.requires.objects)) c.put_numbers.ensures ∙ c.objects.ensures.objects in
+    let buffer : c.put_numbers.new.buffer ≡ xs = filled c.put_numbers.new.buffer c.args.objects.now c.objects.result.now (omega (arith, c.requires.objects)) c.put_numbers.ensures ∙ c.objects.ensures.objects in
     let prices = c.put_prices.ensures ∙ c.as_slice.ensures.prices in
     let within = All-weaker (IsRow m) (IsWithin m) (λ r k. k.within) rows c.requires.among.each in
     let best = c.slack_means_best_among.ensures sense m rows xs c.in-Best.best.prices within proof in
     record {
-      proof = subst (λ (ys : List ℕ). IsCertificateAmong sense m rows ys (map price_in c.put_prices.new.room)) (sym room) (subst (λ (ps : List ℤ). IsCertificateAmong sense m rows xs ps) (sym prices) proof);
-      best = subst (λ (ys : List ℕ). IsBest sense rows ys) (sym room) best;
-      sum = c.tell_sum.ensures ∙ ap (λ (ys : List ℕ). record c.args.told.now { total = total rows ys }) (sym room);
+      proof = subst (λ (ys : List ℕ). IsCertificateAmong sense m rows ys (map price_in c.put_prices.new.buffer)) (sym buffer) (subst (λ (ps : List ℤ). IsCertificateAmong sense m rows xs ps) (sym prices) proof);
+      best = subst (λ (ys : List ℕ). IsBest sense rows ys) (sym buffer) best;
+      sum = c.tell_sum.ensures ∙ ap (λ (ys : List ℕ). record c.args.told.now { total = total rows ys }) (sym buffer);
       persons = refl;
     }

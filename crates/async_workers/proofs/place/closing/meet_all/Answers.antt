@@ -1,7 +1,7 @@
 use Rattle.std.proofs.Common.{◌∙◌, sym, subst, Some, arith}
 use Rattle.std.specs.List.{All}
 use Rattle.std.proofs.lemmas.List.Elements.{All-pop, All-push}
-use Rattle.async_workers.specs.Desk.{IsReady, IsTrueOf, told_by}
+use Rattle.async_workers.specs.Desk.{IsReady, IsTrueOf, session_by}
 use Rattle.async_workers.proofs.place.closing.meet_all.Goals as goal
 
 pub meet-requires-clause-closing : goal.meet-requires-clause-closing
@@ -10,7 +10,7 @@ meet-requires-clause-closing c = let h = c.requires.closing in (h.0, h.1, c.loop
 pub meet-requires-clause-away : goal.meet-requires-clause-away
 meet-requires-clause-away c =
     let ready = All-pop (IsReady c.args.queue.now.table.shared.table_id) c.loop-desk.desks.items c.pop.new.self.items (Some c.in-Some.desk) c.in-Some.ensures.items c.loop-desk.invariant.ready in
-    (told_by c.in-Some.desk ready.1.1.0 ready.1.1.1, c.into_pass.ensures.view ∙ ready.1.1.2)
+    (session_by c.in-Some.desk ready.1.1.0 ready.1.1.1, c.into_pass.ensures.view ∙ ready.1.1.2)
 
 pub loop-desk-preserved : goal.loop-desk-preserved
 loop-desk-preserved c =
@@ -24,7 +24,7 @@ loop-desk-preserved c =
       closing = λ t taken cl. m.closing t taken (inv.closing t taken cl);
       ready = ready.0;
       told = λ t taken cl all. inv.told t taken cl (subst (All (IsTrueOf taken)) (sym items) (All-push (IsTrueOf taken) c.pop.new.self.items desk all
-          (λ a put away. m.told t taken (told_by desk a put) (inv.closing t taken cl) (c.into_pass.ensures.view ∙ away))));
+          (λ a put away. m.told t taken (session_by desk a put) (inv.closing t taken cl) (c.into_pass.ensures.view ∙ away))));
     }
 
 pub returns : goal.returns

@@ -1,30 +1,30 @@
-// Answers into a caller's rooms, and lists out of them.
+// Answers into a caller's buffers, and lists out of them.
 ghost use Rattle.std.specs.Prelude.{◌≡◌, ◌≤◌, ◌++◌, All, IfOk, drop, length, map};
 ghost use Rattle.assign_core.specs.Prices.{IsPrice};
-ghost use Rattle.lent_lists.specs.Prices.{StandsForFirstPrice, price_in};
+ghost use Rattle.lent_lists.specs.Prices.{IsSplitFirstPrice, price_in};
 
-use crate::halves::Halves;
+use crate::split_price::SplitPrice;
 use assign_core::{MOST_PERSONS, Numbered, Price, Prices};
 use std::alloc::{AllocError, Global};
 
-/// Writes the numbers of persons or objects at the beginning of a room.
-pub fn put_numbers<T: Numbered>(room: &mut [u16], all: &[T])
-    requires { length all.now ≤ length room.old }
-    ensures { room.new ≡ map T.number_of all.now ++ drop (length all.now) room.old }
+/// Writes the numbers of persons or objects at the beginning of a buffer.
+pub fn put_numbers<T: Numbered>(buffer: &mut [u16], all: &[T])
+    requires { length all.now ≤ length buffer.old }
+    ensures { buffer.new ≡ map T.number_of all.now ++ drop (length all.now) buffer.old }
 {
     for i in 0..all.len() {
-        room[i] = all[i].number();
+        buffer[i] = all[i].number();
     }
 }
 
 /// Writes prices in halves.
-pub fn put_prices(room: &mut [Halves], prices: &[Price])
-    requires long { length room.old ≡ length prices.now }
+pub fn put_prices(buffer: &mut [SplitPrice], prices: &[Price])
+    requires long { length buffer.old ≡ length prices.now }
     requires range { All IsPrice prices.now }
-    ensures { map price_in room.new ≡ prices.now }
+    ensures { map price_in buffer.new ≡ prices.now }
 {
     for i in 0..prices.len() {
-        room[i] = Halves::of(prices[i]);
+        buffer[i] = SplitPrice::of(prices[i]);
     }
 }
 
@@ -40,7 +40,7 @@ pub fn numbered<T: Numbered + Drop>(alloc: Global, numbers: &[u16]) -> Result<Ve
 }
 
 /// Prices by their halves.
-pub fn prices_of(alloc: Global, halves: &[Halves]) -> Result<Vec<Price>, AllocError>
+pub fn prices_of(alloc: Global, halves: &[SplitPrice]) -> Result<Vec<Price>, AllocError>
     ensures { IfOk result (λ prices. prices.items ≡ map price_in halves.now) }
 {
     let mut prices = Vec::with_capacity(alloc, halves.len())?;
@@ -51,9 +51,9 @@ pub fn prices_of(alloc: Global, halves: &[Halves]) -> Result<Vec<Price>, AllocEr
 }
 
 /// First prices by their halves.
-pub fn first_prices(alloc: Global, first: &[Halves]) -> Result<Prices, AllocError>
+pub fn first_prices(alloc: Global, first: &[SplitPrice]) -> Result<Prices, AllocError>
     requires few { length first.now ≤ MOST_PERSONS }
-    requires low { All StandsForFirstPrice first.now }
+    requires low { All IsSplitFirstPrice first.now }
     ensures { IfOk result (λ prices. length prices ≡ length first.now) }
 {
     let values = prices_of(alloc, first)?;

@@ -8,7 +8,7 @@ use assign_core::Price;
 /// A price in two halves: `low + 2^64 * high`. So every number of 128 bits has its halves.
 #[repr(C)]
 #[derive(Clone, Copy)]
-pub struct Halves {
+pub struct SplitPrice {
     pub low: u64,
     pub high: i64,
 }
@@ -16,7 +16,7 @@ pub struct Halves {
 // What the upper half counts.
 const WIDE: Price = 1 << 64;
 
-impl Halves {
+impl SplitPrice {
     /// The price.
     pub fn price(self) -> Price
         ensures { result ≡ price_in self }
@@ -25,11 +25,11 @@ impl Halves {
     }
 
     /// The halves of a price.
-    pub fn of(price: Price) -> Halves
+    pub fn of(price: Price) -> SplitPrice
         requires { IsPrice price }
         ensures { price_in result ≡ price }
     {
-        Halves {
+        SplitPrice {
             low: (price % WIDE) as u64,
             high: (price / WIDE) as i64,
         }
