@@ -2,7 +2,7 @@
 use super::drawn::Case;
 use assign_core::{Object, Person, Price, Sense};
 use std::alloc::{AllocError, Global};
-use test_helpers::Pair;
+use test_helpers::{Pair, benefit_range, plain_benefits};
 
 #[derive(Drop)]
 pub(crate) struct PlainBook {
@@ -38,46 +38,6 @@ pub(crate) fn put<T: Copy>(items: &mut [T], number: u16, item: T) {
     if let Some(place) = items.get_mut((number as usize).wrapping_sub(1)) {
         *place = item;
     }
-}
-
-// The benefits of these pairs.
-fn benefits_of(
-    alloc: Global,
-    n: u16,
-    pairs: &[Pair],
-    sense: Sense,
-) -> Result<Vec<Option<i128>>, AllocError> {
-    let wide = n as usize;
-    let factor: i128 = match sense {
-        Sense::Min => -(i128::from(n) + 1),
-        Sense::Max => i128::from(n) + 1,
-    };
-    let mut benefits = vec![in alloc; None; wide * wide]?;
-    for (person, object, cost) in pairs {
-        let place = (*person as usize)
-            .wrapping_sub(1)
-            .wrapping_mul(wide)
-            .wrapping_add(*object as usize)
-            .wrapping_sub(1);
-        if let Some(benefit) = benefits.get_mut(place) {
-            *benefit = Some(factor.wrapping_mul(i128::from(*cost)));
-        }
-    }
-    Ok(benefits)
-}
-
-// The least benefit, and how far the greatest is above it.
-fn range_of(benefits: &[Option<i128>]) -> (i128, i128) {
-    let mut least = None;
-    let mut most = None;
-    for benefit in benefits {
-        if let Some(benefit) = *benefit {
-            least = Some(benefit.min(least.unwrap_or(benefit)));
-            most = Some(benefit.max(most.unwrap_or(benefit)));
-        }
-    }
-    let least = least.unwrap_or(0);
-    (least, most.unwrap_or(0).wrapping_sub(least))
 }
 
 // A book of n persons with nothing in it.
@@ -116,8 +76,8 @@ fn add_workers(book: &mut PlainBook, workers: u16) -> Result<(), AllocError> {
 
 // What a case says goes into an empty book.
 fn fill(alloc: Global, book: &mut PlainBook, case: &Case) -> Result<(), AllocError> {
-    book.benefits = benefits_of(alloc, case.n, case.pairs.as_slice(), case.sense)?;
-    let (least, spread) = range_of(book.benefits.as_slice());
+    book.benefits = plain_benefits(alloc, case.n, case.pairs.as_slice(), case.sense)?;
+    let (least, spread) = benefit_range(book.benefits.as_slice());
     book.least = least;
     book.spread = spread;
     book.eps = spread;

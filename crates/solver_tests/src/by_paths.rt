@@ -7,7 +7,6 @@ mod starts;
 mod wide;
 mod worked;
 
-use crate::costs::best_cost;
 use assign_core::{
     Cost, GREATEST_COST, GREATEST_FIRST_PRICE, MOST_PERSONS, Object, Outcome, Person, Price, Sense,
 };
@@ -17,7 +16,7 @@ use shortest_paths::{
     try_paths, try_paths_from,
 };
 use std::alloc::{AllocError, Global};
-use test_helpers::{Pair, first_prices, next_number, problem_of, scaled_of, size};
+use test_helpers::{Pair, best_cost, first_prices, next_number, problem_of, scaled_of, size};
 
 // What a search comes to.
 #[derive(Clone, Copy, Debug, PartialEq, Eq)]

@@ -6,12 +6,14 @@ mod round_by_round;
 mod transcription;
 mod worked;
 
-use crate::costs::{best_cost, dense};
 use assign_core::{Cost, GREATEST_COST, GREATEST_FIRST_PRICE, Outcome, Price, Sense, SolveFault};
 use rounds::{Alone, InPieces, LEAST_PAIRS, Offering, solve_rounds_by};
 use std::alloc::{AllocError, Global};
 use std::thread::Threads;
-use test_helpers::{Pair, draw, first_prices, numbers_of, scaled_of, size};
+use test_helpers::{
+    Pair, benefit_range, best_cost, cost_of, dense, draw, first_prices, numbers_of, plain_benefits,
+    scaled_of, size,
+};
 
 // Persons 1 and 2 list objects 1 and 2 at costs 1, 2 and 3, 5.
 const TWO_PERSONS: [Pair; 4] = [(1, 1, 1), (1, 2, 2), (2, 1, 3), (2, 2, 5)];

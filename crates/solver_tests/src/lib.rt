@@ -5,5 +5,3 @@
 mod by_paths;
 #[cfg(test)]
 mod by_rounds;
-#[cfg(test)]
-mod costs;

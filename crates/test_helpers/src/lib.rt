@@ -2,11 +2,15 @@
 //! search for a best assignment.
 #![tactic(auto)]
 
+mod benefits;
+mod costs;
 mod drawn;
 mod plain;
 mod problems;
 mod streams;
 
+pub use benefits::{benefit_range, plain_benefits};
+pub use costs::{best_cost, cost_of, dense};
 pub use drawn::{draw, draw_wide, drawn_pairs, drawn_prices, drawn_sense, next_number};
 pub use plain::plain_best;
 pub use problems::{

@@ -10,20 +10,8 @@ use std::test::Fail;
 use std::thread;
 use std::thread::Threads;
 use test_helpers::{
-    Pair, draw, drawn_pairs, drawn_sense, numbers_of, plain_best, problem_of, scaled_of, size,
+    Pair, best_cost, cost_of, dense, draw, drawn_pairs, drawn_sense, numbers_of, scaled_of, size,
 };
-
-// The pairs of a dense problem, from its costs row by row.
-fn dense(alloc: Global, n: u16, costs: &[Cost]) -> Result<Vec<Pair>, AllocError> {
-    let mut pairs = Vec::new(alloc);
-    for i in 0..n {
-        for j in 0..n {
-            let at = i as usize * n as usize + j as usize;
-            pairs.push((i + 1, j + 1, costs.get(at).copied().unwrap_or(0)))?;
-        }
-    }
-    Ok(pairs)
-}
 
 // What became of a run: the objects and prices, or the persons and objects of a Hall set; and how
 // many bids of each worker were accepted.
@@ -456,32 +444,6 @@ fn drawn(alloc: Global, seed: &mut u64) -> Result<(u16, Vec<Pair>), AllocError> 
     let share = draw(seed, 4) + 1;
     let costs = draw(seed, 30) + 1;
     Ok((n, drawn_pairs(alloc, seed, n, share, costs)?))
-}
-
-// The sum of the costs of the objects given to persons 1, 2, ..
-fn cost_of(pairs: &[Pair], objects: &[u16]) -> Cost {
-    let mut sum: Cost = 0;
-    for (person, object, cost) in pairs {
-        let given = objects.get((*person as usize).wrapping_sub(1)).copied();
-        if given == Some(*object) {
-            sum = sum.wrapping_add(*cost);
-        }
-    }
-    sum
-}
-
-// The cost of the least assignment, or of the greatest, if there is one.
-fn best_cost(
-    alloc: Global,
-    n: u16,
-    pairs: &[Pair],
-    sense: Sense,
-) -> Result<Option<Cost>, AllocError> {
-    let problem = problem_of(alloc, size(n), pairs)?;
-    match plain_best(alloc, &problem, sense)? {
-        Some(best) => Ok(Some(problem.total(&best))),
-        None => Ok(None),
-    }
 }
 
 // Whether workers agree with a search of all assignments on a problem that is drawn.

@@ -107,18 +107,6 @@ pub(super) fn alike<O: Offering + Drop>(
     Ok(is_alike(&beside, &seen).then_some(seen))
 }
 
-// The sum of the costs of the objects given to persons 1, 2, ..
-fn cost_of(pairs: &[Pair], objects: &[u16]) -> Cost {
-    let mut sum: Cost = 0;
-    for (person, object, cost) in pairs {
-        let given = objects.get((*person as usize).wrapping_sub(1)).copied();
-        if given == Some(*object) {
-            sum = sum.wrapping_add(*cost);
-        }
-    }
-    sum
-}
-
 // The cost of what a run came to, and none without an assignment.
 fn cost_seen(pairs: &[Pair], seen: &Seen) -> Option<Cost> {
     match seen {

@@ -151,20 +151,6 @@ fn begin(alloc: Global, auction: &mut Auction) -> Result<(), AllocError> {
     Ok(())
 }
 
-// The least benefit, and how far the greatest is above it.
-fn range_of(benefits: &[Option<i128>]) -> (i128, i128) {
-    let mut least = None;
-    let mut most = None;
-    for benefit in benefits {
-        if let Some(benefit) = *benefit {
-            least = Some(benefit.min(least.unwrap_or(benefit)));
-            most = Some(benefit.max(most.unwrap_or(benefit)));
-        }
-    }
-    let least = least.unwrap_or(0);
-    (least, most.unwrap_or(0).wrapping_sub(least))
-}
-
 // Whether the run is over: a person halted it, or nobody waits in the last phase.
 pub(super) fn is_over(auction: &Auction) -> bool {
     auction.halted.is_some() || (auction.queue.is_empty() && auction.eps == 1)
@@ -190,32 +176,6 @@ pub(super) fn next_round(alloc: Global, auction: &mut Auction) -> Result<Round, 
     })
 }
 
-// The benefits of these pairs, row by row.
-fn benefits_of(
-    alloc: Global,
-    n: u16,
-    pairs: &[Pair],
-    sense: Sense,
-) -> Result<Vec<Option<i128>>, AllocError> {
-    let wide = n as usize;
-    let factor: i128 = match sense {
-        Sense::Min => -(i128::from(n) + 1),
-        Sense::Max => i128::from(n) + 1,
-    };
-    let mut benefits = vec![in alloc; None; wide * wide]?;
-    for (person, object, cost) in pairs {
-        let at = (*person as usize)
-            .wrapping_sub(1)
-            .wrapping_mul(wide)
-            .wrapping_add(*object as usize)
-            .wrapping_sub(1);
-        if let Some(place) = benefits.get_mut(at) {
-            *place = Some(factor.wrapping_mul(i128::from(*cost)));
-        }
-    }
-    Ok(benefits)
-}
-
 // The first prices of n objects: those given, and 0 for the rest.
 fn prices_of(alloc: Global, n: u16, first: &[Price]) -> Result<Vec<i128>, AllocError> {
     let mut prices = Vec::new(alloc);
@@ -233,8 +193,8 @@ pub(super) fn auction_of(
     sense: Sense,
     first: &[Price],
 ) -> Result<Auction, AllocError> {
-    let benefits = benefits_of(alloc, n, pairs, sense)?;
-    let (least, spread) = range_of(benefits.as_slice());
+    let benefits = plain_benefits(alloc, n, pairs, sense)?;
+    let (least, spread) = benefit_range(benefits.as_slice());
     let mut auction = Auction {
         n: n as usize,
         benefits,
