@@ -119,15 +119,6 @@ usual_fault s m r x p (PriceRange j) h = h
 usual_fault s m r x p (Slack i k) h = h
 usual_fault s m r x p Yes h = record { assigned = h.assigned; priced = h.priced; in_range = h.in_range; slack = h.slack }
 
-pub usual_verdict : (sense : Sense) (m : ℕ) (rows : List Listing) (xs : List ℕ) (prices : List ℤ) (v : Verdict) → (v ≡ Yes → ⊥) →
-    IsFault sense m rows xs prices v → IsVerdictAmong sense m rows xs prices (Usual v)
-usual_verdict s m r x p Length other h = h
-usual_verdict s m r x p (Unlisted i) other h = h
-usual_verdict s m r x p (Twice j) other h = h
-usual_verdict s m r x p (PriceRange j) other h = h
-usual_verdict s m r x p (Slack i k) other h = h
-usual_verdict s m r x p Yes other h = absurd (other refl)
-
 dear_apart : (sense : Sense) (m : ℕ) (rows : List Listing) (xs : List ℕ) (prices : List ℤ) (v : Verdict) (j : ℕ) →
     IsVerdictAmong sense m rows xs prices (Usual v) → IsVerdictAmong sense m rows xs prices (Dear j) → ⊥
 dear_apart s m r x p Length j a b = a (long s m r x p b.0)
