@@ -35,7 +35,7 @@ without_none : (m : ℕ) (xs : List ℕ) → AllByRecursion (λ y. nat_eq m y �
 without_none m [] h = refl
 without_none m (x ∷ xs) h = without_other m x xs (differs_flip m x h.0) ∙ ap (λ l. x ∷ l) (without_none m xs h.1)
 
--- the number m stands in the list once or not at all
+-- the number m is in the list once or not at all
 pub record IsOnce (f : ℕ → ℤ) (m : ℕ) (xs : List ℕ) : Type 0 where
   pub longer : length xs ≡ length (without m xs) + 1
   pub more : sum_z f xs ≡ f m +ℤ sum_z f (without m xs)
@@ -89,7 +89,7 @@ range_without m (x ∷ xs) h = elim (eqb_tells x (suc m)) [
   | inr e ↦ rw (without_other (suc m) x xs e.0) (record { first = h.0.first; last = let a = h.0.last in let b = e.1 in omega arith }, range_without m xs h.1)
 ]
 
--- different numbers from 1 to m are at most m, and where they are m, they are all of them
+-- there are at most m different numbers from 1 to m; m different ones are all of them
 pub record IsCounted (f : ℕ → ℤ) (m : ℕ) (xs : List ℕ) : Type 0 where
   pub few : length xs ≤ m
   pub whole : length xs ≡ m → sum_z f xs ≡ up_to f m
@@ -152,7 +152,7 @@ contained_shorter m (x ∷ xs) c = elim (eqb_tells x m) [
   ])
 ]
 
--- where nothing is below 0, some numbers sum to at most all
+-- if no value is below 0, the sum over some numbers is at most the sum over all
 pub at_most_all : (f : ℕ → ℤ) (m : ℕ) (xs : List ℕ) → IsDistinct nat_eq xs → InRange m xs →
     ((j : ℕ) → IsNumber m j → pos 0 ≤ℤ f j) → sum_z f xs ≤ℤ up_to f m
 at_most_all f zero [] d r h = omega (arith, ints)
@@ -166,7 +166,8 @@ at_most_all f (suc m) xs d r h =
       | inr o ↦ let s = o.more in omega (arith, ints)
     ]
 
--- where those left out are at most 1, the sum lacks at most one for each of them
+-- if the numbers left out have values of at most 1, the sum over the others lacks at most one for
+-- each of them
 pub nearly_all : (f : ℕ → ℤ) (m : ℕ) (xs : List ℕ) → IsDistinct nat_eq xs → InRange m xs →
     ((j : ℕ) → IsNumber m j → Contains xs j ⊎ (f j ≤ℤ pos 1)) →
     (up_to f m +ℤ pos (length xs)) ≤ℤ (sum_z f xs +ℤ pos m)
@@ -197,8 +198,9 @@ same_sums c [] (y ∷ ys) e = absurd (omega (arith, e))
 same_sums c (x ∷ xs) [] e = absurd (omega (arith, e))
 same_sums c (x ∷ xs) (y ∷ ys) e = let i = same_sums c xs ys (omega (arith, e)) in omega (arith, ints)
 
--- of different numbers from 1 to m, as many in both lists, those whose others are all at most 1 above the least sum to
--- what any sum to, less one for each that is left out, or more
+-- two lists of equally many different numbers from 1 to m: if all numbers outside the first have
+-- values at most 1 above the least, the first sum is at least the second, less one for each number
+-- left out
 pub sums_low : (f : ℕ → ℤ) (c : ℤ) (m : ℕ) (xs ys : List ℕ) → IsDistinct nat_eq xs → IsDistinct nat_eq ys → InRange m xs → InRange m ys →
     length xs ≡ length ys → ((j : ℕ) → IsNumber m j → c ≤ℤ f j) →
     ((j : ℕ) → IsNumber m j → Contains xs j ⊎ (f j ≤ℤ (c +ℤ pos 1))) →
@@ -220,7 +222,7 @@ none_below j n = let a = n.first in let b = n.last in omega arith
 abbrev pub HasLeast : (ℕ → ℤ) → ℕ → Type 0
 HasLeast f m = (k : ℕ) × IsNumber m k × ((j : ℕ) → IsNumber m j → f k ≤ℤ f j)
 
--- what holds of the numbers from 1 to m and of m + 1 holds of those from 1 to m + 1
+-- what holds of the numbers from 1 to m, and of m + 1, holds of the numbers from 1 to m + 1
 one_more : (P : ℕ → Type 0) (m : ℕ) → ((j : ℕ) → IsNumber m j → P j) → P (suc m) → (j : ℕ) → IsNumber (suc m) j → P j
 one_more P m h top j n = elim (eqb_tells j (suc m)) [
   | inl e ↦ subst P (sym e.1) top

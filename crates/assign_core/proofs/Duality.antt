@@ -1,4 +1,5 @@
--- Weak duality: no assignment is better than one with slackness, by as much as eps for each person.
+-- Weak duality: no assignment is better than one with slackness eps by more than eps for each
+-- person.
 use Rattle.std.proofs.Common.{◌≡◌, ℕ, ℤ, pos, ◌+ℤ◌, ◌*ℤ◌, ◌≤ℤ◌, ◌<ℤ◌, ◌≤◌, ◌+◌, ◌-◌, ◌*◌, zero, suc, List, [], ◌∷◌, unwrap_or, IsSome, length, map, All, nat_eq, refl, arith, rules, ap, sym, ◌∙◌, subst, inl, inr, add-one}
 use Rattle.std.specs.List.{IsDistinct}
 use Rattle.std.proofs.lemmas.Int.{ints, by_lt_z}
@@ -90,11 +91,11 @@ beyond n a b lt h =
     let t : n + 1 ≤ suc n * (k + 1) = omega arith in
     omega (arith, ints)
 
--- a multiple of a whole number is above what is less than one step
+-- two whole numbers are in order if their multiples are, up to less than one step
 least_step : (n : ℕ) (a b : ℤ) → (pos (suc n) *ℤ a) ≤ℤ (pos (suc n) *ℤ b +ℤ pos n) → a ≤ℤ b
 least_step n a b h = by_lt_z {P = a ≤ℤ b} b a (λ lt. absurd (beyond n a b lt h)) (λ le. le)
 
--- benefits that differ by less than one step come from costs in order
+-- if benefits are in order up to less than one step, so are the costs
 ordered : (sense : Sense) (n : ℕ) (a b : ℤ) → (factor sense n *ℤ b) ≤ℤ (factor sense n *ℤ a +ℤ pos n) → IsNoWorse sense a b
 ordered Min n a b h =
     let x = opposite n a in
@@ -119,13 +120,13 @@ no_better sense rows xs prices p f k ys g =
     let ty = benefit_total sense n rows ys in
     ordered sense n (total rows xs) (total rows ys) (omega (arith, ints))
 
--- slackness gives best
+-- an assignment with slackness is optimal
 pub best_by_slack : (sense : Sense) (rows : List Listing) (xs : List ℕ) (prices : List ℤ) → IsProblem rows → IsAssignment rows xs →
     AllSlack (pos 1) prices (benefit_rows sense rows) xs → IsBest sense rows xs
 best_by_slack sense rows xs prices p f k = record { assigned = f; best = no_better sense rows xs prices p f k }
 
--- of different numbers from 1 to m, as many in both lists, the prices of those whose others are low sum to what any sum
--- to, less one for each that is left out, or more
+-- two lists of equally many different objects among m: if the prices outside the first are low, the
+-- sum of the first's prices is at least that of the second's, less one for each object left out
 low_sums : (m : ℕ) (prices : List ℤ) (xs ys : List ℕ) → IsDistinct nat_eq xs → IsDistinct nat_eq ys → InRange m xs → InRange m ys →
     length xs ≡ length ys → AreLow m prices xs →
     (sum_z (price_of prices) ys +ℤ pos (length xs)) ≤ℤ (sum_z (price_of prices) xs +ℤ pos m)
@@ -135,7 +136,7 @@ low_sums (suc m) prices xs ys dx dy rx ry l low =
     let k = least_among (price_of prices) m in
     sums_low (price_of prices) (price_of prices k.0) (suc m) xs ys dx dy rx ry l k.2 (λ j n. low j k.0 n k.1)
 
--- n persons among m objects: what nobody has costs at most 1 more than anything
+-- n persons among m objects, where the price of an unowned object is at most 1 above any other
 no_better_among : (sense : Sense) (m : ℕ) (rows : List Listing) (xs : List ℕ) (prices : List ℤ) → All (IsWithin m) rows →
     IsAssignment rows xs → AllSlack (pos 1) prices (map (benefit_row sense m) rows) xs → AreLow m prices xs →
     (ys : List ℕ) → IsAssignment rows ys → IsNoWorse sense (total rows xs) (total rows ys)

@@ -19,7 +19,8 @@ walks_within : (P : ℕ → Type 0) (rows : List Listing) (owners : List (Option
 walks_within P rows owners i [] x on p w = subst P w p
 walks_within P rows owners i (j ∷ js) x on p w = walks_within P rows owners w.1 js x on (on i j w.1 p w.0 w.2) w.3
 
--- what holds of the first person, and passes from a person on to the owner of a listed object, holds of each reached person
+-- what holds of the first person, and passes from a person to the owners of the objects it lists,
+-- holds of each reached person
 pub reached_within : (P : ℕ → Type 0) (rows : List Listing) (owners : List (Option ℕ)) (i x : ℕ) → ((y j v : ℕ) → P y → IsListed rows y j → owner_of owners j ≡ Some v → P v) → P i → IsReached rows owners i x → P x
 reached_within P rows owners i x on p r = walks_within P rows owners i r.0 x on p r.1
 

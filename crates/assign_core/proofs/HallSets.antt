@@ -1,4 +1,4 @@
--- Why a Hall set leaves no assignment: its persons would need as many different objects.
+-- Why a Hall set rules out an assignment: its persons would need as many different objects.
 use Rattle.std.proofs.Common.{◌≡◌, ℕ, ◌<◌, ◌≤◌, zero, suc, List, [], ◌∷◌, IsSome, length, get_or, map, nat_eq, false, arith, sym, ◌∙◌}
 use Rattle.std.specs.List.{All, Contains, IsDistinct}
 use Rattle.std.specs.List.Sorted.{IsStrictlyIncreasing}
@@ -19,7 +19,7 @@ use Rattle.assign_core.specs.declared.sense.Sense.{Sense}
 use Rattle.assign_core.specs.declared.outcome.Outcome.{Outcome}
 use Rattle.assign_core.specs.declared.outcome.Outcome.TheVariants.{Best, Hall}
 
--- different numbers that all stand in a list are at most as many as its elements
+-- different numbers that are all in a list are at most as many as its elements
 pub few_among : (xs ys : List ℕ) → IsDistinct nat_eq xs → ((x : ℕ) → Contains xs x → Contains ys x) → length xs ≤ length ys
 few_among xs ys d h =
     length-le_from_is_member nat_eq_equiv xs ys d

@@ -55,7 +55,7 @@ none_listed j s = absurd (search rules)
 pub entry_found : (P : ℕ × ℤ → Type 0) (row : Listing) (j : ℕ) (a : ℤ) → All P row → listed_in row j ≡ Some a → P (j, a)
 entry_found P row j a h s = subst (λ o. P (j, unwrap_or o (pos 0))) s (all_listed P row j h (subst IsSome (sym s) refl))
 
--- where a row lists an object
+-- the place at which a row lists an object
 pub record IsPlace (row : Listing) (j : ℕ) : Type 0 where
   pub place : ℕ
   pub below : place < length row
@@ -91,7 +91,7 @@ rising_listed (e ∷ row) (suc k) d rising lt =
       | inr t ↦ listed_later e row (get_or row k d).0 t.0 ∙ rising_listed row k d (λ i m f l last. rising (suc i) (suc m) f (omega arith) (omega arith)) (omega arith)
     ]
 
--- who lists something is a person
+-- a number whose row lists something is a person
 pub listing_within : (rows : List Listing) (i j : ℕ) → IsListed rows i j → IsNumber (length rows) i
 listing_within rows zero j l = absurd (none_listed j l)
 listing_within rows (suc k) j l = elim (cases_lt k (length rows)) [

@@ -28,14 +28,14 @@ pub numbered-past : {A : Type 0} (xs : List A) (j : ℕ) (d : A) → length xs <
 numbered-past xs zero d h = refl
 numbered-past xs (suc j) d h = get_or_past xs j d (omega arith)
 
--- each number stands for the same in a list of one and the same element
+-- each number gives the same element in a list of equal elements
 pub numbered-replicate : {A : Type 0} (n j : ℕ) (x : A) → numbered (replicate n x) j x ≡ x
 numbered-replicate n zero x = refl
 numbered-replicate zero (suc k) x = refl
 numbered-replicate (suc n) (suc zero) x = refl
 numbered-replicate (suc n) (suc (suc k)) x = numbered-replicate n (suc k) x
 
--- a number from 1 to n is one to m
+-- a number from 1 to n is a number from 1 to m, if n is at most m
 pub number_within : (n m j : ℕ) → n ≤ m → IsNumber n j → IsNumber m j
 number_within n m j le h = record { first = h.first; last = omega (arith, le, h.last) }
 

@@ -58,7 +58,7 @@ pub record IsRead (rows : List Listing) (i : ℕ) (row : Listing) : Type 0 where
   pub last : i ≤ length rows
   pub here : row ≡ row_of rows i
 
--- so is one that is read at its place
+-- a row that is read at its place is read by number
 pub read_at : {V : Type 0} (f : V → Listing) (vs : List V) (rows : List Listing) (i k : ℕ) (v : V) (row : Listing) → map f vs ≡ rows → 0 < i → k ≡ i - 1 → k < length vs → v ≡ get_or vs k v → row ≡ f v → IsRead rows i row
 read_at f vs rows i k v row shown some place lt e r =
     let long = length-mapped f vs rows shown in

@@ -1,4 +1,4 @@
--- What a binary search for an object comes to in a rising row.
+-- What a binary search for an object finds in a rising row.
 use Rattle.std.proofs.Common.{◌≡◌, ℕ, ℤ, pos, ◌<◌, ◌≤◌, suc, [], ◌∷◌, None, Some, Result, Ok, Err, IfOk, IfErr, length, get_or, refl, arith, sym, ap, ◌∙◌, inl, inr}
 use Rattle.std.specs.List.Sorted.{IsSearchInRange, IsBinarySearchResult, IsNonDecreasingBy}
 use Rattle.std.specs.Ordering.{nat_cmp, ordering_index}

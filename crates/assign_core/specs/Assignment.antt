@@ -20,7 +20,7 @@ total [] xs = pos 0
 total (row ∷ rows) [] = pos 0
 total (row ∷ rows) (j ∷ xs) = listed_or_zero row j +ℤ total rows xs
 
--- a cost that is wanted as much as another, or more
+-- the first cost is as good as the second, or better
 abbrev pub IsNoWorse : Sense → ℤ → ℤ → Type 0
 IsNoWorse Min cost other = cost ≤ℤ other
 IsNoWorse Max cost other = other ≤ℤ cost

@@ -16,7 +16,7 @@ rows_cut n (suc m) costs = row_from 1 (take n costs) ∷ rows_cut n m (drop n co
 abbrev pub dense_rows : ℕ → List ℤ → List Listing
 dense_rows n costs = rows_cut n n costs
 
--- n persons among m objects with these n * m costs, row by row, and behind them persons who list nothing, so that there
--- are at least as many persons as objects
+-- n persons among m objects with these n * m costs, row by row, followed by persons who list
+-- nothing, so that there are at least as many persons as objects
 abbrev pub dense_rows_among : ℕ → ℕ → List ℤ → List Listing
 dense_rows_among n m costs = rows_cut m n costs ++ replicate (m - n) []

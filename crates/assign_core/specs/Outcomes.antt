@@ -1,4 +1,4 @@
--- Outcomes that prove themselves.
+-- Outcomes that carry their own proof.
 use Rattle.std.specs.Prelude.{ℕ, List}
 use Rattle.assign_core.specs.declared.sense.Sense.{Sense}
 use Rattle.assign_core.specs.declared.outcome.Outcome.{Outcome}
@@ -8,7 +8,8 @@ use Rattle.assign_core.specs.Assignment.{IsAssignment}
 use Rattle.assign_core.specs.Slackness.{IsCertificate, IsCertificateAmong}
 use Rattle.assign_core.specs.Hall.{IsHallSet}
 
--- an assignment with prices that prove it best under the sense, or a set that proves that there is none
+-- a certificate, which proves its assignment optimal under the sense, or a Hall set, which proves
+-- that none exists
 abbrev pub IsProof : Sense → List Listing → Outcome → Type 0
 IsProof sense rows (Best c) = IsCertificate sense rows c.assignment c.prices
 IsProof sense rows (Hall h) = IsHallSet rows h.persons h.objects
@@ -18,7 +19,7 @@ abbrev pub IsProofAmong : Sense → ℕ → List Listing → Outcome → Type 0
 IsProofAmong sense m rows (Best c) = IsCertificateAmong sense m rows c.assignment c.prices
 IsProofAmong sense m rows (Hall h) = IsHallSet rows h.persons h.objects
 
--- an assignment only where there is one, and a Hall set only where there is none
+-- an assignment only where one exists, and a Hall set only where none exists
 abbrev pub IsDecided : List Listing → Outcome → Type 0
 IsDecided rows (Best c) = (xs : List ℕ) × IsAssignment rows xs
 IsDecided rows (Hall h) = (xs : List ℕ) → IsAssignment rows xs → ⊥

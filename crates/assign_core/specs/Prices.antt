@@ -7,7 +7,7 @@ use Rattle.assign_core.specs.Numbered.{numbered}
 abbrev pub price_of : List ℤ → ℕ → ℤ
 price_of prices j = numbered prices j (pos 0)
 
--- from 0 on, below the end of prices
+-- at least 0, and below the end of prices
 pub record IsPrice (p : ℤ) : Type 0 where
   pub least : pos 0 ≤ℤ p
   pub below : p <ℤ PRICE_END
@@ -17,7 +17,7 @@ pub record IsTable (prices : List ℤ) : Type 0 where
   pub few : length prices ≤ MOST_PERSONS
   pub each : All IsPrice prices
 
--- the first table has as many prices as the second, and none is above
+-- the first table has as many prices as the second, and none is above the second's
 pub record IsBelow (first second : List ℤ) : Type 0 where
   pub long : length first ≡ length second
   pub each : (j : ℕ) → price_of first j ≤ℤ price_of second j
@@ -32,7 +32,7 @@ pub record IsNarrowed (narrow prices : List ℤ) : Type 0 where
   pub below : IsBelow narrow prices
   pub each : All IsNarrow narrow
 
--- a table with its prices in 64 bits beside
+-- a table with the 64-bit copies of its prices
 pub record IsPair (prices narrow : List ℤ) : Type 0 where
   pub table : IsTable prices
   pub narrowed : IsNarrowed narrow prices

@@ -1,10 +1,11 @@
--- Alternating walks: from person to object as listed, from object to person as owned.
+-- Alternating walks: from a person to an object that it lists, from an object to its owner.
 use Rattle.std.specs.Prelude.{◌≡◌, ℕ, List, [], ◌∷◌, Option, None, Some, IsSome, nat_eq}
 use Rattle.std.specs.List.{IsDistinct}
 use Rattle.assign_core.specs.Rows.{Listing, IsListed}
 use Rattle.assign_core.specs.Matching.{owner_of}
 
--- from person i, each object listed by the person at hand and owned by the next, to person x
+-- from person i to person x: each object is listed by the person before it and owned by the next
+-- person
 abbrev pub Walks : List Listing → List (Option ℕ) → ℕ → List ℕ → ℕ → Type 0
 Walks rows owners i [] x = i ≡ x
 Walks rows owners i (j ∷ js) x =
@@ -27,7 +28,7 @@ Alternates rows owners i (j ∷ []) = IsListed rows i j × (owner_of owners j �
 Alternates rows owners i (j ∷ k ∷ js) =
     IsListed rows i j × (v : ℕ) × (owner_of owners j ≡ Some v) × Alternates rows owners v (k ∷ js)
 
--- an alternating path from person i to an unowned object, which meets no object twice
+-- an alternating path from person i to an unowned object, without repeated objects
 pub record IsPath (rows : List Listing) (owners : List (Option ℕ)) (i : ℕ) (js : List ℕ) : Type 0 where
   pub alternates : Alternates rows owners i js
   pub apart : IsDistinct nat_eq js

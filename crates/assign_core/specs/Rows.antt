@@ -7,12 +7,12 @@ use Rattle.assign_core.specs.Numbered.{IsNumber, numbered}
 abbrev pub Listing : Type 0
 Listing = List (ℕ × ℤ)
 
--- what a row gives for an object, if it lists the object
+-- the cost of an object in a row, if the row lists the object
 abbrev pub listed_in : Listing → ℕ → Option ℤ
 listed_in [] j = None
 listed_in (e ∷ row) j = if e.0 == j then Some e.1 else listed_in row j
 
--- the same, and 0 for an object that isn't listed
+-- the same, or 0 if the object isn't listed
 abbrev pub listed_or_zero : Listing → ℕ → ℤ
 listed_or_zero row j = unwrap_or (listed_in row j) (pos 0)
 
@@ -34,7 +34,7 @@ IsRising row =
 abbrev pub IsWithin : ℕ → Listing → Type 0
 IsWithin n row = All (λ e. IsNumber n e.0) row
 
--- at most the greatest cost, either way
+-- its absolute value is at most the greatest cost
 pub record IsCost (c : ℤ) : Type 0 where
   pub least : neg_ℤ GREATEST_COST ≤ℤ c
   pub greatest : c ≤ℤ GREATEST_COST
@@ -42,13 +42,13 @@ pub record IsCost (c : ℤ) : Type 0 where
 abbrev pub HasCosts : Listing → Type 0
 HasCosts row = All (λ e. IsCost e.1) row
 
--- what a row is among n objects
+-- a row of a problem with n objects
 pub record IsRow (n : ℕ) (row : Listing) : Type 0 where
   pub rising : IsRising row
   pub within : IsWithin n row
   pub costs : HasCosts row
 
--- at least one person, and at most so many; and as many objects
+-- a number of persons, and of objects, that a problem may have
 pub record IsSize (n : ℕ) : Type 0 where
   pub some : 0 < n
   pub few : n ≤ MOST_PERSONS
@@ -58,7 +58,7 @@ pub record IsProblem (rows : List Listing) : Type 0 where
   pub size : IsSize (length rows)
   pub each : All (IsRow (length rows)) rows
 
--- n persons among m objects: of these rows, of which there may be more, the first n are meant, and they list no others
+-- the first n of these rows are a problem of n persons among m objects: they list no other object
 pub record IsAmong (n m : ℕ) (rows : List Listing) : Type 0 where
   pub persons : n ≤ length rows
   pub objects : IsSize m

@@ -8,34 +8,34 @@ use Rattle.assign_core.specs.Assignment.{IsAssignment}
 use Rattle.assign_core.specs.Benefits.{benefit_row, benefit_rows}
 use Rattle.assign_core.specs.Prices.{price_of, IsPrice}
 
--- with benefits a and prices p, object j is worth to its person what entry e is worth, less eps,
--- or more:
+-- with benefits a and prices p, the value of object j is at least that of entry e, less eps:
 -- a_j - p_j >= a_e - p_e - eps
 abbrev pub IsWorth : ℤ → List ℤ → Listing → ℕ → ℕ × ℤ → Type 0
 IsWorth eps prices row j e =
     (e.1 +ℤ price_of prices j) ≤ℤ (listed_or_zero row j +ℤ price_of prices e.0 +ℤ eps)
 
--- no object of a row of benefits is worth more than object j by over eps
+-- no object of a row of benefits has a value above that of object j by over eps
 abbrev pub HasSlack : ℤ → List ℤ → Listing → ℕ → Type 0
 HasSlack eps prices row j = All (IsWorth eps prices row j) row
 
--- each person with its object
+-- each person has slackness eps with its object
 abbrev pub AllSlack : ℤ → List ℤ → List Listing → List ℕ → Type 0
 AllSlack eps prices rows xs = AllZip (HasSlack eps prices) rows xs
 
--- an assignment with prices that prove it best
+-- an assignment with prices that prove it optimal
 pub record IsCertificate (sense : Sense) (rows : List Listing) (xs : List ℕ) (prices : List ℤ) : Type 0 where
   pub assigned : IsAssignment rows xs
   pub priced : length prices ≡ length rows
   pub in_range : All IsPrice prices
   pub slack : AllSlack (pos 1) prices (benefit_rows sense rows) xs
 
--- each of m objects is somebody's, or costs at most 1 more than any other
+-- each of the m objects is owned, or its price is at most 1 above any other
 abbrev pub AreLow : ℕ → List ℤ → List ℕ → Type 0
 AreLow m prices xs =
     (j k : ℕ) → IsNumber m j → IsNumber m k → Contains xs j ⊎ (price_of prices j ≤ℤ (price_of prices k +ℤ pos 1))
 
--- an assignment among m objects with prices that prove it best: nobody needs the objects that are left
+-- an assignment among m objects with prices that prove it optimal: the price of no unowned object
+-- is too high
 pub record IsCertificateAmong (sense : Sense) (m : ℕ) (rows : List Listing) (xs : List ℕ) (prices : List ℤ) : Type 0 where
   pub assigned : IsAssignment rows xs
   pub priced : length prices ≡ m

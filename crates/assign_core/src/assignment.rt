@@ -21,7 +21,7 @@ impl Model for Assignment {
 }
 
 impl Assignment {
-    /// The assignment that gives these objects to persons 1, 2, ..
+    /// The assignment that gives these objects to persons 1, 2, .., in this order.
     pub fn new(objects: Vec<Object>) -> Assignment
         requires { IsDistinct nat_eq objects.items }
         ensures { result ≡ objects.items }
@@ -37,10 +37,10 @@ impl Assignment {
         self.objects.as_slice()
     }
 
-    /// The same assignment once more.
+    /// A copy of this assignment.
     ///
     /// # Errors
-    /// Only where memory is refused.
+    /// `AllocError` if memory is refused.
     pub fn copy(&self, alloc: Global) -> Result<Assignment, AllocError>
         ensures { IfOk result (λ copy. copy ≡ self.now) }
     {

@@ -1,9 +1,9 @@
-// An assignment with the prices that prove it best.
+// An assignment with prices that prove it optimal.
 use super::assignment::Assignment;
 use super::prices::Prices;
 
-/// An assignment with prices, under which each person has slackness 1 where it belongs to a
-/// problem.
+/// An assignment with prices. They prove it optimal for a problem in which each person has
+/// slackness 1 at these prices.
 #[derive(Drop)]
 pub struct Certificate {
     pub assignment: Assignment,

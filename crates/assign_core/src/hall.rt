@@ -1,4 +1,4 @@
-// Hall sets, and why they leave no assignment.
+// Hall sets, and why they rule out an assignment.
 ghost use Rattle.std.specs.Prelude.{◌≡◌, ℕ, List, Option, None, Some, Bool, IsTrue, IfOk};
 ghost use Rattle.std.specs.List.Sorted.{IsStrictlyIncreasing};
 ghost use Rattle.assign_core.specs.Rows.{Listing, IsListed};
@@ -11,8 +11,9 @@ use super::numbers::{Object, Person};
 use std::alloc::{AllocError, Global};
 use std::marker::Model;
 
-/// Persons and objects, both rising: where the objects are all that the persons list, and are
-/// fewer, there is no assignment (P. Hall, On representatives of subsets, 1935).
+/// A list of persons and a list of objects, both rising. If the objects are all that these persons
+/// list, and are fewer than the persons, no assignment exists (P. Hall, On representatives of
+/// subsets, 1935).
 #[derive(Drop)]
 pub struct HallSet {
     persons: Vec<Person>,
@@ -28,7 +29,7 @@ impl Model for HallSet {
 }
 
 impl HallSet {
-    /// The Hall set of these persons and objects, both rising.
+    /// The Hall set of these persons and objects. Both lists rise.
     pub fn new(persons: Vec<Person>, objects: Vec<Object>) -> HallSet
         requires persons { IsStrictlyIncreasing persons.items }
         requires objects { IsStrictlyIncreasing objects.items }
@@ -54,10 +55,10 @@ impl HallSet {
         self.objects.as_slice()
     }
 
-    /// The same Hall set once more.
+    /// A copy of this Hall set.
     ///
     /// # Errors
-    /// Only where memory is refused.
+    /// `AllocError` if memory is refused.
     pub fn copy(&self, alloc: Global) -> Result<HallSet, AllocError>
         ensures { IfOk result (λ copy. copy ≡ self.now) }
     {
@@ -67,15 +68,15 @@ impl HallSet {
     }
 }
 
-/// Where there is a Hall set there is no assignment: its persons would need different objects out
-/// of fewer (P. Hall, On representatives of subsets, 1935: the easy half).
+/// If a Hall set exists, no assignment exists: its persons would need different objects out of
+/// fewer (P. Hall, On representatives of subsets, 1935: the easy half).
 pub fn hall_set_forbids()
     ensures { (rows : List Listing) (persons objects xs : List ℕ)
         → IsHallSet rows persons objects → IsAssignment rows xs → ⊥ }
 {}
 
-/// The persons reached from a person by alternating walks are the least set that has that person
-/// and, for each object that a member lists, the object's owner.
+/// The persons that alternating walks reach from a person are the least set that contains this
+/// person and, for each object that a member lists, the object's owner.
 pub fn reach_is_least()
     ensures itself { (rows : List Listing) (owners : List (Option ℕ)) (i : ℕ)
         → IsReached rows owners i i }
@@ -89,7 +90,8 @@ pub fn reach_is_least()
         → IsReached rows owners i x → IsTrue (members x) }
 {}
 
-/// Where there is an alternating path from a person, some reached person lists an unowned object.
+/// If an alternating path leads from a person to an unowned object, some reached person lists an
+/// unowned object.
 pub fn paths_are_open()
     ensures { (rows : List Listing) (owners : List (Option ℕ)) (i : ℕ) (js : List ℕ)
         → IsPath rows owners i js → IsBlocked rows owners i → ⊥ }

@@ -15,7 +15,7 @@ ghost use Rattle.assign_core.specs.Sparse.{Triple, least_given};
 
 use super::numbers::{GREATEST_COST, GREATEST_FIRST_PRICE, MOST_PERSONS, NARROW_END, PRICE_END};
 
-/// Which numbers the limits are.
+/// The limits as numbers.
 pub fn limits()
     ensures persons { MOST_PERSONS ≡ 8192 }
     ensures costs { GREATEST_COST ≡ pos (10 ^ 12) }
@@ -24,38 +24,37 @@ pub fn limits()
     ensures narrow { NARROW_END ≡ pos (2 ^ 62) }
 {}
 
-/// An assignment that has slackness 1 at some prices, at benefits scaled by one more than the
-/// number of persons, is best: weak duality (Bertsekas, Network Optimization, 1998, section 7.1).
+/// An assignment with slackness 1 at some prices, at benefits scaled by one more than the number of
+/// persons, is optimal: weak duality (Bertsekas, Network Optimization, 1998, section 7.1).
 pub fn slack_means_best()
     ensures { (sense : Sense) (rows : List Listing) (xs : List ℕ) (prices : List ℤ)
         → IsProblem rows → IsAssignment rows xs
         → AllSlack (pos 1) prices (benefit_rows sense rows) xs → IsBest sense rows xs }
 {}
 
-/// Among m objects an assignment is best that has slackness 1 at some prices, at benefits scaled by
-/// m + 1, where no object that nobody has costs over 1 more than another.
+/// Among m objects, an assignment is optimal if it has slackness 1 at some prices, at benefits
+/// scaled by m + 1, and no unowned object has a price over 1 above that of another object.
 pub fn slack_means_best_among()
     ensures { (sense : Sense) (m : ℕ) (rows : List Listing) (xs : List ℕ) (prices : List ℤ)
         → All (IsWithin m) rows → IsCertificateAmong sense m rows xs prices
         → IsBest sense rows xs }
 {}
 
-/// An outcome that is a proof says whether there is an assignment: a certificate comes only where
-/// there is one, and a Hall set only where there is none.
+/// An outcome that is a proof decides the problem: a certificate comes only where an assignment
+/// exists, a Hall set only where none exists.
 pub fn proofs_decide()
     ensures { (sense : Sense) (rows : List Listing) (outcome : Outcome)
         → IsProof sense rows outcome → IsDecided rows outcome }
 {}
 
-/// That one table of prices is below another is an order: each is below itself, and what is below
-/// a table is below all that this table is below.
+/// The relation `IsBelow` between tables of prices is reflexive and transitive.
 pub fn price_order()
     ensures itself { (prices : List ℤ) → IsBelow prices prices }
     ensures through { (first second third : List ℤ)
         → IsBelow first second → IsBelow second third → IsBelow first third }
 {}
 
-/// Where each person owns an object, their objects are an assignment.
+/// If each person owns an object, these objects are an assignment.
 pub fn owners_make_an_assignment()
     ensures { (rows : List Listing) (owners : List (Option ℕ)) (xs : List ℕ)
         → IsMatching rows owners → length xs ≡ length rows
@@ -63,9 +62,9 @@ pub fn owners_make_an_assignment()
         → IsAssignment rows xs }
 {}
 
-/// A dense problem of `n` persons has `n` rows of `n` pairs: object `j + 1` costs person `i + 1`
-/// what stands at place `i * n + j` of the costs, and the cost at place `k` is that of person
-/// `k / n + 1` and object `k % n + 1`; places count from 0.
+/// A dense problem of `n` persons has `n` rows of `n` pairs. The cost at place `k` is that of
+/// person `k / n + 1` and object `k % n + 1`; person `i + 1` and object `j + 1` cost what stands at
+/// place `i * n + j`. Places count from 0.
 pub fn dense_pairs()
     ensures persons { (n : ℕ) (costs : List ℤ) → length (dense_rows n costs) ≡ n }
     ensures objects { (n : ℕ) (costs : List ℤ) → length costs ≡ n * n
@@ -78,8 +77,8 @@ pub fn dense_pairs()
         ≡ Some (slice_index_or costs k (pos 0)) }
 {}
 
-/// Of the costs that triples give a pair the least counts: it is given, none that is given is less,
-/// and there is none just where no triple is of the pair.
+/// The least of several costs given for a pair counts: it is one of the given costs, none of them
+/// is less, and there is none exactly where no triple names the pair.
 pub fn least_given_counts()
     ensures given { (triples : List Triple) (i j : ℕ) (c : ℤ)
         → least_given triples i j ≡ Some c → Contains triples (i, j, c) }

@@ -1,5 +1,5 @@
-//! The linear assignment problem: persons, objects, listed pairs with their costs, and answers
-//! that prove themselves.
+//! The linear assignment problem: persons, objects, listed pairs with costs, and answers that carry
+//! their own proof.
 #![tactic(auto)]
 
 mod assignment;

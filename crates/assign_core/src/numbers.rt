@@ -3,11 +3,11 @@ ghost use Rattle.std.specs.Prelude.{◌≡◌, ℕ, ◌-◌, ◌<◌};
 
 use std::marker::Model;
 
-/// A cost, within `GREATEST_COST` either way, in the planner's own unit.
+/// A cost from `-GREATEST_COST` to `GREATEST_COST`, in the planner's own unit.
 pub type Cost = i64;
 
-/// A cost scaled by one more than the number of persons, so that slackness 1 suffices for a best
-/// assignment in whole numbers.
+/// A cost scaled by one more than the number of persons, so that slackness 1 proves an assignment
+/// optimal in whole numbers.
 pub type Benefit = i64;
 
 /// A price, in the unit of benefits.
@@ -16,16 +16,16 @@ pub type Price = i128;
 /// The most persons, and the most objects, that a problem may have.
 pub const MOST_PERSONS: u16 = 8192;
 
-/// No cost is above this, nor below its negation.
+/// The greatest absolute value of a cost.
 pub const GREATEST_COST: Cost = 1_000_000_000_000;
 
-/// Prices are at least 0 and below this.
+/// Prices are from 0 to less than this.
 pub const PRICE_END: Price = 10_000_000_000_000_000_000_000;
 
-/// The first prices of a run are at most this, so that all later ones stay below `PRICE_END`.
+/// First prices of a run are at most this, so that all later ones stay below `PRICE_END`.
 pub const GREATEST_FIRST_PRICE: Price = 1_000_000_000_000_000_000_000;
 
-/// Where prices are kept in 64 bits too, a price from here on is kept as this.
+/// The 64-bit copy of a price is this wherever the price is greater.
 pub const NARROW_END: i64 = 1 << 62;
 
 /// A person's number, from 1.
@@ -52,9 +52,9 @@ impl Model for Object {
     ghost inverse = { λ n. record { 0 = n } };
 }
 
-/// What has a number, from 1: a person or an object.
+/// A person or an object, numbered from 1.
 ///
-/// For functions that do the same with persons as with objects.
+/// For functions that treat persons and objects alike.
 pub trait Numbered: Copy {
     ghost number_of: { Self → ℕ };
 
@@ -62,7 +62,7 @@ pub trait Numbered: Copy {
     fn number(self) -> u16
         ensures { result ≡ number_of self };
 
-    /// The one with this number.
+    /// The person or object with this number.
     fn with_number(number: u16) -> Self
         ensures { number_of result ≡ number };
 }

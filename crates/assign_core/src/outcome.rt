@@ -4,20 +4,20 @@ use super::hall::HallSet;
 use super::numbers::{Object, Person};
 use std::alloc::AllocError;
 
-/// What a run finds: an assignment with prices that prove it best, or a Hall set, which proves
-/// that there is no assignment.
+/// The result of a run: an assignment with prices that prove it optimal, or a Hall set, which
+/// proves that no assignment exists.
 #[derive(Drop)]
 pub enum Outcome {
     Best(Certificate),
     Hall(HallSet),
 }
 
-/// Why a run ends with no answer.
+/// Why a run ends without an answer.
 #[derive(Drop)]
 pub enum SolveFault {
     /// Memory was refused.
     Memory,
-    /// A person who is stuck, with an alternating path to an unowned object.
+    /// A person that can't be assigned, with an alternating path to an unowned object.
     Stuck(Person, Vec<Object>),
 }
 

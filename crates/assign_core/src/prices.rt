@@ -7,10 +7,11 @@ use super::numbers::{MOST_PERSONS, NARROW_END, Object, Price};
 use std::alloc::{AllocError, Global};
 use std::marker::Model;
 
-/// The prices of objects 1, 2, .., at most `MOST_PERSONS` of them, each in `0..PRICE_END`.
+/// The prices of objects 1, 2, .., at most `MOST_PERSONS` of them, each from 0 to less than
+/// `PRICE_END`.
 ///
-/// Beside each price stands one in 64 bits that is no greater: the price itself, or `NARROW_END`
-/// where it is above. By these a scan sees which objects change nothing, without wider sums.
+/// It also holds a 64-bit copy of each price, at most `NARROW_END`. With these copies a scan finds
+/// the objects that change nothing, without 128-bit sums.
 #[derive(Drop)]
 pub struct Prices {
     values: Vec<Price>,
@@ -25,7 +26,7 @@ impl Model for Prices {
     ghost invariant = { λ p. IsPair p.values.items p.narrow.items };
 }
 
-// A price in 64 bits, or what stands for one that is too great.
+// The 64-bit copy of a price: the price, but at most `NARROW_END`.
 fn narrow_of(price: Price) -> i64
     requires { IsPrice price }
     ensures below { result ≤ℤ price }
@@ -38,7 +39,7 @@ fn narrow_of(price: Price) -> i64
     }
 }
 
-// The prices in 64 bits.
+// The 64-bit copies of the prices.
 fn narrowed(alloc: Global, prices: &[Price]) -> Result<Vec<i64>, AllocError>
     requires { IsTable prices.now }
     ensures { IfOk result (λ narrow. IsNarrowed narrow.items prices.now) }
@@ -54,7 +55,7 @@ impl Prices {
     /// The table with these prices.
     ///
     /// # Errors
-    /// Only where memory is refused.
+    /// `AllocError` if memory is refused.
     pub fn new(alloc: Global, values: Vec<Price>) -> Result<Prices, AllocError>
         requires { IsTable values.items }
         ensures { IfOk result (λ prices. prices ≡ values.items) }
@@ -66,7 +67,7 @@ impl Prices {
     /// The table of `n` prices of 0.
     ///
     /// # Errors
-    /// Only where memory is refused.
+    /// `AllocError` if memory is refused.
     pub fn zeros(alloc: Global, n: u16) -> Result<Prices, AllocError>
         requires { n ≤ MOST_PERSONS }
         ensures { IfOk result (λ prices. prices ≡ replicate n (pos 0)) }
@@ -83,7 +84,8 @@ impl Prices {
         self.values.as_slice()
     }
 
-    /// The prices of objects 1, 2, .. in 64 bits, from 0 to `NARROW_END`, none above its own price.
+    /// The 64-bit copies of the prices of objects 1, 2, ..: from 0 to `NARROW_END`, none above its
+    /// own price.
     pub fn narrow(&self) -> &[i64]
         ensures { IsNarrowed result.now self.now }
     {
@@ -99,7 +101,7 @@ impl Prices {
         self.values[object.place()]
     }
 
-    /// Gives an object another price.
+    /// Sets the price of an object.
     pub fn set(&mut self, object: Object, price: Price)
         requires object { IsNumber (length self.old) object }
         requires price { IsPrice price }
@@ -110,7 +112,7 @@ impl Prices {
         self.narrow[place] = narrow_of(price);
     }
 
-    /// Gives all objects the prices of another table.
+    /// Sets all prices to those of another table.
     pub fn copy_from(&mut self, other: &Prices)
         requires { length self.old ≡ length other.now }
         ensures { self.new ≡ other.now }
@@ -119,10 +121,10 @@ impl Prices {
         self.narrow.copy_from_slice(other.narrow.as_slice());
     }
 
-    /// The same prices once more.
+    /// A copy of this table.
     ///
     /// # Errors
-    /// Only where memory is refused.
+    /// `AllocError` if memory is refused.
     pub fn copy(&self, alloc: Global) -> Result<Prices, AllocError>
         ensures { IfOk result (λ copy. copy ≡ self.now) }
     {

@@ -10,8 +10,8 @@ use super::numbers::{Cost, MOST_PERSONS, Object, Person};
 use std::alloc::{AllocError, Global};
 use std::marker::Model;
 
-/// For each person a list of (object, cost), rising by object; from 1 to `MOST_PERSONS` persons
-/// and as many objects, both numbered from 1.
+/// For each person a list of (object, cost), rising by object. There are 1 to `MOST_PERSONS`
+/// persons and as many objects, both numbered from 1.
 #[derive(Drop)]
 pub struct Problem {
     rows: Vec<Vec<(Object, Cost)>>,
@@ -25,7 +25,7 @@ impl Model for Problem {
     ghost invariant = { λ p. IsProblem (map (λ r. r.items) p.rows.items) };
 }
 
-// What a rising row gives for an object, by a binary search.
+// The cost of an object in a rising row, by binary search; `None` if it isn't listed.
 fn find(row: &[(Object, Cost)], object: Object) -> Option<Cost>
     requires { IsRising row.now }
     ensures { result ≡ listed_in row.now object }
@@ -64,7 +64,8 @@ fn row_of_costs(alloc: Global, costs: &[Cost]) -> Result<Vec<(Object, Cost)>, Al
     Ok(row)
 }
 
-// The rows of `n` persons among `m` objects: the first `m` costs are those of person 1, the next `m` those of person 2, ..
+// The rows of `n` persons among `m` objects: the first `m` costs are those of person 1, the next
+// `m` those of person 2, ..
 fn cut_rows(
     alloc: Global,
     n: u16,
@@ -85,7 +86,7 @@ fn cut_rows(
     Ok(rows)
 }
 
-// The rows with empty ones behind them, so that there are at least `m`.
+// The rows, followed by empty ones so that there are at least `m`.
 fn filled_up(
     alloc: Global,
     mut rows: Vec<Vec<(Object, Cost)>>,
@@ -110,14 +111,14 @@ impl Problem {
         Problem { rows }
     }
 
-    /// The problem of `n` persons and `n` objects in which each person lists each object: the
-    /// first `n` costs are those of person 1 to objects 1, 2, .., the next `n` those of person 2,
-    /// and so on.
+    /// The problem of `n` persons and `n` objects in which each person lists each object. The first
+    /// `n` costs are those of person 1 to objects 1, 2, .., the next `n` those of person 2, and so
+    /// on.
     ///
     /// It reads each cost once, and takes 16 bytes for it.
     ///
     /// # Errors
-    /// Only where memory is refused.
+    /// `AllocError` if memory is refused.
     pub fn dense(alloc: Global, n: u16, costs: &[Cost]) -> Result<Problem, AllocError>
         requires size { IsSize n }
         requires count { length costs.now ≡ n * n }
@@ -129,15 +130,15 @@ impl Problem {
         })
     }
 
-    /// The problem of `n` persons among `m` objects in which each person lists each object: the
+    /// The problem of `n` persons among `m` objects in which each person lists each object. The
     /// first `m` costs are those of person 1 to objects 1, 2, .., the next `m` those of person 2,
-    /// and so on. Where there are more objects than persons, persons `n + 1` to `m` list nothing:
-    /// an assignment of the first `n` is meant.
+    /// and so on. If there are more objects than persons, persons `n + 1` to `m` list nothing: only
+    /// the first `n` persons are to be assigned.
     ///
     /// It reads each cost once, and takes 16 bytes for it, and 24 for each person.
     ///
     /// # Errors
-    /// Only where memory is refused.
+    /// `AllocError` if memory is refused.
     pub fn dense_among(alloc: Global, n: u16, m: u16, costs: &[Cost]) -> Result<Problem, AllocError>
         requires persons { IsSize n }
         requires objects { IsSize m }
@@ -152,7 +153,7 @@ impl Problem {
         })
     }
 
-    /// How many persons there are, and how many objects.
+    /// The number of persons, which is also the number of objects.
     pub fn n(&self) -> u16
         ensures count { result ≡ length self.now }
         ensures problem { IsProblem self.now }
@@ -160,7 +161,7 @@ impl Problem {
         self.rows.len() as u16
     }
 
-    /// What a person lists, rising by object.
+    /// The objects that a person lists, rising, each with its cost.
     pub fn row(&self, person: Person) -> &[(Object, Cost)]
         requires { IsNumber (length self.now) person }
         ensures row { result.now ≡ row_of self.now person }
@@ -169,9 +170,9 @@ impl Problem {
         self.rows[person.place()].as_slice()
     }
 
-    /// What a pair costs, if it is listed; `None` too where there is no such person.
+    /// The cost of a pair; `None` if the pair isn't listed, or the person isn't in the problem.
     ///
-    /// It reads few pairs of the person's row: at most 14, also where all objects are listed.
+    /// It reads at most 14 pairs of the person's row, also where all objects are listed.
     pub fn cost_of(&self, person: Person, object: Object) -> Option<Cost>
         ensures { result ≡ listed_in (row_of self.now person) object }
     {
@@ -182,7 +183,7 @@ impl Problem {
 
     /// The sum of the costs of an assignment's pairs.
     ///
-    /// Of each person it reads as few pairs as `cost_of`.
+    /// It reads at most 14 pairs of each row, as `cost_of` does.
     pub fn total(&self, assignment: &Assignment) -> Cost
         requires { IsAssignment self.now assignment.now }
         ensures { result ≡ total self.now assignment.now }

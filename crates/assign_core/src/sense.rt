@@ -1,11 +1,11 @@
-// Which costs are wanted.
+// Minimise or maximise.
 ghost use Rattle.std.specs.Prelude.{◌≡◌};
 ghost use Rattle.assign_core.specs.Rows.{IsCost, IsSize};
 ghost use Rattle.assign_core.specs.Benefits.{benefit, IsBenefit};
 
 use super::numbers::{Benefit, Cost};
 
-/// Whether the least cost is wanted or the greatest.
+/// Whether to minimise or to maximise the total cost.
 #[derive(Clone, Copy, PartialEq, Eq)]
 pub enum Sense {
     Min,
@@ -15,8 +15,8 @@ pub enum Sense {
 impl Sense {
     /// The benefit of a cost among `n` persons: the cost times `n + 1`, negated under `Min`.
     ///
-    /// Scaled so, an assignment with slackness 1 is best (Bertsekas, Network Optimization, 1998,
-    /// section 7.1).
+    /// With benefits scaled like this, an assignment with slackness 1 is optimal (Bertsekas,
+    /// Network Optimization, 1998, section 7.1).
     pub fn benefit(self, n: u16, cost: Cost) -> Benefit
         requires size { IsSize n }
         requires cost { IsCost cost }

@@ -8,7 +8,7 @@ use Rattle.assign_core.specs.Benefits.{benefit}
 use Rattle.assign_core.proofs.BenefitRows.{IsBenefit-benefit}
 use Rattle.assign_core.proofs.sense.Sense.benefit.Goals as goal
 
--- the number of persons, one more, and its negation are in 64 bits
+-- the number of persons, one more, and its negation fit in 64 bits
 record Scale (n : ℕ) (number : ℤ) : Type 0 where
   fits : SFits w64 number
   more : SFits w64 (number +ℤ pos 1)
