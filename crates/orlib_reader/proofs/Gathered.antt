@@ -40,7 +40,7 @@ behind ts b k e h =
     let both : length (flat_map numbers_of ts ++ begun_numbers b) ≡ 3 * length ts + k = length-append (flat_map numbers_of ts) (begun_numbers b) ∙ (let flat = flat_length ts in omega arith) in
     ap (λ m. m % 3) both ∙ third (length ts) k h
 
--- what is wanted behind the numbers of a triple that has begun
+-- what is expected after the numbers of a triple that has begun
 abbrev pub wanted_behind : ℕ → Begun → Wanted
 wanted_behind n begun.Nothing = wanted.Index n
 wanted_behind n (begun.Person i) = wanted.Index n
@@ -55,13 +55,13 @@ sparse_wants n ts (begun.Pair i j) = cond-true _ wanted.Cost (wanted.Index n) (a
 pub sparse_wanted : (n : ℕ) (ts : List Triple) (b known : Begun) (numbers : List ℤ) → b ≡ known → sparse_numbers n ts b ≡ numbers → wanted_in Sparse numbers ≡ wanted_behind n known
 sparse_wanted n ts b known numbers is shown = ap (wanted_in Sparse) (sym shown) ∙ sparse_wants n ts b ∙ ap (wanted_behind n) is
 
--- the object behind a person
+-- the object that follows a person
 pub object_taken : (n : ℕ) (ts : List Triple) (b : Begun) (i k : ℕ) (numbers : List ℤ) → b ≡ begun.Person i → sparse_numbers n ts b ≡ numbers → sparse_numbers n ts (begun.Pair i k) ≡ numbers ++ pos k ∷ []
 object_taken n ts b i k numbers is shown =
     ap (λ l. pos n ∷ l) (sym (append_assoc (flat_map numbers_of ts) (pos i ∷ []) (pos k ∷ [])))
     ∙ ap (λ x. sparse_numbers n ts x ++ pos k ∷ []) (sym is) ∙ ap (λ l. l ++ pos k ∷ []) shown
 
--- the cost behind a person and an object
+-- the cost that follows a person and an object
 pub cost_taken : (n : ℕ) (ts new : List Triple) (b : Begun) (i j : ℕ) (c : ℤ) (numbers : List ℤ) → b ≡ begun.Pair i j → sparse_numbers n ts b ≡ numbers → new ≡ ts ++ (i, j, c) ∷ [] →
     sparse_numbers n new begun.Nothing ≡ numbers ++ c ∷ []
 cost_taken n ts new b i j c numbers is shown e =
@@ -88,7 +88,7 @@ sparse_length n ts b k e = let flat = flat_length ts in let both = length-append
 pub few_triples : (n : ℕ) (ts : List Triple) (b : Begun) (numbers : List ℤ) → sparse_numbers n ts b ≡ numbers → length numbers ≤ TEXT_LIMIT → length ts ≤ TEXT_LIMIT
 few_triples n ts b numbers shown few = let long = sparse_length n ts b (length (begun_numbers b)) refl in let same = ap length shown in omega arith
 
--- what is told at the end of a text that lacks the end of a triple
+-- the fault at the end of a text that ends within a triple
 sparse_short : (n : ℕ) (ts : List Triple) (b : Begun) (k : ℕ) (numbers : List ℤ) (count : ℕ) → length (begun_numbers b) ≡ k → 0 < k → k < 3 → sparse_numbers n ts b ≡ numbers → count ≡ 3 * length ts + k + 1 →
     ended Sparse numbers ≡ Err (faults.Truncated count)
 sparse_short n ts b k numbers count e some less shown c =
@@ -109,7 +109,7 @@ triples_again : (ts : List Triple) → triples_of (flat_map numbers_of ts) ≡ t
 triples_again [] = refl
 triples_again (t ∷ ts) = ap (λ l. t ∷ l) (triples_again ts)
 
--- what is told at the end of whole triples
+-- the problem at the end of whole triples
 pub sparse_done : (n : ℕ) (ts : List Triple) (b : Begun) (numbers : List ℤ) (rows : List Listing) → b ≡ begun.Nothing → sparse_numbers n ts b ≡ numbers → IsSparse n ts rows → Meets Sparse (Ok rows) (ended Sparse numbers)
 sparse_done n ts b numbers rows is shown h =
     let numbers_now : numbers ≡ pos n ∷ flat_map numbers_of ts = sym shown ∙ ap (sparse_numbers n ts) is ∙ ap (λ l. pos n ∷ l) (append-nil (flat_map numbers_of ts)) in

@@ -107,7 +107,7 @@ assoc : {X Y Z : Type 0} (r : Result X InputFault) (g : X → Y) (k : Y → Resu
 assoc (Ok x) g k = refl
 assoc (Err e) g k = refl
 
--- the pieces behind an ended token
+-- the pieces that follow an ended token
 closed_is : (layout : Layout) (found : List ℤ) (b : Option Token) (pieces : List Piece) →
     and_then (token_gives layout found b) (λ new. numbers_from layout new pieces) ≡ numbers_from layout found (closed b ++ pieces)
 closed_is layout found None pieces = refl

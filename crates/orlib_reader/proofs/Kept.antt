@@ -143,7 +143,7 @@ dense_wants_nothing n rows row h le =
     let full : length rows * n ≡ n * n = ap (λ m. m * n) all in
     cond-false (nat_lt (length (kept_costs rows row)) (n * n)) wanted.Cost wanted.Nothing (le-ltb _ _ (omega arith))
 
--- what is wanted, as the test for full rows tells it
+-- what is expected, by the test for full rows
 pub dense_wants : (n : ℕ) (rows : List Listing) (row : Listing) (numbers : List ℤ) → IsKept n rows row → kept_numbers n rows row ≡ numbers → wanted_in Dense numbers ≡ cond (nat_le n (length rows)) wanted.Nothing wanted.Cost
 dense_wants n rows row numbers h shown = ap (wanted_in Dense) (sym shown) ∙ elim (cases_Bool (nat_le n (length rows))) [
   | inl full ↦ dense_wants_nothing n rows row h (leb-true _ _ full) ∙ sym (cond-true (nat_le n (length rows)) wanted.Nothing wanted.Cost full)
@@ -181,13 +181,13 @@ dense_whole n rows row h le =
       subst IsProblem cut (IsProblem-dense n (kept_costs rows row) h.size whole h.costs),
     )
 
--- what is told at the end of a text that lacks costs
+-- the fault at the end of a text that lacks costs
 pub dense_short : (n : ℕ) (rows : List Listing) (row : Listing) (numbers : List ℤ) (count : ℕ) → IsKept n rows row → length rows < n → kept_numbers n rows row ≡ numbers → count ≡ length numbers →
     ended Dense numbers ≡ Err (faults.Truncated count)
 dense_short n rows row numbers count h lt v k =
     ap (ended Dense) (sym v) ∙ dense_truncated n rows row h lt ∙ ap (λ m. Err (faults.Truncated m)) (ap length v ∙ sym k)
 
--- what is told at the end of a text that has them all
+-- the problem at the end of a text that has all costs
 pub dense_done : (n : ℕ) (rows : List Listing) (row : Listing) (numbers : List ℤ) (new : List Listing) → IsKept n rows row → n ≤ length rows → kept_numbers n rows row ≡ numbers →
     new ≡ rows → Meets Dense (Ok new) (ended Dense numbers)
 dense_done n rows row numbers new h le v e =

@@ -35,7 +35,7 @@ digit_bounds b d = let parts = and_parts (nat_le 48 b) (nat_le b 57) d in (leb-t
 digit_no_sign : (b : ℕ) → is_digit b ≡ true → (is_sign b ≡ false) × (nat_eq b 45 ≡ false)
 digit_no_sign b d = let low = digit_bounds b d in let m = ne_eqb b 45 (omega arith) in (or_from (nat_eq b 43) (nat_eq b 45) (ne_eqb b 43 (omega arith)) m, m)
 
--- one byte more behind a token's first
+-- one more byte after a token's first
 unsigned_more : (bytes : List ℕ) (b : ℕ) → 0 < length bytes → unsigned (bytes ++ b ∷ []) ≡ unsigned bytes ++ b ∷ []
 unsigned_more [] b h = absurd (omega arith)
 unsigned_more (c ∷ bytes) b h = elim (cases_Bool (is_sign c)) [ inl s ↦ simp s refl | inr s ↦ simp s refl ]

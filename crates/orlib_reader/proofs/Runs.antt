@@ -19,7 +19,7 @@ first_step s bytes h =
     let near = h.near in
     simp (lt-leb TEXT_LIMIT s.at (omega arith), h.dark, h.none_open, begun_is (wanted_in s.layout s.found) s.at (get_or bytes 0 0) h.wanted) refl
 
--- a token's first byte and the digits behind it
+-- a token's first byte and the digits after it
 after_first : (s : State) (bytes : List ℕ) (token : OpenToken) (digits : ℕ) → Begins s bytes →
     after (Ok (within_token s.layout (s.at + 1 + digits) token s.found)) (drop digits (drop 1 bytes)) ≡ after (Ok (within_token s.layout (s.at + 1) (begun s.at (get_or bytes 0 0)) s.found)) (drop 1 bytes) →
     after (Ok (within_token s.layout (s.at + (digits + 1)) token s.found)) (drop (digits + 1) bytes) ≡ after (Ok s) bytes

@@ -1,9 +1,9 @@
--- What a fault prints.
+-- The text of a fault.
 use Rattle.std.specs.Prelude.{ℕ, List, ◌++◌, codes, decimal}
 use Rattle.orlib_reader.specs.declared.fault.InputFault.{InputFault}
 use Rattle.orlib_reader.specs.declared.fault.InputFault.TheVariants.{Empty, BadToken, Size, Cost, Index, Truncated, Extra, TooLong, Read, Memory}
 
--- the line that tells a fault, without its line feed
+-- the line that reports a fault, without its line feed
 abbrev pub fault_text : InputFault → List ℕ
 fault_text Empty = codes "input: empty"
 fault_text (BadToken place) = codes "input: bad number at byte " ++ decimal place

@@ -1,4 +1,4 @@
--- What number a token is, and which numbers may stand where.
+-- The number of a token, and the numbers that may stand at a place.
 use Rattle.std.specs.Prelude.{◌≡◌, ℕ, ◌+◌, ◌-◌, ◌*◌, ℤ, pos, negsuc, neg_ℤ, List, [], ◌∷◌, Option, None, Some, Result, Ok, Err, nat_lt, nat_le, nat_abs, ◌==◌, ◌&&◌, ◌||◌, if◌then◌else◌, Bool, false, option_map}
 use Rattle.assign_core.specs.declared.numbers.TheConstants.{MOST_PERSONS, GREATEST_COST}
 use Rattle.orlib_reader.specs.Tokens.{Token}
@@ -19,12 +19,12 @@ abbrev pub is_negative : List ℕ → Bool
 is_negative [] = false
 is_negative (b ∷ bytes) = b == 45
 
--- what stands behind the sign, if there is one
+-- a token without its sign, if it has one
 abbrev pub unsigned : List ℕ → List ℕ
 unsigned [] = []
 unsigned (b ∷ bytes) = if is_sign b then bytes else b ∷ bytes
 
--- the value of digits behind those of value v, if they are all digits
+-- the value of digits that follow digits of value v, if all are digits
 abbrev pub digits_from : ℕ → List ℕ → Option ℕ
 digits_from v [] = Some v
 digits_from v (b ∷ bytes) = if is_digit b then digits_from (v * 10 + (b - 48)) bytes else None
@@ -46,19 +46,19 @@ abbrev pub is_among : ℕ → ℤ → Bool
 is_among n (pos k) = nat_le 1 k && nat_le k n
 is_among n (negsuc k) = false
 
--- at most the greatest cost, either way
+-- its absolute value is at most the greatest cost
 abbrev pub is_cost : ℤ → Bool
 is_cost (pos k) = nat_le k (nat_abs GREATEST_COST)
 is_cost (negsuc k) = nat_lt k (nat_abs GREATEST_COST)
 
--- a number at this place, where this is wanted
+-- a number at this place, where this is expected, if it is in range
 abbrev pub in_range : Wanted → ℕ → ℤ → Result ℤ InputFault
 in_range wanted.Size place v = if is_among MOST_PERSONS v then Ok v else Err faults.Size
 in_range wanted.Cost place v = if is_cost v then Ok v else Err (faults.Cost place)
 in_range (wanted.Index n) place v = if is_among n v then Ok v else Err (faults.Index place)
 in_range wanted.Nothing place v = Err (faults.Extra place)
 
--- a token at this place that is no number, where this is wanted
+-- the fault of a token at this place that isn't a number, where this is expected
 abbrev pub no_number : Wanted → ℕ → InputFault
 no_number wanted.Nothing place = faults.Extra place
 no_number w place = faults.BadToken place
@@ -67,11 +67,11 @@ abbrev pub judged_number : Wanted → ℕ → Option ℤ → Result ℤ InputFau
 judged_number w place None = Err (no_number w place)
 judged_number w place (Some v) = in_range w place v
 
--- what a token gives where this is wanted: its number, or its fault
+-- what a token gives where this is expected: its number, or its fault
 abbrev pub judged : Wanted → Token → Result ℤ InputFault
 judged w t = judged_number w t.place (number_of t.bytes)
 
--- what came is the number that was to come, or its fault
+-- the result is the expected number, or its fault
 abbrev pub Tells : {X : Type 0} → (X → ℤ) → Result X InputFault → Result ℤ InputFault → Type 0
 Tells view (Ok x) number = number ≡ Ok (view x)
 Tells view (Err fault) number = number ≡ Err fault

@@ -1,4 +1,5 @@
--- Second and third step: from the tokens of a text to its numbers, or to its first fault, and from the numbers to a problem.
+-- Second and third step: from the tokens of a text to its numbers or its first fault, and from the
+-- numbers to a problem.
 use Rattle.std.specs.Prelude.{◌≡◌, ℕ, ◌*◌, ◌%◌, ℤ, List, [], ◌∷◌, ◌++◌, Result, Ok, Err, nat_lt, ◌==◌, if◌then◌else◌, Bool, false, length, nat_abs}
 use Rattle.assign_core.specs.Rows.{Listing}
 use Rattle.assign_core.specs.Dense.{dense_rows}
@@ -12,7 +13,8 @@ use Rattle.orlib_reader.specs.declared.layout.Layout.TheVariants as layouts
 use Rattle.orlib_reader.specs.Wanted.{Wanted}
 use Rattle.orlib_reader.specs.Wanted as wanted
 
--- what is wanted behind the numbers found so far: dense texts are n and then n * n costs, sparse ones n and then triples
+-- what is expected after the numbers found so far: a dense text is n and then n * n costs, a sparse
+-- text n and then triples
 abbrev pub wanted_in : Layout → List ℤ → Wanted
 wanted_in layout [] = wanted.Size
 wanted_in layouts.Dense (n ∷ costs) =
@@ -20,18 +22,18 @@ wanted_in layouts.Dense (n ∷ costs) =
 wanted_in layouts.Sparse (n ∷ triples) =
     if length triples % 3 == 2 then wanted.Cost else wanted.Index (nat_abs n)
 
--- whether a text may end behind these numbers
+-- whether a text may end after these numbers
 abbrev pub may_end : Layout → List ℤ → Bool
 may_end layout [] = false
 may_end layouts.Dense (n ∷ costs) = length costs == nat_abs n * nat_abs n
 may_end layouts.Sparse (n ∷ triples) = length triples % 3 == 0
 
--- the numbers of a text that ends behind them
+-- the numbers of a text that ends after them
 abbrev pub ended : Layout → List ℤ → Result (List ℤ) InputFault
 ended layout [] = Err faults.Empty
 ended layout (n ∷ others) = if may_end layout (n ∷ others) then Ok (n ∷ others) else Err (faults.Truncated (length (n ∷ others)))
 
--- a token that goes past the limit is judged only where none may stand
+-- a token that crosses the limit is judged only where no token may stand
 abbrev pub judged_open : Wanted → ℕ → InputFault
 judged_open wanted.Nothing place = faults.Extra place
 judged_open w place = faults.TooLong
@@ -40,7 +42,7 @@ abbrev pub and_then : {X Y : Type 0} → Result X InputFault → (X → Result Y
 and_then (Ok x) f = f x
 and_then (Err e) f = Err e
 
--- the numbers of a text, or its first fault, behind the numbers found so far
+-- the numbers of a text, or its first fault, after the numbers found so far
 abbrev pub numbers_from : Layout → List ℤ → List Piece → Result (List ℤ) InputFault
 numbers_from layout found [] = ended layout found
 numbers_from layout found (whole t ∷ pieces) = and_then (judged (wanted_in layout found) t) (λ v. numbers_from layout (found ++ v ∷ []) pieces)
@@ -59,7 +61,7 @@ dense_problem (n ∷ costs) = dense_rows (nat_abs n) costs
 abbrev pub dense_reading : List ℕ → Result (List Listing) InputFault
 dense_reading bytes = and_then (numbers_in layouts.Dense bytes) (λ numbers. Ok (dense_problem numbers))
 
--- a person, an object and a cost each
+-- each triple is a person, an object and a cost
 abbrev pub triples_of : List ℤ → List Triple
 triples_of [] = []
 triples_of (i ∷ []) = []
@@ -75,13 +77,13 @@ sparse_list (n ∷ numbers) = (nat_abs n, triples_of numbers)
 abbrev pub sparse_reading : List ℕ → Result (ℕ × List Triple) InputFault
 sparse_reading bytes = and_then (numbers_in layouts.Sparse bytes) (λ numbers. Ok (sparse_list numbers))
 
--- want of memory and the reader's failures aside, a fault is the one that was to come
+-- a fault is the expected one, except for `Memory` and `Read`
 abbrev pub Fails : {Y : Type 0} → InputFault → Result Y InputFault → Type 0
 Fails faults.Memory reading = Unit {0}
 Fails faults.Read reading = Unit {0}
 Fails fault reading = reading ≡ Err fault
 
--- what came is what was to come
+-- the result is the expected one
 abbrev pub Gives : {X Y : Type 0} → (X → Y) → Result X InputFault → Result Y InputFault → Type 0
 Gives view (Ok x) reading = reading ≡ Ok (view x)
 Gives view (Err e) reading = Fails e reading
@@ -100,7 +102,7 @@ abbrev pub IsProblemOf : Layout → List ℤ → List Listing → Type 0
 IsProblemOf layouts.Dense numbers rows = dense_problem numbers ≡ rows
 IsProblemOf layouts.Sparse numbers rows = IsSparse (sparse_list numbers).0 (sparse_list numbers).1 rows
 
--- what came is the problem of the numbers, or their fault
+-- the result is the problem of the numbers, or their fault
 abbrev pub Meets : Layout → Result (List Listing) InputFault → Result (List ℤ) InputFault → Type 0
 Meets layout (Ok rows) (Ok numbers) = IsProblemOf layout numbers rows
 Meets layout (Ok rows) (Err e) = ⊥

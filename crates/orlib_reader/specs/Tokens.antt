@@ -6,21 +6,21 @@ use Rattle.orlib_reader.specs.declared.machine.TheConstants.{TEXT_LIMIT}
 abbrev pub is_space : ℕ → Bool
 is_space b = (b == 32) || (nat_le 9 b && nat_le b 13)
 
--- a longest run of bytes that are no white space, with the place of its first byte
+-- a longest run of bytes other than white space, with the place of its first byte
 pub record Token : Type 0 where
   pub place : ℕ
   pub bytes : List ℕ
 
--- what a text is cut into
+-- the pieces that a text is cut into
 pub data Piece : Type 0 where
-  -- a token that ends, by white space or by the text's end
+  -- a token that ends at white space or at the end of the text
   whole : Token → Piece
-  -- a token, begun at this place, that is still open where the text goes past the limit
+  -- a token, begun at this place, that is still open at the limit
   open_at : ℕ → Piece
-  -- the text goes past the limit
+  -- the text goes beyond the limit
   beyond : Piece
 
--- the token that has begun, or a new one at this place, with one byte more
+-- the token that has begun, or a new one at this place, with one more byte
 abbrev pub grown : ℕ → Option Token → ℕ → Token
 grown at None b = record { place = at; bytes = b ∷ [] }
 grown at (Some t) b = record { place = t.place; bytes = t.bytes ++ b ∷ [] }
@@ -33,7 +33,7 @@ abbrev pub left_open : Option Token → List Piece
 left_open None = []
 left_open (Some t) = open_at t.place ∷ []
 
--- the pieces of a text from a place on, behind a token that has begun
+-- the pieces of a text from a place on, after a token that has begun
 abbrev pub cut : ℕ → Option Token → List ℕ → List Piece
 cut at begun [] = closed begun
 cut at begun (b ∷ bytes) =

@@ -6,5 +6,5 @@ pub data Wanted : Type 0 where
   Cost : Wanted
   -- a number from 1 to n
   Index : ℕ → Wanted
-  -- no token any more
+  -- no further token
   Nothing : Wanted

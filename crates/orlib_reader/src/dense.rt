@@ -16,8 +16,8 @@ use std::mem;
 
 type Row = Vec<(Object, Cost)>;
 
-// The size, whole rows, and the row that is being filled. Each takes its room when its first cost
-// comes.
+// The size, whole rows, and the row that is being filled. Each row takes its room at its first
+// cost.
 #[derive(Drop)]
 pub struct DenseRows {
     alloc: Global,
@@ -34,7 +34,7 @@ impl Model for DenseRows {
     ghost invariant = { λ d. IsKept d.n (map (λ r. r.items) d.rows.items) d.row.items };
 }
 
-// Takes the room for a row whose first cost comes.
+// Takes the room for a row at its first cost.
 fn take_room(alloc: Global, n: u16, row: &mut Row) -> Result<(), AllocError>
     ensures { row.new.items ≡ row.old.items }
 {
@@ -44,7 +44,7 @@ fn take_room(alloc: Global, n: u16, row: &mut Row) -> Result<(), AllocError>
     Ok(())
 }
 
-// Adds a cost to the row, and the row to the others where it was the last one.
+// Adds a cost to the row, and adds the row to the others if it is full.
 #[inline(always)]
 fn add_cost(
     alloc: Global,
@@ -104,7 +104,7 @@ impl DenseRows {
         add_cost(self.alloc, self.n, &mut self.rows, &mut self.row, cost)
     }
 
-    // Takes the token that ends.
+    // Takes a token that has ended.
     #[inline(always)]
     pub fn take(&mut self, token: OpenToken) -> Result<(), InputFault>
         requires { token.value ≤ VALUE_LIMIT }
@@ -119,7 +119,7 @@ impl DenseRows {
         Ok(())
     }
 
-    // How many numbers have come.
+    // How many numbers have come, with the size.
     fn count(&self) -> u64
         ensures { result ≡ length self.now }
     {

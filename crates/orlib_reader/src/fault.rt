@@ -6,27 +6,27 @@ use std::alloc::AllocError;
 use std::{fmt, io};
 use thiserror::Error;
 
-/// Why a text is refused. Places are offsets in bytes from 0; a token's place is that of its
-/// first byte. The `Display` text is one line for the user.
+/// Why a text is refused. Places are offsets in bytes from 0; a token's place is that of its first
+/// byte. `Display` writes one line for the user.
 #[derive(Clone, Copy, Debug, PartialEq, Drop, Error)]
 pub enum InputFault {
-    /// The text ends with no token.
+    /// The text has no token.
     Empty,
-    /// A token that is no number, where a number is wanted.
+    /// A token at this place isn't a number, where a number should stand.
     BadToken(u64),
     /// The first number isn't from 1 to 8192.
     Size,
-    /// A cost is beyond 10^12 either way.
+    /// The absolute value of the cost at this place is above 10^12.
     Cost(u64),
-    /// The number of a person or an object isn't from 1 to n.
+    /// The number of a person or an object at this place isn't from 1 to n.
     Index(u64),
-    /// The text ends too early, behind so many numbers, n among them.
+    /// The text ends too early, after this many numbers, n included.
     Truncated(u64),
-    /// A token behind the last cost.
+    /// A token at this place follows the last cost.
     Extra(u64),
-    /// The text has more than 2^30 bytes, and no fault stands among these.
+    /// The text has more than 2^30 bytes, and the first 2^30 have no fault.
     TooLong,
-    /// The reader failed.
+    /// The reader failed, or was interrupted.
     Read,
     /// A growth was refused.
     Memory,

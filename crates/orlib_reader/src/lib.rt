@@ -25,8 +25,8 @@ use pairs::Pairs;
 use std::alloc::Global;
 use std::io::Read;
 
-// The problem that a text gives, taken block by block. Each turn takes a byte at least, so that the
-// turns suffice for every text within the limit.
+// The problem of a text, read block by block. Each turn takes at least one byte, so the turns
+// suffice for every text within the limit.
 fn read_all<R: Read>(pairs: Pairs, r: &mut R) -> Result<Problem, InputFault>
     requires { found_in pairs ≡ [] }
     ensures { IfSome (R.remaining r.old) (λ bytes.
@@ -44,31 +44,30 @@ fn read_all<R: Read>(pairs: Pairs, r: &mut R) -> Result<Problem, InputFault>
     Err(InputFault::TooLong)
 }
 
-/// Which number the limit of a text's bytes is.
+/// The greatest number of bytes of a text.
 pub fn text_limit()
     ensures { TEXT_LIMIT ≡ 2 ^ 30 }
 {}
 
-/// Reads a dense text: n from 1 to 8192, and then for each person the n costs to objects 1, 2, ..,
-/// each within 10^12 either way. The text is taken in pieces as they come; what is held is 16 bytes
-/// a pair. The time is linear in the text's bytes.
+/// Reads a dense text: n from 1 to 8192, and then for each person the n costs to objects 1, 2, ..;
+/// the absolute value of a cost is at most 10^12. It reads in pieces of any size, holds 16 bytes a
+/// pair, and takes time linear in the text's bytes.
 ///
 /// # Errors
-/// The first fault in the order of the text's bytes; `Read` where the reader fails, also where it
-/// is interrupted; `Memory` where a growth is refused. The reader stands where it stopped.
+/// The first fault in the order of the text's bytes; `Read` if the reader fails or is interrupted;
+/// `Memory` if memory is refused. The reader stays where the reading stopped.
 pub fn read_dense<R: Read>(alloc: Global, r: &mut R) -> Result<Problem, InputFault>
     ensures { IfSome (R.remaining r.old) (λ bytes. Answers result (dense_reading bytes)) }
 {
     read_all(Pairs::Nothing(alloc, Layout::Dense), r)
 }
 
-/// Reads a sparse text: n from 1 to 8192, and then triples of a person, an object and a cost. A
-/// pair that is given several times counts once, at its least cost. While the text is read, 16
-/// bytes a triple are held; the problem is made by `Problem::sparse`, whose time is added to the
-/// linear time of reading.
+/// Reads a sparse text: n from 1 to 8192, and then triples of a person, an object and a cost. If a
+/// pair is given several times, its least cost counts. While reading, it holds 16 bytes a triple;
+/// `Problem::sparse` then makes the problem, and adds its time to the linear time of reading.
 ///
 /// # Errors
-/// As for `read_dense`; `Index` where a person or an object isn't from 1 to n.
+/// As for `read_dense`; `Index` if a person or an object isn't from 1 to n.
 pub fn read_sparse<R: Read>(alloc: Global, r: &mut R) -> Result<Problem, InputFault>
     ensures { IfSome (R.remaining r.old) (λ bytes. SparseAnswers result (sparse_reading bytes)) }
 {

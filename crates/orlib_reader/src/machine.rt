@@ -1,5 +1,5 @@
-// Takes a text: white space by its runs, a token with its digits at once where it begins within a
-// block, else byte by byte.
+// Takes a text: white space in runs, a token and its digits at once if it begins within a block,
+// and the rest byte by byte.
 ghost use Rattle.std.specs.Prelude.{◌≡◌, ◌<◌, ◌≤◌, ◌+◌, [], Ok, true, get_or, IfErr, IfOk, IsTrue, OnOk, length};
 ghost use Rattle.orlib_reader.specs.Tokens.{is_space};
 ghost use Rattle.orlib_reader.specs.Texts.{Fails, Gives, Meets};
@@ -12,10 +12,10 @@ use super::token::{OpenToken, is_white, white_run};
 use assign_core::Problem;
 use std::marker::Model;
 
-/// A text has at most so many bytes.
+/// The most bytes that a text may have.
 pub const TEXT_LIMIT: u64 = 1 << 30;
 
-// How far a text has come: bytes, the token that is open, and the numbers before it.
+// How far a text has come: the number of bytes, the open token, and the numbers before it.
 #[derive(Drop)]
 pub struct Machine {
     at: u64,
@@ -51,7 +51,7 @@ impl Machine {
         }
     }
 
-    // Takes one byte more.
+    // Takes one more byte.
     #[cold]
     pub fn feed(&mut self, b: u8) -> Result<(), InputFault>
         ensures step { Gives (λ _. self.new) result (step self.old b) }
@@ -79,14 +79,14 @@ impl Machine {
         Ok(())
     }
 
-    // Whether no token is open, and the limit is behind the last of these bytes.
+    // Whether no token is open, and these bytes stay within the limit.
     fn is_between(&self, bytes: &[u8]) -> bool
         ensures { IsTrue result → IsBetween self.now bytes.now }
     {
         self.token.is_none() && bytes.len() as u64 <= TEXT_LIMIT - self.at
     }
 
-    // Takes the white space that comes first. How many bytes that are.
+    // Takes the white space at the beginning, and returns its number of bytes.
     #[inline(always)]
     fn feed_blanks(&mut self, bytes: &[u8]) -> usize
         requires between { IsBetween self.old bytes.now }
@@ -100,8 +100,8 @@ impl Machine {
         blanks
     }
 
-    // Takes the token that begins with these bytes, with its digits, and the white byte behind
-    // these, if it comes. How many bytes that are.
+    // Takes the token at the beginning of these bytes, with its digits, and one white byte that may
+    // follow. Returns the number of bytes.
     #[inline(always)]
     fn feed_token(&mut self, bytes: &[u8]) -> Result<usize, InputFault>
         requires { Begins self.old bytes.now }
@@ -123,8 +123,8 @@ impl Machine {
         Ok(count)
     }
 
-    // Takes the white space or the token that these bytes begin with, or else the first of them. How
-    // many bytes that are.
+    // Takes the white space or the token at the beginning of these bytes, or else the first byte.
+    // Returns the number of bytes.
     #[inline(always)]
     fn feed_some(&mut self, bytes: &[u8]) -> Result<usize, InputFault>
         requires { 0 < length bytes.now }
@@ -144,7 +144,8 @@ impl Machine {
         Ok(1)
     }
 
-    // Takes these bytes. One copy serves all readers, so that the steps of a token stay in its loop.
+    // Takes these bytes. One copy serves all readers, so that the steps of a token stay in its
+    // loop.
     #[inline(never)]
     pub fn feed_all(&mut self, bytes: &[u8]) -> Result<(), InputFault>
         ensures after { Gives (λ _. self.new) result (after (Ok self.old) bytes.now) }
@@ -152,8 +153,8 @@ impl Machine {
         ensures at { OnOk result (self.new.at ≡ self.old.at + length bytes.now) }
         ensures bound { self.new.at ≤ TEXT_LIMIT }
     {
-        // That the bytes so far are within the limit, also before the first of these, follows from
-        // this look at them.
+        // This read shows the prover that the bytes so far are within the limit, also before the
+        // first of these.
         let _bytes_so_far = self.at;
         let mut taken = 0;
         while taken < bytes.len() {

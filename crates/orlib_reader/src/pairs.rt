@@ -15,7 +15,7 @@ use super::token::{OpenToken, VALUE_LIMIT};
 use assign_core::Problem;
 use std::alloc::{AllocError, Global};
 
-// What has come: no number yet, or the size and what stands behind it.
+// What has come: no number yet, or the size and the numbers after it.
 #[derive(Drop)]
 pub enum Pairs {
     Nothing(Global, Layout),
@@ -36,7 +36,7 @@ impl Pairs {
         })
     }
 
-    // Whether no token may stand any more.
+    // Whether the text is complete, so that no further token may stand.
     pub fn are_complete(&self) -> bool
         ensures { IsTrue result
             ↔ wanted_in (layout_in self.now) (found_in self.now) ≡ Wanted.Nothing }
@@ -59,7 +59,7 @@ impl Pairs {
         }
     }
 
-    // Takes the token that ends.
+    // Takes a token that has ended.
     #[inline(always)]
     pub fn take(&mut self, token: OpenToken) -> Result<(), InputFault>
         requires { token.value ≤ VALUE_LIMIT }

@@ -1,5 +1,5 @@
-// The numbers of a sparse text, kept as triples. A triple takes 16 bytes. They stand in pieces of
-// one size, since a single list would hold the old and the new triples while it grows.
+// The numbers of a sparse text, kept as triples of 16 bytes. They are held in pieces of one size: a
+// single list would hold the old and the new triples while it grows.
 ghost use Rattle.std.specs.Prelude.{◌≡◌, ℤ, pos, ◌≤◌, List, [], ◌∷◌, ◌++◌, Some, All, map, length, OnOk, OnErr, IfOk};
 ghost use Rattle.assign_core.specs.Rows.{IsCost, IsSize};
 ghost use Rattle.assign_core.specs.Sparse.{IsTriple, IsSparse};
@@ -21,8 +21,7 @@ const PIECE_LENGTH: usize = 4096;
 
 type Triple = (Person, Object, Cost);
 
-// What has come of the triple behind the whole ones: nothing, the number of a person, or those of
-// a person and an object.
+// The numbers of a triple that has begun: none, a person, or a person and an object.
 #[derive(Clone, Copy)]
 enum Begun {
     Nothing,
@@ -30,7 +29,7 @@ enum Begun {
     Pair(u16, u16),
 }
 
-// The size, whole triples, and the one that has begun.
+// The size, whole triples, and the triple that has begun.
 #[derive(Drop)]
 pub struct Triples {
     alloc: Global,
@@ -73,7 +72,7 @@ fn move_piece(
     Ok(())
 }
 
-// Adds a triple behind the others.
+// Adds a triple at the end.
 #[inline(always)]
 fn add_triple(
     alloc: Global,
@@ -95,7 +94,7 @@ fn add_triple(
     Ok(())
 }
 
-// How many triples there are.
+// The number of triples.
 fn total(pieces: &VecDeque<Vec<Triple>>, piece: &Vec<Triple>) -> usize
     requires full { All (λ p. length p ≡ PIECE_LENGTH) (map (λ p. p.items) pieces.now.items) }
     requires few { length (gathered (map (λ p. p.items) pieces.now.items) piece.now.items) ≤ TEXT_LIMIT }
@@ -104,7 +103,7 @@ fn total(pieces: &VecDeque<Vec<Triple>>, piece: &Vec<Triple>) -> usize
     pieces.len() * PIECE_LENGTH + piece.len()
 }
 
-// The pieces in one list. Each is given back once it is copied.
+// The pieces in one list. Each piece is freed once it is copied.
 fn joined(
     alloc: Global,
     count: usize,
@@ -154,7 +153,7 @@ impl Triples {
         }
     }
 
-    // Takes the token that ends.
+    // Takes a token that has ended.
     #[inline(always)]
     pub fn take(&mut self, token: OpenToken) -> Result<(), InputFault>
         requires { token.value ≤ VALUE_LIMIT }

@@ -1,5 +1,4 @@
-// White space, and a token, taken byte by byte or by the run of its digits, and the number that it
-// is.
+// White space, and tokens, read byte by byte or by runs of digits, and their numbers.
 ghost use Rattle.std.specs.Prelude.{◌≡◌, ◌<◌, ◌≤◌, ◌+◌, ◌-◌, ◌*◌, ℕ, ℤ, List, Ok, drop, get_or, length, pos, true, false, IfOk, IsTrue, MatchOption, MatchResult};
 ghost use Rattle.assign_core.specs.Numbered.{IsNumber};
 ghost use Rattle.assign_core.specs.Rows.{IsCost, IsSize};
@@ -14,10 +13,10 @@ ghost use Rattle.orlib_reader.specs.declared.machine.TheConstants.{TEXT_LIMIT};
 use super::fault::InputFault;
 use assign_core::{Cost, GREATEST_COST, MOST_PERSONS};
 
-// Greater values are kept as this one, which is out of each range.
+// Greater values are kept as this one, which is outside each range.
 pub const VALUE_LIMIT: u64 = 1_000_000_000_000_000_000;
 
-// A lesser value stays within the limit with any digit more.
+// A lesser value stays within the limit with one more digit.
 const SHORT_VALUE_LIMIT: u64 = VALUE_LIMIT / 10;
 
 // What has been read of a token.
@@ -36,7 +35,7 @@ pub fn is_white(b: u8) -> bool
     b == b' ' || (b >= 9 && b <= 13)
 }
 
-// How many bytes of white space come first.
+// The number of bytes of white space at the beginning.
 #[inline(always)]
 pub fn white_run(bytes: &[u8]) -> usize
     ensures count { result ≤ length bytes.now }
@@ -81,7 +80,7 @@ impl OpenToken {
         }
     }
 
-    // The token with one byte more.
+    // The token with one more byte.
     pub fn go_on(self, b: u8) -> OpenToken
         requires { self.value ≤ VALUE_LIMIT }
         ensures token { result ≡ continued self b }
@@ -107,8 +106,8 @@ impl OpenToken {
         }
     }
 
-    // The token with digits that come next, all of them where the value stays short, and how many
-    // they are.
+    // The token with the digits that come next (all of them, if the value stays short), and their
+    // number.
     #[inline(always)]
     pub fn go_on_by_digits(self, bytes: &[u8]) -> (OpenToken, usize)
         requires { self.value ≤ VALUE_LIMIT }
@@ -138,7 +137,7 @@ impl OpenToken {
         (token, count)
     }
 
-    // The number that the token is, or that it is none.
+    // The number of the token, if it is one.
     #[inline(always)]
     fn number(self) -> Result<i64, InputFault>
         requires { self.value ≤ VALUE_LIMIT }
@@ -194,7 +193,7 @@ impl OpenToken {
     }
 }
 
-// The number, where it is one of 1 to n.
+// The number, if it is from 1 to n.
 fn among(n: u16, number: i64) -> Option<u16>
     ensures { MatchOption result (is_among n number ≡ false)
         (λ k. (is_among n number ≡ true) × (number ≡ pos k) × IsNumber n k) }
@@ -206,7 +205,7 @@ fn among(n: u16, number: i64) -> Option<u16>
     }
 }
 
-// Whether a number is within the range of costs.
+// Whether a number is in the range of costs.
 fn is_cost(number: i64) -> bool
     ensures value { result ≡ Numbers.is_cost number }
     ensures range { IsTrue result → IsCost number }

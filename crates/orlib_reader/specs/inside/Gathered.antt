@@ -7,7 +7,7 @@ use Rattle.orlib_reader.specs.declared.sparse.TheConstants.{PIECE_LENGTH}
 use Rattle.orlib_reader.specs.declared.sparse.Begun.{Begun}
 use Rattle.orlib_reader.specs.declared.sparse.Begun.TheVariants.{Nothing, Person, Pair}
 
--- pieces of one length, and the triples behind them
+-- pieces of one length, and the triples after them
 abbrev pub gathered : List (List Triple) → List Triple → List Triple
 gathered pieces piece = flat_map (λ p. p) pieces ++ piece
 

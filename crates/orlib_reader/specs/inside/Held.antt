@@ -1,4 +1,4 @@
--- What the numbers found so far are held in.
+-- How the numbers found so far are held.
 use Rattle.std.specs.Prelude.{ℤ, List, []}
 use Rattle.orlib_reader.specs.declared.layout.Layout.{Layout}
 use Rattle.orlib_reader.specs.declared.layout.Layout.TheVariants as layouts

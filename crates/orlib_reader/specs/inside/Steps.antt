@@ -1,4 +1,4 @@
--- The same texts, taken byte by byte.
+-- The same texts, read byte by byte.
 use Rattle.std.specs.Prelude.{ℕ, ◌+◌, ◌-◌, ◌*◌, ℤ, List, [], ◌∷◌, ◌++◌, Option, None, Some, Result, Ok, Err, nat_le, ◌==◌, if◌then◌else◌, true, false, min, IfSome, ◌≡◌, ◌<◌, ◌≤◌, length, drop, get_or}
 use Rattle.orlib_reader.specs.Tokens.{is_space}
 use Rattle.orlib_reader.specs.Numbers.{is_digit, is_sign, signed, judged_number}
@@ -12,14 +12,14 @@ use Rattle.orlib_reader.specs.Wanted.{Wanted}
 use Rattle.orlib_reader.specs.Wanted as wanted
 use Rattle.orlib_reader.specs.declared.token.OpenToken.{OpenToken}
 
--- where the reader is: bytes so far, the token that is open, the numbers before it
+-- the state of the reader: the number of bytes so far, the open token, the numbers before it
 pub record State : Type 0 where
   pub layout : Layout
   pub at : ℕ
   pub token : Option OpenToken
   pub found : List ℤ
 
--- greater values are kept as this one, which is out of each range
+-- greater values are kept as this one, which is outside each range
 abbrev pub saturated : ℕ → ℕ
 saturated v = min v VALUE_LIMIT
 
@@ -29,7 +29,7 @@ begun at b =
     if is_digit b then record { place = at; is_negative = false; has_digits = true; is_bad = false; value = b - 48 }
     else record { place = at; is_negative = b == 45; has_digits = false; is_bad = if is_sign b then false else true; value = 0 }
 
--- a token with one byte more
+-- a token with one more byte
 abbrev pub continued : OpenToken → ℕ → OpenToken
 continued t b =
     if is_digit b then record { place = t.place; is_negative = t.is_negative; has_digits = true; is_bad = t.is_bad; value = saturated (t.value * 10 + (b - 48)) }
@@ -48,12 +48,12 @@ abbrev pub begun_where : Wanted → ℕ → ℕ → Result OpenToken InputFault
 begun_where wanted.Nothing at b = Err (faults.Extra at)
 begun_where w at b = Ok (begun at b)
 
--- a byte that is no white space
+-- a byte other than white space
 abbrev pub in_token : Layout → ℕ → Option OpenToken → List ℤ → ℕ → Result OpenToken InputFault
 in_token layout at None found b = begun_where (wanted_in layout found) at b
 in_token layout at (Some t) found b = Ok (continued t b)
 
--- one byte more
+-- one more byte
 abbrev pub step : State → ℕ → Result State InputFault
 step s b =
     if nat_le TEXT_LIMIT s.at then Err faults.TooLong
@@ -74,31 +74,31 @@ abbrev pub finished : Result State InputFault → Result (List ℤ) InputFault
 finished (Ok s) = and_then (with_token s.layout s.token s.found) (λ found. ended s.layout found)
 finished (Err e) = Err e
 
--- how many tokens are open
+-- the number of open tokens
 abbrev pub open_count : Option OpenToken → ℕ
 open_count None = 0
 open_count (Some t) = 1
 
--- what is always so: each number took a byte
+-- what always holds: each number took at least a byte
 pub record IsUnderway (at : ℕ) (token : Option OpenToken) (found : List ℤ) : Type 0 where
   pub near : at ≤ TEXT_LIMIT
   pub value : IfSome token (λ t. t.value ≤ VALUE_LIMIT)
   pub count : length found + open_count token ≤ at
 
--- where the reader is in a token
+-- the state of the reader within a token
 abbrev pub within_token : Layout → ℕ → OpenToken → List ℤ → State
 within_token layout at token found = record { layout = layout; at = at; token = Some token; found = found }
 
--- where the reader is between tokens
+-- the state of the reader between tokens
 abbrev pub between_tokens : Layout → ℕ → List ℤ → State
 between_tokens layout at found = record { layout = layout; at = at; token = None; found = found }
 
--- no token is open, and the limit is behind the last of these bytes
+-- no token is open, and these bytes stay within the limit
 pub record IsBetween (s : State) (bytes : List ℕ) : Type 0 where
   pub near : s.at + length bytes ≤ TEXT_LIMIT
   pub none_open : s.token ≡ None
 
--- a token begins with the first of these bytes, and the limit is behind the last of them
+-- a token begins with the first of these bytes, and these bytes stay within the limit
 pub record Begins (s : State) (bytes : List ℕ) : Type 0 where
   pub some : 0 < length bytes
   pub near : s.at + length bytes ≤ TEXT_LIMIT
@@ -106,7 +106,8 @@ pub record Begins (s : State) (bytes : List ℕ) : Type 0 where
   pub wanted : wanted_in s.layout s.found ≡ wanted.Nothing → ⊥
   pub dark : is_space (get_or bytes 0 0) ≡ false
 
--- so many of these bytes are taken: what is left leads to where all of them do
+-- this many of these bytes are taken, and taking the rest leads to the same state as taking all of
+-- them
 pub record HasTaken (old new : State) (bytes : List ℕ) (count : ℕ) : Type 0 where
   pub some : 0 < count
   pub few : count ≤ length bytes
