@@ -1,4 +1,4 @@
--- How the benefits of a person's pairs are handed out.
+-- How a caller sees the benefits of a person's pairs.
 use Rattle.std.specs.Prelude.{◌≡◌, ℕ, ◌<◌, length}
 use Rattle.assign_core.specs.Rows.{Listing as Entries}
 use Rattle.assign_core.specs.Dense.{row_from}
@@ -10,7 +10,7 @@ abbrev pub entries_of : Row → Entries
 entries_of (held.Full benefits) = row_from 1 benefits.now
 entries_of (held.Pairs pairs) = pairs.now
 
--- full just where all n objects are listed
+-- full exactly where all n objects are listed
 abbrev pub HasForm : ℕ → Row → Type 0
 HasForm n (held.Full benefits) = length benefits.now ≡ n
 HasForm n (held.Pairs pairs) = length pairs.now < n

@@ -1,4 +1,4 @@
--- How far the values of any problem go.
+-- Bounds on the values of any problem.
 use Rattle.std.specs.Prelude.{ℤ, pos, neg_ℤ, ◌+ℤ◌, ◌*ℤ◌, ◌+◌, ◌*◌}
 use Rattle.assign_core.specs.declared.numbers.TheConstants.{MOST_PERSONS, GREATEST_COST, PRICE_END}
 use Rattle.scaled_values.specs.Scaled.{fifth}

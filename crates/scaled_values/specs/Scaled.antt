@@ -21,12 +21,12 @@ abbrev pub values_in : List Listing → List ℤ
 values_in [] = []
 values_in (row ∷ rows) = map (λ e. e.1) row ++ values_in rows
 
--- the least of some numbers, and 0 of none
+-- the least of some numbers, or 0 of none
 abbrev pub least_of : List ℤ → ℤ
 least_of [] = pos 0
 least_of (x ∷ xs) = fold int_min x xs
 
--- the greatest of some numbers, and 0 of none
+-- the greatest of some numbers, or 0 of none
 abbrev pub greatest_of : List ℤ → ℤ
 greatest_of [] = pos 0
 greatest_of (x ∷ xs) = fold int_max x xs
@@ -40,7 +40,7 @@ greatest_benefit s = greatest_of (values_in (benefits_of s))
 abbrev pub spread : ScaledProblem → ℤ
 spread s = greatest_benefit s -ℤ least_benefit s
 
--- a fifth of a number of at least 0 (`eps_divisor` says that it is one), and at least 1
+-- a fifth of a number that is at least 0 (`eps_divisor` says that it is a fifth), but at least 1
 abbrev pub fifth : ℤ → ℤ
 fifth z = int_max (pos 1) (int_div z EPS_DIVISOR)
 
@@ -52,7 +52,7 @@ first_eps s = fifth (spread s)
 abbrev pub next_eps : ℤ → Option ℤ
 next_eps eps = if int_eq eps (pos 1) then None else Some (fifth eps)
 
--- the slackness of the phase that follows the first k phases, if there are so many
+-- the slackness of the phase after the first k phases, if there is one
 abbrev pub eps_after : ScaledProblem → ℕ → Option ℤ
 eps_after s zero = Some (first_eps s)
 eps_after s (suc k) = option_and_then next_eps (eps_after s k)
@@ -62,12 +62,12 @@ pub record IsEps (s : ScaledProblem) (eps : ℤ) : Type 0 where
   pub phases : ℕ
   pub at : eps_after s phases ≡ Some eps
 
--- the floor of a phase that starts with greatest price p0: the least benefit less p0, and less n - 1 times the spread
--- with the slackness
+-- the floor of a phase that starts with greatest price p0: the least benefit less p0, and less n -
+-- 1 times the sum of the spread and the slackness
 abbrev pub floor_of : ScaledProblem → ℤ → ℤ → ℤ
 floor_of s p0 eps = least_benefit s -ℤ p0 -ℤ (pos (length s.problem - 1) *ℤ (spread s +ℤ eps))
 
--- the top of such a phase: p0 and n times the spread with the slackness
+-- the top of this phase: p0 plus n times the sum of the spread and the slackness
 abbrev pub top_of : ScaledProblem → ℤ → ℤ → ℤ
 top_of s p0 eps = p0 +ℤ (pos (length s.problem) *ℤ (spread s +ℤ eps))
 
@@ -81,12 +81,12 @@ pub record IsBenefitRow (n : ℕ) (row : Listing) : Type 0 where
 abbrev pub IsBetween : ℤ → ℤ → Listing → Type 0
 IsBetween low high row = All (λ e. (low ≤ℤ e.1) × (e.1 ≤ℤ high)) row
 
--- one of some numbers that none is below, and 0 of none
+-- one of some numbers, with none below it, or 0 of none
 pub record IsLeastOf (xs : List ℤ) (a : ℤ) : Type 0 where
   pub bound : All (λ x. a ≤ℤ x) xs
   pub held : Contains xs a ⊎ ((xs ≡ []) × (a ≡ pos 0))
 
--- one of some numbers that none is above, and 0 of none
+-- one of some numbers, with none above it, or 0 of none
 pub record IsGreatestOf (xs : List ℤ) (a : ℤ) : Type 0 where
   pub bound : All (λ x. x ≤ℤ a) xs
   pub held : Contains xs a ⊎ ((xs ≡ []) × (a ≡ pos 0))

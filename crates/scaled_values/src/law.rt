@@ -1,4 +1,4 @@
-// What holds of the least and the greatest benefit, and of the slacknesses of all phases.
+// Laws of the least and the greatest benefit, and of the slacknesses of all phases.
 ghost use Rattle.std.specs.Prelude.{◌≡◌, ℕ, ℤ, pos, List, ◌<◌, ◌≤ℤ◌, Some};
 ghost use Rattle.assign_core.specs.Rows.{IsProblem};
 ghost use Rattle.scaled_values.specs.Scaled.{ScaledProblem, first_eps, eps_after, IsEps};
@@ -6,7 +6,7 @@ ghost use Rattle.scaled_values.specs.Scaled.{least_of, greatest_of, IsLeastOf, I
 
 use super::phases::EPS_DIVISOR;
 
-/// Which number the divisor of slacknesses is.
+/// The divisor of slacknesses.
 pub fn eps_divisor()
     ensures { EPS_DIVISOR ≡ pos 5 }
 {}
@@ -28,8 +28,8 @@ pub fn last_eps_is_one()
     ensures { (s : ScaledProblem) → IsProblem s.problem → IsEps s (pos 1) }
 {}
 
-/// The least of some benefits is one of them that none is below, and the greatest one that none is
-/// above.
+/// The least of some benefits is among them, and none is below it; the greatest is among them, and
+/// none is above it.
 pub fn extremes_are_listed()
     ensures { (xs : List ℤ) → IsLeastOf xs (least_of xs) × IsGreatestOf xs (greatest_of xs) }
 {}

@@ -1,5 +1,5 @@
 //! A problem with its benefits in whole numbers, and the slackness, the floor and the top of each
-//! phase of an auction over it.
+//! phase of an auction.
 #![tactic(auto)]
 
 mod law;

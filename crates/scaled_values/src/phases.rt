@@ -5,19 +5,19 @@ ghost use Rattle.scaled_values.specs.Limits.{most_step};
 
 use assign_core::{MOST_PERSONS, Price};
 
-/// The slackness of the first phase is the spread divided by this, and that of each later phase
-/// the one before divided by this, both at least 1.
+/// The first phase's slackness is the spread divided by this, each later one the slackness before
+/// it divided by this; both are at least 1.
 pub const EPS_DIVISOR: i64 = 5;
 
-// A fifth, and at least 1.
+// A fifth, but at least 1.
 pub fn fifth(number: i64) -> i64
     ensures { result ≡ fifth number }
 {
     (number / EPS_DIVISOR).max(1)
 }
 
-/// The slackness of the phase after one with slackness `eps`: a fifth of it in whole division,
-/// rounded toward zero, and at least 1. `None` exactly for 1, which is that of the last phase.
+/// The slackness of the phase after one with slackness `eps`: a fifth of it, rounded toward zero,
+/// but at least 1. `None` exactly for 1, the slackness of the last phase.
 ///
 /// Epsilon-scaling (Bertsekas, Network Optimization, 1998, section 7.1.4).
 pub fn next_eps(eps: i64) -> Option<i64>
@@ -28,7 +28,7 @@ pub fn next_eps(eps: i64) -> Option<i64>
     if eps == 1 { None } else { Some(fifth(eps)) }
 }
 
-// So many steps.
+// `count` times `step`.
 pub fn steps(count: u16, step: i64) -> Price
     requires few { count ≤ MOST_PERSONS }
     requires least { pos 0 ≤ℤ step }

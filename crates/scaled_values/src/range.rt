@@ -7,8 +7,8 @@ use assign_core::Benefit;
 // Above any benefit, and below any if negated.
 pub const FAR: Benefit = 10_000_000_000_000_000;
 
-// The least and the greatest of some benefits; where there are none, the least is above and the
-// greatest below any benefit.
+// The least and the greatest of some benefits. Without benefits, the least is above any benefit and
+// the greatest below any.
 #[derive(Clone, Copy)]
 pub struct Range {
     pub least: Benefit,
@@ -36,7 +36,7 @@ impl Range {
         }
     }
 
-    // The same range, and 0 and 0 where there are no benefits.
+    // This range, but 0 and 0 if there are no benefits.
     pub fn or_zeros(self) -> Range
         ensures some { self.least ≤ℤ self.greatest → result ≡ self }
         ensures none { self.greatest <ℤ self.least

@@ -10,22 +10,22 @@ use super::range::Range;
 use assign_core::{Benefit, Cost, Object, Sense};
 use std::alloc::{AllocError, Global};
 
-/// The benefits of a person's pairs: of one that lists all objects they stand in the order of the
-/// objects, of any other with their objects, rising.
+/// The benefits of a person's pairs. If the person lists all objects, they are in the order of the
+/// objects; otherwise each comes with its object, rising.
 #[derive(Clone, Copy, PartialEq, Eq)]
 pub enum Row<'a> {
     Full(&'a [Benefit]),
     Pairs(&'a [(Object, Benefit)]),
 }
 
-// The same as it is stored.
+// The stored form of a row.
 #[derive(Drop)]
 pub enum StoredRow {
     Full(Vec<Benefit>),
     Pairs(Vec<(Object, Benefit)>),
 }
 
-// The benefits of costs, and the range with them.
+// The benefits of costs, and the range widened by them.
 fn benefits_of(
     alloc: Global,
     sense: Sense,
@@ -50,7 +50,7 @@ fn benefits_of(
     Ok((benefits, range))
 }
 
-// The pairs with their benefits, and the range with them.
+// The pairs with their benefits, and the range widened by them.
 fn pairs_of(
     alloc: Global,
     sense: Sense,
@@ -75,7 +75,7 @@ fn pairs_of(
 }
 
 impl StoredRow {
-    // The benefits of a row of costs among n objects, and the range with them.
+    // The benefits of a row of costs among n objects, and the range widened by them.
     pub fn new(
         alloc: Global,
         sense: Sense,
@@ -100,7 +100,7 @@ impl StoredRow {
         }
     }
 
-    // The benefits, to read.
+    // The benefits, for reading.
     pub fn as_row(&self) -> Row<'_>
         ensures entries { entries_of result ≡ stored_entries self.now }
         ensures form { (n : ℕ) → HasStoredForm n self.now → HasForm n result }

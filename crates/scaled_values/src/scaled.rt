@@ -37,7 +37,7 @@ impl Model for Scaled {
     ghost invariant = { λ s. IsStored (record { problem = s.problem; sense = s.sense }) s.rows.items s.least s.greatest };
 }
 
-// The benefits of all rows, and the range of them all.
+// The benefits of all rows, and the range of all benefits.
 fn stored_rows(
     alloc: Global,
     problem: &Problem,
@@ -60,11 +60,11 @@ fn stored_rows(
     Ok((rows, range))
 }
 
-/// The problem with its benefits, for the costs that are wanted, in time linear in the listed pairs
-/// and in `n`. It takes 8 bytes a pair for a person that lists all objects, and 16 for any other.
+/// The problem with its benefits under the sense, in time linear in the listed pairs and in `n`. It
+/// takes 8 bytes a pair for a person that lists all objects, and 16 for any other.
 ///
 /// # Errors
-/// Only where memory is refused.
+/// `AllocError` if memory is refused.
 pub fn scale(alloc: Global, problem: Problem, sense: Sense) -> Result<Scaled, AllocError>
     ensures problem { IfOk result (λ s. s.problem ≡ problem) }
     ensures sense { IfOk result (λ s. s.sense ≡ sense) }
@@ -89,14 +89,14 @@ impl Scaled {
         &self.problem
     }
 
-    /// Which costs are wanted.
+    /// Whether to minimise or to maximise.
     pub fn sense(&self) -> Sense
         ensures { result ≡ self.now.sense }
     {
         self.sense
     }
 
-    /// How many persons there are, and how many objects.
+    /// The number of persons, which is also the number of objects.
     pub fn n(&self) -> u16
         ensures count { result ≡ length self.now.problem }
         ensures rule { IsProblem self.now.problem }
@@ -117,7 +117,7 @@ impl Scaled {
         self.rows[person.place()].as_row()
     }
 
-    /// The least benefit of a listed pair, and 0 if nothing is listed.
+    /// The least benefit of a listed pair, or 0 if nothing is listed.
     pub fn least_benefit(&self) -> Benefit
         ensures value { result ≡ least_benefit self.now }
         ensures range { IsBenefit result }
@@ -125,7 +125,7 @@ impl Scaled {
         self.least
     }
 
-    /// The greatest benefit of a listed pair, and 0 if nothing is listed.
+    /// The greatest benefit of a listed pair, or 0 if nothing is listed.
     pub fn greatest_benefit(&self) -> Benefit
         ensures value { result ≡ greatest_benefit self.now }
         ensures range { IsBenefit result }
@@ -142,7 +142,7 @@ impl Scaled {
         self.greatest - self.least
     }
 
-    /// The slackness of the first phase: a fifth of the spread, and at least 1.
+    /// The slackness of the first phase: a fifth of the spread, but at least 1.
     pub fn first_eps(&self) -> i64
         ensures value { result ≡ first_eps self.now }
         ensures listed { IsEps self.now result }
@@ -150,8 +150,8 @@ impl Scaled {
         fifth(self.spread())
     }
 
-    // The spread and a slackness: where persons have that slackness, by so much at most the price
-    // of an object is above that of another which its owner lists.
+    // The spread plus a slackness: the most by which an object's price can exceed that of another
+    // that its owner lists, if the owner has this slackness.
     fn step(&self, eps: i64) -> i64
         requires { IsEps self.now eps }
         ensures value { result ≡ spread self.now +ℤ eps }
@@ -162,11 +162,12 @@ impl Scaled {
     }
 
     /// The floor of a phase with slackness `eps` that starts with greatest price `p0`, in the unit
-    /// of benefits: the least benefit less `p0`, and less `n - 1` times the spread with `eps`.
+    /// of benefits: the least benefit less `p0`, and less `n - 1` times the sum of the spread and
+    /// `eps`.
     ///
-    /// It is meant for auctions that keep slackness `eps`: there it is so low that a person whose
-    /// best value is below it has no way to an unowned object (Bertsekas, Network Optimization,
-    /// 1998, section 7.1.5). This call says the number alone; what it means is for the auction to prove.
+    /// In an auction that keeps slackness `eps`, a person whose best value is below it has no way
+    /// to an unowned object (Bertsekas, Network Optimization, 1998, section 7.1.5). This call
+    /// returns the number only; the auction proves what it means.
     pub fn floor(&self, p0: Price, eps: i64) -> Price
         requires price { IsPrice p0 }
         requires eps { IsEps self.now eps }
@@ -175,9 +176,9 @@ impl Scaled {
         Price::from(self.least_benefit()) - p0 - steps(self.n() - 1, self.step(eps))
     }
 
-    /// The top of such a phase: `p0` and `n` times the spread with `eps`.
+    /// The top of this phase: `p0` plus `n` times the sum of the spread and `eps`.
     ///
-    /// This call says the number alone; that no bid of the phase goes above it is a law of bids.
+    /// This call returns the number only. That no bid of the phase goes above it is a law of bids.
     pub fn top(&self, p0: Price, eps: i64) -> Price
         requires price { IsPrice p0 }
         requires eps { IsEps self.now eps }

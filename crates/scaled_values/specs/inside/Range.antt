@@ -4,7 +4,7 @@ use Rattle.std.specs.Int.{int_max, int_min}
 use Rattle.scaled_values.specs.declared.range.Range.{Range}
 use Rattle.scaled_values.specs.declared.range.TheConstants.{FAR}
 
--- the range of no benefits: the least is above and the greatest below any benefit
+-- the range of no benefits: its least is above any benefit, its greatest below any
 abbrev pub no_range : Range
 no_range = record { least = FAR; greatest = neg_ℤ FAR }
 

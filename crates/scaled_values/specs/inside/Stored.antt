@@ -11,7 +11,7 @@ abbrev pub stored_entries : StoredRow → Entries
 stored_entries (Full benefits) = row_from 1 benefits.items
 stored_entries (Pairs pairs) = pairs.items
 
--- full just where all n objects are listed
+-- full exactly where all n objects are listed
 abbrev pub HasStoredForm : ℕ → StoredRow → Type 0
 HasStoredForm n (Full benefits) = length benefits.items ≡ n
 HasStoredForm n (Pairs pairs) = length pairs.items < n
