@@ -23,17 +23,17 @@ pub record IsAsk (s : ScaledProblem) (ask : Ask) : Type 0 where
 abbrev pub benefits_at : ScaledProblem → ℕ → Listing
 benefits_at s i = row_of (benefits_of s) i
 
--- nothing is listed, or all that is listed is worth less than the floor
+-- nothing is listed, or all listed objects have values below the floor
 abbrev pub IsUnder : Listing → List ℤ → ℤ → Type 0
 IsUnder row prices floor = All (λ e. e.1 <ℤ (floor +ℤ price_of prices e.0)) row
 
--- what the best value is measured against: the second value or the floor, whichever is greater
+-- the bar of a bid: the greater of the second value and the floor
 abbrev pub bar : ℤ → Option ℤ → ℤ
 bar floor None = floor
 bar floor (Some w) = int_max w floor
 
--- the bid for the best object, which is worth the floor or more: it leaves that object worth the bar
--- less eps
+-- the bid for the best object, whose value is at least the floor: at the bid's level this value is
+-- the bar less eps
 pub record IsBid (s : ScaledProblem) (prices : List ℤ) (ask : Ask) (bid : Bid) : Type 0 where
   pub two : BestTwo
   pub best : IsBestTwo (benefits_at s bid.person) prices two
@@ -42,7 +42,7 @@ pub record IsBid (s : ScaledProblem) (prices : List ℤ) (ask : Ask) (bid : Bid)
   pub level : (bid.level +ℤ bar ask.floor two.second)
       ≡ (listed_or_zero (benefits_at s bid.person) bid.object +ℤ ask.eps)
 
--- what a person offers: a bid, or Below where nothing that it lists is worth the floor
+-- the offer of a person: a bid, or Below if no listed object has a value of at least the floor
 abbrev pub IsOffer : ScaledProblem → List ℤ → ℕ → Ask → ℕ → Offer → Type 0
 IsOffer s prices version ask i (made.Bid bid) =
     (bid.person ≡ i) × (bid.phase ≡ ask.phase) × (bid.version ≡ version) × IsBid s prices ask bid
@@ -66,8 +66,8 @@ offer_from prices version ask i (Some b) = cond (lt_z b.best ask.floor)
 abbrev pub offer_of : ScaledProblem → List ℤ → ℕ → Ask → ℕ → Offer
 offer_of s prices version ask i = offer_from prices version ask i (best_two (benefits_at s i) prices)
 
--- at the bid's level its object is worth at most eps less than each other listed object at these prices,
--- and the level and the floor together are at most the greatest benefit and eps
+-- at the bid's level, no other listed object at these prices has a value above the bid's object by
+-- over eps; and level and floor add up to at most the greatest benefit plus eps
 pub record IsSound (s : ScaledProblem) (ask : Ask) (prices : List ℤ) (bid : Bid) : Type 0 where
   pub listed : IsListed (benefits_of s) bid.person bid.object
   pub near : All (λ e. e.0 ≢ bid.object
@@ -76,7 +76,7 @@ pub record IsSound (s : ScaledProblem) (ask : Ask) (prices : List ℤ) (bid : Bi
       (benefits_at s bid.person)
   pub topped : (bid.level +ℤ ask.floor) ≤ℤ (greatest_benefit s +ℤ ask.eps)
 
--- a bid is sound where an offer is one
+-- if an offer is a bid, the bid is sound
 abbrev pub IsSoundOffer : ScaledProblem → Ask → List ℤ → Offer → Type 0
 IsSoundOffer s ask prices (made.Bid bid) = IsSound s ask prices bid
 IsSoundOffer s ask prices (made.Below below) = Unit {0}

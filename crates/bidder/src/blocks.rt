@@ -7,11 +7,11 @@ ghost use Rattle.bidder.specs.declared.blocks.TheConstants.{LANES};
 use assign_core::Benefit;
 use std::simd::prelude::*;
 
-/// So many objects are held against the limit at once.
+/// The number of objects that are compared with the limit at once.
 pub const LANES: usize = 16;
 
-// Whether none of the `LANES` objects from a place on has a benefit that is more than the limit
-// above its narrow price.
+// Whether none of the `LANES` objects from a place on has a benefit that is above its narrow price
+// by more than the limit.
 pub fn none_above(benefits: &[Benefit], narrow: &[i64], from: usize, limit: i64) -> bool
     requires benefits { All IsBenefit benefits.now }
     requires narrow { All IsNarrow narrow.now }

@@ -12,20 +12,20 @@ ghost use Rattle.bidder.specs.declared.offers.Offer.{Offer};
 ghost use Rattle.bidder.specs.BestTwo.{IsBestTwo};
 ghost use Rattle.bidder.specs.Offers.{IsBid, IsOffer, IsSound, benefits_at, offer_of};
 
-/// A row has one best two under a table of prices.
+/// A row has only one best two under a table of prices.
 pub fn best_two_is_determined()
     ensures { (row : Listing) (prices : List ℤ) (first second : BestTwo)
         → IsBestTwo row prices first → IsBestTwo row prices second → first ≡ second }
 {}
 
-/// A person has one offer under a table of prices.
+/// A person has only one offer under a table of prices.
 pub fn offer_is_determined()
     ensures { (s : ScaledProblem) (prices : List ℤ) (version : ℕ) (ask : Ask) (person : ℕ)
         (first second : Offer) → IsOffer s prices version ask person first
         → IsOffer s prices version ask person second → first ≡ second }
 {}
 
-/// The offer that is computed is the person's.
+/// The computed offer is the person's.
 pub fn computed_offer_is_the_offer()
     ensures { (s : ScaledProblem) (prices : List ℤ) (version : ℕ) (ask : Ask) (person : ℕ)
         → IsProblem s.problem → IsNumber (length s.problem) person
@@ -51,8 +51,8 @@ pub fn offered_bid_is_high()
         → IsBid s prices ask bid → (price_of prices bid.object +ℤ ask.eps) ≤ℤ bid.level }
 {}
 
-/// A sound bid that is accepted, so that its level is its object's price, gives its person
-/// slackness eps at these prices.
+/// An accepted sound bid, whose level is now its object's price, gives its person slackness eps at
+/// these prices.
 pub fn accepted_bid_is_slack()
     ensures { (s : ScaledProblem) (ask : Ask) (prices : List ℤ) (bid : Bid) → IsProblem s.problem
         → pos 0 ≤ℤ ask.eps → length prices ≡ length s.problem → IsSound s ask prices bid

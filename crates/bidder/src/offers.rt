@@ -17,9 +17,9 @@ use scaled_values::{Row, Scaled};
 pub struct Ask {
     /// The phase's number.
     pub phase: u16,
-    /// By how much a bid goes beyond the second value, in the unit of benefits.
+    /// The amount by which a bid goes beyond the second value, in the unit of benefits.
     pub eps: i64,
-    /// The least value at which a person still bids.
+    /// The least value at which a person still bids, in the unit of benefits.
     pub floor: i128,
 }
 
@@ -28,16 +28,16 @@ pub struct Ask {
 pub struct Bid {
     pub person: Person,
     pub object: Object,
-    /// The price that the person is ready to pay, in the unit of benefits.
+    /// The price that the person offers, in the unit of benefits.
     pub level: Price,
-    /// The phase in which it was made.
+    /// The phase in which the bid was made.
     pub phase: u16,
-    /// The version that its maker handed in: that of the table from which it was made, and 0 in
-    /// rounds, which keep none.
+    /// The version that the caller gave: that of the table from which the bid was made, or 0 in
+    /// rounds, which keep no versions.
     pub version: u128,
 }
 
-/// No object that the person lists is worth the floor.
+/// No object that the person lists has a value of at least the floor.
 #[derive(Clone, Copy, PartialEq, Eq)]
 pub struct BelowFloor {
     pub person: Person,
@@ -45,14 +45,14 @@ pub struct BelowFloor {
     pub phase: u16,
 }
 
-/// What a person offers.
+/// The offer of a person.
 #[derive(Clone, Copy, PartialEq, Eq)]
 pub enum Offer {
     Bid(Bid),
     Below(BelowFloor),
 }
 
-// The best two of what a person lists.
+// The best two of a person's listed objects.
 fn best_of(scaled: &Scaled, prices: &Prices, person: Person) -> Option<BestTwo>
     requires person { IsNumber (length scaled.now.problem) person }
     requires table { length prices.now ≡ length scaled.now.problem }
@@ -67,7 +67,7 @@ fn best_of(scaled: &Scaled, prices: &Prices, person: Person) -> Option<BestTwo>
     }
 }
 
-// The benefit of an object: its value and its price.
+// The benefit of an object: the sum of its value and its price.
 fn benefit_of(object: Object, value: i128, prices: &Prices) -> i128
     requires object { IsNumber (length prices.now) object }
     requires benefit { IsBenefit (value +ℤ price_of prices.now object) }
@@ -77,7 +77,7 @@ fn benefit_of(object: Object, value: i128, prices: &Prices) -> i128
     value + prices.price(object)
 }
 
-// What the best value is measured against.
+// The bar of a bid: the greater of the second value and the floor.
 fn bar_of(floor: i128, second: Option<i128>) -> i128
     ensures value { result ≡ bar floor second }
     ensures least { floor ≤ℤ result }
@@ -88,7 +88,7 @@ fn bar_of(floor: i128, second: Option<i128>) -> i128
     }
 }
 
-// The level at which an object with this benefit is worth the bar less eps.
+// The level at which an object with this benefit has the bar less eps as its value.
 fn level_at(benefit: i128, bar: i128, eps: i64) -> Price
     requires benefit { IsBenefit benefit }
     requires least { least_floor ≤ℤ bar }
@@ -112,13 +112,13 @@ fn level_of(best: BestTwo, prices: &Prices, ask: Ask) -> Price
     level_at(benefit, bar, ask.eps)
 }
 
-/// What a person offers under a table of prices, with this phase's slackness and floor: a bid for
-/// its best object, or `Below` where no object that it lists is worth the floor. The offer carries
-/// the phase and the version that are handed in.
+/// The offer of a person under a table of prices, with this phase's slackness and floor: a bid for
+/// its best object, or `Below` if no listed object has a value of at least the floor. The offer
+/// carries the given phase and version.
 ///
-/// The bid of the auction algorithm (Bertsekas, Network Optimization, 1998, section 7.1), with the
-/// floor in place of a second value that is absent or lower. The time is linear in what the person
-/// lists, and no memory is taken.
+/// The bid of the auction algorithm (Bertsekas, Network Optimization, 1998, section 7.1); the floor
+/// stands in for a second value that is absent or lower. The time is linear in the listed objects,
+/// and no memory is taken.
 pub fn make_bid(scaled: &Scaled, prices: &Prices, version: u128, ask: Ask, person: Person) -> Offer
     requires person { IsNumber (length scaled.now.problem) person }
     requires table { length prices.now ≡ length scaled.now.problem }

@@ -18,11 +18,11 @@ use assign_core::{Benefit, Object, Price, Prices};
 /// price.
 #[derive(Clone, Copy, PartialEq, Eq)]
 pub struct BestTwo {
-    /// The object of the greatest value, the lowest number of those that have it.
+    /// The object of the greatest value; the lowest number on a tie.
     pub object: Object,
     /// Its value.
     pub best: i128,
-    /// The greatest value of the other objects, `None` where there are no others.
+    /// The greatest value of the other objects; `None` if there are no others.
     pub second: Option<i128>,
 }
 
@@ -42,7 +42,7 @@ fn value_of(benefit: Benefit, price: Price) -> i128
     i128::from(benefit) - price
 }
 
-// Whether a benefit is at most the limit above a narrow price.
+// Whether a benefit is above a narrow price by at most the limit.
 fn is_within(limit: i64, benefit: Benefit, narrow: i64) -> bool
     requires benefit { IsBenefit benefit }
     requires narrow { IsNarrow narrow }
@@ -64,7 +64,7 @@ fn limit_of(second: Option<i128>) -> i64
     second as i64
 }
 
-// The greater of a value and one that may be absent.
+// The greater of two values, the second of which may be absent.
 fn greater_of(value: i128, other: Option<i128>) -> i128
     ensures { result ≡ greater_of value other }
 {
@@ -119,8 +119,8 @@ impl Scan {
         }
     }
 
-    // One object more, whose number is above those of the row. Its narrow price is at most its
-    // price, so it gives no value that is too low.
+    // Reads one more object, whose number is above those of the row. Its narrow price is at most
+    // its price, so the test never skips a value above the limit.
     fn read(self, object: Object, benefit: Benefit, prices: &Prices) -> Scan
         requires limit { IsLimit self.found.second self.limit }
         requires object { IsNumber (length prices.now) object }
@@ -139,7 +139,7 @@ impl Scan {
         )
     }
 
-    // The objects from one place to another of a full row, after those before them.
+    // Reads the objects of a full row from one place to another, after those before them.
     fn read_each(self, benefits: &[Benefit], prices: &Prices, from: usize, to: usize) -> Scan
         requires limit { IsLimit self.found.second self.limit }
         requires long { length benefits.now ≡ length prices.now }
@@ -158,7 +158,7 @@ impl Scan {
         scan
     }
 
-    // A block of objects of a full row, which changes nothing where none is above the limit.
+    // Reads a block of objects of a full row, and skips it if no object is above the limit.
     fn read_block(self, benefits: &[Benefit], prices: &Prices, from: usize) -> Scan
         requires limit { IsLimit self.found.second self.limit }
         requires long { length benefits.now ≡ length prices.now }
@@ -176,8 +176,8 @@ impl Scan {
     }
 }
 
-/// The best object of a row of pairs and the second value, in one pass; `None` for an empty row.
-/// No memory is taken.
+/// The best object of a row of pairs, and the second value, in one pass; `None` for an empty row.
+/// It takes no memory.
 pub fn best_two(row: &[(Object, Benefit)], prices: &Prices) -> Option<BestTwo>
     requires { IsBenefitRow (length prices.now) row.now }
     ensures best { MatchOption result (row.now ≡ []) (IsBestTwo row.now prices.now) }
@@ -197,7 +197,7 @@ pub fn best_two(row: &[(Object, Benefit)], prices: &Prices) -> Option<BestTwo>
 }
 
 /// The best object of a row that lists all objects, given as the benefits of objects 1, 2, .., and
-/// the second value, in one pass; `None` for an empty row. No memory is taken.
+/// the second value, in one pass; `None` for an empty row. It takes no memory.
 pub fn best_two_full(benefits: &[Benefit], prices: &Prices) -> Option<BestTwo>
     requires long { length benefits.now ≡ length prices.now }
     requires benefits { All IsBenefit benefits.now }
