@@ -31,7 +31,7 @@ same_first x y xs ys h k same = elim (first_or_later y ys x ((same x).0 (contain
   ]
 ]
 
--- what stands behind the first of one list stands behind that of the other
+-- what follows the first elements of one list follows those of the other
 later_same : (x y : ℕ) (xs ys : List ℕ) (z : ℕ) → x ≡ y → IsStrictlySortedBy nat_cmp (x ∷ xs) → (Contains (x ∷ xs) z → Contains (y ∷ ys) z) → Contains xs z → Contains ys z
 later_same x y xs ys z e h to c = elim (first_or_later y ys z (to (contains_later x xs z c))) [
   | inl same ↦ let up = above_first x xs z h c in absurd (omega arith)

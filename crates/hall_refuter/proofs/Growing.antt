@@ -139,6 +139,6 @@ more_met row marks i e m lt at here k d below = elim (low_or_same k i below) [
   | inr same ↦ subst (λ z. IsMarked marks z.0) (get_or_read row i e lt at d ∙ ap (λ q. get_or row q d) (sym same)) here
 ]
 
--- a place that was there has its person still, whom the longer list shows
+-- a place that was there still has its person in the longer list
 pub person_stays : (found later : List Found) (met marks : List Bool) (t : ℕ) (f : Found) → Grows found met later marks → t < length found → f ≡ get_or found t f → person_at later t ≡ f.person
 person_stays found later met marks t f g lt at = g.same t lt ∙ person_read found t f lt at

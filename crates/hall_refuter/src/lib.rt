@@ -1,4 +1,4 @@
-//! For a person who owns nothing: a Hall set, or an alternating path to an unowned object.
+//! For a person without an object: a Hall set, or an alternating path to an unowned object.
 #![tactic(auto)]
 
 mod law;

@@ -1,4 +1,4 @@
-// Marks, and the rising lists of what they mark.
+// Marks, and the rising lists of the marked numbers.
 ghost use Rattle.std.specs.Prelude.{◌≡◌, ℕ, ◌≤◌, ◌↔◌, IfOk, length, map, All};
 ghost use Rattle.assign_core.specs.Numbered.{IsNumber, IsMarked};
 ghost use Rattle.hall_refuter.specs.inside.Found.{IsAmongFirst, marked_from};
@@ -7,7 +7,7 @@ use super::reach::Found;
 use assign_core::{MOST_PERSONS, Numbered};
 use std::alloc::{AllocError, Global};
 
-// A mark for each person, set for those found.
+// Marks for the persons found, among all persons.
 pub fn marks_of(alloc: Global, n: u16, found: &[Found]) -> Result<Vec<bool>, AllocError>
     requires { All (λ f. IsNumber n f.person) found.now }
     ensures long { IfOk result (λ marks. length marks.items ≡ n) }
@@ -21,7 +21,7 @@ pub fn marks_of(alloc: Global, n: u16, found: &[Found]) -> Result<Vec<bool>, All
     Ok(marks)
 }
 
-// What has a marked number: persons, or objects.
+// The persons or objects with a marked number, rising.
 pub fn marked<T: Numbered>(alloc: Global, marks: &[bool]) -> Result<Vec<T>, AllocError>
     requires { length marks.now ≤ MOST_PERSONS }
     ensures { IfOk result (λ all. map T.number_of all.items ≡ marked_from 1 marks.now) }

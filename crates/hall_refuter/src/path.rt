@@ -1,4 +1,4 @@
-// An alternating path, read back from its end.
+// An alternating path, traced back from its end.
 ghost use Rattle.std.specs.Prelude.{◌≡◌, ℕ, ◌<◌, List, ◌∷◌, reverse, IfOk, length};
 ghost use Rattle.hall_refuter.specs.inside.Found.{Climbs, IsClimbable};
 
@@ -6,7 +6,8 @@ use super::reach::Found;
 use assign_core::Object;
 use std::alloc::{AllocError, Global};
 
-// The objects on the way from the first person to the person found at place `last`, and one more.
+// The objects on the way from the first person to the person found at place `last`, followed by one
+// more object.
 pub fn path_to(
     alloc: Global,
     found: &[Found],

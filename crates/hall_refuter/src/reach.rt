@@ -22,8 +22,8 @@ pub struct Found {
     pub arrival: Option<Arrival>,
 }
 
-// The reached persons in the order in which they were found, and for each object whether it was
-// met on the way.
+// The reached persons in the order in which they were found, and whether each object was met on the
+// way.
 #[derive(Drop)]
 pub struct Reach {
     pub found: Vec<Found>,
@@ -44,7 +44,7 @@ pub fn begin(alloc: Global, n: u16, person: Person) -> Result<Reach, AllocError>
     Ok(Reach { found, met })
 }
 
-// One more person, the owner of an object that wasn't met before.
+// Adds one more person, the owner of an object that is met for the first time.
 fn add(reach: &mut Reach, object: Object, parent: usize, owner: Person) -> Result<(), AllocError>
     requires { IsNumber (length reach.old.met.items) object }
     ensures found { IfOk result (λ _.
@@ -60,7 +60,7 @@ fn add(reach: &mut Reach, object: Object, parent: usize, owner: Person) -> Resul
     Ok(())
 }
 
-// Meets an object that the person found at place `parent` lists. Whether it is free.
+// Meets an object that the person found at place `parent` lists. Returns whether it is unowned.
 fn meet(
     reach: &mut Reach,
     owners: &[Option<Person>],

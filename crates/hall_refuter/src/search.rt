@@ -14,8 +14,8 @@ use assign_core::{HallSet, MOST_PERSONS, Object, Person, Problem};
 use scaled_values::Scaled;
 use std::alloc::{AllocError, Global};
 
-/// What a search finds: a Hall set of all that a person reaches, or an alternating path from the
-/// person to an unowned object.
+/// The result of a search: a Hall set of all persons that a person reaches, or an alternating path
+/// from this person to an unowned object.
 #[derive(Drop)]
 pub enum Search {
     Hall(HallSet),
@@ -41,7 +41,7 @@ fn hall_set(alloc: Global, reach: &Reach) -> Result<HallSet, AllocError>
     Ok(HallSet::new(persons, objects))
 }
 
-// The same as `refute`, of a problem.
+// `refute`, on the problem itself.
 fn search_from(
     alloc: Global,
     problem: &Problem,
@@ -65,17 +65,17 @@ fn search_from(
     Ok(Search::Hall(hall_set(alloc, &reach)?))
 }
 
-/// For a person who owns nothing, under a matching along listed pairs: either the Hall set of all
-/// persons that alternating walks reach and of all objects that they list, or an alternating path
-/// to an unowned object. It is the Hall set exactly where each object that a reached person lists
-/// is owned, and then no assignment exists.
+/// For a person without an object, under a matching along listed pairs: either the Hall set of all
+/// persons that alternating walks reach and all objects that they list, or an alternating path to
+/// an unowned object. It is the Hall set exactly where each object that a reached person lists is
+/// owned, and then no assignment exists.
 ///
-/// Breadth-first search over what the persons list, in time linear in the pairs of the reached
-/// persons and in `n` (the search for an augmenting path; Burkard, Dell'Amico and Martello,
-/// Assignment Problems, 2009, section 3.2).
+/// Breadth-first search for an augmenting path over the listed pairs, in time linear in the pairs
+/// of the reached persons and in `n` (Burkard, Dell'Amico and Martello, Assignment Problems, 2009,
+/// section 3.2).
 ///
 /// # Errors
-/// Only where memory is refused.
+/// `AllocError` if memory is refused.
 pub fn refute(
     alloc: Global,
     scaled: &Scaled,
