@@ -49,7 +49,7 @@ none_has counts xs j h n none =
       | inr zero ↦ omega (arith, e, zero)
     ]
 
--- what the counts tell of the objects that are given
+-- what the counts say of the given objects
 pub dear_from : (counts xs : List ℕ) (prices : List ℤ) (j : ℕ) → AreCounts counts xs → length counts ≡ length prices → IsFirst (IsUnused counts prices) (length prices) j →
     IsFirst (IsDear (length prices) prices xs) (length prices) j
 dear_from counts xs prices j h long f = record {

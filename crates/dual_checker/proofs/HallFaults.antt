@@ -1,4 +1,4 @@
--- What marks tell of a list of persons and a list of objects.
+-- What marks say of a list of persons and a list of objects.
 use Rattle.std.proofs.Common.{◌≡◌, ℕ, ◌<◌, ◌≤◌, ◌↔◌, List, Bool, false, length, replicate, get_or, arith, sym, subst, ◌∙◌}
 use Rattle.std.specs.List.{All, Contains}
 use Rattle.std.proofs.lemmas.List.{get_or_default}

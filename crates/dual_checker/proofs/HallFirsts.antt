@@ -54,7 +54,7 @@ row_places row i j rising end =
       (λ s. all_listed P row j each s),
     )
 
--- the first entry of a row whose object isn't marked has the lowest such object
+-- the first entry of a row whose object isn't marked has the row's lowest unmarked object
 pub first_unmarked_entry : (rows : List Listing) (person n i : ℕ) (marks : List Bool) (row : Listing) (entry : ℕ × ℤ) → row ≡ row_of rows person → IsRow n row → i < length row → entry ≡ get_or row i entry →
     ((k : ℕ) (e : ℕ × ℤ) → k < i → IsMarked marks (get_or row k e).0) → ¬ IsMarked marks entry.0 → IsFirst (ListsUnnamed rows (IsMarked marks) person) n entry.0
 first_unmarked_entry rows person n i marks row entry this r lt is before not =

@@ -55,7 +55,7 @@ adds_item f i x k start marks at within place h =
     (adds_more (λ k j. f k ≡ j) i start marks (renumbered marks x true) h
     (adds_same (λ j. x ≡ j) (λ j. f i ≡ j) marks (renumbered marks x true) (λ j. ((λ e. sym at ∙ e), (λ e. at ∙ e))) (adds_one marks x within)))
 
--- where none was set at first, the marks tell who has property P
+-- if no mark was set at first, the marked persons are those with property P
 pub just_added : (m : ℕ) (before after : List Bool) (P : ℕ → Type 0) → before ≡ replicate m false → AddsMarks before P after → (j : ℕ) → IsMarked after j ↔ P j
 just_added m before after P none h j = (
   (λ k. elim ((h j).0 k) [

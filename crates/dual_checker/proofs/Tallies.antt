@@ -49,7 +49,7 @@ one_counted counts xs i x k h lt e within at =
     ∙ ap (λ m. set counts k (m + 1)) (sym (at_place counts x k 0 within at)) in
     subst (λ c. AreCounts c (take (i + 1) xs)) write (one_renumbered counts xs i x h lt e within)
 
--- a number that isn't one of 1 to n isn't in a list of such numbers
+-- a number outside 1 to n isn't in a list of numbers from 1 to n
 none_outside : (xs : List ℕ) (n j : ℕ) → (IsNumber n j → ⊥) → All (IsNumber n) xs → count_of xs j ≡ 0
 none_outside xs n j out h = nowhere xs j (All-weaker (IsNumber n) (λ x. x ≢ j) (λ x w e. out (subst (IsNumber n) e w)) xs h)
 
@@ -72,7 +72,7 @@ some_twice counts xs n j h long f = record {
       f.none_below i some below (omega arith);
 }
 
--- what the table tells of the list
+-- what the table says of the list
 pub told : (counts xs : List ℕ) (n : ℕ) (first : Option ℕ) → AreCounts counts xs → length counts ≡ n → All (IsNumber n) xs →
     MatchOption first ((j : ℕ) → IsNumber (length counts) j → numbered counts j 0 ≤ 1) (λ j. IsFirst (λ k. 1 < numbered counts k 0) (length counts) j) →
     MatchOption first (IsDistinct nat_eq xs) (λ j. IsFirst (IsGivenTwice xs) n j)

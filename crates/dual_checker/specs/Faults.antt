@@ -1,4 +1,4 @@
--- What may be wrong with two lists, one of objects and one of prices.
+-- The faults of two lists, one of objects and one of prices.
 use Rattle.std.specs.Prelude.{◌≡◌, ℕ, ℤ, pos, ◌+ℤ◌, ◌<ℤ◌, ◌<◌, ◌==◌, List, length, map, IsSome, Contains, count_by}
 use Rattle.assign_core.specs.Numbered.{IsNumber, numbered}
 use Rattle.assign_core.specs.Rows.{Listing, IsListed, listed_in, listed_or_zero, row_of}
@@ -6,7 +6,7 @@ use Rattle.assign_core.specs.Benefits.{benefit_row}
 use Rattle.assign_core.specs.Prices.{price_of, IsPrice}
 use Rattle.assign_core.specs.declared.sense.Sense.{Sense}
 
--- k is the lowest of the numbers 1 to n that has the fault
+-- k is the lowest number from 1 to n that has the fault
 pub record IsFirst (Fault : ℕ → Type 0) (n k : ℕ) : Type 0 where
   pub number : IsNumber n k
   pub here : Fault k
@@ -33,7 +33,8 @@ IsGivenTwice xs j = 1 < count_by (λ x. x == j) xs
 abbrev pub IsOutOfRange : List ℤ → ℕ → Type 0
 IsOutOfRange prices j = ¬ IsPrice (price_of prices j)
 
--- with these benefits, object k is listed and worth more than object j by over eps: a_k - p_k > a_j - p_j + eps
+-- with these benefits, object k is listed and has a value over eps above that of object j: a_k -
+-- p_k > a_j - p_j + eps
 pub record BreaksSlack (eps : ℤ) (prices : List ℤ) (row : Listing) (j k : ℕ) : Type 0 where
   pub listed : IsSome (listed_in row k)
   pub more : (listed_or_zero row j +ℤ price_of prices k +ℤ eps) <ℤ (listed_or_zero row k +ℤ price_of prices j)
@@ -46,6 +47,6 @@ BreaksSlackOf sense m rows xs prices i k = BreaksSlack (pos 1) prices (row_of (m
 abbrev pub IsShort : Sense → ℕ → List Listing → List ℕ → List ℤ → ℕ → Type 0
 IsShort sense m rows xs prices i = (k : ℕ) × BreaksSlackOf sense m rows xs prices i k
 
--- nobody has object j, and it costs over 1 more than another of m objects
+-- object j is unowned, and its price is over 1 above that of another of m objects
 abbrev pub IsDear : ℕ → List ℤ → List ℕ → ℕ → Type 0
 IsDear m prices xs j = ¬ Contains xs j × ((k : ℕ) × IsNumber m k × ((price_of prices k +ℤ pos 1) <ℤ price_of prices j))

@@ -1,4 +1,4 @@
--- What each verdict says of a list of persons and a list of objects.
+-- The meaning of each verdict on a list of persons and a list of objects.
 use Rattle.std.specs.Prelude.{◌≡◌, ℕ, ◌≤◌, ◌↔◌, List, length, All, Contains}
 use Rattle.std.specs.List.Sorted.{IsStrictlyIncreasing}
 use Rattle.assign_core.specs.Numbered.{IsNumber}
@@ -16,11 +16,11 @@ AreInRange rows persons objects = All (IsNumber (length rows)) persons × All (I
 abbrev pub AreRising : List ℕ → List ℕ → Type 0
 AreRising persons objects = IsStrictlyIncreasing persons × IsStrictlyIncreasing objects
 
--- person i lists object j, which isn't named
+-- person i lists object j, which is unnamed
 abbrev pub ListsUnnamed : List Listing → (ℕ → Type 0) → ℕ → ℕ → Type 0
 ListsUnnamed rows IsNamed i j = IsListed rows i j × ¬ IsNamed j
 
--- person i is named and lists some object that isn't
+-- person i is named and lists some unnamed object
 abbrev pub Lacks : List Listing → List ℕ → (ℕ → Type 0) → ℕ → Type 0
 Lacks rows persons IsNamed i = Contains persons i × ((j : ℕ) × ListsUnnamed rows IsNamed i j)
 
@@ -32,11 +32,12 @@ HasNeighbours rows persons IsNamed = (j : ℕ) → IsNeighbour rows persons j �
 abbrev pub IsExtra : List Listing → List ℕ → List ℕ → ℕ → Type 0
 IsExtra rows persons objects j = Contains objects j × ¬ IsNeighbour rows persons j
 
--- named are just the objects that the named persons list
+-- the named objects are just those that the named persons list
 abbrev pub AreNeighbours : List Listing → List ℕ → List ℕ → Type 0
 AreNeighbours rows persons objects = (j : ℕ) → Contains objects j ↔ IsNeighbour rows persons j
 
--- the first fault in the order of the variants, by the lowest number that has it, and Yes where there is none
+-- the first fault in the order of the variants, by the lowest number that has it, or Yes if there
+-- is none
 abbrev pub IsHallVerdict : List Listing → List ℕ → List ℕ → HallVerdict → Type 0
 IsHallVerdict rows persons objects Range = ¬ AreInRange rows persons objects
 IsHallVerdict rows persons objects Order = AreInRange rows persons objects × ¬ AreRising persons objects
@@ -50,7 +51,7 @@ IsHallVerdict rows persons objects Count =
     AreInRange rows persons objects × AreRising persons objects × AreNeighbours rows persons objects × (length persons ≤ length objects)
 IsHallVerdict rows persons objects Yes = IsHallSet rows persons objects
 
--- no two verdicts hold of the same problem and lists
+-- at most one verdict holds of a problem and two lists
 abbrev pub HallVerdictsDiffer : Type 0
 HallVerdictsDiffer = (rows : List Listing) (persons objects : List ℕ) (v w : HallVerdict) → IsProblem rows →
     IsHallVerdict rows persons objects v → IsHallVerdict rows persons objects w → v ≡ w

@@ -1,4 +1,4 @@
--- What each verdict says of two lists, one of objects and one of prices.
+-- The meaning of each verdict on two lists, one of objects and one of prices.
 use Rattle.std.specs.Prelude.{◌≡◌, ℕ, ℤ, pos, List, length, map, All}
 use Rattle.assign_core.specs.declared.sense.Sense.{Sense}
 use Rattle.assign_core.specs.Rows.{Listing}
@@ -19,8 +19,8 @@ pub record IsSlackAssignment (sense : Sense) (m : ℕ) (rows : List Listing) (xs
   pub in_range : All IsPrice prices
   pub slack : AllSlack (pos 1) prices (map (benefit_row sense m) rows) xs
 
--- among m objects the first fault in the order of the variants, by the lowest number that has it, and Yes where there is
--- none of these
+-- among m objects, the first fault in the order of the variants, by the lowest number that has it,
+-- or Yes if there is none of these
 abbrev pub IsFault : Sense → ℕ → List Listing → List ℕ → List ℤ → Verdict → Type 0
 IsFault sense m rows xs prices Length = ¬ AreLong m rows xs prices
 IsFault sense m rows xs prices (Unlisted i) = AreLong m rows xs prices × IsFirst (IsUnlisted rows xs) (length rows) i
@@ -31,19 +31,19 @@ IsFault sense m rows xs prices (Slack i k) =
     × IsFirst (IsShort sense m rows xs prices) (length rows) i × IsFirst (BreaksSlackOf sense m rows xs prices i) m k
 IsFault sense m rows xs prices Yes = IsSlackAssignment sense m rows xs prices
 
--- among as many objects as persons: the first fault, and Yes where the lists are a certificate
+-- among as many objects as persons: the first fault, or Yes if the lists are a certificate
 abbrev pub IsVerdict : Sense → List Listing → List ℕ → List ℤ → Verdict → Type 0
 IsVerdict sense rows xs prices Yes = IsCertificate sense rows xs prices
 IsVerdict sense rows xs prices fault = IsFault sense (length rows) rows xs prices fault
 
--- among m objects: the first fault, behind the others that an unowned object is dear, and Yes where the lists are a
--- certificate
+-- among m objects: the first fault, the last of which is an unowned object whose price is too high,
+-- or Yes if the lists are a certificate
 abbrev pub IsVerdictAmong : Sense → ℕ → List Listing → List ℕ → List ℤ → VerdictAmong → Type 0
 IsVerdictAmong sense m rows xs prices (Usual Yes) = IsCertificateAmong sense m rows xs prices
 IsVerdictAmong sense m rows xs prices (Usual fault) = IsFault sense m rows xs prices fault
 IsVerdictAmong sense m rows xs prices (Dear j) = IsSlackAssignment sense m rows xs prices × IsFirst (IsDear m prices xs) m j
 
--- no two verdicts hold of the same problem, sense and lists
+-- at most one verdict holds of a problem, a sense and two lists
 abbrev pub VerdictsDiffer : Type 0
 VerdictsDiffer = (sense : Sense) (rows : List Listing) (xs : List ℕ) (prices : List ℤ) (v w : Verdict) →
     IsVerdict sense rows xs prices v → IsVerdict sense rows xs prices w → v ≡ w

@@ -1,4 +1,4 @@
-// The checker of problems in which there may be more objects than persons.
+// The checker of problems that may have more objects than persons.
 ghost use Rattle.std.specs.Prelude.{◌≡◌, ◌↔◌, ℕ, pos, ◌+ℤ◌, ◌≤ℤ◌, ◌<ℤ◌, ◌<◌, ◌⊎◌, length, replicate, take, All, IfOk, IsTrue, MatchOption};
 ghost use Rattle.assign_core.specs.Numbered.{IsNumber, numbered};
 ghost use Rattle.assign_core.specs.Rows.{IsAmong, IsSize};
@@ -14,18 +14,18 @@ use super::verdict::Verdict;
 use assign_core::{Object, Price, Problem, Sense};
 use std::alloc::{AllocError, Global};
 
-/// What the checker says of an object for each of n persons and a price for each of m objects: the
-/// first of these that applies.
+/// The verdict on an object for each of n persons and a price for each of m objects: the first of
+/// these that applies.
 #[derive(Clone, Copy, PartialEq, Eq)]
 pub enum VerdictAmong {
-    /// A fault that lists for as many objects as persons may have too, or `Yes`: the lists are a
+    /// A fault that can also occur with as many objects as persons, or `Yes`: the lists are a
     /// certificate.
     Usual(Verdict),
-    /// The lowest object that nobody has and that costs over 1 more than the cheapest.
+    /// The lowest unowned object whose price is over 1 above the least price.
     Dear(Object),
 }
 
-/// No two verdicts hold of the same problem, sense and lists.
+/// At most one verdict holds of a problem, a sense and two lists.
 pub fn one_verdict_among()
     ensures { VerdictsAmongDiffer }
 {}
@@ -46,14 +46,14 @@ fn cheapest(prices: &[Price]) -> Object
     least
 }
 
-// Whether an object is given to nobody, by its count, and costs over so much.
+// Whether an object is unowned, by its count, and its price is above the greatest allowed.
 fn is_dear(count: u16, price: Price, most: Price) -> bool
     ensures { IsTrue result ↔ ((count ≡ 0) × (most <ℤ price)) }
 {
     count == 0 && price > most
 }
 
-// The lowest object that is given to nobody and costs over 1 more than another.
+// The lowest object that is unowned and whose price is over 1 above another.
 fn first_dear(counts: &[u16], prices: &[Price]) -> Option<Object>
     requires long { length counts.now ≡ length prices.now }
     requires size { IsSize (length prices.now) }
@@ -75,7 +75,7 @@ fn first_dear(counts: &[u16], prices: &[Price]) -> Option<Object>
     None
 }
 
-// The first fault, told by counts of the objects that are 0 at first.
+// The first fault. The counts of the objects are 0 at first.
 fn first_fault_among(
     counts: &mut [u16],
     problem: &Problem,
@@ -100,16 +100,16 @@ fn first_fault_among(
 }
 
 /// Whether the objects of persons 1 to `n` and the prices of objects 1 to `m` are a certificate
-/// under this sense, and if not, the first fault: those of `check` in their order, and behind them
-/// the lowest object that is too dear for one that nobody has.
+/// under this sense; if not, the first fault: those of `check` in their order, and after them the
+/// lowest unowned object whose price is too high.
 ///
-/// Of the problem's persons the first `n` are meant; where there are more objects the others list
-/// nothing (`Problem::dense_among`). Yes proves the assignment best: slackness 1 at benefits scaled
-/// by `m + 1`, and no object that is left over costs over 1 more than any. The lists may be of any
-/// length and hold any numbers. The time is linear in the listed pairs.
+/// Only the first `n` of the problem's persons count; if there are more objects, the other persons
+/// list nothing (`Problem::dense_among`). `Yes` proves the assignment optimal: slackness 1 at
+/// benefits scaled by `m + 1`, and no unowned object with a price over 1 above another. The lists
+/// may have any length and hold any numbers. The time is linear in the listed pairs.
 ///
 /// # Errors
-/// Only where memory is refused, before anything is looked at.
+/// `AllocError` if memory is refused, before the lists are read.
 pub fn check_among(
     alloc: Global,
     problem: &Problem,

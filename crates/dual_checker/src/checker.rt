@@ -14,7 +14,8 @@ use super::verdict::Verdict;
 use assign_core::{Object, Price, Problem, Sense};
 use std::alloc::{AllocError, Global};
 
-// The first fault of the first `n` persons' objects and of a price for each count; the counts are 0 at first.
+// The first fault of the first `n` persons' objects and of a price for each count; the counts are 0
+// at first.
 pub fn first_fault(
     counts: &mut [u16],
     problem: &Problem,
@@ -30,7 +31,7 @@ pub fn first_fault(
     ensures counts { result ≡ Verdict.Yes → AreCounts counts.new objects.now }
     ensures long { length counts.new ≡ length counts.old }
 {
-    // That there are few enough persons follows from this call.
+    // This call shows the prover that there are few enough persons.
     let _persons = problem.n();
     if objects.len() != n as usize || prices.len() != counts.len() {
         return Verdict::Length;
@@ -51,14 +52,14 @@ pub fn first_fault(
 }
 
 /// Whether the objects of persons 1, 2, .. and the prices of objects 1, 2, .. are a certificate
-/// under this sense, and if not, the first fault in the order of `Verdict`, by its lowest number.
+/// under this sense; if not, the first fault in the order of `Verdict`, by its lowest number.
 ///
-/// Yes proves the assignment best: slackness 1 at benefits scaled by one more than the number of
-/// persons (Bertsekas, Network Optimization, 1998, section 7.1). The lists may be of any length
+/// `Yes` proves the assignment optimal: slackness 1 at benefits scaled by one more than the number
+/// of persons (Bertsekas, Network Optimization, 1998, section 7.1). The lists may have any length
 /// and hold any numbers. The time is linear in the listed pairs.
 ///
 /// # Errors
-/// Only where memory is refused, before anything is looked at.
+/// `AllocError` if memory is refused, before the lists are read.
 pub fn check(
     alloc: Global,
     problem: &Problem,

@@ -1,4 +1,4 @@
-// Answers of any origin, taken where they are proofs.
+// Outcomes of any origin, accepted if they are proofs.
 ghost use Rattle.std.specs.Prelude.{◌≡◌, ◌↔◌, take, IsTrue, IfOk, IfSome};
 ghost use Rattle.assign_core.specs.declared.sense.Sense.{Sense};
 ghost use Rattle.assign_core.specs.Rows.{IsAmong};
@@ -17,11 +17,11 @@ use assign_core::{
 };
 use std::alloc::{AllocError, Global};
 
-/// Whether an outcome is a proof: a certificate under this sense, or a Hall set. The time is that
+/// Whether an outcome is a proof: a certificate under this sense, or a Hall set. It takes the time
 /// of `check` or of `check_hall`.
 ///
 /// # Errors
-/// Only where memory is refused, before anything is looked at.
+/// `AllocError` if memory is refused, before the outcome is read.
 pub fn confirms(
     alloc: Global,
     problem: &Problem,
@@ -42,13 +42,13 @@ pub fn confirms(
     }
 }
 
-/// The outcome that these objects of persons 1, 2, .. and these prices of objects 1, 2, .. are,
-/// where they are a certificate under this sense. `None` exactly where they aren't.
+/// These objects of persons 1, 2, .. and these prices of objects 1, 2, .. as an outcome, if they
+/// are a certificate under this sense. `None` exactly where they aren't.
 ///
-/// The lists may be of any length and hold any numbers. They are not copied.
+/// The lists may have any length and hold any numbers. They are not copied.
 ///
 /// # Errors
-/// Only where memory is refused. The lists are dropped then.
+/// `AllocError` if memory is refused. The lists are then dropped.
 pub fn confirm_best(
     alloc: Global,
     problem: &Problem,
@@ -65,20 +65,20 @@ pub fn confirm_best(
     if verdict != Verdict::Yes {
         return Ok(None);
     }
-    // That there are few enough prices for a table follows from this call.
+    // This call shows the prover that there are few enough prices for a table.
     let _few = problem.n();
     let prices = Prices::new(alloc, prices)?;
     let assignment = Assignment::new(objects);
     Ok(Some(Outcome::Best(Certificate { assignment, prices })))
 }
 
-/// The outcome that these objects of persons 1 to `n` and these prices of objects 1 to `m` are, where
-/// they are a certificate under this sense, as `check_among` tells. `None` exactly where they aren't.
+/// These objects of persons 1 to `n` and these prices of objects 1 to `m` as an outcome, if they
+/// are a certificate under this sense by `check_among`. `None` exactly where they aren't.
 ///
-/// The lists may be of any length and hold any numbers. They are not copied.
+/// The lists may have any length and hold any numbers. They are not copied.
 ///
 /// # Errors
-/// Only where memory is refused. The lists are dropped then.
+/// `AllocError` if memory is refused. The lists are then dropped.
 pub fn confirm_best_among(
     alloc: Global,
     problem: &Problem,
@@ -105,13 +105,13 @@ pub fn confirm_best_among(
     Ok(Some(Outcome::Best(Certificate { assignment, prices })))
 }
 
-/// The outcome that these persons and objects are, where they are a Hall set. `None` exactly where
-/// they aren't.
+/// These persons and objects as an outcome, if they are a Hall set. `None` exactly where they
+/// aren't.
 ///
-/// The lists may be of any length and hold any numbers. They are not copied.
+/// The lists may have any length and hold any numbers. They are not copied.
 ///
 /// # Errors
-/// Only where memory is refused. The lists are dropped then.
+/// `AllocError` if memory is refused. The lists are then dropped.
 pub fn confirm_hall(
     alloc: Global,
     problem: &Problem,

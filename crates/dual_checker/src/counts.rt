@@ -7,7 +7,7 @@ ghost use Rattle.dual_checker.specs.Faults.{IsFirst, IsGivenTwice};
 
 use assign_core::{MOST_PERSONS, Object};
 
-// Counts how often each object is given, from counts of 0.
+// Counts how often each object is given. The counts are 0 at first.
 fn count_given(counts: &mut [u16], objects: &[Object])
     requires zero { counts.old ≡ replicate (length counts.old) 0 }
     requires few { length objects.now ≤ MOST_PERSONS }
@@ -34,7 +34,7 @@ fn first_over_one(counts: &[u16]) -> Option<Object>
     None
 }
 
-// The lowest object that is given twice, told by counts that are 0 at first.
+// The lowest object that is given twice. The counts are 0 at first.
 pub fn first_given_twice(counts: &mut [u16], objects: &[Object]) -> Option<Object>
     requires zero { counts.old ≡ replicate (length counts.old) 0 }
     requires few { length objects.now ≤ MOST_PERSONS }

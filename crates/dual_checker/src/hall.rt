@@ -10,7 +10,7 @@ use super::hall_verdict::HallVerdict;
 use assign_core::{Object, Person, Problem};
 use std::alloc::{AllocError, Global};
 
-// The first fault, told by marks that aren't set at first.
+// The first fault. No mark is set at first.
 fn first_hall_fault(
     named: &mut [bool],
     listed: &mut [bool],
@@ -42,16 +42,16 @@ fn first_hall_fault(
     HallVerdict::Yes
 }
 
-/// Whether these persons and objects are a Hall set of the problem, and if not, the first fault
-/// in the order of `HallVerdict`, by its lowest number.
+/// Whether these persons and objects are a Hall set of the problem; if not, the first fault in the
+/// order of `HallVerdict`, by its lowest number.
 ///
-/// Yes proves that there is no assignment: the persons would need different objects out of fewer
-/// (P. Hall, On representatives of subsets, 1935). The lists may be of any length and hold any
-/// numbers. The time is linear in the lists, the pairs that the named persons list, and the
-/// number of persons.
+/// `Yes` proves that no assignment exists: the persons would need different objects out of fewer
+/// (P. Hall, On representatives of subsets, 1935). The lists may have any length and hold any
+/// numbers. The time is linear in the lists, the pairs that the named persons list, and the number
+/// of persons.
 ///
 /// # Errors
-/// Only where memory is refused, before anything is looked at.
+/// `AllocError` if memory is refused, before the lists are read.
 pub fn check_hall(
     alloc: Global,
     problem: &Problem,

@@ -58,7 +58,8 @@ fn first_unnamed(problem: &Problem, person: Person, named: &[bool]) -> Option<Ob
     None
 }
 
-// The lowest of these persons that lists an object without a mark, and its lowest such object.
+// The lowest of these persons that lists an object without a mark, and the lowest object of this
+// kind.
 pub fn first_missing(
     problem: &Problem,
     persons: &[Person],

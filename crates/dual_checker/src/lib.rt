@@ -1,4 +1,4 @@
-//! Checks certificates and Hall sets. Whoever made them is not trusted.
+//! Checks certificates and Hall sets, wherever they come from.
 #![tactic(auto)]
 
 mod among;

@@ -5,14 +5,14 @@ ghost use Rattle.assign_core.specs.Assignment.{AreListed};
 
 use assign_core::{Object, Person, Problem};
 
-// Of as many persons as objects are given, the lowest that doesn't list its object.
+// The lowest of the persons with a given object that doesn't list it.
 pub fn first_unlisted(problem: &Problem, objects: &[Object]) -> Option<Person>
     requires { length objects.now ≤ length problem.now }
     ensures { let rows = take (length objects.now) problem.now in
         MatchOption result (AreListed rows objects.now)
         (λ i. IsFirst (IsUnlisted rows objects.now) (length objects.now) i) }
 {
-    // That as many persons can be numbered follows from this call.
+    // This call shows the prover that this many persons can be numbered.
     let _persons = problem.n();
     for (i, object) in objects.iter().enumerate() {
         let person = Person(i as u16 + 1);

@@ -20,7 +20,7 @@ pub fn price_at(prices: &[Price], object: Object) -> Price
     prices[object.place()]
 }
 
-// What an object is worth: the benefit of its cost among `n` persons, less its price.
+// The value of an object: the benefit of its cost among `n` persons, less its price.
 fn worth(sense: Sense, n: u16, cost: Cost, price: Price) -> Price
     requires size { IsSize n }
     requires cost { IsCost cost }
@@ -31,7 +31,7 @@ fn worth(sense: Sense, n: u16, cost: Cost, price: Price) -> Price
     i128::from(sense.benefit(n, cost)) - price
 }
 
-// What a person's own object is worth to it, among as many objects as prices.
+// The value of a person's own object, among as many objects as prices.
 fn own_worth(
     problem: &Problem,
     sense: Sense,
@@ -48,13 +48,13 @@ fn own_worth(
         result ≡ (benefit sense (length prices.now) cost -ℤ price_of prices.now object) }
     ensures most { result ≤ℤ (pos (MOST_PERSONS + 1) *ℤ GREATEST_COST) }
 {
-    // That each listed cost is in range follows from this call.
+    // This call shows the prover that each listed cost is in range.
     let _listed = problem.row(person);
     let cost = problem.cost_of(person, object).unwrap_or(0);
     worth(sense, prices.len() as u16, cost, price_at(prices, object))
 }
 
-// The lowest object of a row that is worth more than a person's own object by over 1.
+// The lowest object of a row whose value is over 1 above that of a person's own object.
 fn first_broken(
     row: &[(Object, Cost)],
     sense: Sense,
@@ -82,7 +82,8 @@ fn first_broken(
     None
 }
 
-// Of as many persons as objects are given, the lowest without slackness 1, and the lowest object that breaks it.
+// The lowest of the persons with a given object that lacks slackness 1, and the lowest object that
+// breaks it.
 pub fn first_short(
     problem: &Problem,
     sense: Sense,
@@ -101,7 +102,7 @@ pub fn first_short(
         (λ p. IsFirst (IsShort sense m rows objects.now prices.now) (length objects.now) p.0
         × IsFirst (BreaksSlackOf sense m rows objects.now prices.now p.0) m p.1) }
 {
-    // That as many persons can be numbered follows from this call.
+    // This call shows the prover that this many persons can be numbered.
     let _persons = problem.n();
     for (i, object) in objects.iter().enumerate() {
         let person = Person(i as u16 + 1);

@@ -1,13 +1,13 @@
-// What the checker says.
+// The checker's verdict.
 ghost use Rattle.dual_checker.specs.Verdicts.{VerdictsDiffer};
 
 use assign_core::{Object, Person};
 
-/// What the checker says of a list of objects and a list of prices, one of each for each person:
-/// the first of these that applies.
+/// The verdict on a list of objects and a list of prices, one of each for each person: the first of
+/// these that applies.
 #[derive(Clone, Copy, PartialEq, Eq)]
 pub enum Verdict {
-    /// A list is not as long as there are persons.
+    /// The length of a list isn't the number of persons.
     Length,
     /// The lowest person that doesn't list its object.
     Unlisted(Person),
@@ -15,14 +15,14 @@ pub enum Verdict {
     Twice(Object),
     /// The lowest object whose price isn't at least 0 and below `PRICE_END`.
     PriceRange(Object),
-    /// The lowest person without slackness 1, and the lowest object that it lists and that is
-    /// worth more to it than its own by over 1.
+    /// The lowest person without slackness 1, and the lowest object that it lists whose value to it
+    /// is over 1 above that of its own.
     Slack(Person, Object),
     /// The lists are a certificate.
     Yes,
 }
 
-/// No two verdicts hold of the same problem, sense and lists.
+/// At most one verdict holds of a problem, a sense and two lists.
 pub fn one_verdict()
     ensures { VerdictsDiffer }
 {}
