@@ -92,7 +92,7 @@ length-filled n rows le =
     let back : length (replicate (length rows - n) (dummy_row (length rows))) ≡ length rows - n = length-replicate (length rows - n) (dummy_row (length rows)) in
     omega arith
 
--- behind the first n there are dummies
+-- dummies follow the first n rows
 back_of_filled : (n i : ℕ) (rows : List Listing) → n ≤ length rows → n ≤ i → i < length rows → get_or (filled_up n rows) i [] ≡ dummy_row (length rows)
 back_of_filled n i rows le past lt =
     get_or-append_right (take n rows) (replicate (length rows - n) (dummy_row (length rows))) n i [] (length-take-le n rows le) past
@@ -109,7 +109,7 @@ IsProblem-filled n rows le h =
     let each = All-append (IsRow m) (take n rows) (replicate (m - n) (dummy_row m)) (All-take (IsRow m) n rows h.each) (All-replicate (IsRow m) (m - n) (dummy_row m) (dummy_is_row m)) in
     record { size = rw long h.size; each = subst (λ k. All (IsRow k) (filled_up n rows)) (sym long) each }
 
--- what a dummy behind the first n lists
+-- the row of a dummy after the first n rows
 back_listed : (n i j : ℕ) (rows : List Listing) → n ≤ length rows → n < i → i ≤ length rows → IsNumber (length rows) j → IsListed (filled_up n rows) i j
 back_listed n zero j rows le past last nj = absurd (omega arith)
 back_listed n (suc i) j rows le past last nj = subst (λ row. IsSome (listed_in row j)) (sym (back_of_filled n i rows le (omega arith) (omega arith))) (dummy_lists (length rows) j nj)

@@ -5,11 +5,11 @@ use Rattle.assign_core.specs.Dense.{row_from}
 use Rattle.assign_core.specs.declared.outcome.Outcome.{Outcome}
 use Rattle.assign_core.specs.declared.outcome.Outcome.TheVariants.{Best, Hall}
 
--- what a dummy lists: each of m objects at cost 0
+-- the row of a dummy: each of m objects at cost 0
 abbrev pub dummy_row : ℕ → Listing
 dummy_row m = row_from 1 (replicate m (pos 0))
 
--- the first n rows, and a dummy in place of each other one
+-- the first n rows, followed by one dummy for each other row
 abbrev pub filled_up : ℕ → List Listing → List Listing
 filled_up n rows = take n rows ++ replicate (length rows - n) (dummy_row (length rows))
 

@@ -6,7 +6,7 @@ ghost use Rattle.assign_core.specs.Rows.{IsSize};
 use assign_core::{Assignment, Certificate, Cost, MOST_PERSONS, Object, Outcome, Person, Problem};
 use std::alloc::{AllocError, Global};
 
-// What a dummy lists among `m` objects.
+// The row of a dummy among `m` objects.
 fn dummy_row(alloc: Global, m: u16) -> Result<Vec<(Object, Cost)>, AllocError>
     requires { m ≤ MOST_PERSONS }
     ensures { IfOk result (λ row. row.items ≡ dummy_row m) }
@@ -34,7 +34,7 @@ fn first_rows(
     Ok(rows)
 }
 
-// The rows with so many dummies behind them.
+// The rows, followed by this many dummies.
 fn with_dummies(
     alloc: Global,
     mut rows: Vec<Vec<(Object, Cost)>>,
@@ -51,13 +51,13 @@ fn with_dummies(
     Ok(rows)
 }
 
-/// The problem of the first `n` persons with dummies in place of the others, who list each object at
-/// cost 0.
+/// The problem of the first `n` persons; dummies, who list each object at cost 0, take the places
+/// of the others.
 ///
 /// It takes 16 bytes for each pair, and so for each object of each dummy.
 ///
 /// # Errors
-/// Only where memory is refused.
+/// `AllocError` if memory is refused.
 pub fn filled_up(alloc: Global, problem: &Problem, n: u16) -> Result<Problem, AllocError>
     requires { n ≤ length problem.now }
     ensures { IfOk result (λ square. square ≡ filled_up n problem.now) }
@@ -77,11 +77,11 @@ fn first_objects(alloc: Global, assignment: &Assignment, n: u16) -> Result<Assig
     Ok(Assignment::new(first.to_vec(alloc)?))
 }
 
-/// What an outcome says of the first `n` persons: their objects with the prices of all, or the Hall
-/// set as it is.
+/// What an outcome says of the first `n` persons: their objects with the prices of all objects, or
+/// the same Hall set.
 ///
 /// # Errors
-/// Only where memory is refused.
+/// `AllocError` if memory is refused.
 pub fn of_first(alloc: Global, outcome: Outcome, n: u16) -> Result<Outcome, AllocError>
     ensures { IfOk result (λ first. first ≡ of_first n outcome) }
 {

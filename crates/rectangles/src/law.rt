@@ -8,10 +8,10 @@ ghost use Rattle.assign_core.specs.Rows.{Listing, IsProblem};
 ghost use Rattle.assign_core.specs.Slackness.{IsCertificate, IsCertificateAmong};
 ghost use Rattle.rectangles.specs.Filled.{filled_up, of_first};
 
-/// What proves the answer of a problem that is filled up with dummies proves that of its first `n`
-/// persons: a certificate without the dummies' objects is one among all objects, since a dummy has
-/// slackness 1 only at an object that is hardly dearer than any; and a Hall set names no dummy, since
-/// a dummy lists all objects.
+/// A proof for a problem that is filled up with dummies is one for its first `n` persons. A
+/// certificate without the dummies' objects is one among all objects, since a dummy has slackness 1
+/// only at an object whose price is at most 1 above any other. A Hall set names no dummy, since a
+/// dummy lists all objects.
 pub fn dummies_change_nothing()
     ensures certificate { (sense : Sense) (n : ℕ) (rows : List Listing) (xs : List ℕ) (prices : List ℤ)
         → IsProblem rows → n ≤ length rows → IsCertificate sense (filled_up n rows) xs prices

@@ -1,6 +1,6 @@
-//! Few persons among many objects: the first `n` of a problem's persons. Their problem by its pairs,
-//! what their assignments cost, and dummies, who fill the problem up to a square: what proves the
-//! square's answer proves theirs.
+//! Few persons among many objects: the first `n` of a problem's persons. Their problem from its
+//! pairs, the costs of their assignments, and dummies that fill the problem up to a square, where a
+//! proof for the square is one for the problem.
 #![tactic(auto)]
 
 mod filled;

@@ -1,4 +1,4 @@
-// Problems by their pairs.
+// Problems from their pairs.
 ghost use Rattle.std.specs.Prelude.{◌≡◌, All, IfOk, length, max, take};
 ghost use Rattle.assign_core.specs.Rows.{IsAmong, IsSize};
 ghost use Rattle.rectangles.specs.Sparse.{IsSparseAmong, IsTripleAmong};
@@ -7,14 +7,14 @@ use assign_core::{Cost, Object, Person, Problem};
 use std::alloc::{AllocError, Global};
 
 /// The problem of `n` persons among `m` objects in which each person lists the objects that the
-/// triples give it. A pair that is given several times counts once, at its least cost. Where there
-/// are more objects than persons, persons `n + 1` to `m` list nothing: an assignment of the first
-/// `n` is meant.
+/// triples give it. If a pair is given several times, its least cost counts. If there are more
+/// objects than persons, persons `n + 1` to `m` list nothing: only the first `n` persons are to be
+/// assigned.
 ///
 /// It takes as much memory as the triples do, and 24 bytes for each person.
 ///
 /// # Errors
-/// Only where memory is refused.
+/// `AllocError` if memory is refused.
 pub fn sparse_among(
     alloc: Global,
     n: u16,

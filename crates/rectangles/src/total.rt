@@ -1,4 +1,4 @@
-// What an assignment of the first persons costs.
+// The cost of an assignment of the first persons.
 ghost use Rattle.std.specs.Prelude.{◌≡◌, ◌≤◌, length, take};
 ghost use Rattle.assign_core.specs.Assignment.{IsAssignment, total};
 
@@ -9,7 +9,7 @@ fn sum_of(problem: &Problem, objects: &[Object]) -> Cost
     requires { length objects.now ≤ length problem.now }
     ensures { result ≡ total (take (length objects.now) problem.now) objects.now }
 {
-    // That there are few persons and that each cost is in range follows from this call.
+    // This call shows the prover that there are few persons, and that each cost is in range.
     let _persons = problem.n();
     let mut sum: Cost = 0;
     for (i, object) in objects.iter().enumerate() {
@@ -19,9 +19,9 @@ fn sum_of(problem: &Problem, objects: &[Object]) -> Cost
     sum
 }
 
-/// The sum of the costs of an assignment's pairs, which are of persons 1 to `n`.
+/// The sum of the costs of the pairs of an assignment of persons 1 to `n`.
 ///
-/// Of each person it reads as few pairs as `Problem::cost_of`.
+/// It reads at most 14 pairs of each row, as `Problem::cost_of` does.
 pub fn total_of_first(problem: &Problem, n: u16, assignment: &Assignment) -> Cost
     requires persons { n ≤ length problem.now }
     requires assignment { IsAssignment (take n problem.now) assignment.now }
