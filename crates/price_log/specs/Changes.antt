@@ -15,7 +15,7 @@ trimmed log version = record {
 abbrev pub with_room : History → History
 with_room log = if length log.raises == MOST_KEPT then trimmed log (last_version log) else log
 
--- one raise more
+-- one more raise
 abbrev pub with_raise : History → ℕ → ℤ → History
 with_raise log object level = record log { raises = log.raises ++ record { object = object; level = level } ∷ [] }
 

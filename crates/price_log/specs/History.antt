@@ -1,4 +1,4 @@
--- A table of prices and the raises that came to it.
+-- A table of prices and its raises.
 use Rattle.std.specs.Prelude.{◌≡◌, ℕ, ℤ, pos, ◌+◌, ◌-◌, ◌<◌, ◌≤◌, ◌+ℤ◌, ◌≤ℤ◌, ◌<ℤ◌, List, [], ◌∷◌, length, take}
 use Rattle.assign_core.specs.Numbered.{IsNumber, renumbered}
 use Rattle.assign_core.specs.Prices.{IsBelow, IsPrice, IsTable, price_of}
@@ -16,7 +16,7 @@ abbrev pub raised : List ℤ → List Raise → List ℤ
 raised table [] = table
 raised table (r ∷ raises) = raised (renumbered table r.object r.level) raises
 
--- how many raises there were
+-- the number of raises since the start
 abbrev pub last_version : History → ℕ
 last_version log = log.first_kept + length log.raises
 
@@ -28,7 +28,7 @@ table_at log version = raised log.base (take (version - log.first_kept) log.rais
 abbrev pub today : History → List ℤ
 today log = raised log.base log.raises
 
--- a raise goes above the price before it, to a price
+-- a raise to a price that is above the one before
 pub record IsRaise (table : List ℤ) (r : Raise) : Type 0 where
   pub object : IsNumber (length table) r.object
   pub above : price_of table r.object <ℤ r.level
@@ -43,24 +43,27 @@ abbrev pub sum_of : List ℤ → ℤ
 sum_of [] = pos 0
 sum_of (p ∷ prices) = p +ℤ sum_of prices
 
--- raises that go up from a table of prices; each version has added 1 or more to the sum of the prices
+-- raises that go up from a table of prices, the sum of which is at least the number of earlier
+-- raises; at most as many raises as a log keeps
 pub record IsHistory (log : History) : Type 0 where
   pub base : IsTable log.base
   pub rises : Rises log.base log.raises
   pub early : pos log.first_kept ≤ℤ sum_of log.base
   pub short : length log.raises ≤ MOST_KEPT
 
--- before the first raise
+-- a log before its first raise
 abbrev pub started : List ℤ → History
 started prices = record { first_kept = 0; base = prices; raises = [] }
 
--- a later log: its version and its first kept one are no lower, and it has each table that both logs reach
+-- a later log: its version and its first kept version are no lower, and it has each table that both
+-- logs reach
 pub record Continues (old new : History) : Type 0 where
   pub kept : old.first_kept ≤ new.first_kept
   pub later : last_version old ≤ last_version new
   pub same : (v : ℕ) → new.first_kept ≤ v → v ≤ last_version old → table_at new v ≡ table_at old v
 
--- a table that is the log's at this version, or is below today's where the log doesn't reach back so far
+-- a table that is the log's at this version, or is below the current one if the log no longer
+-- reaches this version
 pub record IsEarlier (log : History) (table : List ℤ) (version : ℕ) : Type 0 where
   pub reached : version ≤ last_version log
   pub same : log.first_kept ≤ version → table ≡ table_at log version

@@ -7,12 +7,12 @@ ghost use Rattle.price_log.specs.Changes.{after_raise, trimmed};
 
 use crate::log::MOST_KEPT;
 
-/// Which number the limit of raises kept is.
+/// The greatest number of raises that a log keeps.
 pub fn log_limits()
     ensures { MOST_KEPT ≡ 65_536 }
 {}
 
-/// That one log continues another is an order, and each change of a log continues it.
+/// `Continues` between logs is reflexive and transitive, and each change of a log continues it.
 pub fn logs_continue()
     ensures itself { (log : History) → Continues log log }
     ensures through { (first second third : History) → Continues first second → Continues second third
@@ -22,7 +22,7 @@ pub fn logs_continue()
         → Continues log (trimmed log version) }
 {}
 
-/// A raise is one version more and changes one price; a trim changes no price and no version.
+/// A raise adds one version and changes one price; a trim changes no price and no version.
 pub fn changes_are_versions()
     ensures raise_prices { (log : History) (object : ℕ) (level : ℤ)
         → today (after_raise log object level) ≡ renumbered (today log) object level }

@@ -11,19 +11,20 @@ use std::alloc::{AllocError, Global};
 use std::collections::VecDeque;
 use std::marker::Model;
 
-/// A log keeps at most so many raises.
+/// The greatest number of raises that a log keeps.
 pub const MOST_KEPT: usize = 65_536;
 
-/// A table of prices that only rise. Each raise makes a version, counted from 0, and the last raises
-/// are kept, so that a table of an older version becomes today's by what changed since.
+/// A table of prices that only rise. Each raise makes a version, counted from 0. The log keeps the
+/// last raises, so that a table of an older version catches up by them.
 ///
-/// Seen as the table of the first version that the log still reaches and the raises after it.
+/// A contract sees the table of the first version that the log still reaches, and the raises after
+/// it.
 #[derive(Drop)]
 pub struct PriceLog {
     first_kept: u128,
     base: Prices,
     raises: VecDeque<Raise>,
-    // Today's prices.
+    // The current prices.
     prices: Prices,
 }
 
@@ -46,11 +47,11 @@ impl PriceLog {
     /// A log that starts at version 0 with these prices.
     ///
     /// # Errors
-    /// Only where memory is refused.
+    /// `AllocError` if memory is refused.
     pub fn start(alloc: Global, prices: Prices) -> Result<PriceLog, AllocError>
         ensures { IfOk result (λ log. log ≡ started prices) }
     {
-        // That the prices are a table follows from this call.
+        // This call shows the prover that the prices are a table.
         let _table = prices.as_slice();
         Ok(PriceLog {
             first_kept: 0,
@@ -60,7 +61,7 @@ impl PriceLog {
         })
     }
 
-    /// Today's price of an object.
+    /// The current price of an object.
     pub fn price(&self, object: Object) -> Price
         requires { IsNumber (length (today self.now)) object }
         ensures price { result ≡ price_of (today self.now) object }
@@ -69,7 +70,7 @@ impl PriceLog {
         self.prices.price(object)
     }
 
-    /// Today's prices of all objects.
+    /// The current prices of all objects.
     pub fn prices(&self) -> &Prices
         ensures prices { result.now ≡ today self.now }
         ensures log { IsHistory self.now }
@@ -77,7 +78,7 @@ impl PriceLog {
         &self.prices
     }
 
-    /// How many raises there were, from the start on.
+    /// The current version: the number of raises since the start.
     pub fn version(&self) -> u128
         ensures { result ≡ last_version self.now }
     {
@@ -91,8 +92,8 @@ impl PriceLog {
         self.first_kept
     }
 
-    /// Forgets the versions before this one, in the time of the raises forgotten. No price and no
-    /// version changes.
+    /// Forgets the versions before this one, in time linear in the raises forgotten. No price and
+    /// no version changes.
     pub fn trim(&mut self, version: u128)
         requires first { self.old.first_kept ≤ version }
         requires last { version ≤ last_version self.old }
@@ -103,11 +104,11 @@ impl PriceLog {
         self.first_kept = version;
     }
 
-    /// Gives an object a greater price. A log that keeps `MOST_KEPT` raises first forgets them, and
-    /// such a raise takes no memory. The cost is O(1) amortized.
+    /// Raises the price of an object. A log that already keeps `MOST_KEPT` raises first forgets
+    /// them, and this raise takes no memory. The cost is O(1) amortized.
     ///
     /// # Errors
-    /// Only where memory is refused, and then nothing has changed.
+    /// `AllocError` if memory is refused. The log is then unchanged.
     pub fn raise(&mut self, object: Object, level: Price) -> Result<(), AllocError>
         requires object { IsNumber (length (today self.old)) object }
         requires above { price_of (today self.old) object <ℤ level }
@@ -124,7 +125,7 @@ impl PriceLog {
         }
     }
 
-    // One raise more. The queue may grow.
+    // Adds a raise. The queue may grow.
     fn raise_further(&mut self, object: Object, level: Price) -> Result<(), AllocError>
         requires object { IsNumber (length (today self.old)) object }
         requires above { price_of (today self.old) object <ℤ level }
@@ -138,7 +139,7 @@ impl PriceLog {
         Ok(())
     }
 
-    // The first raise after a full queue was moved into the base. There is room for it.
+    // Adds the first raise after moving a full queue into the base. The queue has room for it.
     fn raise_afresh(&mut self, object: Object, level: Price)
         requires object { IsNumber (length (today self.old)) object }
         requires above { price_of (today self.old) object <ℤ level }
@@ -152,9 +153,9 @@ impl PriceLog {
         self.prices.set(object, level);
     }
 
-    /// Makes an older table today's, and its version too: the raises since then are applied, in the
-    /// time that their number takes. A table of a version that the log no longer reaches is copied
-    /// whole. Takes no memory.
+    /// Makes an older table and its version current. It applies the raises since then, in time
+    /// linear in their number, or copies all prices if the log no longer reaches the table's
+    /// version. It takes no memory.
     pub fn catch_up(&self, table: &mut Prices, version: &mut u128)
         requires { IsEarlier self.now table.old version.old }
         ensures table { table.new ≡ today self.now }

@@ -1,4 +1,4 @@
-// Raises, and what a list of them makes of a table.
+// Raises, and a table after a list of raises.
 ghost use Rattle.std.specs.Prelude.{◌≡◌, ◌≤◌, length, take, drop};
 ghost use Rattle.std.specs.VecDeque.{deque_capacity};
 ghost use Rattle.price_log.specs.History.{Rises, raised};
@@ -6,7 +6,7 @@ ghost use Rattle.price_log.specs.History.{Rises, raised};
 use assign_core::{Object, Price, Prices};
 use std::collections::VecDeque;
 
-/// A price went up.
+/// A raise of an object's price.
 #[derive(Clone, Copy, PartialEq, Eq)]
 pub struct Raise {
     pub object: Object,
