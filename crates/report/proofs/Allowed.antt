@@ -1,4 +1,4 @@
--- What is written is a report that may be read.
+-- What is written is a report that can be read.
 use Rattle.std.proofs.Common.{◌≡◌, ℕ, ℤ, pos, negsuc, neg_ℤ, nat_abs, ◌+ℤ◌, ◌≤ℤ◌, suc, zero, ◌<◌, ◌≤◌, ◌+◌, ◌*◌, List, [], ◌∷◌, Bool, true, false, Some, IsSome, length, get_or, refl, ap, subst, arith, rules}
 use Rattle.std.specs.Prelude.{All, Contains}
 use Rattle.std.specs.List.{AllByRecursion}
@@ -75,7 +75,7 @@ chosen_allowed : (s : Sense) (n : ℕ) (ps : List ℤ) (choice : Bool) → lengt
 chosen_allowed s n ps true e h = (e, prices_allowed s ps h)
 chosen_allowed s n ps false e h = tt
 
--- the report on a best assignment
+-- the report on an optimal assignment
 pub best_allowed : (rows : List Listing) (s : Sense) (xs : List ℕ) (ps : List ℤ) (choice : Bool) → IsProblem rows → IsAssignment rows xs → length ps ≡ length rows → All prices.IsPrice ps
     → IsBestReport (Some s) (total rows xs) (pairs_of rows xs) (chosen_prices choice ps)
 best_allowed rows s xs ps choice p a e h =
@@ -111,7 +111,7 @@ few_all : (n : ℕ) (xs : List ℕ) → n ≤ MOST_PERSONS → AllByRecursion (I
 few_all n [] l h = tt
 few_all n (x ∷ xs) l h = (number_within n MOST_PERSONS x l h.0, few_all n xs l h.1)
 
--- what every member meets
+-- what holds of every member
 each_member : (P : ℕ → Type 0) (xs : List ℕ) → ((x : ℕ) → Contains xs x → P x) → AllByRecursion P xs
 each_member P [] f = tt
 each_member P (x ∷ xs) f = (f x (contains_first x xs), each_member P xs (λ y m. f y (contains_later x xs y m)))

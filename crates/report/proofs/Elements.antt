@@ -1,4 +1,4 @@
--- What holds of each element of two lists, one behind the other.
+-- What holds of each element of two lists, one after the other.
 use Rattle.std.proofs.Common.{List, [], ◌∷◌, ◌++◌}
 use Rattle.std.specs.List.{AllByRecursion}
 

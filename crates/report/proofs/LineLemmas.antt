@@ -1,4 +1,4 @@
--- Lines: what is read was written so, and what is written is read.
+-- Lines: what is read was written like this, and what is written is read again.
 use Rattle.std.proofs.Common.{◌≡◌, ℕ, ℤ, pos, negsuc, nat_abs, suc, ◌<◌, ◌≤◌, ◌+◌, ◌^◌, List, [], ◌∷◌, Bool, true, false, cond, eqb, ltb, leb, ◌&&◌, Option, Some, None, length, map, refl, sym, ap, subst, ◌∙◌, arith, decimal, codes}
 use Rattle.std.specs.Fmt.{signed_decimal}
 use Rattle.std.specs.List.{AllByRecursion}
@@ -140,7 +140,7 @@ sense_word_is word sense e = picked_sense (bytes_eq word (codes "min")) (bytes_e
     picked_sense false true p q e = let is : Max ≡ sense = cc in (bytes_eq-Decides word (codes "max")).0 q ∙ ap sense_word is
     picked_sense false false p q e = absurd cc
 
--- a line of one word behind its name
+-- a line with one word after its name
 one_takes : {A : Type 0} (read : List ℕ → Option A) (made : A → Line) (name : List ℕ) (written : A → List ℕ)
     → ((w : List ℕ) (x : A) → read w ≡ Some x → (w ≡ written x) × IsInRange (made x)) → ((x : A) → line_words (made x) ≡ name ∷ written x ∷ [])
     → (ws : List (List ℕ)) (line : Line) → (first_by read ws >>= λ s. at_end (made s.0) s.1) ≡ Some line → IsWritten name ws line
@@ -219,7 +219,7 @@ list_takes ws xs e =
     let count = eqb-true (length ns.0) n.0.0 c.0 in
     subst (λ ys. (ws ≡ decimal (length ys) ∷ map decimal ys) × (is_rising 0 ys ≡ true)) c.1 (listed ws n.0.1 w.0 (decimal n.0.0) (decimal (length ns.0)) (map decimal ns.0) w.1 t.0 (ap decimal count) r.0, r.1)
 
--- a line of a list behind its name
+-- a line with a list after its name
 list_line_takes : (made : List ℕ → Line) (name : List ℕ) → ((xs : List ℕ) → line_words (made xs) ≡ name ∷ decimal (length xs) ∷ map decimal xs) → ((xs : List ℕ) → is_rising 0 xs ≡ true → IsInRange (made xs))
     → (ws : List (List ℕ)) (line : Line) → (read_list ws >>= λ xs. Some (made xs)) ≡ Some line → IsWritten name ws line
 list_line_takes made name words range ws line e =

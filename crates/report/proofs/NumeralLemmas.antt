@@ -1,4 +1,4 @@
--- Numbers and their digits: what is read was written so, and what is written is read.
+-- Numbers and their digits: what is read was written like this, and what is written is read again.
 use Rattle.std.proofs.Common.{◌≡◌, ℕ, ℤ, pos, negsuc, nat_abs, suc, zero, ◌<◌, ◌≤◌, ◌+◌, ◌*◌, ◌^◌, List, [], ◌∷◌, Bool, true, false, cond, eqb, leb, ◌&&◌, Option, Some, None, length, refl, ap, ◌∙◌, arith, decimal, rules}
 use Rattle.std.specs.Fmt.{signed_decimal}
 use Rattle.std.specs.Char.{digit_value}

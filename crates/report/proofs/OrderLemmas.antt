@@ -118,7 +118,7 @@ price_adds s cost rows prices j p next h e =
     ∙ sym (append_assoc (sense_lines s) (cost_line cost ∷ (assign_lines 1 rows ++ price_lines 1 prices)) (price_line j p ∷ [])) in
     subst (Adds (with_prices s cost rows prices) (price_line j p)) t.1 (lines, (h.0, h.1, h.2, omega (arith, length_push prices p), omega (arith, length_push prices p), all-append (λ p. is_price s p ≡ true) prices (p ∷ []) h.5 (a.1, tt)), price_in_range s j p (omega (arith, h.1)) a.1)
 
--- what a line adds
+-- the draft after one more line
 pub follow_adds : (d : Draft) (line : Line) (next : Draft) → IsDraft d → follow d line ≡ Some next → Adds d line next
 follow_adds nothing (sense_line s) next h e = let is : with_sense s ≡ next = cc in subst (Adds nothing (sense_line s)) is (refl, tt, tt)
 follow_adds nothing (cost_line c) next h e = cost_adds None c nothing next refl e

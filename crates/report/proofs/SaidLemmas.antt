@@ -74,7 +74,7 @@ prices_said s c rows front (p ∷ prices) j e l h =
     let long : length (front ++ p ∷ []) ≡ length front + 1 = length-append front (p ∷ []) in
     ap (λ d. follow_all d (price_lines (j + 1) prices)) here ∙ prices_said s c rows (front ++ p ∷ []) prices (j + 1) (omega arith) (omega arith) h.1 ∙ ap (λ xs. Some (with_prices s c rows xs)) (append_assoc front (p ∷ []) prices)
 
--- the price lines behind the rows, and the end
+-- the price lines after the rows, and the end
 abbrev Ends : Report → Option Draft → Type 0
 Ends r said = (d : Draft) × (said ≡ Some d) × (finish d ≡ Some r)
 
@@ -90,7 +90,7 @@ all_prices_said s c rows (Some (p ∷ prices)) some h =
 cost_said : (s : Option Sense) (c : ℤ) → is_total s c ≡ true → with_cost s c ≡ Some (with_rows s c [])
 cost_said s c h = rw h refl
 
--- the sense line, if there is one, and the line behind it
+-- the sense line, if there is one, and the line after it
 sense_said : (s : Option Sense) (c : ℤ) (lines : List Line) → is_total s c ≡ true → follow_all (Some nothing) (sense_lines s ++ cost_line c ∷ lines) ≡ follow_all (Some (with_rows s c [])) lines
 sense_said None c lines h = ap (λ d. follow_all d lines) (cost_said None c h)
 sense_said (Some s) c lines h = ap (λ d. follow_all d lines) (cost_said (Some s) c h)

@@ -26,7 +26,7 @@ byte_in_line at k d line b l ne =
     let no : eqb b 10 ≡ false = ne_eqb b 10 ne in
     rw (room, no) refl
 
--- bytes that end no line
+-- bytes without a line feed
 pub inside_line : (at k : ℕ) (d : Draft) (line bytes : List ℕ) → IsWithinLine bytes → at + length bytes ≤ TEXT_LIMIT → after (Ok (at_state at k d line)) bytes ≡ Ok (at_state (at + length bytes) k d (line ++ bytes))
 inside_line at k d line [] h l = ap (λ (s : State). Ok s) (same_state at (at + 0) k k d line (line ++ []) (omega arith) refl (sym (append-nil line)))
 inside_line at k d line (b ∷ bytes) h l =

@@ -90,7 +90,7 @@ numbers_short : (last : ℕ) (xs : List ℕ) → is_rising last xs ≡ true → 
 numbers_short last [] h = tt
 numbers_short last (x ∷ xs) h = let p = rising_parts last x xs h in (small_short x p.1, numbers_short x xs p.2)
 
--- behind the word of a list line
+-- what follows the word of a list line
 list_short : (xs : List ℕ) → is_rising 0 xs ≡ true → length (behind_spaces (decimal (length xs) ∷ map decimal xs)) ≤ 40965
 list_short xs h =
     let few = rising_short 0 xs (omega arith) h in

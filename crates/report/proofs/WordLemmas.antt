@@ -10,7 +10,7 @@ use Rattle.report.specs.Words.{behind_spaces, joined}
 use Rattle.report.specs.inside.WordsLeft.{with_byte, words_of, HasNoSpace, words_left}
 use Rattle.report.specs.Answers.{IsWithinLine}
 
--- a line has one word at least
+-- a line has at least one word
 pub words_some : (bytes : List ℕ) → 0 < length (words_of bytes)
 words_some [] = omega arith
 words_some (b ∷ bytes) = some (eqb b 32) (words_of bytes)
@@ -35,7 +35,7 @@ joined_test : (b : ℕ) (t : Bool) (ws : List (List ℕ)) → eqb b 32 ≡ t →
 joined_test b true ws e h = joined_space ws h ∙ ap (λ x. x ∷ joined ws) (sym (eqb-true b 32 e))
 joined_test b false ws e h = joined_byte b ws
 
--- the words of a line make it again
+-- joining the words of a line gives the line
 pub joined-words_of : (bytes : List ℕ) → joined (words_of bytes) ≡ bytes
 joined-words_of [] = refl
 joined-words_of (b ∷ bytes) = joined_test b (eqb b 32) (words_of bytes) refl (words_some bytes) ∙ ap (λ x. b ∷ x) (joined-words_of bytes)
@@ -51,7 +51,7 @@ words_whole (b ∷ bytes) h =
     let no : eqb b 32 ≡ false = ne_eqb b 32 (h 0 (omega arith)) in
     ap (λ t. cond t ([] ∷ words_of bytes) (with_byte b (words_of bytes))) no ∙ ap (with_byte b) (words_whole bytes (λ k lt. h (suc k) (omega arith)))
 
--- the word in front of the first space, and the words behind it
+-- the word before the first space, and the words after it
 pub words_parted : (bytes : List ℕ) (at : ℕ) → at < length bytes → get_or bytes at 0 ≡ 32 → HasNoSpace bytes at → words_of bytes ≡ take at bytes ∷ words_of (drop (suc at) bytes)
 words_parted [] at lt e h = absurd (omega arith)
 words_parted (b ∷ bytes) zero lt e h = ap (λ t. cond t ([] ∷ words_of bytes) (with_byte b (words_of bytes))) (eq-eqb b 32 e)
@@ -66,7 +66,7 @@ words_split line word behind rest at lt e h w b r =
     let last : drop (suc at) line ≡ rest = sym (r ∙ ap (drop 1) b ∙ drop-drop 1 at line ∙ ap (λ n. drop n line) next) in
     words_parted line at lt e h ∙ rw (last, w) refl
 
--- no word is left just where no part of the line is
+-- no word is left exactly where no part of the line is left
 pub at_end_iff : (o : Option (Bor (List ℕ))) (ws : List (List ℕ)) (r : Bool) → words_left (option_copied o) ≡ ws → is_some o ≡ not r → IsTrue r ↔ (ws ≡ [])
 at_end_iff None ws true v e = (λ _. sym v, λ _. refl)
 at_end_iff None ws false v e = absurd cc
@@ -77,7 +77,7 @@ at_end_iff (Some b) ws false v e = (λ h. cc, λ h. absurd (no_words (words_of b
 abbrev pub IsWord : List ℕ → Type 0
 IsWord word = AllByRecursion (λ b. 32 < b) word
 
--- joined words have these words
+-- joined words are split into these words
 words_behind : (w : List ℕ) (ws : List (List ℕ)) → IsWord w → AllByRecursion IsWord ws → words_of (w ++ behind_spaces ws) ≡ w ∷ ws
 words_behind [] [] h k = refl
 words_behind [] (v ∷ vs) h k = ap (λ (x : List (List ℕ)). [] ∷ x) (words_behind v vs k.0 k.1)

@@ -32,7 +32,7 @@ sent_on old mid new text here more left f g = (
 pub cut_on : (old mid new : Option (List ℕ)) (text here more : List ℕ) → Sent old mid text (here ++ more) → IsCutOff mid new here → IsCutOff old new text
 cut_on old mid new text here more f g = (g.0 ++ more, omega (arith, g.1, length-append g.0 more), sent_on old mid new text here more g.0 f g.2)
 
--- more is held back behind what was
+-- more is held back after what was held back
 pub sent_more : (old new : Option (List ℕ)) (text left more : List ℕ) → Sent old new text left → Sent old new (text ++ more) (left ++ more)
 sent_more old new text left more f = (f.0, f.1, ap (λ t. t ++ more) f.2 ∙ append_assoc f.0 left more)
 
@@ -101,9 +101,9 @@ put_end old new text kept rest e f = (f.0, f.1, f.2 ∙ ap (λ t. f.0 ++ t) (ap 
 sent_next : (old mid new : Option (List ℕ)) (a b c : List ℕ) → Sent old mid a b → Sent mid new b c → Sent old new a c
 sent_next old mid new a b c f g = (f.0 ++ g.0, Appends-trans old mid new f.0 g.0 f.1 g.1, f.2 ∙ ap (λ t. f.0 ++ t) g.2 ∙ sym (append_assoc f.0 g.0 c))
 
--- Parts of a text, one after the other: each goes out or is held back, but the last one may fail.
+-- Parts of a text, one after the other: each is written or held back, but the last one may fail.
 
--- a part that was cut off, and one that was to come
+-- a part that was cut off, and one that was to follow
 pub cut_more : (old new : Option (List ℕ)) (kept a b : List ℕ) → IsCutOff old new (kept ++ a) → IsCutOff old new (kept ++ (a ++ b))
 cut_more old new kept a b f =
     let s = sent_more old new (kept ++ a) f.0 b f.2 in
@@ -112,7 +112,7 @@ cut_more old new kept a b f =
 longer : (old mid : Option (List ℕ)) (kept held a b : List ℕ) → Sent old mid (kept ++ a) held → Sent old mid (kept ++ (a ++ b)) (held ++ b)
 longer old mid kept held a b f = let s = sent_more old mid (kept ++ a) held b f in (s.0, s.1, sym (append_assoc kept a b) ∙ s.2)
 
--- a part, and one behind it that was cut off
+-- a part, and a part after it that was cut off
 pub then_cut : (old mid new : Option (List ℕ)) (kept held a b : List ℕ) → Sent old mid (kept ++ a) held → IsCutOff mid new (held ++ b) → IsCutOff old new (kept ++ (a ++ b))
 then_cut old mid new kept held a b f g = (g.0, g.1, sent_next old mid new (kept ++ (a ++ b)) (held ++ b) g.0 (longer old mid kept held a b f) g.2)
 
@@ -120,7 +120,7 @@ then_cut old mid new kept held a b f g = (g.0, g.1, sent_next old mid new (kept 
 pub then_sent : (old mid new : Option (List ℕ)) (kept held last a b : List ℕ) → Sent old mid (kept ++ a) held → Sent mid new (held ++ b) last → Sent old new (kept ++ (a ++ b)) last
 then_sent old mid new kept held last a b f g = sent_next old mid new (kept ++ (a ++ b)) (held ++ b) last (longer old mid kept held a b f) g
 
--- a part, and what became of the one behind it
+-- a part, and the result of the part after it
 pub then_puts : {X : Type 0} (old mid new : Option (List ℕ)) (kept held last : List ℕ) (r : Result X WriteFault) (a b : List ℕ)
     → Sent old mid (kept ++ a) held → Puts mid new held last r b → Puts old new kept last r (a ++ b)
 then_puts old mid new kept held last (Ok x) a b f g = then_sent old mid new kept held last a b f g
@@ -137,7 +137,7 @@ first_of_three old new kept text a b c e f = as_other old new kept text ((a ++ b
 pub second_of_three : (old mid new : Option (List ℕ)) (kept held text a b c : List ℕ) → text ≡ (a ++ b) ++ c → Sent old mid (kept ++ a) held → IsCutOff mid new (held ++ b) → IsCutOff old new (kept ++ text)
 second_of_three old mid new kept held text a b c e f g = as_other old new kept text ((a ++ b) ++ c) e (cut_more old new kept (a ++ b) c (then_cut old mid new kept held a b f g))
 
--- what became of the third one
+-- the result of the third one
 pub third_of_three : {X : Type 0} (old one two new : Option (List ℕ)) (kept first second last : List ℕ) (r : Result X WriteFault) (text a b c : List ℕ) → text ≡ (a ++ b) ++ c
     → Sent old one (kept ++ a) first → Sent one two (first ++ b) second → Puts two new second last r c → Puts old new kept last r text
 third_of_three old one two new kept first second last r text a b c e f g h =
@@ -158,13 +158,13 @@ pub third_of_four : (old one two new : Option (List ℕ)) (kept first second tex
 third_of_four old one two new kept first second text a b c d e f g h =
     as_other old new kept text (((a ++ b) ++ c) ++ d) e (cut_more old new kept ((a ++ b) ++ c) d (then_cut old two new kept second (a ++ b) c (then_sent old one two kept first second a b f g) h))
 
--- what became of the fourth one
+-- the result of the fourth one
 pub fourth_of_four : {X : Type 0} (old one two three new : Option (List ℕ)) (kept first second third last : List ℕ) (r : Result X WriteFault) (text a b c d : List ℕ) → text ≡ ((a ++ b) ++ c) ++ d
     → Sent old one (kept ++ a) first → Sent one two (first ++ b) second → Sent two three (second ++ c) third → Puts three new third last r d → Puts old new kept last r text
 fourth_of_four old one two three new kept first second third last r text a b c d e f g h k =
     subst (Puts old new kept last r) (sym e) (then_puts old three new kept third last r ((a ++ b) ++ c) d (then_sent old two three kept second third (a ++ b) c (then_sent old one two kept first second a b f g) h) k)
 
--- what is held back in the end goes out
+-- what is held back at the end is written
 pub all_out : {X : Type 0} (old mid new : Option (List ℕ)) (text held : List ℕ) (r : Result X WriteFault) → Sent old mid ([] ++ text) held → Writes mid new r held → Writes old new r text
 all_out old mid new text held (Ok x) f g = whole old new (f.0 ++ held) text (sym f.2) (Appends-trans old mid new f.0 held f.1 g)
   where

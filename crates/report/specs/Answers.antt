@@ -1,4 +1,4 @@
--- What the reading of a text answers: its report, or its first fault.
+-- The answer to a text: its report, or its first fault.
 use Rattle.std.specs.Prelude.{◌≡◌, ◌≢◌, ℕ, ◌+◌, ◌<◌, ◌≤◌, ◌⊎◌, List, [], ◌∷◌, ◌++◌, None, Some, Result, Ok, Err, length, take}
 use Rattle.std.specs.List.{AllByRecursion}
 use Rattle.report.specs.declared.fault.ReportFault.{ReportFault}
@@ -8,11 +8,11 @@ use Rattle.report.specs.Reports.{Report, IsReport}
 use Rattle.report.specs.Lines.{Line, line_text, lines_text, report_lines, report_text}
 use Rattle.report.specs.Order.{Draft, follow, finish, said_by}
 
--- no line feed is among the bytes
+-- none of the bytes is a line feed
 abbrev pub IsWithinLine : List ℕ → Type 0
 IsWithinLine bytes = AllByRecursion (λ b. b ≢ 10) bytes
 
--- the bytes begin with lines that may stand there, and go on with these
+-- the bytes begin with lines that may stand there, and go on with the rest
 pub record Begins (bytes : List ℕ) (lines : List Line) (draft : Draft) (rest : List ℕ) : Type 0 where
   pub parts : bytes ≡ lines_text lines ++ rest
   pub order : said_by lines ≡ Some draft
@@ -22,12 +22,12 @@ abbrev pub BeginsReport : List Line → Type 0
 BeginsReport lines = (report : Report) × (more : List Line) × IsReport report
     × (report_lines report ≡ lines ++ more)
 
--- these bytes are no line that may stand behind the draft
+-- these bytes aren't a line that may follow the draft
 abbrev pub IsNoLine : Draft → List ℕ → Type 0
 IsNoLine draft bytes =
     (line : Line) (next : Draft) → line_text line ≡ bytes → follow draft line ≡ Some next → ⊥
 
--- line number k ends within the limit, and is none that may stand there
+-- line number k ends within the limit, and may not stand there
 abbrev pub HasBadLine : List ℕ → ℕ → Type 0
 HasBadLine bytes k = (lines : List Line) × (draft : Draft) × (line rest : List ℕ)
     × Begins bytes lines draft (line ++ 10 ∷ rest) × (k ≡ length lines + 1) × IsWithinLine line
@@ -44,13 +44,13 @@ abbrev pub EndsBefore : List ℕ → ℕ → Type 0
 EndsBefore bytes k = (lines : List Line) × (draft : Draft) × Begins bytes lines draft []
     × (k ≡ length lines + 1) × (finish draft ≡ None) × (length bytes ≤ TEXT_LIMIT)
 
--- the text goes past the limit, and each line that ends within it may stand where it does
+-- the text goes beyond the limit, and each line that ends within it may stand where it does
 abbrev pub IsTooLong : List ℕ → Type 0
 IsTooLong bytes = (lines : List Line) × (draft : Draft) × (line : List ℕ)
     × Begins (take TEXT_LIMIT bytes) lines draft line × IsWithinLine line
     × (TEXT_LIMIT < length bytes)
 
--- want of memory and the reader's failures aside, this is the fault of the text
+-- this is the fault of the text; nothing is said of `Memory` and `Read`
 abbrev pub HasFault : List ℕ → ReportFault → Type 0
 HasFault bytes (faults.Line k) = HasBadLine bytes k ⊎ EndsInside bytes k
 HasFault bytes faults.TooLong = IsTooLong bytes
@@ -63,12 +63,12 @@ pub record IsTextOf (bytes : List ℕ) (report : Report) : Type 0 where
   pub allowed : IsReport report
   pub text : bytes ≡ report_text report
 
--- what the bytes are to be answered with
+-- the right answer to the bytes
 abbrev pub Answers : List ℕ → Result Report ReportFault → Type 0
 Answers bytes (Ok report) = IsTextOf bytes report
 Answers bytes (Err fault) = HasFault bytes fault
 
--- answers that speak of the text, and not of memory or of the reader
+-- answers about the text, not about memory or the reader
 abbrev pub SpeaksOfText : Result Report ReportFault → Type 0
 SpeaksOfText (Err faults.Read) = ⊥
 SpeaksOfText (Err faults.Memory) = ⊥

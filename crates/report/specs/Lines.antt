@@ -35,7 +35,7 @@ line_words (objects_line xs) = codes "objects" ∷ decimal (length xs) ∷ map d
 abbrev pub line_text : Line → List ℕ
 line_text line = joined (line_words line)
 
--- lines, each with a line feed behind it
+-- lines, each followed by a line feed
 abbrev pub lines_text : List Line → List ℕ
 lines_text [] = []
 lines_text (line ∷ lines) = line_text line ++ 10 ∷ lines_text lines

@@ -1,4 +1,4 @@
--- Which line may stand where.
+-- The order of lines.
 use Rattle.std.specs.Prelude.{ℕ, ℤ, ◌+◌, List, [], ◌∷◌, ◌++◌, Option, None, Some, nat_lt, nat_le, ◌==◌, ◌&&◌, if◌then◌else◌, length}
 use Rattle.assign_core.specs.declared.numbers.TheConstants.{MOST_PERSONS}
 use Rattle.assign_core.specs.declared.sense.Sense.{Sense}
@@ -11,7 +11,7 @@ pub data Draft : Type 0 where
   with_sense : Sense → Draft
   -- a cost, and the rows so far
   with_rows : Option Sense → ℤ → List (ℕ × ℤ) → Draft
-  -- a cost, all rows, and the prices so far, one at least
+  -- a cost, all rows, and the prices so far, at least one
   with_prices : Option Sense → ℤ → List (ℕ × ℤ) → List ℤ → Draft
   infeasible : Option Sense → Draft
   with_persons : Option Sense → List ℕ → Draft
@@ -27,19 +27,19 @@ row_more sense cost rows i j c =
     if (i == length rows + 1) && nat_le i MOST_PERSONS && is_entry sense (j, c)
     then Some (with_rows sense cost (rows ++ (j, c) ∷ [])) else None
 
--- the first price, behind one row at least
+-- the first price, after at least one row
 abbrev pub first_price : Option Sense → ℤ → List (ℕ × ℤ) → ℕ → ℤ → Option Draft
 first_price sense cost rows j p =
     if (j == 1) && nat_lt 0 (length rows) && is_price sense p
     then Some (with_prices sense cost rows (p ∷ [])) else None
 
--- the next price, as long as there are rows
+-- the next price, up to the number of rows
 abbrev pub price_more : Option Sense → ℤ → List (ℕ × ℤ) → List ℤ → ℕ → ℤ → Option Draft
 price_more sense cost rows prices j p =
     if (j == length prices + 1) && nat_lt (length prices) (length rows) && is_price sense p
     then Some (with_prices sense cost rows (prices ++ p ∷ [])) else None
 
--- what a line adds, where it may stand
+-- the draft with one more line, if the line may stand there
 abbrev pub follow : Draft → Line → Option Draft
 follow nothing (sense_line sense) = Some (with_sense sense)
 follow nothing (cost_line c) = with_cost None c
@@ -55,7 +55,7 @@ follow (with_persons sense persons) (objects_line xs) =
     if is_rising 0 xs then Some (with_objects sense persons xs) else None
 follow draft line = None
 
--- the report, where the text may end
+-- the report, if the text may end there
 abbrev pub finish : Draft → Option Report
 finish (with_rows sense cost rows) =
     if nat_lt 0 (length rows) then Some (best sense cost rows None) else None
@@ -68,11 +68,11 @@ abbrev pub and_follow : Option Draft → Line → Option Draft
 and_follow None line = None
 and_follow (Some draft) line = follow draft line
 
--- what these lines add, one after the other
+-- the draft after these lines
 abbrev pub follow_all : Option Draft → List Line → Option Draft
 follow_all draft [] = draft
 follow_all draft (line ∷ lines) = follow_all (and_follow draft line) lines
 
--- what lines from the start of a text have said
+-- the draft after lines from the start of a text
 abbrev pub said_by : List Line → Option Draft
 said_by lines = follow_all (Some nothing) lines

@@ -1,22 +1,23 @@
--- What a report says, and the ranges of its numbers.
+-- The content of a report, and the ranges of its numbers.
 use Rattle.std.specs.Prelude.{◌≡◌, ℕ, ℤ, pos, negsuc, ◌*◌, ◌<◌, ◌≤◌, List, [], ◌∷◌, Option, None, Some, Bool, true, false, IsTrue, nat_lt, nat_le, ◌&&◌, length, nat_abs}
 use Rattle.std.specs.List.{AllByRecursion}
 use Rattle.assign_core.specs.declared.numbers.TheConstants.{MOST_PERSONS, GREATEST_COST, PRICE_END}
 use Rattle.assign_core.specs.declared.sense.Sense.{Sense}
 use Rattle.report.specs.declared.limits.TheConstants.{FIRST_GREATEST_COST, FIRST_PRICE_END}
 
--- A best assignment: the sense, the cost, object and cost of each person, and the prices, if they
--- are given. Or a Hall set: the sense, persons and objects. Version 1 of the format has no sense.
+-- An optimal assignment: the sense, the cost, each person's object and cost, and the prices, if
+-- they are given. Or a Hall set: the sense, persons and objects. Version 1 of the format has no
+-- sense.
 pub data Report : Type 0 where
   best : Option Sense → ℤ → List (ℕ × ℤ) → Option (List ℤ) → Report
   hall : Option Sense → List ℕ → List ℕ → Report
 
--- how far from 0 the cost of a pair may be
+-- the greatest absolute value of a pair's cost
 abbrev pub cost_limit : Option Sense → ℕ
 cost_limit None = nat_abs FIRST_GREATEST_COST
 cost_limit (Some sense) = nat_abs GREATEST_COST
 
--- how far from 0 the cost of all pairs may be
+-- the greatest absolute value of the cost of all pairs
 abbrev pub total_limit : Option Sense → ℕ
 total_limit sense = MOST_PERSONS * cost_limit sense
 
@@ -31,7 +32,7 @@ is_cost sense c = nat_le (nat_abs c) (cost_limit sense)
 abbrev pub is_total : Option Sense → ℤ → Bool
 is_total sense c = nat_le (nat_abs c) (total_limit sense)
 
--- from 0 on, below the end of prices
+-- at least 0, and below the end of prices
 abbrev pub is_price : Option Sense → ℤ → Bool
 is_price sense (pos p) = nat_lt p (price_end sense)
 is_price sense (negsuc p) = false
@@ -46,12 +47,12 @@ ArePrices sense n None = Unit {0}
 ArePrices sense n (Some prices) =
     (length prices ≡ n) × AllByRecursion (λ p. IsTrue (is_price sense p)) prices
 
--- each number is above the one before it, the first above this number, none above the most persons
+-- the numbers rise, the first is above this number, and none is above the most persons
 abbrev pub is_rising : ℕ → List ℕ → Bool
 is_rising last [] = true
 is_rising last (x ∷ xs) = nat_lt last x && nat_le x MOST_PERSONS && is_rising x xs
 
--- what a report on a best assignment may say
+-- the allowed content of a report on an optimal assignment
 pub record IsBestReport (sense : Option Sense) (cost : ℤ) (rows : List (ℕ × ℤ)) (prices : Option (List ℤ)) : Type 0 where
   pub total : IsTrue (is_total sense cost)
   pub some : 0 < length rows
@@ -59,13 +60,13 @@ pub record IsBestReport (sense : Option Sense) (cost : ℤ) (rows : List (ℕ ×
   pub each : AllByRecursion (λ e. IsTrue (is_entry sense e)) rows
   pub priced : ArePrices sense (length rows) prices
 
--- what a report on a Hall set may say
+-- the allowed content of a report on a Hall set
 pub record IsHallReport (persons objects : List ℕ) : Type 0 where
   pub some : 0 < length persons
   pub persons_rise : IsTrue (is_rising 0 persons)
   pub objects_rise : IsTrue (is_rising 0 objects)
 
--- what a report may say
+-- the allowed content of a report
 abbrev pub IsReport : Report → Type 0
 IsReport (best sense cost rows prices) = IsBestReport sense cost rows prices
 IsReport (hall sense persons objects) = IsHallReport persons objects

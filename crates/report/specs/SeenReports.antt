@@ -12,7 +12,7 @@ seen_report (Best sense cost rows prices) =
     best sense cost rows.items (option_map (λ v. v.items) prices)
 seen_report (Hall sense persons objects) = hall sense persons.items objects.items
 
--- what came, as plain data
+-- the result as plain data
 abbrev pub seen_result : Result Report ReportFault → Result reports.Report ReportFault
 seen_result (Ok report) = Ok (seen_report report)
 seen_result (Err fault) = Err fault

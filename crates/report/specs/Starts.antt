@@ -7,7 +7,7 @@ use Rattle.report.specs.declared.fault.StartFault.{StartFault}
 use Rattle.report.specs.declared.fault.StartFault.TheVariants.{NoPrices, Length, Price}
 use Rattle.report.specs.Reports.{Report, best, hall}
 
--- the prices that a report gives
+-- the prices of a report, if it has them
 abbrev pub prices_in : Report → Option (List ℤ)
 prices_in (best sense cost rows prices) = prices
 prices_in (hall sense persons objects) = None
@@ -22,7 +22,7 @@ pub record IsFirstTooGreat (prices : List ℤ) (j : ℕ) : Type 0 where
   pub great : GREATEST_FIRST_PRICE <ℤ price_of prices j
   pub before : All IsFirstPrice (take (j - 1) prices)
 
--- the report gives these prices, one for each of n objects, and none is too great
+-- the report has these prices, one for each of n objects, and none is too great
 pub record IsStart (report : Report) (n : ℕ) (prices : List ℤ) : Type 0 where
   pub given : prices_in report ≡ Some prices
   pub long : length prices ≡ n

@@ -1,4 +1,4 @@
-// What the lines of a report have said so far, and what the next one adds.
+// What the lines of a report have said so far, and what the next line adds.
 ghost use Rattle.std.specs.Prelude.{◌≡◌, IfOk};
 ghost use Rattle.std.specs.Option.{option_map};
 ghost use Rattle.report.specs.Order;
@@ -48,7 +48,7 @@ fn first_line(alloc: Global, line: Line) -> Option<Draft>
     }
 }
 
-// The line behind the sense.
+// The line after the sense.
 fn behind_sense(alloc: Global, sense: Sense, line: Line) -> Option<Draft>
     ensures { option_map seen_draft result
         ≡ Order.follow (Order.with_sense sense) (seen_line line) }
@@ -144,7 +144,7 @@ fn hall_objects(sense: Option<Sense>, persons: Vec<Person>, line: Line) -> Optio
 }
 
 impl Draft {
-    /// What a line adds, where it may stand.
+    /// The draft with one more line; `None` if the line may not stand there.
     pub fn follow(self, alloc: Global, line: Line) -> Result<Option<Draft>, AllocError>
         requires { IsInRange (seen_line line) }
         ensures { IfOk result
@@ -163,7 +163,7 @@ impl Draft {
         }
     }
 
-    /// The report, where the text may end.
+    /// The report; `None` if the text may not end here.
     pub fn finish(self) -> Option<Report>
         ensures { option_map seen_report result ≡ Order.finish (seen_draft self) }
     {

@@ -12,8 +12,8 @@ ghost use Rattle.report.specs.Reports.{Report, IsReport, cost_limit, price_end, 
 
 use crate::limits::TEXT_LIMIT;
 
-/// Which numbers the limits are: of any text, of version 1, which names no sense, and of version 2,
-/// whatever sense it names.
+/// The limits as numbers: of any text, of version 1, which names no sense, and of version 2, which
+/// names one.
 pub fn report_limits()
     ensures text { TEXT_LIMIT ≡ 2 ^ 20 }
     ensures first_costs { cost_limit None ≡ 10 ^ 6 }
@@ -24,14 +24,14 @@ pub fn report_limits()
     ensures prices { (sense : Sense) → price_end (Some sense) ≡ 10 ^ 22 }
 {}
 
-/// No two reports have one text.
+/// No two reports have the same text.
 pub fn one_text()
     ensures { (first second : Report) → IsReport first → IsReport second
         → report_text first ≡ report_text second → first ≡ second }
 {}
 
-/// Each text has an answer that speaks of the text alone, and no other: where the answer is a
-/// fault, that fault stands exactly where the definition says.
+/// Each text has only one answer that speaks of the text, not of memory or the reader. A fault is
+/// the answer exactly where its definition holds.
 pub fn one_answer()
     ensures some { (bytes : List ℕ) → (answer : Result Report ReportFault)
         × SpeaksOfText answer × Answers bytes answer }
@@ -40,8 +40,8 @@ pub fn one_answer()
         → Answers bytes first → Answers bytes second → first ≡ second }
 {}
 
-/// Lines may stand at the start of a text exactly where some report begins with them, and the text
-/// may end behind them only where they are all lines of a report.
+/// Lines may stand at the start of a text exactly where some report begins with them. If they are
+/// all lines of a report, the text may end after them.
 pub fn lines_begin_reports()
     ensures some { (lines : List Line) (draft : Draft)
         → said_by lines ≡ Some draft → BeginsReport lines }
@@ -56,7 +56,7 @@ pub fn short_text()
     ensures { (report : Report) → IsReport report → length (report_text report) ≤ TEXT_LIMIT }
 {}
 
-/// What is written is the text of a report, so that it can be read.
+/// A text that is written is that of a report, so it can be read.
 pub fn written_is_report()
     ensures { (rows : List Listing) (sense : Sense) (outcome : Outcome) (prices : Bool)
         → IsProblem rows → IsOutcome rows outcome

@@ -1,6 +1,6 @@
 //! The text of a report: written for a problem and an outcome, and read back.
 //!
-//! The report on a best assignment of two persons, with the prices that prove it:
+//! The report on an optimal assignment of two persons, with the prices that prove it:
 //!
 //! ```text
 //! sense min
@@ -11,7 +11,7 @@
 //! price 2 12
 //! ```
 //!
-//! And on two persons who list one object alone, so that there is no assignment:
+//! And on two persons who list the same single object, so that no assignment exists:
 //!
 //! ```text
 //! sense min
@@ -20,8 +20,8 @@
 //! objects 1 1
 //! ```
 //!
-//! This is version 2 of the format, which is what is written. Version 1 has no line of the sense, and
-//! narrower ranges of costs and prices; it is read as well.
+//! This is version 2 of the format, the one that is written. Version 1 has no line for the sense,
+//! and narrower ranges of costs and prices; it is read as well.
 #![tactic(auto)]
 
 mod draft;

@@ -1,10 +1,10 @@
-// The limits of the format, beside those of problems.
+// The limits of the format, in addition to those of problems.
 use assign_core::{Cost, Price};
 
-/// A report has at most so many bytes.
+/// The greatest number of bytes of a report.
 pub const TEXT_LIMIT: u64 = 1 << 20;
 
-/// In version 1 no cost of a pair is above this, nor below its negation.
+/// The greatest absolute value of a pair's cost in version 1.
 pub const FIRST_GREATEST_COST: Cost = 1_000_000;
 
 /// In version 1 prices are below this.

@@ -11,7 +11,7 @@ use crate::words::Words;
 use assign_core::{Cost, Object, Person, Price, Sense};
 use std::alloc::{AllocError, Global};
 
-/// What a line says.
+/// The content of a line.
 #[derive(Drop)]
 pub enum Line {
     Sense(Sense),
@@ -99,7 +99,7 @@ fn objects_line(alloc: Global, words: &mut Words) -> Result<Option<Line>, AllocE
     Ok(Some(Line::Objects(objects)))
 }
 
-// What the words behind the first one are read as.
+// The line with this first word and the words after it.
 fn line_behind(alloc: Global, word: &[u8], words: &mut Words) -> Result<Option<Line>, AllocError>
     ensures { IfOk result (λ x. option_map seen_line x ≡ read_behind word.now words.old) }
 {
@@ -122,7 +122,7 @@ fn line_behind(alloc: Global, word: &[u8], words: &mut Words) -> Result<Option<L
     }
 }
 
-/// The line that bytes are, if they are one.
+/// The line that these bytes are, if they are one.
 #[tactic(auto, unfolding(crate::specs::inside::Reading::line_in))]
 pub fn line_in(alloc: Global, bytes: &[u8]) -> Result<Option<Line>, AllocError>
     ensures { IfOk result (λ x. option_map seen_line x ≡ Reading.line_in bytes.now) }

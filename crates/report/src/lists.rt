@@ -1,4 +1,4 @@
-// The numbers of a list line: how many there are, and then each above the one before.
+// The numbers of a list line: their count, and then the numbers, rising.
 ghost use Rattle.std.specs.Prelude.{◌≡◌, IfOk, map};
 ghost use Rattle.std.specs.Option.{option_map};
 ghost use Rattle.report.specs.inside.Reading.{read_list, read_rising};
@@ -8,7 +8,7 @@ use crate::words::Words;
 use assign_core::Numbered;
 use std::alloc::{AllocError, Global};
 
-// The numbers to the last word, if each is above the one before.
+// The numbers up to the last word, if they rise.
 fn rising<N: Numbered>(alloc: Global, words: &mut Words) -> Result<Option<Vec<N>>, AllocError>
     ensures { IfOk result
         (λ x. option_map (λ v. map N.number_of v.items) x ≡ read_rising 0 words.old) }
@@ -28,10 +28,10 @@ fn rising<N: Numbered>(alloc: Global, words: &mut Words) -> Result<Option<Vec<N>
     Ok(Some(numbers))
 }
 
-/// The numbers of a list line, from the words behind its first one.
+/// The numbers of a list line, from the words after its first one.
 ///
 /// # Errors
-/// Only where memory is refused.
+/// `AllocError` if memory is refused.
 #[tactic(auto, unfolding(crate::specs::inside::Reading::read_list))]
 pub fn list_in<N: Numbered>(alloc: Global, words: &mut Words) -> Result<Option<Vec<N>>, AllocError>
     ensures { IfOk result (λ x. option_map (λ v. map N.number_of v.items) x ≡ read_list words.old) }

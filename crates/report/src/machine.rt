@@ -1,4 +1,4 @@
-// Takes the text of a report byte by byte.
+// Reads the text of a report byte by byte.
 ghost use Rattle.std.specs.Prelude.{◌≡◌, ◌≤◌, ◌<◌, ◌+◌, IfOk, Ok, OnOk, length};
 ghost use Rattle.std.specs.Option.{option_map};
 ghost use Rattle.report.specs.inside.Steps;
@@ -15,7 +15,7 @@ use std::alloc::{AllocError, Global};
 use std::marker::Model;
 use std::mem;
 
-/// How far a text has come: bytes and lines, what the lines said, and the line that is open.
+/// How far a text has come: bytes and lines, what the lines said, and the open line.
 #[derive(Drop)]
 pub struct Machine {
     alloc: Global,
@@ -43,7 +43,7 @@ impl Model for Machine {
     ghost invariant = { λ m. (m.at ≤ TEXT_LIMIT) × (m.lines ≤ m.at) };
 }
 
-// What a line's bytes add to a draft.
+// The draft after a line of these bytes.
 #[tactic(auto, unfolding(crate::specs::inside::Steps::taken))]
 fn taken(alloc: Global, draft: Draft, bytes: &[u8]) -> Result<Option<Draft>, AllocError>
     ensures { IfOk result
@@ -69,7 +69,7 @@ impl Machine {
         }
     }
 
-    // The open line ends.
+    // Ends the open line.
     fn end_line(&mut self) -> Result<(), ReportFault>
         requires { self.old.at < TEXT_LIMIT }
         ensures gives { Gives (λ _. self.new) result
@@ -90,7 +90,7 @@ impl Machine {
         }
     }
 
-    /// Takes one byte more.
+    /// Takes one more byte.
     pub fn feed(&mut self, b: u8) -> Result<(), ReportFault>
         ensures step { Gives (λ _. self.new) result (step self.old b) }
         ensures at { OnOk result (self.new.at ≡ self.old.at + 1) }
@@ -109,13 +109,13 @@ impl Machine {
         Ok(())
     }
 
-    /// Takes these bytes, one after the other.
+    /// Takes these bytes.
     pub fn feed_all(&mut self, bytes: &[u8]) -> Result<(), ReportFault>
         ensures after { Gives (λ _. self.new) result (after (Ok self.old) bytes.now) }
         ensures at { OnOk result (self.new.at ≡ self.old.at + length bytes.now) }
         ensures bound { self.new.at ≤ TEXT_LIMIT }
     {
-        // Opens the model, which says that the text is within the limit so far.
+        // Opens the model, which shows the prover that the text is within the limit so far.
         let _ = &self.at;
         for b in bytes {
             match self.feed(*b) {

@@ -1,5 +1,5 @@
-// Numbers in words. A number's value is taken whatever its bytes are; then its digits are written
-// and compared, so that each number has one form.
+// Numbers in words. The value of a word's bytes is computed, written in digits and compared with
+// the word, so that each number has only one form.
 ghost use Rattle.std.specs.Prelude.{◌≡◌, ◌≤◌, length, IfSome};
 ghost use Rattle.report.specs.inside.Numerals;
 ghost use Rattle.report.specs.inside.Numerals.{value_after};
@@ -7,10 +7,10 @@ ghost use Rattle.report.specs.inside.Numerals.{value_after};
 use assign_core::{Cost, GREATEST_COST, MOST_PERSONS, PRICE_END, Price};
 use itoa::Buffer;
 
-/// No number of a report has more digits.
+/// No number of a report has more digits than this.
 pub const MOST_DIGITS: usize = 22;
 
-// The value of a short word's digits, whatever its bytes are.
+// The value of a short word as digits, whatever its bytes are.
 fn value_of(word: &[u8]) -> u128
     requires { length word.now ≤ MOST_DIGITS }
     ensures { result ≡ value_after 0 word.now }
@@ -22,7 +22,7 @@ fn value_of(word: &[u8]) -> u128
     value
 }
 
-// The number whose digits a word is.
+// The number whose digits are this word.
 #[tactic(auto, unfolding(crate::specs::inside::Numerals::numeral_in))]
 fn numeral_in(word: &[u8]) -> Option<u128>
     ensures { result ≡ Numerals.numeral_in word.now }
@@ -39,7 +39,7 @@ fn numeral_in(word: &[u8]) -> Option<u128>
     }
 }
 
-// A number of at most so much.
+// The number whose digits are this word, if it is at most `most`.
 fn numeral_within(most: u128, word: &[u8]) -> Option<u128>
     ensures value { result ≡ Numerals.numeral_within most word.now }
     ensures bound { IfSome result (λ n. n ≤ most) }
@@ -48,7 +48,7 @@ fn numeral_within(most: u128, word: &[u8]) -> Option<u128>
     if n <= most { Some(n) } else { None }
 }
 
-/// The number of a person or an object, or how many there are.
+/// A word as the number of a person or an object, or as a count.
 pub fn number_in(word: &[u8]) -> Option<u16>
     ensures value { result ≡ Numerals.number_in word.now }
     ensures bound { IfSome result (λ n. n ≤ MOST_PERSONS) }
@@ -57,7 +57,7 @@ pub fn number_in(word: &[u8]) -> Option<u16>
     Some(n as u16)
 }
 
-/// A cost, or a sum of costs; `-0` is none.
+/// A word as a cost, or as a sum of costs; `-0` isn't one.
 pub fn cost_in(word: &[u8]) -> Option<Cost>
     ensures { result ≡ Numerals.cost_in word.now }
 {
@@ -75,7 +75,7 @@ pub fn cost_in(word: &[u8]) -> Option<Cost>
     }
 }
 
-/// A price.
+/// A word as a price.
 pub fn price_in(word: &[u8]) -> Option<Price>
     ensures { result ≡ Numerals.price_in word.now }
 {

@@ -1,20 +1,20 @@
-// Bytes that are held back until there are enough of them for a write.
+// Bytes that are held back until they are enough for a write.
 ghost use Rattle.std.specs.Prelude.{◌≡◌, ◌+◌, ◌<◌, ◌≤◌, ◌↔◌, [], ◌∷◌, ◌++◌, IsTrue, length};
 
 use itoa::{Buffer, Integer};
 use std::marker::Model;
 
-/// So many bytes are held back at most.
+/// The greatest number of bytes held back.
 pub const ROOM: usize = 4096;
 
-/// No line but a list, and no part of a list, has more bytes. The parts of a list are its head,
-/// each of its numbers, and its end.
+/// The greatest number of bytes of a line that isn't a list, and of a part of a list. The parts of
+/// a list are its head, each of its numbers, and its end.
 pub const PART_ROOM: usize = 200;
 
-/// The word at the head of a list has at most so many bytes.
+/// The greatest number of bytes of the word at the head of a list.
 pub const WORD_ROOM: usize = 100;
 
-/// No number has more bytes, with the space before it.
+/// The greatest number of bytes of a number with the space before it.
 pub const NUMBER_ROOM: usize = 41;
 
 /// Bytes that are held back, at most `ROOM` of them.
@@ -60,7 +60,7 @@ impl Pending {
         &self.bytes[..self.len]
     }
 
-    /// Lets go of the bytes.
+    /// Drops the bytes.
     pub fn clear(&mut self)
         ensures { self.new ≡ [] }
     {

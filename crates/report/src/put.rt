@@ -1,5 +1,5 @@
-// The lines of a report, one at a time. Each makes room, which is all that can fail, and is held
-// back then.
+// The lines of a report, one at a time. Each call makes room, which alone can fail, and then holds
+// the line back.
 ghost use Rattle.std.specs.Prelude.{◌≡◌, ◌+◌, ◌≤◌, length, map, decimal, [], ◌∷◌, ◌++◌};
 ghost use Rattle.report.specs.Words.{behind_spaces, joined};
 ghost use Rattle.report.specs.Lines;
@@ -15,7 +15,7 @@ use std::io::Write;
 /// Puts the line of the sense.
 ///
 /// # Errors
-/// `Write` where the writer fails or takes no byte, here and below.
+/// `Write` if the writer fails or takes no byte; the same holds of the calls below.
 pub fn put_sense<W: Write>(w: &mut W, pending: &mut Pending, sense: Sense) -> Result<(), WriteFault>
     ensures { Puts (W.contents w.old) (W.contents w.new) pending.old pending.new result
         (lines_text (Lines.sense_line sense ∷ [])) }
@@ -78,7 +78,7 @@ pub fn put_price<W: Write>(
     Ok(())
 }
 
-/// Puts the line that there is no assignment.
+/// Puts the line that no assignment exists.
 pub fn put_infeasible<W: Write>(w: &mut W, pending: &mut Pending) -> Result<(), WriteFault>
     ensures { Puts (W.contents w.old) (W.contents w.new) pending.old pending.new result
         (lines_text (Lines.infeasible_line ∷ [])) }
@@ -88,7 +88,7 @@ pub fn put_infeasible<W: Write>(w: &mut W, pending: &mut Pending) -> Result<(), 
     Ok(())
 }
 
-// Puts the head of a list line: a word, and how many numbers follow.
+// Puts the head of a list line: a word and the count of the numbers.
 fn put_head<W: Write>(
     w: &mut W,
     pending: &mut Pending,
@@ -140,7 +140,7 @@ fn put_numbers<W: Write, N: Numbered>(
     Ok(())
 }
 
-/// Puts a list line: a word, how many numbers follow, and the numbers.
+/// Puts a list line: a word, the count of the numbers, and the numbers.
 pub fn put_list<W: Write, N: Numbered>(
     w: &mut W,
     pending: &mut Pending,

@@ -5,7 +5,7 @@ ghost use Rattle.report.specs.Reports;
 use crate::limits::{FIRST_GREATEST_COST, FIRST_PRICE_END};
 use assign_core::{Cost, GREATEST_COST, MOST_PERSONS, Object, PRICE_END, Price, Sense};
 
-// How far from 0 the cost of a pair may be.
+// The greatest absolute value of a pair's cost.
 fn cost_limit(sense: Option<Sense>) -> u64
     ensures { result ≡ Reports.cost_limit sense }
 {
@@ -38,7 +38,7 @@ pub fn is_total(sense: Option<Sense>, cost: Cost) -> bool
     cost.unsigned_abs() <= u64::from(MOST_PERSONS) * cost_limit(sense)
 }
 
-/// Whether a person may have this object at this cost.
+/// Whether a pair may have this object and this cost.
 pub fn is_entry(sense: Option<Sense>, object: Object, cost: Cost) -> bool
     ensures { result ≡ Reports.is_entry sense (object, cost) }
 {

@@ -13,11 +13,11 @@ use crate::value::Report;
 use std::alloc::Global;
 use std::io::Read;
 
-// So many bytes are read at once.
+// The number of bytes of a read.
 const PIECE: usize = 16384;
 
-// The report that a text gives, taken byte by byte. Each read takes a byte at least, so that so many
-// reads suffice for every text within the limit.
+// The report of a text, read byte by byte. Each read takes at least one byte, so these reads
+// suffice for every text within the limit.
 #[tactic(auto, unfolding(crate::specs::inside::Steps::reading))]
 fn read_all<R: Read>(alloc: Global, r: &mut R) -> Result<Report, ReportFault>
     ensures reading { IfSome (R.remaining r.old) (λ bytes. Reads result (reading bytes)) }
@@ -41,12 +41,11 @@ fn read_all<R: Read>(alloc: Global, r: &mut R) -> Result<Report, ReportFault>
     Err(ReportFault::TooLong)
 }
 
-/// Reads a report of version 1 or 2. The text is taken in pieces as they come, and each line is
-/// judged when its line feed has come.
+/// Reads a report of version 1 or 2, in pieces of any size. Each line is judged at its line feed.
 ///
 /// # Errors
-/// The first fault of the text; `Read` where the reader fails, also where it is interrupted;
-/// `Memory` where a growth is refused. The reader stands where it stopped.
+/// The first fault of the text; `Read` if the reader fails or is interrupted; `Memory` if memory is
+/// refused. The reader stays where the reading stopped.
 pub fn read_report<R: Read>(alloc: Global, r: &mut R) -> Result<Report, ReportFault>
     ensures answer { IfSome (R.remaining r.old) (λ bytes. Answers bytes (seen_result result)) }
     ensures allowed { IfOk result (λ report. IsReport (seen_report report)) }

@@ -1,4 +1,4 @@
-// Lets bytes go out.
+// Writes bytes.
 ghost use Rattle.std.specs.Prelude.{◌≡◌, ◌+◌, ◌≤◌, [], length, OnOk};
 ghost use Rattle.report.specs.Writing.{Writes};
 ghost use Rattle.report.specs.inside.Holding.{Puts};
@@ -7,11 +7,11 @@ use crate::fault::WriteFault;
 use crate::pending::{PART_ROOM, Pending, ROOM};
 use std::io::Write;
 
-/// Writes all of a text, in as few pieces as the writer takes. Takes no memory.
+/// Writes all of a text, in as few pieces as the writer takes. It takes no memory.
 ///
 /// # Errors
-/// `Write` where the writer fails, also where it is interrupted, or takes no byte. A beginning of
-/// the text, and not all of it, has then gone out.
+/// `Write` if the writer fails, is interrupted or takes no byte. A beginning of the text, but not
+/// all of it, is then written.
 pub fn write_text<W: Write>(w: &mut W, text: &[u8]) -> Result<(), WriteFault>
     ensures { Writes (W.contents w.old) (W.contents w.new) result text.now }
 {
@@ -27,10 +27,10 @@ pub fn write_text<W: Write>(w: &mut W, text: &[u8]) -> Result<(), WriteFault>
     Ok(())
 }
 
-/// Lets what is held back go out.
+/// Writes the bytes that are held back.
 ///
 /// # Errors
-/// `Write` where the writer fails or takes no byte.
+/// `Write` if the writer fails or takes no byte.
 pub fn flush<W: Write>(w: &mut W, pending: &mut Pending) -> Result<(), WriteFault>
     ensures writes { Writes (W.contents w.old) (W.contents w.new) result pending.old }
     ensures empty { OnOk result (pending.new ≡ []) }
@@ -40,7 +40,7 @@ pub fn flush<W: Write>(w: &mut W, pending: &mut Pending) -> Result<(), WriteFaul
     Ok(())
 }
 
-/// Makes room for a part: lets all go out that is held back, where there is none.
+/// Makes room for a part: if there is none, writes all bytes that are held back.
 ///
 /// # Errors
 /// As for `flush`.

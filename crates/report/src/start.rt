@@ -7,7 +7,7 @@ use crate::fault::StartFault;
 use crate::value::Report;
 use assign_core::{GREATEST_FIRST_PRICE, Object, Price};
 
-// The lowest object whose price is too great for a start.
+// The lowest object whose price is too great for a first price.
 fn first_too_great(prices: &[Price]) -> Option<Object>
     requires { length prices.now < 2 ^ 16 }
     ensures { MatchOption result (All IsFirstPrice prices.now) (IsFirstTooGreat prices.now) }
@@ -20,15 +20,15 @@ fn first_too_great(prices: &[Price]) -> Option<Object>
     None
 }
 
-/// The prices of a report, as the first prices of a run with `n` objects. Nothing else of the report
-/// is looked at; that of a report that was read, each of them is at least 0.
+/// The prices of a report, as the first prices of a run with `n` objects. The other lines of the
+/// report don't matter. Prices of a report that was read are at least 0.
 ///
-/// It takes no memory, and goes over the prices once.
+/// It takes no memory, and reads each price once.
 ///
 /// # Errors
-/// The first of these that applies: `NoPrices` for a Hall set, and for an assignment without
-/// prices; `Length`, with how many there are, where they aren't `n`; and `Price`, with the lowest
-/// object whose price is above `GREATEST_FIRST_PRICE`.
+/// The first of these that applies: `NoPrices` for a Hall set or an assignment without prices;
+/// `Length`, with the number of prices, if it isn't `n`; `Price`, with the lowest object whose
+/// price is above `GREATEST_FIRST_PRICE`.
 pub fn start_prices(report: &Report, n: u16) -> Result<&[Price], StartFault>
     ensures prices { IfOk result (λ prices. IsStart (seen_report report.now) n prices.now) }
     ensures fault { IfErr result (HasStartFault (seen_report report.now) n) }

@@ -24,7 +24,7 @@ impl<'a> Model for Words<'a> {
     ghost view = { λ w. words_left (option_copied w.rest) };
 }
 
-// Where the first space is.
+// The place of the first space.
 fn space_at(line: &[u8]) -> Option<usize>
     ensures { MatchOption result (HasNoSpace line.now (length line.now))
         (λ at. (at < length line.now) × (slice_index line.now at ≡ 32) × HasNoSpace line.now at) }
@@ -65,7 +65,7 @@ impl<'a> Words<'a> {
         self.rest.is_none()
     }
 
-    /// The next word, as the number of a person or an object.
+    /// The next word, as the number of a person or an object, or as a count.
     pub fn number(&mut self) -> Option<u16>
         ensures { Takes number_in self.old result self.new }
     {

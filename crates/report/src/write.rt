@@ -28,7 +28,7 @@ fn put_pairs<W: Write>(
     ensures { Puts (W.contents w.old) (W.contents w.new) pending.old pending.new result
         (lines_text (Lines.assign_lines 1 (pairs_of problem.now assignment.now))) }
 {
-    // That each place has a person's number follows from this call.
+    // This call shows the prover that each place has a person's number.
     let _n = problem.n();
     for (i, object) in assignment.objects().iter().enumerate() {
         let person = Person(i as u16 + 1);
@@ -53,7 +53,7 @@ fn put_prices<W: Write>(
     Ok(())
 }
 
-// Puts the lines of the prices, where they are wanted.
+// Puts the lines of the prices, if they are requested.
 fn put_chosen<W: Write>(
     w: &mut W,
     pending: &mut Pending,
@@ -70,7 +70,7 @@ fn put_chosen<W: Write>(
     }
 }
 
-// Puts the report on a best assignment.
+// Puts the report on an optimal assignment.
 fn put_best<W: Write>(
     w: &mut W,
     pending: &mut Pending,
@@ -95,7 +95,7 @@ fn put_best<W: Write>(
 /// Puts the report on a Hall set; the end of it is held back.
 ///
 /// # Errors
-/// `Write` where the writer fails or takes no byte.
+/// `Write` if the writer fails or takes no byte.
 pub fn put_hall<W: Write>(
     w: &mut W,
     pending: &mut Pending,
@@ -131,12 +131,12 @@ fn put_report<W: Write>(
 }
 
 /// Writes the report on an outcome of a problem, in version 2: the sense; for an assignment its
-/// cost, its pairs with their costs, and the prices where they are asked for; for a Hall set its
-/// persons and objects. Takes no memory, and some 4000 bytes go out in each write but the last.
+/// cost, its pairs with their costs, and the prices if requested; for a Hall set its persons and
+/// objects. It takes no memory, and writes some 4000 bytes at once, except at the end.
 ///
 /// # Errors
-/// `Write` where the writer fails, also where it is interrupted, or takes no byte. A beginning of
-/// the report has then gone out.
+/// `Write` if the writer fails, is interrupted or takes no byte. A beginning of the report is then
+/// written.
 pub fn write_report<W: Write>(
     w: &mut W,
     problem: &Problem,

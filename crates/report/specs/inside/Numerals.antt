@@ -9,32 +9,32 @@ abbrev pub ◌>>=◌ : {A B : Type 0} → Option A → (A → Option B) → Opti
 None >>= f = None
 (Some x) >>= f = f x
 
--- the value of digits behind those of value v, whatever the bytes are
+-- the value of digits after those of value v, whatever the bytes are
 abbrev pub value_after : ℕ → List ℕ → ℕ
 value_after v [] = v
 value_after v (b ∷ bytes) = value_after (v * 10 + (b - 48)) bytes
 
--- the number whose digits a word is: its value is taken whatever its bytes are,
--- and has to have this word as its digits
+-- the number whose digits are this word: the value of the bytes, whatever they are, if its digits
+-- are this word
 unfoldable pub numeral_in : List ℕ → Option ℕ
 numeral_in word =
     if nat_le (length word) MOST_DIGITS && bytes_eq word (decimal (value_after 0 word))
     then Some (value_after 0 word) else None
 
--- a number of at most so much
+-- this number, if it is at most `most`
 abbrev pub numeral_within : ℕ → List ℕ → Option ℕ
 numeral_within most word = numeral_in word >>= λ n. if nat_le n most then Some n else None
 
--- the number behind a minus; -0 is none
+-- a number after a minus; -0 isn't one
 abbrev pub negated : Option ℕ → Option ℤ
 negated None = None
 negated (Some n) = if n == 0 then None else Some (neg_ℤ (pos n))
 
--- no cost, and no sum of costs, is further from 0 than this
+-- the greatest absolute value of a cost or a sum of costs
 abbrev pub widest_cost : ℕ
 widest_cost = MOST_PERSONS * nat_abs GREATEST_COST
 
--- a cost, or a sum of costs
+-- a word as a cost, or as a sum of costs
 abbrev pub cost_in : List ℕ → Option ℤ
 cost_in [] = None
 cost_in (b ∷ bytes) =
@@ -49,6 +49,6 @@ last_price = nat_abs PRICE_END - 1
 abbrev pub price_in : List ℕ → Option ℤ
 price_in word = numeral_within last_price word >>= λ n. Some (pos n)
 
--- the number of a person or an object, or how many there are
+-- a word as the number of a person or an object, or as a count
 abbrev pub number_in : List ℕ → Option ℕ
 number_in word = numeral_within MOST_PERSONS word

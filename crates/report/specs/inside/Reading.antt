@@ -9,13 +9,13 @@ use Rattle.report.specs.Reports.{is_rising}
 use Rattle.report.specs.Lines.{Line, sense_line, cost_line, assign_line, price_line, infeasible_line, persons_line, objects_line}
 use Rattle.report.specs.inside.Numerals.{◌>>=◌, cost_in, price_in, number_in, widest_cost, last_price}
 
--- the first word by this reading, and the words behind it
+-- the first word by this reading, and the words after it
 abbrev pub first_by : {A : Type 0} → (List ℕ → Option A) → List (List ℕ)
     → Option (A × List (List ℕ))
 first_by read [] = None
 first_by read (word ∷ words) = read word >>= λ x. Some (x, words)
 
--- a word was taken and read so, and these are left
+-- a word was taken and read like this, and these words are left
 abbrev pub Takes : {A : Type 0} → (List ℕ → Option A) → List (List ℕ) → Option A
     → List (List ℕ) → Type 0
 Takes read old None new = first_by read old ≡ None
@@ -57,7 +57,7 @@ read_price words = do
 unfoldable pub read_infeasible : List (List ℕ) → Option Line
 read_infeasible words = at_end infeasible_line words
 
--- numbers, each above the one before, to the last word
+-- numbers that rise, up to the last word
 unfoldable pub read_rising : ℕ → List (List ℕ) → Option (List ℕ)
 read_rising last [] = Some []
 read_rising last (word ∷ words) = do
@@ -65,7 +65,7 @@ read_rising last (word ∷ words) = do
   ns ← if nat_lt last n then read_rising n words else None
   Some (n ∷ ns)
 
--- how many numbers there are, and the numbers
+-- the count of the numbers, and the numbers
 unfoldable pub read_list : List (List ℕ) → Option (List ℕ)
 read_list words = do
   count ← first_by number_in words
@@ -78,7 +78,7 @@ read_persons words = read_list words >>= λ xs. Some (persons_line xs)
 abbrev pub read_objects : List (List ℕ) → Option Line
 read_objects words = read_list words >>= λ xs. Some (objects_line xs)
 
--- what the words behind the first one are read as
+-- the line with this first word and these words after it
 abbrev pub read_behind : List ℕ → List (List ℕ) → Option Line
 read_behind word words =
     if bytes_eq word (codes "sense") then read_sense words
@@ -94,7 +94,7 @@ abbrev pub read_words : List (List ℕ) → Option Line
 read_words [] = None
 read_words (word ∷ words) = read_behind word words
 
--- the line that bytes are, if they are one
+-- the line that these bytes are, if they are one
 unfoldable pub line_in : List ℕ → Option Line
 line_in bytes = read_words (words_of bytes)
 

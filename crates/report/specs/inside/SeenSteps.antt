@@ -1,4 +1,4 @@
--- What came against what was to come, want of memory and the reader's failures aside.
+-- The result of a step is the expected one; nothing is said of `Memory` and `Read`.
 use Rattle.std.specs.Prelude.{◌≡◌, Result, Ok, Err}
 use Rattle.report.specs.declared.fault.ReportFault.{ReportFault}
 use Rattle.report.specs.declared.fault.ReportFault.TheVariants as faults

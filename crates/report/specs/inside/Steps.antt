@@ -8,7 +8,7 @@ use Rattle.report.specs.Order.{Draft, nothing, follow, finish}
 use Rattle.report.specs.inside.Numerals.{◌>>=◌}
 use Rattle.report.specs.inside.Reading.{line_in}
 
--- bytes and lines so far, what the lines said, and the line that is open
+-- bytes and lines so far, what the lines said, and the open line
 pub record State : Type 0 where
   pub at : ℕ
   pub lines : ℕ
@@ -24,7 +24,7 @@ with_line at lines (Some draft) =
 unfoldable pub taken : Draft → List ℕ → Option Draft
 taken draft bytes = line_in bytes >>= λ line. follow draft line
 
--- one byte more
+-- one more byte
 abbrev pub step : State → ℕ → Result State ReportFault
 step s b =
     if nat_le TEXT_LIMIT s.at then Err faults.TooLong
@@ -58,6 +58,6 @@ abbrev pub finished : Result State ReportFault → Result Report ReportFault
 finished (Ok s) = finished_state s.lines s.draft s.open_line
 finished (Err e) = Err e
 
--- what the bytes are read as
+-- the answer to these bytes
 unfoldable pub reading : List ℕ → Result Report ReportFault
 reading bytes = finished (after (Ok start) bytes)
