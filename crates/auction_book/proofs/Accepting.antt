@@ -180,7 +180,7 @@ released_follows b worker person = record {
   asked = λ k person ne h. refl;
 }
 
--- what a fitting bid that is high asks of the log, and where its object stands
+-- what a high fitting bid needs of the log, and the place of its object
 pub record IsAcceptable (b : BookData) (bid : Bid) : Type 0 where
   pub owned : IsNumber (length b.owners) bid.object
   pub priced : IsNumber (length (prices_of b)) bid.object

@@ -1,4 +1,4 @@
--- Where everybody is assigned in the last phase, the owners and the prices are a certificate.
+-- If everybody is assigned in the last phase, the owners and the prices are a certificate.
 use Rattle.std.proofs.Common.{◌≡◌, ◌≢◌, ℕ, ℤ, pos, suc, ◌+◌, ◌<◌, ◌≤◌, List, [], ◌∷◌, length, get_or, nat_eq, true, not, cond, refl, ap, arith, sym, ◌∙◌, subst, Option, None, Some, inl, inr, ◌⊎◌, is_some}
 use Rattle.std.specs.List.{count_by}
 use Rattle.std.specs.Ordering.{int_eq}
@@ -36,7 +36,7 @@ last_or_before j n h = elim (eqb_tells j (n + 1)) [
   | inr t ↦ inr (let ne = t.1 in omega arith)
 ]
 
--- one owner more
+-- one more owner
 pub inverse_more : (owners : List (Option ℕ)) (objects : List ℕ) (n p : ℕ) → OwnsOne owners → IsNumber (length objects) p → owner_of owners (n + 1) ≡ Some p → IsInverse owners objects n →
     IsInverse owners (renumbered objects p (n + 1)) (n + 1)
 inverse_more owners objects n p apart number own was i j h e = elim (last_or_before j n h) [
@@ -48,14 +48,14 @@ inverse_more owners objects n p apart number own was i j h e = elim (last_or_bef
       numbered-other objects p i (n + 1) 0 other ∙ was i j before e
 ]
 
--- one object more that nobody owns
+-- one more unowned object
 pub inverse_on : (owners : List (Option ℕ)) (objects : List ℕ) (n : ℕ) → owner_of owners (n + 1) ≡ None → IsInverse owners objects n → IsInverse owners objects (n + 1)
 inverse_on owners objects n none was i j h e = elim (last_or_before j n h) [
   | inl last ↦ absurd (let f : owner_of owners j ≡ None = ap (owner_of owners) last ∙ none in cc)
   | inr before ↦ was i j before e
 ]
 
--- who is counted stands somewhere
+-- who is counted has a place
 there : (i : ℕ) (xs : List (Option ℕ)) → 0 < count_by (is_person i) xs → (k : ℕ) × (get_or xs k None ≡ Some i)
 there i [] h = absurd (omega arith)
 there i (None ∷ xs) h =
@@ -95,7 +95,7 @@ over_is b h =
       more = λ e. let t = (signed_Decides b.ask.eps (pos 1)).1 e in cc;
     }
 
--- where everybody is assigned each person owns an object
+-- if everybody is assigned, each person owns an object
 owns : (b : BookData) (i : ℕ) → IsFree b → IsComplete b → IsNumber (persons_of b) i → (j : ℕ) × (owner_of b.owners j ≡ Some i)
 owns b i free complete number =
     let whole = everyone (persons_of b) b.owners b.queue b.claims free.placed_once in
@@ -107,7 +107,7 @@ owns b i free complete number =
     let r = there i b.owners (omega arith) in
     (suc r.0, r.1)
 
--- so a list that gives each owner its object gives each person the object that it owns
+-- a list that gives each owner its object then gives each person the object that it owns
 pub all_own : (b : BookData) (objects : List ℕ) → IsFree b → IsComplete b → ((i j : ℕ) → owner_of b.owners j ≡ Some i → numbered objects i 0 ≡ j) →
     (i : ℕ) → IsNumber (persons_of b) i → owner_of b.owners (numbered objects i 0) ≡ Some i
 all_own b objects free complete inverse i number =

@@ -1,4 +1,4 @@
--- What calls of a book leave to other workers, whatever the answer.
+-- What calls of a book keep for other workers, whatever the answer.
 use Rattle.std.proofs.Common.{◌≡◌, ℕ, Some, Result, Ok, Err, sym, subst}
 use Rattle.assign_core.specs.Hall.{HallLists}
 use Rattle.assign_core.specs.Matching.{owner_of}
@@ -36,10 +36,10 @@ set_follows w b new below lists (Err Memory) s = absurd s
 pub answered_follows : (w : ℕ) (b : BookData) (answer : Claim) → Follows w b (after_claim b w answer)
 answered_follows w b answer = after_claim_by (Follows w b) b w answer (follows_itself b w) (claimed_follows b w)
 
--- who was claimed is a person of the problem
+-- a claimed person is one of the problem
 pub held_is_person : (b : BookData) (w person : ℕ) → IsFree b → Holds b w person → IsNumber (persons_of b) person
 held_is_person b w person free held = held_person (persons_of b) b.owners b.queue b.claims w person free.placed_once held
 
--- and owns nothing
+-- a claimed person owns nothing
 pub held_owns_nothing : (b : BookData) (w person j : ℕ) → IsFree b → Holds b w person → owner_of b.owners j ≡ Some person → ⊥
 held_owns_nothing b w person j free held owns = unowned (persons_of b) b.owners b.queue b.claims w person j free.placed_once held owns

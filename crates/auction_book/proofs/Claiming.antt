@@ -1,4 +1,4 @@
--- What a claim answers.
+-- The answers to a claim.
 use Rattle.std.proofs.Common.{◌≡◌, ℕ, List, [], ◌∷◌, true, false, cond, is_some, refl}
 use Rattle.std.proofs.lemmas.Bool.{cond_both}
 use Rattle.scaled_values.specs.Scaled.{greatest_of}
@@ -13,7 +13,7 @@ use Rattle.auction_book.specs.Phases.{is_done}
 use Rattle.auction_book.proofs.Opening.{greatest_is_price}
 use Rattle.auction_book.proofs.PhaseBounds.{is_eps}
 
--- what a claim answers, by cases
+-- the answer to a claim, by cases
 pub claim_by : (P : Claim → Type 0) (b : BookData) → (is_some b.refuted ≡ true → P claim.Refuted) → (is_done b ≡ true → P claim.Done) → (b.stopped ≡ true → P claim.Stopped) → (b.stopped ≡ false → b.queue ≡ [] → P claim.Wait) →
     ((person : ℕ) (rest : List ℕ) → b.stopped ≡ false → b.queue ≡ person ∷ rest → P (claim.Person person b.ask)) → P (claim_of b)
 claim_by P b refuted done stopped wait person =
@@ -25,7 +25,7 @@ claim_by P b refuted done stopped wait person =
     front [] going e = wait going e
     front (i ∷ rest) going e = person i rest going e
 
--- what holds of the book before a claim and where a person was claimed holds after it
+-- what holds of the book before a claim, and after a person is claimed, holds after the claim
 pub after_claim_by : (P : BookData → Type 0) (b : BookData) (worker : ℕ) (answer : Claim) → P b → P (claimed b worker) → P (after_claim b worker answer)
 after_claim_by P b worker (claim.Person person ask) same some = some
 after_claim_by P b worker claim.Refuted same some = same
@@ -33,6 +33,6 @@ after_claim_by P b worker claim.Done same some = same
 after_claim_by P b worker claim.Stopped same some = same
 after_claim_by P b worker claim.Wait same some = same
 
--- what the book asks is of a phase
+-- what the book asks belongs to a phase
 pub ask_is : (b : BookData) → IsFree b → IsAsk b.base b.ask
 ask_is b free = let i = free.in_phase in record { slackness = is_eps b.base b.ask b.start i; start = greatest_of b.start; price = greatest_is_price b.start i.start_prices; floor = i.floor_is }

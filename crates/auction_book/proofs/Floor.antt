@@ -1,4 +1,4 @@
--- Where a person's offer is below the floor, each object that it reaches is owned.
+-- If a person's offer is below the floor, each object that it reaches is owned.
 use Rattle.std.proofs.Common.{◌≡◌, ℕ, ℤ, pos, negsuc, suc, ◌+◌, ◌*◌, ◌/◌, ◌+ℤ◌, ◌-ℤ◌, ◌*ℤ◌, ◌≤ℤ◌, ◌<ℤ◌, ◌-◌, ◌≤◌, List, [], ◌∷◌, length, get_or, drop, drop-cons, ◌<◌, int_div, refl, ap, ◌∙◌, arith, sym, subst, inl, inr, ◌⊎◌, Option, None, Some, IsSome}
 use Rattle.std.proofs.lemmas.Int.{ints}
 use Rattle.std.proofs.Math.IntN.{suc_ℤ-*ℤ, pos-*ℤ-pos}
@@ -28,7 +28,7 @@ use Rattle.auction_book.proofs.Accepting.{eps_least}
 use Rattle.auction_book.proofs.Opening.{start_least}
 use Rattle.auction_book.proofs.Gap.{empty_step, rung, rung_first, rung_more, rung_rises}
 
--- what the price of a next object may be below that of the object before it, along a walk
+-- the most by which an object's price can be below that of the object before it, along a walk
 abbrev step_in : BookData → ℤ
 step_in b = spread b.base +ℤ b.ask.eps
 
@@ -43,7 +43,7 @@ lists_one : (rows : List Listing) (owners : List (Option ℕ)) (i : ℕ) (js : L
 lists_one rows owners i [] x j w l = (j, subst (λ u. IsListed rows u j) (sym w) l)
 lists_one rows owners i (k ∷ js) x j w l = (k, w.0)
 
--- an object of a person whose offer is below the floor costs much
+-- an object of a person whose offer is below the floor has a high price
 first_high : (b : BookData) (q : List ℤ) (i k : ℕ) → IsFree b → IsBelow q (prices_of b) → IsUnder (benefits_at b.base i) q b.ask.floor → IsListed b.base.problem i k →
     rung (start_top b) (step_in b) (persons_of b - 1) <ℤ price_of (prices_of b) k
 first_high b q i k free below under l =
@@ -53,7 +53,7 @@ first_high b q i k free below under l =
     let c : price_of q k ≤ℤ price_of (prices_of b) k = below.each k in
     omega (arith, ints)
 
--- the owner of an object lists objects that are at most one step cheaper
+-- the owner of an object lists objects whose prices are at most one step lower
 next_high : (b : BookData) (v j k : ℕ) → IsFree b → owner_of b.owners j ≡ Some v → IsListed b.base.problem v k → price_of (prices_of b) j ≤ℤ (price_of (prices_of b) k +ℤ step_in b)
 next_high b v j k free o lk =
     let row = benefits_at b.base v in
@@ -149,7 +149,7 @@ start_under b free =
     let room = (span b.base b.ask.eps free.problem (is_eps b.base b.ask b.start free.in_phase)).least in
     All-weaker (λ p. p ≤ℤ greatest_of b.start) (λ p. p ≤ℤ top_of b.base (greatest_of b.start) b.ask.eps) (λ p h. omega (arith, ints)) b.start (greatest_bounds b.start)
 
--- the room under the top with one price more
+-- the room under the top with one more price
 pub room_more : (top : ℤ) (ps : List ℤ) (i room gap : ℕ) (whole : ℤ) → i < length ps → pos gap ≡ top -ℤ get_or ps i (pos 0) → (pos room +ℤ room_under top (drop i ps)) ≡ whole →
     (pos (room + gap) +ℤ room_under top (drop (i + 1) ps)) ≡ whole
 room_more top ps i room gap whole lt e h =

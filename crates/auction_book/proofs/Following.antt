@@ -1,4 +1,4 @@
--- What other workers rely on stays through each change.
+-- Each change keeps what other workers rely on.
 use Rattle.std.proofs.Common.{◌≡◌, ℕ, get_or, Bool, true, refl, arith, sym, ◌∙◌, subst, Option, None, Some}
 use Rattle.assign_core.specs.Hall.{HallLists}
 use Rattle.assign_core.specs.Numbered.{numbered}
@@ -85,7 +85,7 @@ caught_up_follows b w free =
       asked = λ k person ne h. refl;
     }
 
--- where everybody is assigned nobody is claimed
+-- if everybody is assigned, nobody is claimed
 pub no_claims : (b : BookData) (k person : ℕ) → IsFree b → is_over b ≡ true → Holds b k person → ⊥
 no_claims b k person free over held =
     let whole = everyone (persons_of b) b.owners b.queue b.claims free.placed_once in

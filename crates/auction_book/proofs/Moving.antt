@@ -1,4 +1,5 @@
--- Where other persons wait or are claimed, or another Hall set is recorded, the rest of the invariant stays.
+-- The rest of the invariant stays when other persons wait or are claimed, or another Hall set is
+-- recorded.
 use Rattle.std.proofs.Common.{◌≡◌, ℕ, List, Option, MatchOption, length, sym, ◌∙◌}
 use Rattle.assign_core.specs.Hall.{HallLists, IsHallSet}
 use Rattle.auction_book.specs.Book.{BookData, places}

@@ -161,14 +161,14 @@ length-persons (suc n) = let i = length-persons n in let a : length (persons n +
 pub greatest_is_price : (p : List ℤ) → IsTable p → IsPrice (greatest_of p)
 greatest_is_price p table = greatest_holds IsPrice p (record { least = omega (arith, ints); below = omega (arith, ints) }) table.each
 
--- and so is what was read as the greatest of its slice
+-- the value read as the greatest of its slice is one too
 pub greatest_read : (p slice : List ℤ) (g : ℤ) → g ≡ greatest_of slice → slice ≡ p → IsTable p → IsPrice g
 greatest_read p slice g e same table = subst IsPrice (sym (e ∙ ap greatest_of same)) (greatest_is_price p table)
 
 pub phase_few : (b : BookData) → IsFree b → b.ask.phase ≤ 23
 phase_few b free = let f = few b.base (b.ask.phase - 1) b.ask.eps free.problem free.in_phase.slackness in let g = free.in_phase.begins in omega arith
 
--- where everybody is assigned nobody waits
+-- if everybody is assigned, nobody waits
 pub none_wait : (b : BookData) → IsFree b → count_by is_some b.owners ≡ persons_of b → b.queue ≡ []
 none_wait b free all = let e = everyone (persons_of b) b.owners b.queue b.claims free.placed_once in nil_from_length b.queue (omega arith)
 

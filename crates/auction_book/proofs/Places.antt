@@ -1,4 +1,4 @@
--- Each person stands in one place: so the places are as many as the persons.
+-- Each person has one place, so there are as many places as persons.
 use Rattle.std.proofs.Common.{◌≡◌, ◌≢◌, ℕ, zero, suc, ◌+◌, ◌<◌, ◌≤◌, List, [], ◌∷◌, ◌++◌, length, map, drop, set, ◌-◌, get_or, nat_eq, cond, refl, ap, arith, sym, ◌∙◌, subst, inl, inr, Option, None, Some, is_some}
 use Rattle.std.specs.List.{count_by}
 use Rattle.std.proofs.lemmas.List.Sums.{sum_by-cons, sum_by_push, get_or-le-sum_by}
@@ -35,7 +35,7 @@ one_most n k = grind (arith, nat_tests)
 one_self : (k : ℕ) → cond {A = ℕ} (nat_eq k k) 1 0 ≡ 1
 one_self k = grind (arith, nat_tests)
 
--- among 1 to n a person is once, and another number is not
+-- among 1 to n, a person is found once, and another number isn't found
 up_to_one : (n k : ℕ) → up_to (λ i. cond (nat_eq i k) 1 0) n ≡ one_if_person n k
 up_to_one zero zero = refl
 up_to_one zero (suc k) = sym (one_no 0 (suc k) (omega arith))
@@ -60,7 +60,7 @@ up_to_zero : (n : ℕ) → up_to (λ i. 0) n ≡ 0
 up_to_zero zero = refl
 up_to_zero (suc n) = let i = up_to_zero n in omega arith
 
--- how many elements are persons
+-- the number of elements that are persons
 abbrev one_at : ℕ → Option ℕ → ℕ
 one_at n None = 0
 one_at n (Some k) = one_if_person n k
@@ -82,7 +82,7 @@ up_to_count n (x ∷ xs) =
     let e = up_to_count n xs in
     omega arith
 
--- where nobody else stands in the list, its elements are persons
+-- if nobody else is in the list, its elements are persons
 all_persons : (n : ℕ) (xs : List (Option ℕ)) → ((i : ℕ) → count_by (is_person i) xs ≤ one_if_person n i) → in_all n xs ≡ count_by is_some xs
 all_persons n [] h = refl
 all_persons n (None ∷ xs) h = let i = all_persons n xs (λ i. let a = h i in let e = sum_by-cons (λ y. cond (is_person i y) 1 0) None xs in omega arith) in let f = sum_by-cons (λ y. cond (is_some y) 1 0) None xs in omega arith
@@ -169,7 +169,7 @@ requeued_count i queue (Some k) = sum_by_push (λ x. cond (nat_eq i x) 1 0) queu
 shifted : (o1 o2 q1 q2 c1 c2 x y : ℕ) → o2 + x ≡ o1 + y → q2 ≡ q1 + x → c2 + y ≡ c1 + 0 → o2 + q2 + c2 ≡ o1 + q1 + c1
 shifted o1 o2 q1 q2 c1 c2 x y f g h = omega arith
 
--- a claim that is over
+-- a claim ends
 claim_over : (i : ℕ) (claims : List (Option ℕ)) (worker person : ℕ) → numbered claims worker None ≡ Some person → count_by (is_person i) (renumbered claims worker None) + cond (is_person i (Some person)) 1 0 ≡ count_by (is_person i) claims + 0
 claim_over i claims worker person e =
     let w = numbered_in claims worker person e in
@@ -214,7 +214,7 @@ claimed_places owners queue claims worker i h l free some =
 one_at_least : (n k : ℕ) → 0 < one_if_person n k → IsNumber n k
 one_at_least n k h = record { first = grind (arith, nat_tests); last = grind (arith, nat_tests) }
 
--- who is claimed is a person
+-- a claimed person is one of the problem
 pub held_person : (n : ℕ) (owners : List (Option ℕ)) (queue : List ℕ) (claims : List (Option ℕ)) (worker person : ℕ) → IsPlaced n owners queue claims → numbered claims worker None ≡ Some person → IsNumber n person
 held_person n owners queue claims worker person placed held =
     let w = numbered_in claims worker person held in
@@ -222,7 +222,7 @@ held_person n owners queue claims worker person placed held =
     let p = placed person in
     one_at_least n person (omega arith)
 
--- who waits first is a person
+-- the person who waits first is one of the problem
 pub claimed_person : (n : ℕ) (owners : List (Option ℕ)) (queue : List ℕ) (claims : List (Option ℕ)) (person : ℕ) (rest : List ℕ) → IsPlaced n owners queue claims → queue ≡ person ∷ rest → IsNumber n person
 claimed_person n owners queue claims person rest placed e =
     let p = placed person in
@@ -230,7 +230,7 @@ claimed_person n owners queue claims person rest placed e =
     let s = one_self person in
     one_at_least n person (omega arith)
 
--- how many objects are owned, after one got an owner
+-- the number of owned objects, after one more got an owner
 pub owned_more : (owners : List (Option ℕ)) (j p k was more : ℕ) (old : Option ℕ) → k ≡ j - 1 → 0 < j → j ≤ length owners → was ≡ count_by is_some owners → old ≡ numbered owners j None → more + cond (is_some old) 1 0 ≡ 1 →
     was + more ≡ count_by is_some (set owners k (Some p))
 owned_more owners j p k was more old e h l w o m =

@@ -81,12 +81,12 @@ pub record IsStep (w : ℕ) (b new : BookData) : Type 0 where
 over_claim : (b : BookData) (w person : ℕ) → Holds b w person → numbered (renumbered b.claims w None) w None ≡ None
 over_claim b w person held = let r = numbered_in b.claims w person held in numbered-same b.claims w None None r.0 r.1
 
--- what a submission leaves
+-- the state after a submission
 pub record IsLeft (w : ℕ) (b new : BookData) : Type 0 where
   pub free : IsFree new
   pub ends : EndsClaim w b new
 
--- what a released claim leaves
+-- the state after a released claim
 left_released : (w person : ℕ) (b new : BookData) → IsFree b → Holds b w person → new ≡ released b w person → IsLeft w b new
 left_released w person b new free held e =
     subst (IsLeft w b) (sym e) (record { free = released_free b w person free held; ends = record { follows = released_follows b w person; none = over_claim b w person held; stopped = refl } })
@@ -127,7 +127,7 @@ pub handed_left : {E : Type 0} (w : ℕ) (b new : BookData) (table : List ℤ) (
 handed_left w b new table version offer told (Ok done) free below h s = noted_left w b new table version offer told free below h s
 handed_left w b new table version offer told (Err refused) free below h s = undone_left w b new table version offer told free below h s
 
--- what was told where no growth was refused
+-- the note if no growth was refused
 pub noted_of : {E : Type 0} (b new : BookData) (worker : ℕ) (offer : Option Offer) (told : Note) (outcome : Result (Unit {0}) E) (done : Unit {0}) → outcome ≡ Ok done → IsHandedIn b worker offer new told outcome → IsNoted b worker offer new told
 noted_of {E} b new worker offer told outcome done went handed = subst (λ (o : Result (Unit {0}) E). IsHandedIn b worker offer new told o) went handed
 
@@ -136,7 +136,7 @@ step_taken : (catch_up : Bool) (w : ℕ) (b : BookData) → IsFree b → IsStep 
 step_taken false w b free = record { free = free; follows = follows_itself b w }
 step_taken true w b free = record { free = caught_up_free b w free; follows = caught_up_follows b w free }
 
--- today's table and version are a worker's own once it has caught up
+-- once a worker has caught up, its table and version are the current ones
 pub caught_up_own : (w : ℕ) (b : BookData) → IsFree b → IsOwn (caught_up b w) (prices_of b) (version_of b)
 caught_up_own w b free =
     let t = caught_up_trimmed b w free in
@@ -315,7 +315,7 @@ pub runs_fit : (s : ScaledProblem) (prices : List ℤ) (workers : ℕ) (events :
     Run (core_opened s prices workers) events core → IsFit core
 runs_fit s prices workers events core problem table long low run = (run_fit (core_opened s prices workers) events core (opened_fit s prices workers problem table long low) run).fit
 
--- one event more
+-- one more event
 pub run_more : (core mid new : CoreData) (events : List Event) (e : Event) → Run core events mid → Happens mid e new → Run core (events ++ e ∷ []) new
 run_more core mid new [] e run h = (new, subst (λ c. Happens c e new) run h, refl)
 run_more core mid new (x ∷ events) e run h = (run.0, run.1, run_more run.0 mid new events e run.2 h)
@@ -332,7 +332,7 @@ pub same_core : (b d : BookData) (s t : List WorkerState) (x y : CoreData) → x
 same_core b d s t x y p q e f =
     p ∙ ap (λ z. let c : CoreData = record { book = z; states = s } in c) e ∙ ap (λ z. let c : CoreData = record { book = d; states = z } in c) f ∙ sym q
 
--- what stands once the offer was submitted
+-- the book after the submission
 pub record IsAttended (w : ℕ) (catch_up : Bool) (b new : BookData) (table : List ℤ) (version : ℕ) : Type 0 where
   pub left : IsLeft w b new
   pub own : IsOwn new table version

@@ -1,4 +1,4 @@
--- What a book in which everybody is assigned in the last phase answers.
+-- The answer of a book in which everybody is assigned in the last phase.
 use Rattle.std.specs.Prelude.{◌≡◌, ℕ, Option, None, Some, true, false, length}
 use Rattle.assign_core.specs.declared.certificate.Certificate.{Certificate}
 use Rattle.assign_core.specs.Matching.{owner_of}
@@ -7,7 +7,8 @@ use Rattle.assign_core.specs.Slackness.{IsCertificate}
 use Rattle.auction_book.specs.Book.{BookData, persons_of, prices_of}
 use Rattle.auction_book.specs.Phases.{is_done}
 
--- each person's object is the one that it owns, the prices are the book's, and both are a certificate
+-- each person's object is the one that it owns, the prices are the book's, and both are a
+-- certificate
 pub record IsAnswer (b : BookData) (c : Certificate) : Type 0 where
   pub long : length c.assignment ≡ persons_of b
   pub owned : (i : ℕ) → IsNumber (persons_of b) i → owner_of b.owners (numbered c.assignment i 0) ≡ Some i

@@ -1,4 +1,4 @@
--- What a book is to a contract.
+-- How a contract sees a book.
 use Rattle.std.specs.Prelude.{◌≡◌, ℕ, ℤ, pos, ◌+◌, ◌-◌, ◌+ℤ◌, ◌-ℤ◌, List, [], ◌∷◌, Option, None, Some, Bool, false, cond, nat_eq, nat_le, ◌&&◌, count_by, length, int_div}
 use Rattle.assign_core.specs.Hall.{HallLists}
 use Rattle.assign_core.specs.Numbered.{numbered}
@@ -6,8 +6,9 @@ use Rattle.scaled_values.specs.Scaled.{ScaledProblem, greatest_of, top_of}
 use Rattle.bidder.specs.declared.offers.Ask.{Ask}
 use Rattle.price_log.specs.History.{History, last_version, today}
 
--- the problem, what the phase asks of a bid, the prices and the version at its start, the owner of each object, who
--- waits, and for each worker the person claimed, the bids accepted and the version last taken
+-- the problem; what the phase asks of a bid; the prices and the version at the phase's start; the
+-- owner of each object; the queue; and for each worker the claimed person, the number of accepted
+-- bids and the version last taken
 pub record BookData : Type 0 where
   pub base : ScaledProblem
   pub ask : Ask
@@ -35,16 +36,16 @@ version_of b = last_version b.log
 abbrev pub Holds : BookData → ℕ → ℕ → Type 0
 Holds b worker person = numbered b.claims worker None ≡ Some person
 
--- how many bids were accepted in this phase
+-- the number of bids accepted in this phase
 abbrev pub phase_accepted : BookData → ℕ
 phase_accepted b = version_of b - b.start_version
 
--- how much the prices are below a top, in all
+-- the sum of the amounts by which the prices are below a top
 abbrev pub room_under : ℤ → List ℤ → ℤ
 room_under top [] = pos 0
 room_under top (p ∷ prices) = (top -ℤ p) +ℤ room_under top prices
 
--- at most how many bids a phase accepts, since each raises a price by eps or more
+-- an upper bound on the bids that a phase accepts, since each raises a price by eps or more
 abbrev pub phase_bound : BookData → ℤ
 phase_bound b = int_div (room_under (top_of b.base (greatest_of b.start) b.ask.eps) b.start) b.ask.eps
 
@@ -53,7 +54,7 @@ abbrev pub is_person : ℕ → Option ℕ → Bool
 is_person i None = false
 is_person i (Some k) = nat_eq i k
 
--- in how many places person i stands: as owner, in the queue, as claimed
+-- the number of places of person i: as owner, in the queue, as claimed
 abbrev pub places : List (Option ℕ) → List ℕ → List (Option ℕ) → ℕ → ℕ
 places owners queue claims i = count_by (is_person i) owners + count_by (nat_eq i) queue + count_by (is_person i) claims
 

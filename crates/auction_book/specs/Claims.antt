@@ -1,4 +1,4 @@
--- What a claim answers.
+-- The answers to a claim.
 use Rattle.std.specs.Prelude.{◌≡◌, ℕ, List, [], ◌∷◌, length, cond, is_some}
 use Rattle.assign_core.specs.Numbered.{IsNumber}
 use Rattle.scaled_values.specs.Scaled.{ScaledProblem}
@@ -26,12 +26,14 @@ after_claim b worker claim.Done = b
 after_claim b worker claim.Stopped = b
 after_claim b worker claim.Wait = b
 
--- where a person was claimed: what is asked of its bid is what the book asks, and the worker holds its claim
+-- if a person was claimed, the worker holds its claim, and the answer has what the book asks of its
+-- bid
 abbrev pub IsHeld : BookData → ℕ → Claim → Type 0
 IsHeld new worker (claim.Person person ask) = (ask ≡ new.ask) × Holds new worker person
 IsHeld new worker answer = Unit {0}
 
--- who was claimed is a person of the problem, and what is asked is slackness and floor of some phase
+-- a claimed person is one of the problem, and the answer has the slackness and the floor of some
+-- phase
 abbrev pub IsAsked : ScaledProblem → Claim → Type 0
 IsAsked s (claim.Person person ask) = IsNumber (length s.problem) person × IsAsk s ask
 IsAsked s claim.Refuted = Unit {0}

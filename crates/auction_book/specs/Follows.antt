@@ -1,12 +1,12 @@
--- What stays of a book through the changes that workers make.
+-- What workers' changes keep of a book.
 use Rattle.std.specs.Prelude.{◌≡◌, ◌≢◌, ℕ, None, IsTrue, length, is_some}
 use Rattle.assign_core.specs.Numbered.{numbered}
 use Rattle.assign_core.specs.Prices.{IsBelow}
 use Rattle.price_log.specs.History.{Continues}
 use Rattle.auction_book.specs.Book.{BookData, Holds, prices_of}
 
--- the later book is of the same problem and number of workers, no price is lower, its log continues, and a Hall set
--- is recorded where one was
+-- the later book has the same problem and number of workers, no price is lower, its log continues,
+-- and it has a recorded Hall set if the earlier one has
 pub record GoesOn (old new : BookData) : Type 0 where
   pub base : new.base ≡ old.base
   pub workers : length new.claims ≡ length old.claims
@@ -14,8 +14,8 @@ pub record GoesOn (old new : BookData) : Type 0 where
   pub log : Continues old.log new.log
   pub refuted : IsTrue (is_some old.refuted) → IsTrue (is_some new.refuted)
 
--- a change by one worker: the book goes on, other workers' counts and claims stay, and where one of them has a claim
--- the same is asked of its bid
+-- a change by one worker: the book goes on, other workers' counts and claims stay, and if one of
+-- them has a claim, the same is asked of its bid
 pub record Follows (worker : ℕ) (old new : BookData) : Type 0 where
   pub goes_on : GoesOn old new
   pub counts : (k : ℕ) → k ≢ worker → numbered new.counts k 0 ≡ numbered old.counts k 0

@@ -1,4 +1,4 @@
--- What holds of every book between two calls: a free book.
+-- The invariant of a book between two calls: a free book.
 use Rattle.std.specs.Prelude.{◌≡◌, ℕ, ℤ, pos, ◌-◌, ◌*ℤ◌, ◌+ℤ◌, ◌≤ℤ◌, ◌<◌, ◌≤◌, List, Option, None, Some, MatchOption, count_by, length, sum, is_some}
 use Rattle.assign_core.specs.Rows.{IsProblem}
 use Rattle.assign_core.specs.Prices.{IsTable, price_of}
@@ -12,14 +12,15 @@ use Rattle.price_log.specs.History.{IsHistory, sum_of}
 use Rattle.assign_core.specs.declared.numbers.TheConstants.{GREATEST_FIRST_PRICE}
 use Rattle.auction_book.specs.Book.{BookData, one_if_person, persons_of, places, prices_of, version_of}
 
--- a price for each object at a phase's start and now, and each of the lists by worker as long as the others
+-- a price for each object, at the phase's start and now; the lists by worker have the same length
 pub record HasSizes (n : ℕ) (prices start : List ℤ) (claims : List (Option ℕ)) (counts taken : List ℕ) : Type 0 where
   pub priced : length prices ≡ n
   pub started : length start ≡ n
   pub counted : length counts ≡ length claims
   pub noted : length taken ≡ length claims
 
--- the phase's slackness and floor; the greatest price at its start has risen by one phase's span a phase at most
+-- the slackness and the floor of the phase; its greatest first price is at most 10^21 plus n times
+-- the sum of the spread and the first slackness for each earlier phase
 pub record IsPhase (base : ScaledProblem) (ask : Ask) (start : List ℤ) : Type 0 where
   pub begins : 0 < ask.phase
   pub start_prices : IsTable start
@@ -27,20 +28,22 @@ pub record IsPhase (base : ScaledProblem) (ask : Ask) (start : List ℤ) : Type 
   pub floor_is : ask.floor ≡ floor_of base (greatest_of start) ask.eps
   pub start_low : greatest_of start ≤ℤ (GREATEST_FIRST_PRICE +ℤ (pos (ask.phase - 1) *ℤ (pos (length base.problem) *ℤ (spread base +ℤ first_eps base))))
 
--- an unowned object has its price at the phase's start, an owned one at least eps more
+-- an unowned object has its price at the phase's start; an owned one has at least eps more
 abbrev pub IsPriced : ℤ → ℤ → ℤ → Option ℕ → Type 0
 IsPriced eps first now None = now ≡ first
 IsPriced eps first now (Some i) = (first +ℤ eps) ≤ℤ now
 
--- the bids accepted in the phase are as many as the owned objects or more, and each has raised a price by eps or more
+-- at least as many bids were accepted in the phase as objects are owned, and each raised a price by
+-- eps or more
 pub record IsProgress (eps : ℤ) (start prices : List ℤ) (first now : ℕ) (owners : List (Option ℕ)) : Type 0 where
   pub begun : first ≤ now
   pub owned : count_by is_some owners ≤ now - first
   pub risen : (sum_of start +ℤ (pos (now - first) *ℤ eps)) ≤ℤ sum_of prices
 
--- owners are a matching with slackness at the book's prices; each person owns an object, waits or is claimed; the
--- log ascends; prices are between those at the phase's start and its top; phase, slackness and floor belong together;
--- the workers' counts add up to the version; and a recorded set is a Hall set
+-- owners are a matching with slackness at the book's prices; each person owns an object, waits or
+-- is claimed; the log ascends; prices are between those at the phase's start and its top; phase,
+-- slackness and floor belong together; the workers' counts add up to the version; and a recorded
+-- set is a Hall set
 pub record IsFree (b : BookData) : Type 0 where
   pub problem : IsProblem b.base.problem
   pub sizes : HasSizes (persons_of b) (prices_of b) b.start b.claims b.counts b.taken

@@ -35,7 +35,7 @@ opened s prices workers = record {
 abbrev pub is_assigned : BookData → Bool
 is_assigned b = nat_eq (count_by is_some b.owners) (persons_of b)
 
--- everybody is assigned, and a phase follows
+-- everybody is assigned, and another phase follows
 abbrev pub is_over : BookData → Bool
 is_over b = is_assigned b && not (int_eq b.ask.eps (pos 1))
 

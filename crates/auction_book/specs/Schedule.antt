@@ -12,7 +12,8 @@ use Rattle.auction_book.specs.Free.{IsFree}
 use Rattle.auction_book.specs.Phases.{opened}
 use Rattle.auction_book.specs.Session.{IsPrepared, Submits, book_left, book_next, prepared, table_kept_up, version_kept_up}
 
--- the book, and for each worker its table with its version, its prepared offer and the acceptances that it was told
+-- the book, and for each worker its table with its version, its prepared offer and its reported
+-- acceptances
 pub record CoreData : Type 0 where
   pub book : BookData
   pub states : List WorkerState
@@ -24,7 +25,7 @@ state_of_prices prices = record { table = prices; version = 0; offer = None; acc
 abbrev pub core_opened : ScaledProblem → List ℤ → ℕ → CoreData
 core_opened s prices workers = record { book = opened s prices workers; states = replicate workers (state_of_prices prices) }
 
--- the rest of an event, once the offer was submitted
+-- a worker's state after the rest of an event, from the book after the submission
 abbrev pub state_next : Event → BookData → WorkerState → WorkerState
 state_next e b state = record {
   table = table_kept_up e.catch_up b state.table;
@@ -39,14 +40,14 @@ core_next core e state b = record {
   states = renumbered core.states e.worker (state_next e b state);
 }
 
--- there is such a worker
+-- there is a worker with this number
 abbrev pub is_worker : CoreData → ℕ → Bool
 is_worker core worker = nat_le 1 worker && nat_le worker (length core.states)
 
 abbrev pub state_at : CoreData → ℕ → WorkerState
 state_at core worker = numbered core.states worker (state_of_prices [])
 
--- an event of a number that no worker has changes nothing
+-- an event for a number without a worker changes nothing
 abbrev pub Happens : CoreData → Event → CoreData → Type 0
 Happens core e new = MatchBool (is_worker core e.worker)
     ((b : BookData) × Submits core.book e.worker (state_at core e.worker).offer b × (new ≡ core_next core e (state_at core e.worker) b))
@@ -57,8 +58,9 @@ abbrev pub Run : CoreData → List Event → CoreData → Type 0
 Run core [] new = new ≡ core
 Run core (e ∷ events) new = (mid : CoreData) × Happens core e mid × Run mid events new
 
--- what holds of each worker: no price of its table is above the book's, the table is the log's as far back as the log
--- reaches, what it was told is the book's, and its prepared offer is that of the person that it claimed
+-- what holds of each worker: no price of its table is above the book's, the table is the log's as
+-- far back as the log reaches, its reported acceptances are the book's, and its prepared offer is
+-- that of the person that it claimed
 pub record IsWorkerState (b : BookData) (worker : ℕ) (state : WorkerState) : Type 0 where
   pub long : IsBelow state.table (prices_of b)
   pub earlier : IsEarlier b.log state.table state.version

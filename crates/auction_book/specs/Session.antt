@@ -1,4 +1,4 @@
--- What one worker's session with the book does.
+-- The effect of one worker's session with the book.
 use Rattle.std.specs.Prelude.{◌≡◌, ℕ, ℤ, List, Option, None, Some, Bool, cond, Result, Ok, Err, ◌≢◌, MatchResult}
 use Rattle.assign_core.specs.Hall.{HallLists}
 use Rattle.assign_core.specs.Numbered.{numbered}
@@ -26,22 +26,22 @@ abbrev pub IsPrepared : BookData → ℕ → List ℤ → ℕ → Option Offer �
 IsPrepared b worker table version None = numbered b.claims worker None ≡ None
 IsPrepared b worker table version (Some offer) = (person : ℕ) × Holds b worker person × IsOffer b.base table version b.ask person offer
 
--- the Hall set of all that a person reaches was recorded, and the claim is over
+-- the Hall set of all persons that a person reaches was recorded, and the claim is over
 abbrev pub IsReachRecorded : BookData → ℕ → ℕ → BookData → Type 0
 IsReachRecorded b worker person new = (lists : HallLists) × IsRefuted b.base.problem b.owners person lists × (new ≡ recorded b worker person lists)
 
--- what is told of a bid that was answered
+-- the note on a bid that was answered
 abbrev pub note_of : Result Accepted Refused → Note
 note_of (Ok a) = note.Accepted
 note_of (Err r) = note.Refused r
 
--- what is told of an offer that was submitted, or searched and recorded, without a refused growth
+-- the note on an offer that was submitted, or searched and recorded, without a refused growth
 abbrev pub IsNoted : BookData → ℕ → Option Offer → BookData → Note → Type 0
 IsNoted b worker None new told = (new ≡ b) × (told ≡ note.Nothing)
 IsNoted b worker (Some (made.Bid bid)) new told = (answer : Result Accepted Refused) × (answer ≢ Err Memory) × IsSubmitted b worker bid answer new × (told ≡ note_of answer)
 IsNoted b worker (Some (made.Below below)) new told = IsReachRecorded b worker below.person new × (told ≡ note.Nothing)
 
--- and of one that met a refused growth: the bid is refused, or the claim is given up
+-- the note on an offer that met a refused growth: the bid is refused, or the claim is given up
 abbrev pub IsUndone : BookData → ℕ → Option Offer → BookData → Note → Type 0
 IsUndone b worker None new told = ⊥
 IsUndone b worker (Some (made.Bid bid)) new told = IsSubmitted b worker bid (Err Memory) new × (told ≡ note.Refused Memory)
@@ -50,17 +50,17 @@ IsUndone b worker (Some (made.Below below)) new told = Holds b worker below.pers
 abbrev pub IsHandedIn : {E : Type 0} → BookData → ℕ → Option Offer → BookData → Note → Result (Unit {0}) E → Type 0
 IsHandedIn b worker offer new told outcome = MatchResult outcome (λ done. IsNoted b worker offer new told) (λ refused. IsUndone b worker offer new told)
 
--- what an offer leaves, whatever came of it: the worker has no claim, and the book is stopped where it was
+-- after an offer, whatever the result: the worker has no claim, and the book is stopped if it was
 pub record EndsClaim (worker : ℕ) (b new : BookData) : Type 0 where
   pub follows : Follows worker b new
   pub none : numbered new.claims worker None ≡ None
   pub stopped : new.stopped ≡ b.stopped
 
--- no growth was refused, whatever was told
+-- no growth was refused, whatever the note
 abbrev pub Submits : BookData → ℕ → Option Offer → BookData → Type 0
 Submits b worker offer new = (told : Note) × IsNoted b worker offer new told
 
--- the book, the worker's table and its version once the worker has caught up, if it does
+-- the book, the worker's table and its version after the worker has caught up, if it does
 abbrev pub book_kept_up : Bool → BookData → ℕ → BookData
 book_kept_up catch_up b worker = cond catch_up (caught_up b worker) b
 
@@ -73,15 +73,15 @@ version_kept_up catch_up b version = cond catch_up (version_of b) version
 abbrev pub next_if_over : BookData → BookData
 next_if_over b = cond (is_over b) (phased b) b
 
--- once the offer was submitted: the book before the claim
+-- the book after the submission and before the claim
 abbrev pub book_next : Bool → BookData → ℕ → BookData
 book_next catch_up b worker = next_if_over (book_kept_up catch_up b worker)
 
--- and the book at the end of the session
+-- the book at the end of the session
 abbrev pub book_left : Bool → BookData → ℕ → BookData
 book_left catch_up b worker = after_claim (book_next catch_up b worker) worker (claim_of (book_next catch_up b worker))
 
--- the offer that the worker prepares: of the person that it got, from its own table
+-- the offer that the worker prepares for its claimed person, from its own table
 abbrev pub prepared : ScaledProblem → List ℤ → ℕ → Claim → Option Offer
 prepared s table version (claim.Person person ask) = Some (offer_of s table version ask person)
 prepared s table version claim.Refuted = None

@@ -1,4 +1,4 @@
--- What is stored of a book, and which book it is to a contract.
+-- How a book is stored, and how a contract sees it.
 use Rattle.std.specs.Prelude.{◌≡◌, ◌≤◌, count_by, length, is_some}
 use Rattle.std.specs.Arc.{arc_value}
 use Rattle.std.specs.VecDeque.{deque_capacity}

@@ -1,4 +1,4 @@
--- What a submitted bid, and a recorded Hall set, are answered.
+-- The answers to a submitted bid and to a recorded Hall set.
 use Rattle.std.specs.Prelude.{◌≡◌, ℕ, ℤ, ◌+ℤ◌, ◌≤ℤ◌, ◌<ℤ◌, List, Result, Ok, Err}
 use Rattle.assign_core.specs.Hall.{HallLists}
 use Rattle.assign_core.specs.Matching.{owner_of}
@@ -20,7 +20,8 @@ IsFitting b bid = bid.phase ≡ b.ask.phase → (q : List ℤ) × IsBelow q (pri
 abbrev pub IsHigh : BookData → Bid → Type 0
 IsHigh b bid = (price_of (prices_of b) bid.object +ℤ b.ask.eps) ≤ℤ bid.level
 
--- whether the bid was accepted or how it was refused, in the order of the tests, and the book afterwards
+-- whether the bid was accepted or why it was refused, in the order of the tests, and the book
+-- afterwards
 abbrev pub IsSubmitted : BookData → ℕ → Bid → Result Accepted Refused → BookData → Type 0
 IsSubmitted b worker bid (Err NotClaimed) new = (Holds b worker bid.person → ⊥) × (new ≡ b)
 IsSubmitted b worker bid (Err WrongPhase) new = Holds b worker bid.person × (bid.phase ≡ b.ask.phase → ⊥) × (new ≡ released b worker bid.person)
@@ -28,7 +29,7 @@ IsSubmitted b worker bid (Err (TooLow price)) new = Holds b worker bid.person ×
 IsSubmitted b worker bid (Err Memory) new = Holds b worker bid.person × (bid.phase ≡ b.ask.phase) × IsHigh b bid × (new ≡ released b worker bid.person)
 IsSubmitted b worker bid (Ok a) new = Holds b worker bid.person × (bid.phase ≡ b.ask.phase) × IsHigh b bid × (a.evicted ≡ owner_of b.owners bid.object) × (new ≡ accepted b worker bid)
 
--- whether the set was recorded or how that was refused, and the book afterwards
+-- whether the set was recorded or why it was refused, and the book afterwards
 abbrev pub IsRecorded : BookData → ℕ → BelowFloor → HallLists → Result (Unit {0}) Refused → BookData → Type 0
 IsRecorded b worker below lists (Ok done) new = Holds b worker below.person × (below.phase ≡ b.ask.phase) × (new ≡ recorded b worker below.person lists)
 IsRecorded b worker below lists (Err NotClaimed) new = (Holds b worker below.person → ⊥) × (new ≡ b)

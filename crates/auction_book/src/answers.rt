@@ -1,4 +1,4 @@
-// What a book answers.
+// The answers of a book.
 use assign_core::{Person, Price};
 use bidder::Ask;
 use std::alloc::AllocError;
@@ -6,24 +6,24 @@ use std::alloc::AllocError;
 /// A bid was accepted.
 #[derive(Clone, Copy, PartialEq, Eq)]
 pub struct Accepted {
-    /// Who owned the object before.
+    /// The previous owner of the object.
     pub evicted: Option<Person>,
 }
 
-/// A bid, or what was found below the floor, was refused.
+/// A bid or a notice below the floor was refused.
 #[derive(Clone, Copy, PartialEq, Eq)]
 pub enum Refused {
     /// The worker doesn't hold the person's claim.
     NotClaimed,
-    /// It names another phase than the book's.
+    /// The bid or notice names another phase than the book's.
     WrongPhase,
-    /// The bid's level is less than eps above this price, the object's now.
+    /// The bid's level is less than eps above this price, the object's current one.
     TooLow(Price),
-    /// A growth was refused.
+    /// Memory was refused.
     Memory,
 }
 
-/// What came of a worker's offer.
+/// The result of a worker's offer.
 #[derive(Clone, Copy, PartialEq, Eq)]
 pub enum Note {
     /// There was no bid.
@@ -34,19 +34,19 @@ pub enum Note {
     Refused(Refused),
 }
 
-/// What is told of a worker's offer, and whether a growth was refused.
+/// The result of a worker's offer, and whether memory was refused.
 #[must_use]
 #[derive(Drop)]
 pub struct Submission {
     pub note: Note,
-    /// An error where a growth was refused.
+    /// An error if memory was refused.
     pub outcome: Result<(), AllocError>,
 }
 
-/// What a worker that asks for a person gets.
+/// The answer to a worker that asks for a person.
 #[derive(Clone, Copy, PartialEq, Eq)]
 pub enum Claim {
-    /// A Hall set is recorded: there is no assignment.
+    /// A Hall set is recorded, so no assignment exists.
     Refuted,
     /// Everybody is assigned in the last phase.
     Done,
@@ -54,6 +54,6 @@ pub enum Claim {
     Stopped,
     /// The front of the queue, now claimed, and what the phase asks of its bid.
     Person(Person, Ask),
-    /// Nobody waits.
+    /// No person waits.
     Wait,
 }

@@ -24,36 +24,36 @@ use std::collections::VecDeque;
 use std::marker::Model;
 use std::sync::Arc;
 
-/// A running auction: who owns each object, who waits, who was claimed by which worker, and the
-/// prices with their log.
+/// The shared state of a running auction: who owns each object, who waits, which person each worker
+/// claimed, and the prices with their log.
 ///
-/// Workers are numbered from 1. Seen as plain data, of which between any two calls all that
-/// `IsFree` names holds.
+/// Workers are numbered from 1. A contract sees plain data, and `IsFree` holds of it between any
+/// two calls.
 #[derive(Drop)]
 pub struct Book {
     // The problem with its benefits.
     scaled: Arc<Scaled>,
     // What the phase asks of a bid.
     ask: Ask,
-    // The prices at the phase's start, and which version these were.
+    // The prices at the phase's start, and their version.
     start: Prices,
     start_version: u128,
     // Who owns each object.
     owners: Vec<Option<Person>>,
-    // Who waits, the next one in front.
+    // The persons who wait, the next one at the front.
     queue: VecDeque<Person>,
     // For each worker the person that it claimed, how many of its bids were accepted, and the
     // version that it last took.
     claims: Vec<Option<Person>>,
     counts: Vec<u128>,
     taken: Vec<u128>,
-    // Today's prices, and how they rose.
+    // The current prices, and their raises.
     log: PriceLog,
-    // The Hall set that was recorded last.
+    // The last recorded Hall set.
     refuted: Option<HallSet>,
-    // Whether workers are to end.
+    // Whether workers shall end.
     stopped: bool,
-    // How many objects are owned, and how many workers there are.
+    // The number of owned objects, and the number of workers.
     owned: u16,
     workers: u16,
 }
@@ -70,7 +70,7 @@ impl Model for Book {
     ghost invariant = { IsKept };
 }
 
-// The person, if there is one, waits at the back of the queue.
+// Puts the person, if there is one, at the back of the queue.
 fn requeue(queue: &mut VecDeque<Person>, person: Option<Person>)
     requires { length queue.old.items < deque_capacity queue.old }
     ensures queue { queue.new.items ≡ requeued queue.old.items person }
@@ -93,7 +93,7 @@ impl Book {
         }
     }
 
-    // The worker's claim is over, and its person waits again.
+    // Ends the worker's claim; its person waits again.
     fn release(&mut self, worker: u16, person: Person)
         requires worker { IsNumber (length self.old.claims) worker }
         requires held { Holds self.old worker person }

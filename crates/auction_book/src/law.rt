@@ -23,9 +23,9 @@ ghost use Rattle.auction_book.specs.Submissions.{IsFitting, IsHigh, IsRecorded, 
 ghost use Rattle.auction_book.specs.Follows.{Follows, GoesOn};
 ghost use Rattle.auction_book.specs.Free.{IsFree};
 
-/// Each change of a book by a worker leaves what other workers rely on: no price falls, the log
-/// continues, other workers' counts and claims stay, and what is asked of their claimed persons
-/// too. Changes of one worker can be put together.
+/// Each change of a book by a worker keeps what other workers rely on: no price falls, the log
+/// continues, and other workers' counts, claims and what is asked of their claimed persons stay.
+/// Changes of one worker can be combined.
 pub fn changes_follow()
     ensures itself { (b : BookData) (worker : ℕ) → Follows worker b b }
     ensures through { (first second third : BookData) (worker : ℕ) → Follows worker first second
@@ -45,10 +45,10 @@ pub fn changes_follow()
     ensures resumed { (b : BookData) (worker : ℕ) → Follows worker b (record b { stopped = false }) }
 {}
 
-/// Whatever comes of a submitted bid, of a Hall set that was brought or of a claim, the change
-/// follows. Whatever comes of a prepared offer, its worker has no claim afterwards. And where a book
-/// goes on, what a worker's table was to the old one it is to the new one: below its prices and, as
-/// far back as the log reaches, the log's at its version.
+/// The change by a submitted bid, a recorded Hall set or a claim follows, whatever the answer.
+/// After a submitted offer its worker has no claim, whatever the answer. If a book goes on, a
+/// worker's table that was below the old prices, and the log's at its version as far back as the
+/// log reached, is so for the new book.
 pub fn submissions_follow()
     ensures submitted { (b new : BookData) (worker : ℕ) (bid : Bid) (answer : Result Accepted Refused) → IsFree b
         → IsFitting b bid → IsSubmitted b worker bid answer new → Follows worker b new }
@@ -66,7 +66,7 @@ pub fn submissions_follow()
         → IsBelow table (prices_of new) × IsEarlier new.log table version }
 {}
 
-/// Who was claimed is a person of the problem, and owns nothing.
+/// A claimed person is one of the problem, and owns nothing.
 pub fn claimed_persons_own_nothing()
     ensures person { (b : BookData) (worker person : ℕ) → IsFree b → Holds b worker person
         → IsNumber (persons_of b) person }
@@ -74,12 +74,12 @@ pub fn claimed_persons_own_nothing()
         → owner_of b.owners object ≡ Some person → ⊥ }
 {}
 
-/// A bid made from today's prices and phase is never too low.
+/// A bid made from the current prices and phase is never too low.
 pub fn fresh_bids_are_high()
     ensures { (b : BookData) (bid : Bid) → IsBid b.base (prices_of b) b.ask bid → IsHigh b bid }
 {}
 
-/// The floor is exact: where a person lists nothing, or all that it lists is worth less than the
+/// The floor is exact: if a person lists nothing, or all its listed objects have values below the
 /// book's floor under a table below the book's, each object that its alternating walks reach is
 /// owned. So no path to an unowned object is ever found (Bertsekas, Network Optimization, 1998,
 /// section 7.1.5).
@@ -90,7 +90,7 @@ pub fn floor_is_exact()
         → IsUnder (benefits_at b.base i) q b.ask.floor → IsPath b.base.problem b.owners i js → ⊥ }
 {}
 
-/// A phase accepts no more bids than the room under its top has steps of eps.
+/// A phase accepts at most as many bids as there are steps of eps under its top.
 pub fn phase_is_bounded()
     ensures { (b : BookData) → IsFree b → pos (phase_accepted b) ≤ℤ phase_bound b }
 {}

@@ -1,5 +1,5 @@
-//! The book of an auction: who owns what, who waits, who was claimed, and the prices; and the run of
-//! any number of workers over any list of events.
+//! The book of an auction: owners, queue, claims and prices; and the run of any number of workers
+//! over any list of events.
 #![tactic(auto)]
 
 mod answers;

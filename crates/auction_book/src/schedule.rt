@@ -23,13 +23,13 @@ use std::sync::Arc;
 /// A worker's next session.
 #[derive(Clone, Copy, PartialEq, Eq)]
 pub struct Event {
-    /// The worker's number, from 1. An event of a number that no worker has changes nothing.
+    /// The worker's number, from 1. An event for another number changes nothing.
     pub worker: u16,
-    /// Whether the worker's table becomes today's, once its offer is submitted.
+    /// Whether the worker's table catches up after its offer is submitted.
     pub catch_up: bool,
 }
 
-/// What a worker has.
+/// The state of a worker.
 #[derive(Drop)]
 pub struct WorkerState {
     /// Its own table of prices.
@@ -38,7 +38,7 @@ pub struct WorkerState {
     pub version: u128,
     /// The offer of the person that it claimed, prepared from its table.
     pub offer: Option<Offer>,
-    /// How many of its bids were accepted, as it was told.
+    /// The number of its accepted bids, as reported to it.
     pub accepted: u128,
 }
 
@@ -46,13 +46,13 @@ pub struct WorkerState {
 #[derive(Drop)]
 pub struct World {
     pub book: Book,
-    /// What workers 1, 2, .. have.
+    /// The states of workers 1, 2, ..
     pub states: Vec<WorkerState>,
 }
 
-/// Whatever the events: the book is free, each table is below its prices and, as far back as the log
-/// reaches, the log's at its version, each prepared offer is that of the worker's claimed person in
-/// this phase, and each told count is the book's.
+/// For every list of events: the book is free; each table is below its prices and, as far back as
+/// the log reaches, the log's at its version; each prepared offer is that of the worker's claimed
+/// person in this phase; and each reported count is the book's.
 pub fn runs_are_fit()
     ensures { (s : ScaledProblem) (prices : List ℤ) (workers : ℕ) (events : List Event) (core : CoreData)
         → IsProblem s.problem → IsTable prices → length prices ≡ length s.problem
@@ -60,8 +60,8 @@ pub fn runs_are_fit()
         → Run (core_opened s prices workers) events core → IsFit core }
 {}
 
-/// A world goes on along its events: no price falls, the log continues, and a Hall set that was
-/// recorded stays recorded or is replaced by another one.
+/// A world goes on along its events: no price falls, the log continues, and a recorded Hall set
+/// stays or is replaced by another.
 pub fn worlds_go_on()
     ensures { (core new : CoreData) (events : List Event) → IsFit core → Run core events new
         → GoesOn core.book new.book }
@@ -137,7 +137,7 @@ fn open_states(alloc: Global, prices: &Prices, workers: u16) -> Result<Vec<Worke
 /// Runs a list of events with all first prices 0, for at least one worker.
 ///
 /// # Errors
-/// Only where memory is refused.
+/// `AllocError` if memory is refused.
 pub fn run_schedule(
     alloc: Global,
     scaled: Arc<Scaled>,
@@ -155,17 +155,18 @@ pub fn run_schedule(
 }
 
 /// Runs a list of events from these prices, one for each object and each at most
-/// `GREATEST_FIRST_PRICE`, for at least one worker. In each event the worker submits its prepared
-/// offer, or, where its person is below the floor, searches what stops that person and records the
-/// Hall set; it takes today's prices if the event says so; the next phase begins if this one is
-/// over; and the worker claims a person and prepares that person's offer from its own table, however
-/// old (Bertsekas and Castanon, Parallel
-/// synchronous and asynchronous implementations of the auction algorithm, 1991).
+/// `GREATEST_FIRST_PRICE`, for at least one worker.
 ///
-/// What `fit` says holds whatever the events, so it is so for any interleaving of the workers.
+/// In each event the worker submits its prepared offer, or, if its person is below the floor,
+/// searches for a Hall set and records it. It takes the current prices if the event says so. The
+/// next phase begins if this one is over. Then the worker claims a person and prepares this
+/// person's offer from its own table, however old (Bertsekas and Castanon, Parallel synchronous and
+/// asynchronous implementations of the auction algorithm, 1991).
+///
+/// The clause `fit` holds for every list of events, so for every interleaving of the workers.
 ///
 /// # Errors
-/// Only where memory is refused.
+/// `AllocError` if memory is refused.
 pub fn run_schedule_from(
     alloc: Global,
     scaled: Arc<Scaled>,
@@ -180,7 +181,7 @@ pub fn run_schedule_from(
         (record { book = w.book; states = w.states.items })) }
     ensures fit { IfOk result (λ w. IsFit (record { book = w.book; states = w.states.items })) }
 {
-    // For the proof alone: the number of persons is in range, and the prices are a table.
+    // For the proof only: the number of persons is in range, and the prices are a table.
     let _n = scaled.n();
     let _table = prices.as_slice();
     let mut states = open_states(alloc, &prices, workers)?;

@@ -21,8 +21,8 @@ use hall_refuter::{Search, refute};
 use scaled_values::Scaled;
 use std::alloc::{AllocError, Global};
 
-// Searches what stops a person whose offer is below the floor, and records it: always a Hall set,
-// since the floor is exact. The claim is over then. Where memory is refused nothing has changed.
+// Searches for what blocks a person whose offer is below the floor, and records it: always a Hall
+// set, since the floor is exact. The claim ends. If memory is refused, nothing changes.
 fn record_below(
     alloc: Global,
     book: &mut Book,
@@ -49,7 +49,7 @@ fn record_below(
     }
 }
 
-// A bid is submitted.
+// Submits a bid.
 fn submit_bid(book: &mut Book, worker: u16, bid: Bid) -> Submission
     requires worker { IsNumber (length book.old.claims) worker }
     requires fitting { IsFitting book.old bid }
@@ -71,7 +71,7 @@ fn submit_bid(book: &mut Book, worker: u16, bid: Bid) -> Submission
     }
 }
 
-// What stops a person below the floor is recorded. Where memory is refused the claim is given up.
+// Records the Hall set for a person below the floor. If memory is refused, the claim is given up.
 fn submit_below(alloc: Global, book: &mut Book, worker: u16, below: BelowFloor) -> Submission
     requires worker { IsNumber (length book.old.claims) worker }
     requires held { Holds book.old worker below.person }
@@ -91,11 +91,11 @@ fn submit_below(alloc: Global, book: &mut Book, worker: u16, below: BelowFloor) 
     }
 }
 
-/// Submits a worker's prepared offer, if it has one: a bid is accepted or refused, and what stops a
-/// person below the floor is recorded. The worker's claim is over then, whatever came of it.
+/// Submits a worker's prepared offer, if it has one: a bid is accepted or refused, and for a person
+/// below the floor a Hall set is recorded. The worker then has no claim, whatever the result.
 ///
-/// Where a growth is refused the outcome is an error: a bid is refused for want of memory then, and
-/// after a search only the claim is given up, so that the person waits again.
+/// The outcome is an error if memory is refused: the bid is then refused, or, after a search, only
+/// the claim is given up and the person waits again.
 pub fn submit_offer(alloc: Global, book: &mut Book, worker: u16, offer: Option<Offer>) -> Submission
     requires worker { IsNumber (length book.old.claims) worker }
     requires prepared { (table : List ℤ) × (version : ℕ) × IsBelow table (prices_of book.old)
@@ -115,7 +115,7 @@ pub fn submit_offer(alloc: Global, book: &mut Book, worker: u16, offer: Option<O
     }
 }
 
-// Makes a worker's table today's if `catch_up` says so.
+// Makes a worker's table current if `catch_up` is true.
 pub(super) fn take_prices(
     book: &mut Book,
     worker: u16,
@@ -139,7 +139,7 @@ pub(super) fn take_prices(
 /// Begins the next phase if this one is over.
 ///
 /// # Errors
-/// Only where the phase is over and memory is refused, and then nothing has changed.
+/// `AllocError` if the phase is over and memory is refused. The book is then unchanged.
 pub fn begin_next_if_over(alloc: Global, book: &mut Book) -> Result<(), AllocError>
     ensures ok { OnOk result (book.new ≡ next_if_over book.old) }
     ensures err { OnErr result ((book.new ≡ book.old) × (is_over book.old ≡ true)) }
@@ -152,7 +152,7 @@ pub fn begin_next_if_over(alloc: Global, book: &mut Book) -> Result<(), AllocErr
     Ok(())
 }
 
-/// The offer of a person that was claimed, from the worker's own table. The book isn't needed.
+/// The offer of a claimed person, from the worker's own table. It doesn't need the book.
 pub fn prepare(scaled: &Scaled, table: &Prices, version: u128, claim: Claim) -> Option<Offer>
     requires table { length table.now ≡ length scaled.now.problem }
     requires asked { IsAsked scaled.now claim }

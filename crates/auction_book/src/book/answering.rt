@@ -9,7 +9,7 @@ use super::Book;
 use assign_core::{Assignment, Certificate, MOST_PERSONS, Object, Person};
 use std::alloc::{AllocError, Global};
 
-// For each person the object that it owns, and any object for one that owns none.
+// The object that each person owns, and any object for a person without one.
 fn objects_of(alloc: Global, owners: &[Option<Person>]) -> Result<Vec<Object>, AllocError>
     requires few { length owners.now ≤ MOST_PERSONS }
     requires within { (i j : ℕ) → owner_of owners.now j ≡ Some i → IsNumber (length owners.now) i }
@@ -28,11 +28,11 @@ fn objects_of(alloc: Global, owners: &[Option<Person>]) -> Result<Vec<Object>, A
 }
 
 impl Book {
-    /// The assignment of the owners with today's prices, which prove it best: exactly where
-    /// everybody is assigned in the last phase. The cost is n.
+    /// The assignment of the owners with the current prices, which prove it optimal: an answer
+    /// exactly where everybody is assigned in the last phase. The time is linear in n.
     ///
     /// # Errors
-    /// Only where memory is refused.
+    /// `AllocError` if memory is refused.
     pub fn answer(&self, alloc: Global) -> Result<Option<Certificate>, AllocError>
         ensures answer { IfOk result (λ answer. IsAnswered self.now answer) }
     {

@@ -1,4 +1,4 @@
-// How workers' tables become today's.
+// How workers' tables catch up.
 ghost use Rattle.std.specs.Prelude.{◌≡◌, ◌≤◌, length};
 ghost use Rattle.assign_core.specs.Numbered.{IsNumber};
 ghost use Rattle.price_log.specs.History.{IsEarlier, last_version};
@@ -21,7 +21,7 @@ fn least_of(taken: &[u128], now: u128) -> u128
     least
 }
 
-// The log forgets what is before a version, unless it has forgotten it.
+// Makes the log forget what is before a version, unless it already has.
 fn trim_to(log: &mut PriceLog, version: u128)
     requires { version ≤ last_version log.old }
     ensures { log.new ≡ trimmed_to log.old version }
@@ -32,10 +32,10 @@ fn trim_to(log: &mut PriceLog, version: u128)
 }
 
 impl Book {
-    /// Makes a worker's table today's, and its version too, and notes that the worker took it. The
-    /// log then forgets the versions before the least that any worker took. The cost is that of
-    /// the raises since the table's version, or n where the log no longer reaches it, with the
-    /// number of workers. Takes no memory.
+    /// Makes a worker's table and its version current, and notes that the worker took them. The log
+    /// then forgets the versions before the least that any worker took. The time is linear in the
+    /// number of workers plus the raises since the table's version, or plus n if the log no longer
+    /// reaches this version. It takes no memory.
     pub fn catch_up(&mut self, worker: u16, table: &mut Prices, version: &mut u128)
         requires worker { IsNumber (length self.old.claims) worker }
         requires earlier { IsEarlier self.old.log table.old version.old }

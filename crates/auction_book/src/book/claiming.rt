@@ -16,7 +16,7 @@ impl Book {
         self.refuted.is_some()
     }
 
-    // The front of the queue is claimed, if somebody waits.
+    // Claims the front of the queue, if somebody waits.
     fn claim_first(&mut self, worker: u16) -> Option<Person>
         requires worker { IsNumber (length self.old.claims) worker }
         requires none { numbered self.old.claims worker None ≡ None }
@@ -30,9 +30,9 @@ impl Book {
         Some(person)
     }
 
-    /// A worker without a claim asks for a person. The answer is the first of `Refuted`, `Done`,
-    /// `Stopped`, `Person` and `Wait` that applies, and only `Person` changes the book. Takes no
-    /// memory.
+    /// The answer to a worker without a claim that asks for a person: the first of `Refuted`,
+    /// `Done`, `Stopped`, `Person` and `Wait` that applies. Only `Person` changes the book. It
+    /// takes no memory.
     pub fn claim(&mut self, worker: u16) -> Claim
         requires worker { IsNumber (length self.old.claims) worker }
         requires none { numbered self.old.claims worker None ≡ None }
@@ -59,8 +59,8 @@ impl Book {
         }
     }
 
-    /// A worker's claim, if it has one, is over, and its person waits at the back of the queue. Takes
-    /// no memory.
+    /// Ends a worker's claim, if it has one; its person waits at the back of the queue. It takes no
+    /// memory.
     pub fn give_up(&mut self, worker: u16)
         requires { IsNumber (length self.old.claims) worker }
         ensures book { self.new ≡ given_up self.old worker (numbered self.old.claims worker None) }
@@ -72,7 +72,7 @@ impl Book {
         }
     }
 
-    /// Nobody is claimed from now on, until `resume`.
+    /// Lets no person be claimed, until `resume`.
     pub fn stop(&mut self)
         ensures book { self.new ≡ record self.old { stopped = true } }
         ensures free { IsFree self.new }
@@ -80,7 +80,7 @@ impl Book {
         self.stopped = true;
     }
 
-    /// Persons are claimed again after a stop.
+    /// Lets persons be claimed again after a stop.
     pub fn resume(&mut self)
         ensures book { self.new ≡ record self.old { stopped = false } }
         ensures free { IsFree self.new }

@@ -15,7 +15,7 @@ use std::alloc::{AllocError, Global};
 use std::collections::VecDeque;
 use std::sync::Arc;
 
-// The greatest of some prices, and 0 of none.
+// The greatest of some prices, or 0 of none.
 pub(super) fn greatest(prices: &[Price]) -> Price
     ensures { result ≡ greatest_of prices.now }
 {
@@ -42,11 +42,11 @@ pub(super) fn queue_all(queue: &mut VecDeque<Person>, n: u16)
 }
 
 impl Book {
-    /// A book at the start of a run with all prices 0, for at least one worker. The queue, the claims
-    /// and the counts have all their room from here on.
+    /// A book at the start of a run with all prices 0, for at least one worker. The queue, the
+    /// claims and the counts take all their memory here.
     ///
     /// # Errors
-    /// Only where memory is refused.
+    /// `AllocError` if memory is refused.
     pub fn open(alloc: Global, scaled: Arc<Scaled>, workers: u16) -> Result<Book, AllocError>
         requires { 0 < workers }
         ensures book { IfOk result (λ b. let base = arc_value scaled in
@@ -57,10 +57,11 @@ impl Book {
         Book::open_from(alloc, scaled, prices, workers)
     }
 
-    /// The same with these prices, one for each object and each at most `GREATEST_FIRST_PRICE`.
+    /// A book at the start of a run with these prices, one for each object and each at most
+    /// `GREATEST_FIRST_PRICE`.
     ///
     /// # Errors
-    /// Only where memory is refused.
+    /// `AllocError` if memory is refused.
     pub fn open_from(
         alloc: Global,
         scaled: Arc<Scaled>,

@@ -12,14 +12,14 @@ use bidder::Ask;
 use scaled_values::next_eps;
 use std::alloc::{AllocError, Global};
 
-// Nobody owns anything.
+// Takes all objects from their owners.
 fn free_all(owners: &mut [Option<Person>])
     ensures { owners.new ≡ replicate (length owners.old) None }
 {
     owners.fill(None);
 }
 
-// How much a price is below the top.
+// The amount by which a price is below the top.
 fn gap(top: Price, price: Price) -> u128
     requires least { pos 0 ≤ℤ price }
     requires under { price ≤ℤ top }
@@ -30,7 +30,7 @@ fn gap(top: Price, price: Price) -> u128
     (top - price) as u128
 }
 
-// How much the prices are below the top, in all.
+// The sum of the amounts by which the prices are below the top.
 fn room_under(top: Price, prices: &[Price]) -> u128
     requires few { length prices.now ≤ MOST_PERSONS }
     requires top { top <ℤ PRICE_END }
@@ -45,7 +45,7 @@ fn room_under(top: Price, prices: &[Price]) -> u128
     room
 }
 
-// How many steps of eps there are in some room.
+// The number of steps of eps in some room.
 fn steps_in(room: u128, eps: i64) -> u128
     requires { pos 1 ≤ℤ eps }
     ensures { pos result ≡ int_div (pos room) eps }
@@ -61,7 +61,7 @@ impl Book {
         self.is_assigned() && self.ask.eps != 1
     }
 
-    // The next phase, with today's prices as its first.
+    // Begins the next phase at the current prices.
     fn begin_phase(&mut self, start: Prices)
         requires over { is_over self.old ≡ true }
         requires start { start ≡ prices_of self.old }
@@ -84,12 +84,12 @@ impl Book {
         queue_all(&mut self.queue, n);
     }
 
-    /// The next phase begins, where this one is over: nobody is assigned, all persons wait, and each
+    /// Begins the next phase if this one is over: nobody is assigned, all persons wait, and each
     /// price stays (epsilon-scaling; Bertsekas, Network Optimization, 1998, section 7.1.4). The
-    /// cost is n.
+    /// time is linear in n.
     ///
     /// # Errors
-    /// Only where memory is refused, and then nothing has changed.
+    /// `AllocError` if memory is refused. The book is then unchanged.
     pub fn next_phase(&mut self, alloc: Global) -> Result<(), AllocError>
         requires { is_over self.old ≡ true }
         ensures ok { OnOk result (self.new ≡ phased self.old) }
@@ -101,8 +101,8 @@ impl Book {
         Ok(())
     }
 
-    /// At most how many bids this phase accepts, however it goes: each raises a price by eps or more,
-    /// and none goes above the phase's top. The cost is n.
+    /// An upper bound on the bids that this phase accepts: each raises a price by eps or more, and
+    /// none goes above the phase's top. The time is linear in n.
     pub fn phase_bound(&self) -> u128
         ensures bound { pos result ≡ phase_bound self.now }
     {
@@ -111,7 +111,7 @@ impl Book {
         steps_in(room_under(top, start), self.ask.eps)
     }
 
-    /// How many bids were accepted in this phase.
+    /// The number of bids accepted in this phase.
     pub fn phase_accepted(&self) -> u128
         ensures { result ≡ phase_accepted self.now }
     {

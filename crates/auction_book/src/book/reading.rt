@@ -1,4 +1,4 @@
-// What a book holds.
+// The content of a book.
 ghost use Rattle.std.specs.Prelude.{◌≡◌, None, Some, MatchOption, count_by, length, is_some};
 ghost use Rattle.std.specs.Arc.{arc_value};
 ghost use Rattle.assign_core.specs.Numbered.{IsNumber, numbered};
@@ -13,12 +13,12 @@ use std::collections::VecDeque;
 use std::sync::Arc;
 
 impl Book {
-    /// The book is free, as it is between any two calls: a fact for the proof of a caller. Does
-    /// nothing.
+    /// States the fact that the book is free, as it is between any two calls, for a caller's proof.
+    /// It does nothing else.
     pub fn invariant(&self)
         ensures { IsFree self.now }
     {
-        // A use of a field opens the model.
+        // This use of a field opens the model.
         let _opened = &self.claims;
     }
 
@@ -29,21 +29,21 @@ impl Book {
         &self.scaled
     }
 
-    /// How many workers there are.
+    /// The number of workers.
     pub fn workers(&self) -> u16
         ensures workers { result ≡ length self.now.claims }
     {
         self.workers
     }
 
-    /// Today's prices.
+    /// The current prices.
     pub fn prices(&self) -> &Prices
         ensures prices { result.now ≡ prices_of self.now }
     {
         self.log.prices()
     }
 
-    /// How many bids were accepted since the opening, each one a version of the prices.
+    /// The number of bids accepted since the opening, which is the version of the prices.
     pub fn version(&self) -> u128
         ensures version { result ≡ version_of self.now }
     {
@@ -71,7 +71,7 @@ impl Book {
         self.taken.as_slice()
     }
 
-    /// Who waits, the next one in front.
+    /// The persons who wait, the next one at the front.
     pub fn waiting(&self) -> &VecDeque<Person>
         ensures { result.now.items ≡ self.now.queue }
     {
@@ -85,7 +85,7 @@ impl Book {
         self.owners.as_slice()
     }
 
-    /// How many persons own an object.
+    /// The number of persons who own an object.
     pub fn assigned(&self) -> u16
         ensures { result ≡ count_by is_some self.now.owners }
     {
@@ -99,7 +99,7 @@ impl Book {
         self.ask
     }
 
-    /// How many bids of a worker were accepted since the opening.
+    /// The number of bids of a worker accepted since the opening.
     pub fn accepted_by(&self, worker: u16) -> u128
         requires { IsNumber (length self.now.claims) worker }
         ensures { result ≡ numbered self.now.counts worker 0 }
@@ -109,7 +109,7 @@ impl Book {
         self.counts[worker as usize - 1]
     }
 
-    /// The person that a worker claimed, if its claim isn't over.
+    /// The person that a worker has claimed.
     pub fn claimed_by(&self, worker: u16) -> Option<Person>
         requires { IsNumber (length self.now.claims) worker }
         ensures claim { result ≡ numbered self.now.claims worker None }
@@ -117,7 +117,7 @@ impl Book {
         self.claims[worker as usize - 1]
     }
 
-    /// The recorded Hall set, if there is one. There is no assignment then.
+    /// The recorded Hall set, if there is one; no assignment exists then.
     pub fn refuted(&self) -> Option<&HallSet>
         ensures { MatchOption result (self.now.refuted ≡ None) (λ hall. self.now.refuted ≡ Some hall.now) }
     {

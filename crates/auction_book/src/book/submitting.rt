@@ -1,4 +1,4 @@
-// Bids, and what is found below the floor.
+// Bids, and notices below the floor.
 ghost use Rattle.std.specs.Prelude.{◌≡◌, ◌+◌, ◌+ℤ◌, ◌≤ℤ◌, ◌<ℤ◌, ℤ, List, None, cond, length, MatchBool, IfOk, OnErr, is_some};
 ghost use Rattle.assign_core.specs.Hall.{IsHallSet};
 ghost use Rattle.assign_core.specs.Matching.{owner_of};
@@ -40,7 +40,8 @@ impl Book {
         self.log.price(object)
     }
 
-    // The bidder gets the object at its level. Whoever had it, who is told, waits again.
+    // The bidder gets the object at the bid's level. The previous owner is returned, and waits
+    // again.
     fn accept(&mut self, worker: u16, bid: Bid) -> Result<Option<Person>, AllocError>
         requires worker { IsNumber (length self.old.claims) worker }
         requires held { Holds self.old worker bid.person }
@@ -70,16 +71,16 @@ impl Book {
         Ok(evicted)
     }
 
-    /// A worker submits the bid of a person that it claimed. The bid is accepted exactly where the
-    /// worker holds the person's claim, the bid names this phase and its level is above the
-    /// object's price by eps or more: then the price is the level, the person owns the object, and
-    /// whoever owned it waits at the back of the queue. A bid may be made from an old table
-    /// (Bertsekas and Castanon, Parallel synchronous and asynchronous implementations of the
+    /// A worker submits the bid of a person that it claimed. The bid is refused unless the worker
+    /// holds the person's claim, the bid names this phase, and its level is above the object's
+    /// price by eps or more. After an accepted bid the price is the level, the person owns the
+    /// object, and the previous owner waits at the back of the queue. A bid may be made from an old
+    /// table (Bertsekas and Castanon, Parallel synchronous and asynchronous implementations of the
     /// auction algorithm, 1991).
     ///
-    /// The claim is over then, also after a refusal, but for `NotClaimed`, which changes nothing; the
-    /// person of a refused bid waits at the back of the queue, and nothing else has changed. The
-    /// cost is O(1) amortized.
+    /// The claim ends, even if the bid is refused; only `NotClaimed` changes nothing. The person of
+    /// a refused bid waits at the back of the queue, and nothing else changes. The cost is O(1)
+    /// amortized.
     ///
     /// # Errors
     /// The first of `NotClaimed`, `WrongPhase`, `TooLow` and `Memory` that applies.
@@ -121,12 +122,12 @@ impl Book {
         self.refuted = Some(hall);
     }
 
-    /// A worker records a Hall set of the problem, since nothing that its person lists is worth the
-    /// floor. That ends the claim, and the person waits at the back of the queue. A Hall set that
-    /// was recorded before is replaced. Takes no memory.
+    /// A worker records a Hall set of the problem, because no object that its person lists has a
+    /// value of at least the floor. The claim ends, and the person waits at the back of the queue.
+    /// An earlier recorded Hall set is replaced. It takes no memory.
     ///
     /// # Errors
-    /// `NotClaimed`, which changes nothing, or else `WrongPhase`, which ends the claim and puts the
+    /// `NotClaimed`, which changes nothing; else `WrongPhase`, which ends the claim and puts the
     /// person at the back of the queue.
     pub fn below(&mut self, worker: u16, below: BelowFloor, hall: HallSet) -> Result<(), Refused>
         requires worker { IsNumber (length self.old.claims) worker }

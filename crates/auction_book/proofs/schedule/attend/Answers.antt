@@ -43,7 +43,7 @@ claim-claim-requires-clause-none c =
     let now = before_claim (goal.at.claim-claim-requires-clause-none c).In_ok-begin_next_if_over in
     subst (λ (b : BookData). numbered b.claims c.args.event.worker None ≡ None) (sym now) is.ready.none
 
--- the problem, which stays
+-- the problem stays
 base : (c : After-deref) → c.deref.result.now ≡ c.begin_next_if_over.new.book.base
 base c = c.deref.ensures ∙ c.scaled.ensures.scaled ∙ ap (λ (b : BookData). b.base) c.claim-claim.ensures.book ∙ after_claim-base _ c.args.event.worker c.claim-claim.result
 
