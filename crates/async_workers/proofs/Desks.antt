@@ -1,4 +1,4 @@
--- The desks that a place is opened with.
+-- The desks of a new place.
 use Rattle.std.proofs.Common.{◌≡◌, ℕ, ℤ, zero, suc, ◌+◌, arith, refl, subst, List, [], ◌∷◌, ◌++◌, sym, ap, ◌∙◌, add-one}
 use Rattle.std.specs.List.{All}
 use Rattle.std.proofs.lemmas.List.Elements.{All-push}
@@ -16,7 +16,7 @@ use Rattle.async_workers.specs.Views.{first_known, first_session}
 abbrev pub desk_of : BookData → ScaledProblem → TableId → View → ℕ → Known → DeskData
 desk_of b base place view number known = record (new_desk place b number) { base = base; view = view; known = known }
 
--- one desk more
+-- one more desk
 pub desks_more : (place p : TableId) (b : BookData) (made : ℕ) (base : ScaledProblem) (view : View) (table : List ℤ) (known : Known) (before between after : List DeskData) →
     base ≡ b.base → p ≡ place → view ≡ Away (first_session b (made + 1)) → table ≡ prices_of b → (let k : Known = first_known b (made + 1) in known ≡ record k { table = table }) → before ≡ new_desks place b made → between ≡ before →
     after ≡ between ++ desk_of b base p view (made + 1) known ∷ [] → after ≡ new_desks place b (made + 1)

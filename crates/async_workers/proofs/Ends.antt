@@ -1,4 +1,4 @@
--- What a book answers, and the counts of its workers.
+-- The answer of a book, and the counts of its workers.
 use Rattle.std.proofs.Common.{◌≡◌, ℕ, ℤ, zero, suc, ◌+◌, List, [], ◌∷◌, ◌++◌, length, get_or, sum, add-one, None, Some, MatchOption, refl, sym, ap, ◌∙◌, subst, arith, true≢false}
 use Rattle.std.proofs.lemmas.List.{length-replicate}
 use Rattle.std.proofs.lemmas.List.Sums.{sum_by-cons}
@@ -52,7 +52,7 @@ told_in_all b (suc n) =
     let last : numbered b.counts (n + 1) 0 ≡ get_or b.counts n 0 = ap (λ k. numbered b.counts k 0) (add-one n) in
     in_all_more (tallies b n) (tally_of b (n + 1)) ∙ (λ i. before i + last i)
 
--- so many bids were accepted that each person was assigned by one
+-- enough bids were accepted for each person to be assigned by one
 pub solved_enough : (s : ScaledProblem) (prices : List ℤ) (workers : ℕ) (outcome : Outcome) (told : List Tally) → IsSolved s prices workers outcome told → IsEnough (length s.problem) outcome told
 solved_enough s prices workers (Hall h) told is = tt
 solved_enough s prices workers (Best c) told is =

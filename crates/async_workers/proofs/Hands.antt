@@ -115,7 +115,7 @@ serves EndsSo d e f k b new caught taken put away took same is_f hand ends gave 
       desk = now ∙ ap (λ (f' : DeskData). counted caught (record f' { view = k.view; known = known_after f.known new })) f_is;
     }
 
--- and what a run relies on of it
+-- what a run relies on of a session
 pub serves_on : (EndsSo : BookData → Known → BookData → Bool → Type 0) (d k : DeskData) → Serves d k EndsSo → WorksOn d k
 serves_on EndsSo d k s = record {
   place = ap (λ (d : DeskData). d.place) s.desk;

@@ -21,7 +21,7 @@ moved f done left old x is = ap (λ l. l ++ left) (map-append f done (x ∷ []))
 pub moved_out : {A B : Type 0} (f : A → B) (done : List B) (left old : List A) (x : A) → old ≡ x ∷ left → (done ++ f x ∷ []) ++ map f left ≡ done ++ map f old
 moved_out f done left old x is = append_assoc done (f x ∷ []) (map f left) ∙ ap (λ l. done ++ map f l) (sym is)
 
--- what is true of the elements of a mapped list
+-- what holds of the elements of a mapped list
 unmapped : {A B : Type 0} (P : B → Type 0) (f : A → B) (xs : List A) → All P (map f xs) → All (λ x. P (f x)) xs
 unmapped P f xs all = λ k d lt. let e = length-map xs f in subst P (get_or-map f xs k d (f d) lt) (all k (f d) (omega (arith, lt, e)))
 
@@ -83,7 +83,7 @@ all_back place b n xs ys ds is w back =
 pub back_ready : (place : TableId) (b : BookData) (n : ℕ) (xs ys : List (CachePadded Worker)) (ds : List DeskData) → map desk_in xs ≡ new_desks place b n → AreWorked xs ys → ds ≡ map desk_in ys → All (IsReady place) ds
 back_ready place b n xs ys ds is w back = λ k d lt. let f = all_back place b n xs ys ds is w back k d lt in (f.at, (f.extends.0, f.extends.1, f.extends.2))
 
--- the book of which all that a desk was told is true extends the opening one
+-- a book of which all that a desk last learnt is true extends the opening one
 pub back_extends : (place : TableId) (b c : BookData) (n : ℕ) (xs ys : List (CachePadded Worker)) (ds : List DeskData) → map desk_in xs ≡ new_desks place b n → AreWorked xs ys → ds ≡ map desk_in ys → 0 < length ds → All (IsTrueOf c) ds → Extends b c
 back_extends place b c n xs ys ds is w back some told =
     let d = new_desk place b 0 in

@@ -1,4 +1,4 @@
--- What the steps of a session make of the book in hand.
+-- The effect of the steps of a session on the book in hand.
 use Rattle.std.proofs.Common.{◌≡◌, ◌≢◌, ℕ, ℤ, ◌+◌, List, [], ◌∷◌, ◌++◌, Bool, true, false, length, Option, None, Some, Result, Ok, Err, OnErr, IfOk, inl, inr, refl, sym, ap, ◌∙◌, subst, arith, length-append}
 use Rattle.std.proofs.lemmas.Bool.{cond_both}
 use Rattle.assign_core.specs.Numbered.{numbered}
@@ -32,7 +32,7 @@ use Rattle.async_workers.specs.inside.Hand.{Ends, IsInHand}
 use Rattle.async_workers.specs.Session.{EndsUndone, IsCutShort, caught_in, with_table}
 use Rattle.async_workers.proofs.Hands.{hand_follows, hand_own}
 
--- an offer prepared from the desk's table may go in
+-- an offer prepared from the desk's table may be submitted
 pub may_go_in : (d : DeskData) (taken b c : BookData) (worker : ℕ) (offer given : Option Offer) → IsInHand d taken b → IsPrepared b d.known.number d.known.table d.known.version offer → c ≡ b → worker ≡ d.known.number → given ≡ offer →
     (table : List ℤ) × (version : ℕ) × IsBelow table (prices_of c) × IsPrepared c worker table version given
 may_go_in d taken b c worker offer given hand prepared same_book same_worker same_offer = (
@@ -61,7 +61,7 @@ claim_stopped b worker claim.Wait = refl
 next_follows : (d : DeskData) (taken b : BookData) → IsInHand d taken b → numbered b.claims d.known.number None ≡ None → Follows d.known.number b (next_if_over b)
 next_follows d taken b hand none = (ready d.known.number false b d.known.table d.known.version hand.may.free none (hand_own d taken b hand)).next.follows
 
--- the next phase where it is time, and then a claim
+-- the next phase if this one is over, and then a claim
 pub hand_moved : (d : DeskData) (taken b c mid over new : BookData) (worker : ℕ) (answer : Claim) → IsInHand d taken b → numbered b.claims d.known.number None ≡ None → c ≡ b → mid ≡ next_if_over c → over ≡ mid → worker ≡ d.known.number →
     new ≡ after_claim over worker answer → IsFree new → IsInHand d taken new
 hand_moved d taken b c mid over new worker answer hand none same next again same_worker is free =
@@ -76,7 +76,7 @@ asked_in_hand d taken b c mid over answer hand none same next again asked =
     let book : over ≡ next_if_over b = again ∙ next ∙ ap next_if_over same in
     subst (λ (s : ScaledProblem). IsAsked s answer) (ap (λ (b : BookData). b.base) book ∙ (next_follows d taken b hand none).goes_on.base ∙ sym hand.same_base) asked
 
--- where somebody waits the phase isn't over
+-- if somebody waits, the phase isn't over
 waiting : (b : BookData) (queue : List ℕ) (person : ℕ) → IsFree b → b.queue ≡ queue ++ person ∷ [] → is_over b ≡ true → ⊥
 waiting b queue person free is over =
     let whole = everyone (persons_of b) b.owners b.queue b.claims free.placed_once in
@@ -91,7 +91,7 @@ taken_queue false b worker = refl
 released_over : (b left : BookData) (worker person : ℕ) (caught : Bool) → IsFree (book_kept_up caught left worker) → left.queue ≡ b.queue ++ person ∷ [] → is_over (book_kept_up caught left worker) ≡ true → ⊥
 released_over b left worker person caught free queue over = waiting (book_kept_up caught left worker) b.queue person free (taken_queue caught left worker ∙ queue) over
 
--- what stands where the next phase was refused memory
+-- the state after the next phase was refused memory
 judged_leaves : (refresh since w : ℕ) (b left : BookData) (bid : Bid) (answer : Result Accepted Refused) (told : Note) (caught : Bool) → Holds b w bid.person → answer ≢ Err Memory → IsSubmitted b w bid answer left → told ≡ note_of answer →
     caught ≡ caught_in refresh since told → IsFree (book_kept_up caught left w) → is_over (book_kept_up caught left w) ≡ true → IsCutShort refresh since w (Some (made.Bid bid)) told b left caught
 judged_leaves refresh since w b left bid (Ok a) told caught held not_memory s noted is free over = inl (a, s, noted, is)
@@ -133,7 +133,7 @@ pub taken_stopped : (caught : Bool) (b : BookData) (worker : ℕ) → (book_kept
 taken_stopped true b worker = refl
 taken_stopped false b worker = refl
 
--- a session whose offer went in
+-- a session whose offer was submitted
 pub ends : {E : Type 0} (refresh since : ℕ) (k left : Known) (b mid kept new : BookData) (offer : Option Offer) (told : Note) (caught : Bool) (worker : ℕ) (outcome : Result Claim E) → IsPrepared b k.number k.table k.version offer → IsNoted b k.number offer mid told → numbered mid.claims k.number None ≡ None →
     caught ≡ caught_in refresh since told → kept ≡ book_kept_up caught mid k.number → left ≡ with_table caught mid k → IsFree kept → worker ≡ k.number →
     IfOk outcome (λ answer. (answer ≡ claim_of (next_if_over kept)) × (new ≡ after_claim (next_if_over kept) worker answer)) → OnErr outcome ((new ≡ kept) × (is_over kept ≡ true)) → Ends refresh since k offer told outcome b left new caught

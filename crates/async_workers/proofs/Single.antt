@@ -23,12 +23,12 @@ use Rattle.auction_book.proofs.Following.{given_up_follows, goes_on_through, pha
 use Rattle.auction_book.proofs.Places.{claimed_person}
 use Rattle.async_workers.proofs.Turning.{given_up_none}
 
--- what holds whether there is a value or an error
+-- what holds of a value and of an error
 pub either_way : {T E : Type 0} (P : Type 0) (r : Result T E) → OnOk r P → OnErr r P → P
 either_way P (Ok x) ok err = ok
 either_way P (Err e) ok err = err
 
--- the first so many workers have no claim
+-- the first workers up to this number have no claim
 abbrev pub HaveNone : List (Option ℕ) → ℕ → Type 0
 HaveNone claims before = (worker : ℕ) → worker ≤ before → numbered claims worker None ≡ None
 
@@ -36,7 +36,7 @@ pub none_first : (claims : List (Option ℕ)) → HaveNone claims 0
 none_first claims zero le = refl
 none_first claims (suc worker) le = absurd (omega arith)
 
--- one more gives its claim up
+-- one more worker gives its claim up
 pub one_given_up : (b : BookData) (before : ℕ) → HaveNone b.claims before → HaveNone (given_up b (before + 1) (numbered b.claims (before + 1) None)).claims (before + 1)
 one_given_up b before h worker le = elim (eqb_tells worker (before + 1)) [
   | inl t ↦
@@ -45,7 +45,7 @@ one_given_up b before h worker le = elim (eqb_tells worker (before + 1)) [
   | inr t ↦ let other = t.1 in (given_up_follows b (before + 1)).claims worker other ∙ h worker (omega arith)
 ]
 
--- what worker 1 has after a claim: an offer from today's prices, where it has a person
+-- worker 1's offer after a claim: from the current prices, if it has a person
 record IsClaimed (b : BookData) (version : ℕ) (answer : Claim) : Type 0 where
   pub prices : prices_of (after_claim b 1 answer) ≡ prices_of b
   pub base : (after_claim b 1 answer).base ≡ b.base
@@ -70,7 +70,7 @@ claimed_is b version free number none =
     (λ going e. record { prices = refl; base = refl; prepared = none })
     (λ person rest going e. claimed_front b version person rest free number e)
 
--- the offer that is made of the claim is prepared
+-- the offer made for the claim is prepared
 pub alone_prepared : (b new : BookData) (s : ScaledProblem) (table : List ℤ) (version : ℕ) (answer : Claim) (offer : Option Offer) → IsFree b → IsNumber (length b.claims) 1 → numbered b.claims 1 None ≡ None →
     answer ≡ claim_of b → new ≡ after_claim b 1 answer → s ≡ new.base → table ≡ prices_of new → offer ≡ prepared s table version answer → IsPrepared new 1 (prices_of new) version offer
 alone_prepared b new s table version answer offer free number none is_answer is_new is_base is_table is_offer =
@@ -89,7 +89,7 @@ alone_next b mid new on free none is = subst (λ (n : BookData). GoesOn b n × (
     (cond_both (is_over mid) (phased mid) mid (λ (n : BookData). GoesOn b n × (numbered n.claims 1 None ≡ None))
     (λ h. (goes_on_through b mid (phased mid) on (phased_follows mid 1 free h).goes_on, none)) (λ h. (on, none)))
 
--- who resumes a book alone
+-- a worker that resumes a book alone
 pub alone_resumed : (b mid new : BookData) → GoesOn b mid → new ≡ record mid { stopped = false } → GoesOn b new
 alone_resumed b mid new on is = subst (GoesOn b) (sym is) (goes_on_through b mid (record mid { stopped = false }) on (stop_follows mid 1 false).goes_on)
 

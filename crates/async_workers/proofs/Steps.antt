@@ -19,7 +19,7 @@ use Rattle.async_workers.specs.inside.Passing.{IsClosing, IsVacant, MetIsCurrent
 use Rattle.async_workers.proofs.Extending.{extends_itself, extends_through, own_extended}
 use Rattle.async_workers.proofs.Untouched.{first_told}
 
--- what stands in a list with one more at its end
+-- the elements of a list with one more at its end
 at_end : (l : List View) (a b : View) (j : ℕ) → get_elem? (l ++ a ∷ []) j ≡ some b → ((j ≡ length l) × (a ≡ b)) ⊎ (get_elem? l j ≡ some b)
 at_end [] a b zero e = inl (refl, some-injective a b e)
 at_end [] a b (suc j) e = absurd (some-ne-none b (sym e))
@@ -39,7 +39,7 @@ each_set F views pass w mine others j u e = ⊎_elim
     (λ (x : (j ≢ pass) × (get_elem? views j ≡ some u)). others j u x.0 x.1)
     (at_set views pass j w u e)
 
--- in an unopened place there is the first view alone
+-- in an unopened place there is only the first view
 only_fresh : (views : List View) (pass : ℕ) (v : View) → views ≡ Fresh ∷ [] → get_elem? views pass ≡ some v → Fresh ≡ v
 only_fresh views zero v is at = some-injective Fresh v (ap (λ l. get_elem? l zero) (sym is) ∙ at)
 only_fresh views (suc pass) v is at = absurd (some-ne-none v (sym (ap (λ l. get_elem? l (suc pass)) (sym is) ∙ at)))
@@ -68,7 +68,7 @@ claim_kept b c number k (Some person) follows other is =
     let asked : b.ask ≡ c.ask = sym (follows.asked k person other is) in
     ap (λ x. claim_with x b.ask) is ∙ ap (λ a. claim_with (Some person) a) asked ∙ sym (ap (λ x. claim_with x c.ask) (follows.claims k other ∙ is))
 
--- what a desk was told stays true through a change by another worker
+-- what a desk last learnt stays true through a change by another worker
 told_kept : (b c : BookData) (number : ℕ) (t : LastSession) → IsFree b → IsCurrent b t → ExtendsBy number b c → (b.stopped ≡ true → c.stopped ≡ true) → t.known.number ≢ number → IsCurrent c t
 told_kept b c number t free told follows stays other =
     let on = follows.goes_on in
@@ -93,7 +93,7 @@ not_held pass holder a b = some-ne-none pass (sym b ∙ a)
 same_pass : (p q : ℕ) (holder : Maybe ℕ) → holder ≡ some p → holder ≡ some q → p ≡ q
 same_pass p q holder a b = some-injective p q (sym a ∙ b)
 
--- a book that lies in the place is the book, and nobody holds it
+-- a book in the place is the book, and nobody holds it
 lies_there : (holder : Maybe ℕ) (b x : BookData) (items : List BookData) → x ∷ items ≡ content holder b → (holder ≡ none) × (x ≡ b) × (items ≡ [])
 lies_there none b x items e = (refl, cc, cc)
 lies_there (some p) b x items e = absurd cc
@@ -141,7 +141,7 @@ others_given b x holder made pass_of pass j number (Holding t taken) free held a
 others_given b x holder made pass_of pass j number (Meeting t taken u) free held apart mine follows stays f = absurd (apart (same_pass j pass holder f.0 held))
 others_given b x holder made pass_of pass j number Spent free held apart mine follows stays f = λ e. some-ne-none j (sym e)
 
--- what the giver was told is true of the book that it puts back
+-- what the giver last learnt is true of the book that it puts back
 told_given : (k : Known) (taken x : BookData) → IsFree taken → IsNumber (length taken.claims) k.number → MayFollow k taken x → IsCurrent x (session_at k taken x)
 told_given k taken x free number may = record {
   taken_free = free;
@@ -193,7 +193,7 @@ sees_vacant pass t taken items views rule at =
     let mine = g.each pass (Holding t taken) at in
     g.place ∙ ap (λ h. content h g.book) mine.0
 
--- which pass has a number, with one number more
+-- the passes of numbers, with one more number
 with_pass : (ℕ → Maybe ℕ) → ℕ → ℕ → ℕ → Maybe ℕ
 with_pass pass_of number pass m = cond (eqb m number) (some pass) (pass_of m)
 
@@ -371,7 +371,7 @@ hears pass t taken u items views rule at =
 pub begins : Rule [] (Fresh ∷ [])
 begins = inl (refl, refl)
 
--- the same steps from a view that is known by an equation
+-- the same steps from a view that an equation names
 same_told : (t u : LastSession) → Away t ≡ Away u → t ≡ u
 same_told t u e = cc
 
@@ -441,6 +441,6 @@ hears_from pass v t taken u is = subst (λ x. Learns Rule pass x (λ items. MetI
 pub hears_meeting : (pass : ℕ) (v w : View) (t : LastSession) (taken : BookData) (u : LastSession) → IsClosing v t taken → w ≡ Away u → Learns Rule pass (met v w) (λ items. MetIsCurrent (met v w))
 hears_meeting pass v w t taken u c is = hears_from pass (met v w) t taken u (ap (met v) is ∙ met-closing v t taken u c)
 
--- a place of one isn't full and empty at once
+-- a place for one book isn't full and empty at once
 pub not_both : (items : List BookData) (n : ℕ) → length items ≡ n → n ≡ 1 → items ≡ [] → ⊥
 not_both items n full one empty = let z = ap length empty in omega (arith, full, one, z)

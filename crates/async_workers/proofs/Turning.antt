@@ -36,7 +36,7 @@ use Rattle.async_workers.specs.Views.{claim_in, claim_with, known_after}
 use Rattle.async_workers.proofs.Hands.{hand_follows}
 use Rattle.async_workers.proofs.Sessions.{next_stopped, taken_stopped}
 
--- what a told claim says of the book
+-- what a recorded claim says of the book
 told_none : (o : Option ℕ) (ask : Ask) → None ≡ claim_with o ask → o ≡ None
 told_none None ask e = refl
 told_none (Some person) ask e = absurd cc
@@ -48,7 +48,7 @@ told_some (Some person) ask c e =
     let same = same_Some x c e in
     (ap (λ (x : Claimed). Some x.person) same, sym (ap (λ (x : Claimed). x.ask) same))
 
--- the desk's offer is the worker's in the words of the core
+-- the desk's offer is the worker's in the terms of the core
 prepared_from : (offer : Option Offer) (told : Option Claimed) (base : ScaledProblem) (table : List ℤ) (version : ℕ) (b : BookData) (worker : ℕ) →
     MatchOption offer (told ≡ None) (λ offer. (c : Claimed) × (told ≡ Some c) × IsOffer base table version c.ask c.person offer) → told ≡ claim_in b worker → base ≡ b.base → IsPrepared b worker table version offer
 prepared_from None told base table version b worker has is same = told_none (numbered b.claims worker None) b.ask (sym has ∙ is)
@@ -72,7 +72,7 @@ seated d b taken put has told = record {
   prepared = prepared_from d.offer d.known.claim d.base d.known.table d.known.version b d.known.number has told.claim told.base;
 }
 
--- the offer that is prepared is that of the claim
+-- the prepared offer is that of the claim
 abbrev IsOffered : BookData → ℕ → List ℤ → ℕ → Claim → Type 0
 IsOffered b worker table version answer = MatchOption (prepared b.base table version answer) (claim_in (after_claim b worker answer) worker ≡ None)
     (λ offer. (c : Claimed) × (claim_in (after_claim b worker answer) worker ≡ Some c) × IsOffer b.base table version c.ask c.person offer)
@@ -110,7 +110,7 @@ event_base refresh d k told answer taken put away has g =
     let a = event refresh d k told answer taken put away has g in
     (g.told taken put away).base ∙ sym (a.ready.next.follows.goes_on.base ∙ a.ready.taken.follows.goes_on.base ∙ a.left.ends.follows.goes_on.base)
 
--- what the desk knows, in the words of the core
+-- what the desk knows, in the terms of the core
 given_known : (refresh : ℕ) (d k : DeskData) (told : Note) (answer : Claim) → (g : Gives refresh d k told answer) →
     k.known ≡ known_after (with_table g.caught g.ends.submitted d.known) (book_left g.caught g.ends.submitted d.known.number)
 given_known refresh d k told answer g = ap (λ (d : DeskData). d.known) g.desk ∙ (λ i. known_after (g.ends.known i) (g.ends.book i))
@@ -157,7 +157,7 @@ turned refresh place d k e told answer t can g is turn_is =
       answered = turn_is;
     }
 
--- after a stop that the desk asked for a turn ends its run
+-- after a stop that the desk asked for, a turn ends its run
 pub stops_run : (refresh : ℕ) (place : TableId) (d k : DeskData) (told : Note) (answer : Claim) (t : Turn) → CanTurn place d → Gives refresh d k told answer → t ≡ turn_of answer → d.known.stop ≡ true → EndsRun t
 stops_run refresh place d k told answer t can g is asked =
     let away = can.ready.1 in
@@ -199,7 +199,7 @@ let_go_hand d taken b new hand is free =
     by_claim b worker None = refl
     by_claim b worker (Some person) = refl
 
--- what a session comes to that gives the claim up, and may stop the book
+-- the result of a session that gives up the claim, and may stop the book
 pub leaves_so : (stopping : Bool) (d e f : DeskData) (h one two : HeldData) → e ≡ record d { view = e.view; offer = None } → h.caught_up ≡ false → one ≡ record h { book = without_claim h.book e.known.number } → two ≡ record one { book = stopped_if stopping one.book } →
     f ≡ (let k : Known = e.known in record e { known = record k { stop = (stopping || k.stop) } }) → Leaving stopping d.known h.book f.known two.book two.caught_up
 leaves_so stopping d e f h one two same fresh is_one is_two is_f =
@@ -220,7 +220,7 @@ steps_out stopping d k s =
       no_claim = ap (λ (d : DeskData). d.known.claim) s.desk ∙ ap (claim_in s.put) s.number ∙ ap (λ c. claim_with c s.put.ask) none;
     }
 
--- a desk that a session left with neither claim nor offer may take a turn
+-- a desk left without claim and offer may take a turn
 pub can_turn_without : (place : TableId) (EndsSo : BookData → Known → BookData → Bool → Type 0) (d k : DeskData) → Serves d k EndsSo → k.known.claim ≡ None → d.place ≡ place → CanTurn place k
 can_turn_without place EndsSo d k s none same_place =
     let no_offer : k.offer ≡ None = ap (λ (d : DeskData). d.offer) s.desk in

@@ -1,4 +1,4 @@
--- A book in which nobody has a claim and no bid was accepted.
+-- A book in which no worker has a claim and no bid was accepted.
 use Rattle.std.proofs.Common.{◌≡◌, ℕ, ℤ, zero, suc, List, [], ◌∷◌, None, true≢false, refl, sym, ap, ◌∙◌, arith, sum, get_or, length}
 use Rattle.std.proofs.lemmas.List.Sums.{sum_by-cons}
 use Rattle.assign_core.specs.Numbered.{IsNumber, numbered}
@@ -24,7 +24,7 @@ zero_numbered : (counts : List ℕ) (worker : ℕ) → sum counts ≡ 0 → numb
 zero_numbered counts zero none = refl
 zero_numbered counts (suc k) none = zero_each counts k none
 
--- today's table is that of version 0
+-- the current table is that of version 0
 first_earlier : (log : History) → last_version log ≡ 0 → IsEarlier log (today log) 0
 first_earlier log none = record {
   reached = omega arith;
@@ -48,6 +48,6 @@ first_told b number free untouched in_range = record {
   stopped = λ asked. absurd (true≢false (sym asked));
 }
 
--- so is a book at the start of a run
+-- a book at the start of a run is untouched
 pub opened_untouched : (s : ScaledProblem) (prices : List ℤ) (workers : ℕ) → IsUntouched (opened s prices workers)
 opened_untouched s prices workers = record { no_claims = λ worker. numbered-replicate workers worker None; no_acceptances = refl }

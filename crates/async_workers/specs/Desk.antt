@@ -1,4 +1,4 @@
--- What a desk, and a book in hand, are to a contract.
+-- How a contract sees a desk and a book in hand.
 use Rattle.std.specs.Prelude.{◌≡◌, ℕ, zero, suc, ◌+◌, List, [], ◌∷◌, ◌++◌, Option, None, Bool}
 use Rattle.atomic_table.specs.Seated.{TableId}
 use Rattle.scaled_values.specs.Scaled.{ScaledProblem}
@@ -11,8 +11,8 @@ use Rattle.async_workers.specs.declared.rule.View.TheVariants.{Away, Holding}
 use Rattle.async_workers.specs.PlaceRule.{IsCurrent, MayFollow}
 use Rattle.async_workers.specs.Views.{first_known, first_session}
 
--- the problem, the place, what the desk's pass knows, what the desk knows, its offer, and how many sessions are over, in
--- all and since its table last became today's
+-- the problem, the place, the view of the desk's pass, what the desk knows, its offer, and the
+-- numbers of past sessions, in all and since its table last caught up
 pub record DeskData : Type 0 where
   pub base : ScaledProblem
   pub place : TableId
@@ -28,11 +28,11 @@ pub record HeldData : Type 0 where
   pub offer : Option Offer
   pub caught_up : Bool
 
--- what the desk knows, where these are the books that it last took and put back
+-- what the desk knows, with these as the books that it last took and put back
 abbrev pub session_by : DeskData → BookData → BookData → LastSession
 session_by d taken put = record { base = d.base; known = d.known; taken = taken; put = put }
 
--- the desk is without the book, having last taken the first book and put back the second
+-- the desk doesn't have the book; it last took the first book and put back the second
 abbrev pub IsAway : DeskData → BookData → BookData → Type 0
 IsAway d taken put = d.view ≡ Away (session_by d taken put)
 
@@ -48,11 +48,11 @@ IsHolding d taken = (t : LastSession) × (d.view ≡ Holding t taken) × (t.know
 abbrev pub MayGive : DeskData → BookData → Type 0
 MayGive d b = (taken : BookData) × IsHolding d taken × MayFollow d.known taken b
 
--- what the desk was told is true of the book
+-- all that the desk last learnt is true of the book
 abbrev pub IsTrueOf : BookData → DeskData → Type 0
 IsTrueOf b d = (taken put : BookData) → IsAway d taken put → IsCurrent b (session_by d taken put)
 
--- a desk as a place is opened with it
+-- a new desk of a place
 abbrev pub new_desk : TableId → BookData → ℕ → DeskData
 new_desk place b number = record {
   base = b.base;

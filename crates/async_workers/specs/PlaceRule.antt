@@ -14,20 +14,21 @@ use Rattle.async_workers.specs.declared.rule.View.{View}
 use Rattle.async_workers.specs.declared.rule.View.TheVariants.{Fresh, Opening, Away, Holding, Meeting, Spent}
 use Rattle.async_workers.specs.Views.{claim_in, keeps_empty, session_at}
 
--- the later book is of the same problem and number of workers, no price is lower, and its log continues. It may have no
--- Hall set where one was recorded
+-- the later book has the same problem and number of workers, no price is lower, and its log
+-- continues; it need not have the earlier one's Hall set
 abbrev pub Extends : BookData → BookData → Type 0
 Extends old new = GoesOn (record old { refuted = None }) new
 
--- and so it is by one worker: other workers' counts and claims stay, and where one of them has a claim the same is
--- asked of its bid
+-- the same by one worker: other workers' counts and claims stay, and if one of them has a claim,
+-- the same is asked of its bid
 abbrev pub ExtendsBy : ℕ → BookData → BookData → Type 0
 ExtendsBy worker old new = Follows worker (record old { refuted = None }) new
 
--- what a desk was told is true of the book. Valid books: those that the desk names are free, and of the book's problem
--- and workers. Prices and logs extend: the book extends the one that the desk put back, its prices are above the
--- desk's table, and the table is the log's as far back as the log reaches. LastSession facts hold: acceptances, the claim and
--- what is asked of its bid are the book's. LastSession of a stop: where the desk asked for one the book is stopped
+-- all that a desk last learnt is true of the book. The books that it last took and put back are
+-- free, and have the same problem and number of workers. The book extends the one put back, its
+-- prices are at least those of the desk's table, and the table is the log's as far back as the log
+-- reaches. The desk's acceptances, claim and what is asked of its bid are the book's. If the desk
+-- asked for a stop, the book is stopped
 pub record IsCurrent (b : BookData) (t : LastSession) : Type 0 where
   pub taken_free : IsFree t.taken
   pub put_free : IsFree t.put
@@ -41,11 +42,11 @@ pub record IsCurrent (b : BookData) (t : LastSession) : Type 0 where
   pub claim : t.known.claim ≡ claim_in b t.known.number
   pub stopped : t.known.stop ≡ true → b.stopped ≡ true
 
--- distinct numbers: only this pass has the number of its desk, which is one of those that the opener has given out
+-- only this pass has the number of its desk, and the opener has given this number out
 abbrev pub HasItsNumber : ℕ → (ℕ → Maybe ℕ) → ℕ → LastSession → Type 0
 HasItsNumber made pass_of pass t = (pass_of t.known.number ≡ some pass) × (t.known.number ≤ made)
 
--- one view and the book, who holds it, and the numbers given out
+-- what one view requires of the book, of its holder and of the numbers given out
 abbrev pub Fits : BookData → Maybe ℕ → ℕ → (ℕ → Maybe ℕ) → ℕ → View → Type 0
 Fits b holder made pass_of pass Fresh = ⊥
 Fits b holder made pass_of pass (Opening o n) = (holder ≡ some pass) × (o ≡ b) × (n ≡ made)
@@ -54,16 +55,16 @@ Fits b holder made pass_of pass (Holding t taken) = (holder ≡ some pass) × (t
 Fits b holder made pass_of pass (Meeting t taken u) = (holder ≡ some pass) × (taken ≡ b) × IsCurrent b t × HasItsNumber made pass_of pass t × IsCurrent b u
 Fits b holder made pass_of pass Spent = holder ≢ some pass
 
--- the book lies in the place exactly where no pass holds it
+-- the book is in the place exactly when no pass holds it
 abbrev pub content : Maybe ℕ → BookData → List BookData
 content none b = b ∷ []
 content (some pass) b = []
 
--- one holder: whoever holds the book is a pass of the place, and knows that it does
+-- the holder of the book, if there is one, is a pass of the place, and knows that it holds the book
 abbrev pub IsHolder : Maybe ℕ → List View → Type 0
 IsHolder holder views = (pass : ℕ) → holder ≡ some pass → (v : View) × (get_elem? views pass ≡ some v) × (keeps_empty v ≡ true)
 
--- one free book, in the place or held by one pass, which each view fits
+-- one free book, in the place or held by one pass, and each view fits it
 pub record IsRunning (items : List BookData) (views : List View) : Type 0 where
   pub book : BookData
   pub holder : Maybe ℕ
@@ -81,19 +82,20 @@ IsUnopened items views = (items ≡ []) × (views ≡ Fresh ∷ [])
 abbrev pub Rule : List BookData → List View → Type 0
 Rule items views = IsUnopened items views ⊎ IsRunning items views
 
--- nobody has a claim, and no bid was accepted
+-- no worker has a claim, and no bid was accepted
 pub record IsUntouched (b : BookData) : Type 0 where
   pub no_claims : (worker : ℕ) → numbered b.claims worker None ≡ None
   pub no_acceptances : version_of b ≡ 0
 
--- what a desk that was told this learns when it takes the book
+-- what a desk with this last session learns when it takes the book
 pub record Takes (t : LastSession) (b : BookData) (after : View) : Type 0 where
   pub view : after ≡ Holding t b
   pub free : IsFree b
   pub told : IsCurrent b t
 
--- the book that may be put back after a change by one worker: free, extending the book taken by that worker alone,
--- stopped if that was, and as what the desk knows wants it: its table, the table's version and its having asked for a stop
+-- a book that may be put back after a change by one worker: it is free, extends the book taken by
+-- this worker's changes alone, is stopped if that was, and fits what the desk knows: its table, the
+-- table's version, and a stop that it asked for
 pub record MayFollow (k : Known) (taken b : BookData) : Type 0 where
   pub free : IsFree b
   pub extends : ExtendsBy k.number taken b

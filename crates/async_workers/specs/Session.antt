@@ -1,4 +1,4 @@
--- What a worker's session makes of the book and of its desk, in the words of the core.
+-- The effect of a worker's session on the book and its desk, in the terms of the core.
 use Rattle.std.specs.Prelude.{◌≡◌, ◌⊎◌, ◌+◌, ◌-◌, ◌^◌, ℕ, Option, None, Some, Bool, true, false, cond, Ok, Err, ◌||◌, ◌&&◌, nat_lt, nat_le, min}
 use Rattle.assign_core.specs.Numbered.{numbered}
 use Rattle.bidder.specs.declared.offers.Offer.{Offer}
@@ -24,24 +24,25 @@ is_too_low told = false
 abbrev pub one_more : ℕ → ℕ
 one_more n = min (n + 1) (2 ^ 64 - 1)
 
--- the table is to become today's: after a bid that was too low, or when so many sessions are over since it last did
+-- the table catches up: after a bid that was too low, or when this many sessions have passed since
+-- it last did
 abbrev pub catches_up : ℕ → Bool → ℕ → Bool
 catches_up refresh too_low since = too_low || (nat_lt 0 refresh && nat_le refresh (one_more since))
 
--- one session more is over
+-- after one more session
 abbrev pub counted : Bool → DeskData → DeskData
 counted caught d = record d { sessions = one_more d.sessions; since = cond caught 0 (one_more d.since) }
 
--- the desk's table becomes today's, or not
+-- the desk's table after catching up, if it does
 abbrev pub with_table : Bool → BookData → Known → Known
 with_table caught b k = record k { table = table_kept_up caught b k.table; version = version_kept_up caught b k.version }
 
--- whether a session in which this was told catches up, where so many are over since the last one that did
+-- whether a session with this note catches up, after this many sessions since the last catching up
 abbrev pub caught_in : ℕ → ℕ → Note → Bool
 caught_in refresh since told = catches_up refresh (is_too_low told) since
 
--- the session of a desk that knew k and has taken the book b with an offer, where no growth is refused: the book, and
--- what the desk knows, when it ends
+-- the session of a desk that knew k and took the book b with an offer, if no growth is refused: the
+-- book and what the desk knows at its end
 pub record EndsWell (refresh since : ℕ) (k : Known) (offer : Option Offer) (told : Note) (answer : Claim) (b : BookData) (left : Known) (new : BookData) (caught : Bool) : Type 0 where
   pub submitted : BookData
   pub noted : IsNoted b k.number offer submitted told
@@ -50,9 +51,10 @@ pub record EndsWell (refresh since : ℕ) (k : Known) (offer : Option Offer) (to
   pub book : new ≡ book_left caught submitted k.number
   pub known : left ≡ with_table caught submitted k
 
--- the book that a refused growth leaves, but for catching up, which a refused offer leaves out: the accepted bid; the
--- refused one, whose person waits; after a search the claim given up; without an offer the book taken. What is told of
--- the offer: that the bid was accepted, or refused for want of memory, and else nothing
+-- the book that a refused growth leaves, before catching up, which a refused offer leaves out: with
+-- the accepted bid; or with the refused bid's person in the queue; or, after a search, with the
+-- claim given up; or, without an offer, unchanged. The note is that the bid was accepted, that it
+-- was refused memory, or nothing
 abbrev pub IsCutShort : ℕ → ℕ → ℕ → Option Offer → Note → BookData → BookData → Bool → Type 0
 IsCutShort refresh since worker None told b new caught = (new ≡ b) × (told ≡ note.Nothing) × (caught ≡ caught_in refresh since told)
 IsCutShort refresh since worker (Some (made.Bid bid)) told b new caught =
@@ -61,7 +63,7 @@ IsCutShort refresh since worker (Some (made.Bid bid)) told b new caught =
 IsCutShort refresh since worker (Some (made.Below below)) told b new caught =
     Holds b worker below.person × (new ≡ released b worker below.person) × (told ≡ note.Nothing) × (caught ≡ false)
 
--- the session where a growth is refused: the worker has no claim
+-- the session if a growth is refused: the worker has no claim
 pub record EndsUndone (refresh since : ℕ) (k : Known) (offer : Option Offer) (told : Note) (b : BookData) (left : Known) (new : BookData) (caught : Bool) : Type 0 where
   pub submitted : BookData
   pub leaves : IsCutShort refresh since k.number offer told b submitted caught

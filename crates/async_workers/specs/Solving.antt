@@ -1,4 +1,4 @@
--- What a run of workers answers.
+-- The outcome of a run of workers.
 use Rattle.std.specs.Prelude.{◌≡◌, ℕ, ℤ, zero, suc, ◌+◌, ◌≤◌, List, [], ◌∷◌, ◌++◌, Some, true}
 use Rattle.assign_core.specs.Hall.{IsHallSet}
 use Rattle.assign_core.specs.Numbered.{numbered}
@@ -12,7 +12,8 @@ use Rattle.auction_book.specs.Free.{IsFree}
 use Rattle.auction_book.specs.Phases.{is_done, opened}
 use Rattle.async_workers.specs.declared.solving.Tally.{Tally}
 
--- the book answers this: everybody is assigned in the last phase, by its owners at its prices, or it has this Hall set
+-- the book's answer: everybody is assigned in the last phase, by its owners at its prices, or it
+-- has this Hall set
 abbrev pub IsAnsweredBy : BookData → Outcome → Type 0
 IsAnsweredBy b (Best c) = (is_done b ≡ true) × IsAnswer b c
 IsAnsweredBy b (Hall h) = (b.refuted ≡ Some h) × IsHallSet b.base.problem h.persons h.objects
@@ -20,22 +21,22 @@ IsAnsweredBy b (Hall h) = (b.refuted ≡ Some h) × IsHallSet b.base.problem h.p
 abbrev pub tally_of : BookData → ℕ → Tally
 tally_of b worker = record { worker = worker; accepted = numbered b.counts worker 0 }
 
--- of workers 1, 2, .., n
+-- the tallies of workers 1, 2, .., n
 abbrev pub tallies : BookData → ℕ → List Tally
 tallies b zero = []
 tallies b (suc n) = tallies b n ++ tally_of b (n + 1) ∷ []
 
--- how many bids were accepted by all workers
+-- the number of accepted bids of all workers
 abbrev pub accepted_in_all : List Tally → ℕ
 accepted_in_all [] = 0
 accepted_in_all (t ∷ told) = t.accepted + accepted_in_all told
 
--- each person was assigned by a bid that was accepted
+-- each person was assigned by an accepted bid
 abbrev pub IsEnough : ℕ → Outcome → List Tally → Type 0
 IsEnough persons (Best c) told = persons ≤ accepted_in_all told
 IsEnough persons (Hall h) told = Unit {0}
 
--- outcome and tallies are those of one free book, with so many workers, that goes on from this one
+-- outcome and tallies are those of one free book with this many workers that goes on from this book
 pub record IsEndOf (from : BookData) (workers : ℕ) (outcome : Outcome) (told : List Tally) : Type 0 where
   pub book : BookData
   pub free : IsFree book
@@ -43,7 +44,7 @@ pub record IsEndOf (from : BookData) (workers : ℕ) (outcome : Outcome) (told :
   pub answers : IsAnsweredBy book outcome
   pub tallied : told ≡ tallies book workers
 
--- that book is what the workers' bids made of the one opened with these prices: it has their problem and number of
--- workers, and none of its prices is lower
+-- the same from the book opened with these prices: the last book has their problem and number of
+-- workers, and no price is lower
 abbrev pub IsSolved : ScaledProblem → List ℤ → ℕ → Outcome → List Tally → Type 0
 IsSolved s prices workers outcome told = IsEndOf (opened s prices workers) workers outcome told

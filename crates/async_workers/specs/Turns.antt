@@ -1,4 +1,4 @@
--- What a turn, a leave and a stop make of a place and a desk.
+-- The effect of a turn, a leave and a stop on a place and a desk.
 use Rattle.std.specs.Prelude.{◌≡◌, ℕ, Option, None, Some, Bool, true, false, MatchOption, ◌||◌, cond}
 use Rattle.atomic_table.specs.Seated.{TableId}
 use Rattle.assign_core.specs.Numbered.{numbered}
@@ -23,7 +23,8 @@ use Rattle.async_workers.specs.PlaceRule.{Extends, IsCurrent, MayFollow}
 use Rattle.async_workers.specs.Session.{EndsUndone, EndsWell, counted}
 use Rattle.async_workers.specs.Views.{known_after}
 
--- a desk with a claim has prepared the offer of its person from its table, and one without a claim has none
+-- a desk with a claim has prepared its person's offer from its table; a desk without a claim has
+-- none
 abbrev pub HasOffer : DeskData → Type 0
 HasOffer d = MatchOption d.offer (d.known.claim ≡ None)
     (λ offer. (c : Claimed) × (d.known.claim ≡ Some c) × IsOffer d.base d.known.table d.known.version c.ask c.person offer)
@@ -47,9 +48,9 @@ turn_of claim.Stopped = turn.Stopped
 turn_of (claim.Person person ask) = turn.Claimed
 turn_of claim.Wait = turn.Idle
 
--- a session of a desk that ends so: it took a free book of which all that it was told is true, and put one back that may
--- follow it. The desk knows what it knew at the end and what it is told of the book put back, has no offer, and counts
--- the session
+-- a session of a desk with this end: it took a free book of which all that it last learnt is true,
+-- and put back one that may follow it. The desk knows what it knew at the end and what it learns of
+-- the book put back, has no offer, and counts the session
 pub record Serves (d after : DeskData) (EndsSo : BookData → Known → BookData → Bool → Type 0) : Type 0 where
   pub taken : BookData
   pub put : BookData
@@ -63,8 +64,8 @@ pub record Serves (d after : DeskData) (EndsSo : BookData → Known → BookData
   pub away : IsAway after taken put
   pub desk : after ≡ counted caught (record d { view = after.view; known = known_after left put; offer = None })
 
--- a turn without a fault: a session that ends well, after which an offer is prepared. Book put back, desk and answer are
--- what one event of the core makes of the book taken and the desk
+-- a turn without a fault: a session that ends well, after which an offer is prepared. Book put
+-- back, desk and answer are what one event of the core makes of the book taken and the desk
 pub record Turned (refresh : ℕ) (d after : DeskData) (answer : Turn) : Type 0 where
   pub note : Note
   pub claimed : Claim
@@ -74,7 +75,7 @@ pub record Turned (refresh : ℕ) (d after : DeskData) (answer : Turn) : Type 0 
   pub desk : after ≡ record given { offer = after.offer }
   pub answered : answer ≡ turn_of claimed
 
--- a turn that was refused memory: the desk has no claim, and no offer
+-- a turn that was refused memory: the desk has no claim and no offer
 pub record Faulted (refresh : ℕ) (d after : DeskData) : Type 0 where
   pub note : Note
   pub serves : Serves d after (EndsUndone refresh d.since d.known d.offer note)
@@ -87,16 +88,16 @@ EndsRun turn.Refuted = Unit {0}
 EndsRun turn.Stopped = Unit {0}
 EndsRun t = ⊥
 
--- no other fault than want of memory
+-- there is no fault except for refused memory
 abbrev pub IsMemory : Option SolveFault → Type 0
 IsMemory met = MatchOption met (Unit {0}) (λ f. f ≡ fault.Memory)
 
--- the turn that ends a worker's run: one that answers so, or one that met a fault
+-- the turn that ends a worker's run: one with this answer, or one with a fault
 abbrev pub IsLastTurn : ℕ → DeskData → DeskData → Option SolveFault → Type 0
 IsLastTurn refresh before after met = MatchOption met ((answer : Turn) × Turned refresh before after answer × EndsRun answer) (λ f. Faulted refresh before after)
 
--- through a session a desk stays of its place and its problem, and the book that it puts back extends the one that it
--- put back before
+-- a session keeps a desk's place and problem, and the book that it puts back extends the one that
+-- it put back before
 pub record WorksOn (d after : DeskData) : Type 0 where
   pub place : after.place ≡ d.place
   pub base : after.base ≡ d.base
@@ -110,13 +111,13 @@ stopped_if stopping b = cond stopping (record b { stopped = true }) b
 abbrev pub without_claim : BookData → ℕ → BookData
 without_claim b worker = given_up b worker (numbered b.claims worker None)
 
--- a session in which the claim is given up, and the book stopped where this is wanted
+-- a session that gives up the claim, and stops the book if `stopping` is true
 pub record Leaving (stopping : Bool) (k : Known) (taken : BookData) (left : Known) (put : BookData) (caught : Bool) : Type 0 where
   pub book : put ≡ stopped_if stopping (without_claim taken k.number)
   pub known : left ≡ record k { stop = (stopping || k.stop) }
   pub caught_up : caught ≡ false
 
--- a session that does no more: the desk has no claim, and no offer
+-- a session that does only this: the desk has no claim and no offer
 pub record StepsOut (stopping : Bool) (d after : DeskData) : Type 0 where
   pub serves : Serves d after (Leaving stopping d.known)
   pub no_claim : after.known.claim ≡ None

@@ -1,4 +1,4 @@
--- What a pass knows of the book, and how its steps change that.
+-- What a pass knows of the book, and how its steps change this.
 use Rattle.std.specs.Prelude.{ℕ, ◌+◌, Option, None, Some, Bool, true, false}
 use Rattle.assign_core.specs.Numbered.{numbered}
 use Rattle.bidder.specs.declared.offers.Ask.{Ask}
@@ -17,7 +17,7 @@ claim_with (Some person) ask = Some (record { person = person; ask = ask })
 abbrev pub claim_in : BookData → ℕ → Option Claimed
 claim_in b worker = claim_with (numbered b.claims worker None) b.ask
 
--- what a desk knows once it was told of the book that it put back
+-- what a desk knows after it has put this book back
 abbrev pub known_after : Known → BookData → Known
 known_after k put = record k { accepted = numbered put.counts k.number 0; claim = claim_in put k.number }
 
@@ -40,19 +40,19 @@ first_known b number = record {
 abbrev pub first_session : BookData → ℕ → LastSession
 first_session b number = record { base = b.base; known = first_known b number; taken = b; put = b }
 
--- the opener's view after one desk more
+-- the opener's view after one more desk
 abbrev pub opener_next : BookData → View → View
 opener_next b Fresh = Opening b 1
 opener_next b (Opening o made) = Opening o (made + 1)
 opener_next b v = Spent
 
--- that desk's view
+-- the view of this desk
 abbrev pub desk_made : BookData → View → View
 desk_made b Fresh = Away (first_session b 1)
 desk_made b (Opening o made) = Away (first_session o (made + 1))
 desk_made b v = Spent
 
--- a closer's view when it has taken in a desk
+-- a closer's view after it has taken in a desk
 abbrev pub met : View → View → View
 met (Holding t taken) (Away u) = Meeting t taken u
 met (Meeting t taken s) (Away u) = Meeting t taken u

@@ -10,11 +10,11 @@ use auction_book::{Book, begin_next_if_over, prepare, submit_offer};
 use std::alloc::{AllocError, Global};
 use std::sync::Wait;
 
-/// What the book answers, if it does: its Hall set, or the assignment of its owners where everybody
-/// is assigned in the last phase.
+/// The book's answer, if it has one: its Hall set, or the assignment of its owners if everybody is
+/// assigned in the last phase.
 ///
 /// # Errors
-/// Only where memory is refused.
+/// `AllocError` if memory is refused.
 pub fn outcome_of(alloc: Global, book: &Book) -> Result<Option<Outcome>, AllocError>
     ensures { IfOk result (λ found. IfSome found (IsAnsweredBy book.now)) }
 {
@@ -28,7 +28,7 @@ pub fn outcome_of(alloc: Global, book: &Book) -> Result<Option<Outcome>, AllocEr
     }
 }
 
-// All claims are given up.
+// Gives up all claims.
 fn give_up_all(book: &mut Book)
     ensures goes_on { GoesOn book.old book.new }
     ensures none { (worker : ℕ) → numbered book.new.claims worker None ≡ None }
@@ -40,7 +40,7 @@ fn give_up_all(book: &mut Book)
     }
 }
 
-// Worker 1 claims a person, if one waits, and its offer from today's prices is submitted.
+// Lets worker 1 claim a person, if one waits, and submits its offer from the current prices.
 fn offer_alone(alloc: Global, book: &mut Book) -> Result<(), AllocError>
     requires worker { IsNumber (length book.old.claims) 1 }
     requires none { numbered book.old.claims 1 None ≡ None }
@@ -54,7 +54,7 @@ fn offer_alone(alloc: Global, book: &mut Book) -> Result<(), AllocError>
     submit_offer(alloc, book, 1, offer).outcome
 }
 
-// The offer of a person, and the next phase if this one is over then.
+// The offer of a person, and the next phase if this one is then over.
 fn step_alone(alloc: Global, book: &mut Book) -> Result<(), AllocError>
     requires worker { IsNumber (length book.old.claims) 1 }
     requires none { numbered book.old.claims 1 None ≡ None }
@@ -70,7 +70,7 @@ fn step_alone(alloc: Global, book: &mut Book) -> Result<(), AllocError>
 /// answer.
 ///
 /// # Errors
-/// Only where memory is refused. The book may be gone on with.
+/// `AllocError` if memory is refused. The book can then be gone on with.
 pub fn go_alone<R: Wait>(rt: &R, alloc: Global, book: &mut Book) -> Result<Outcome, AllocError>
     requires { 0 < length book.old.claims }
     ensures goes_on { GoesOn book.old book.new }

@@ -1,4 +1,4 @@
-// A book on the heap, so that one word goes through the place.
+// A book on the heap, so that only one word moves through the place.
 ghost use Rattle.std.specs.Prelude.{◌≡◌, IfOk};
 ghost use Rattle.std.specs.Borrow.{sem};
 ghost use Rattle.async_workers.specs.inside.Boxed.{LendsBoxed};
@@ -7,7 +7,7 @@ use auction_book::Book;
 use std::alloc::{AllocError, Global};
 use std::marker::Model;
 
-/// A book on the heap, seen as that book.
+/// A book on the heap. A contract sees the book.
 #[derive(Drop)]
 pub struct BoxedBook {
     inner: Box<Book>,

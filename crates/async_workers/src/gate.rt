@@ -1,50 +1,51 @@
-// What a turn answers, and who is told of it.
+// The answer of a turn, and the callbacks for its steps.
 pub use assign_core::SolveFault as TurnFault;
 use auction_book::Note;
 
-/// What a turn that met no fault answers.
+/// The answer of a turn without a fault.
 #[derive(Clone, Copy, PartialEq, Eq)]
 pub enum Turn {
     /// The worker claimed a person, whose offer is prepared.
     Claimed,
-    /// Nobody waits.
+    /// No person waits.
     Idle,
     /// Everybody is assigned in the last phase.
     Done,
-    /// A Hall set is recorded: there is no assignment.
+    /// A Hall set is recorded, so no assignment exists.
     Refuted,
     /// The auction was stopped.
     Stopped,
 }
 
-/// How far a run is, by the book as a worker left it. The fields are the book's own answers; no
-/// contract speaks of what a gate is told.
+/// How far a run is, by the book as a worker left it. The fields are the book's own answers. No
+/// contract says what a gate receives.
 #[derive(Clone, Copy, PartialEq, Eq)]
 pub struct Standing {
     /// The phase, from 1.
     pub phase: u16,
     /// The slackness of the phase, at least 1, in the unit of benefits.
     pub eps: i64,
-    /// How many persons own an object.
+    /// The number of persons who own an object.
     pub assigned: u16,
-    /// How many bids of all workers were accepted since the opening.
+    /// The number of bids of all workers accepted since the opening.
     pub accepted: u128,
 }
 
-/// Who is told of the steps of a worker's turn, all of them while the worker is without the book.
+/// Callbacks for the steps of a worker's turn. The worker doesn't have the book during any of them.
 pub trait Gate {
-    /// Before the offer of a person that the worker claimed is computed.
+    /// Called before the offer of the worker's claimed person is computed.
     fn before_offer(&self, worker: u16);
 
-    /// Before the worker takes the book for the submission of its offer, after so many sessions.
+    /// Called before the worker takes the book to submit its offer, with its number of past
+    /// sessions.
     fn before_submit(&self, worker: u16, turns: u64);
 
-    /// After the worker has put the book back.
+    /// Called after the worker has put the book back, with the result of its bid.
     fn after_session(&self, worker: u16, note: Note);
 
-    /// After `after_session`: how far the run was as the worker put the book back, and how many
-    /// sessions of this worker are over. Other workers may have gone on since. A gate that leaves
-    /// this out isn't told.
+    /// Called after `after_session`, with the worker's number of past sessions and the state of the
+    /// run when it put the book back. Other workers may have changed the book since. Does nothing
+    /// by default.
     fn after_standing(&self, _worker: u16, _sessions: u64, _standing: Standing) {}
 }
 

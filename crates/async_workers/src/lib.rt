@@ -1,5 +1,5 @@
-//! The book of an auction shared by workers: it lies in a place of one, and each worker takes it at
-//! its desk, changes it and puts it back.
+//! The book of an auction, shared by workers: it is in a place with room for one book, and each
+//! worker takes it to its desk, changes it and puts it back.
 #![tactic(auto)]
 
 mod alone;

@@ -1,4 +1,4 @@
-// How long a worker waits that finds nobody to claim.
+// How long a worker without a person to claim waits.
 ghost use Rattle.std.specs.Prelude.{◌≡◌};
 ghost use Rattle.async_workers.specs.Pauses.{longer_than};
 
@@ -7,30 +7,31 @@ use std::thread;
 use std::thread::Parker;
 use std::time::Duration;
 
-/// So many times in a row a worker that finds nobody to claim lets other threads run. From then on
-/// it sleeps between its turns, so that it neither burns a core nor keeps the book from the others.
+/// The number of times in a row that a worker without a person to claim yields to other threads.
+/// After that it sleeps between its turns, so that it doesn't use up a core or keep the book from
+/// the others.
 pub const YIELDS: u32 = 4;
 
-/// The first sleep in microseconds, and the longest one. Each sleep in a row is twice as long as the
+/// The shortest and the longest sleep in microseconds. Each sleep in a row is twice as long as the
 /// one before, up to the longest.
 pub const SHORTEST_SLEEP: u64 = 50;
 
 pub const LONGEST_SLEEP: u64 = 12_800;
 
-/// What a worker does before its next turn, where it found nobody to claim.
+/// What a worker does before its next turn if it found no person to claim.
 #[derive(Clone, Copy, PartialEq, Eq)]
 pub enum Pause {
-    /// It lets other threads run, for the first, second, .. time in a row.
+    /// It yields to other threads, for the first, second, .. time in a row.
     Yield(u32),
-    /// It sleeps for so many microseconds.
+    /// It sleeps for this many microseconds.
     Sleep(u64),
 }
 
-/// The pause of a worker that found somebody the turn before.
+/// The first pause after a turn that found a person.
 pub const FIRST_PAUSE: Pause = Pause::Yield(1);
 
 impl Pause {
-    /// The pause after this one, where there is still nobody to claim.
+    /// The pause after this one, if there is still no person to claim.
     pub fn longer(self) -> Pause
         ensures { result ≡ longer_than self }
     {
@@ -41,7 +42,7 @@ impl Pause {
         }
     }
 
-    /// Waits so long.
+    /// Waits for this pause.
     pub fn wait<R: Wait>(self, rt: &R, parker: &Parker) {
         match self {
             Pause::Yield(_) => thread::yield_now(),

@@ -24,7 +24,7 @@ use std::marker::Model;
 use std::sync::Arc;
 pub use turning::turn;
 
-/// Where the book lies while no desk has it.
+/// Where the book is while no desk has it.
 #[derive(Drop)]
 pub struct BookPlace {
     queue: Queue,
@@ -44,7 +44,7 @@ impl Model for BookPlace {
     ghost invariant = { λ p. ruled_capacity p.queue ≡ 1 };
 }
 
-/// A worker's claim, as its desk was told.
+/// A worker's claim, as its desk last learnt it.
 #[derive(Clone, Copy, PartialEq, Eq)]
 pub struct Claimed {
     pub person: Person,
@@ -52,15 +52,15 @@ pub struct Claimed {
     pub ask: Ask,
 }
 
-/// One worker's side of a place: its number, its own table of prices, what it was told when it last
-/// gave the book back, and the offer that it has prepared.
+/// One worker's side of a place: its number, its own table of prices, what it learnt when it last
+/// put the book back, and its prepared offer.
 #[derive(Drop)]
 pub struct Desk {
     scaled: Arc<Scaled>,
     pass: DeskPass,
     known: Known,
     offer: Option<Offer>,
-    // How many sessions are over, in all and since the table last became today's.
+    // The number of past sessions, in all and since the table last caught up.
     sessions: u64,
     since: u64,
 }
@@ -86,12 +86,12 @@ impl Model for Desk {
     ghost invariant = { λ d. d.pass.me.1 ≡ [] };
 }
 
-/// The book in hand, with the offer that its desk had prepared. The desk that took it has to give it
-/// back to the place.
+/// The book in hand, with the offer that its desk had prepared. The desk that took the book must
+/// put it back into the place.
 pub struct Held {
     book: BoxedBook,
     offer: Option<Offer>,
-    // Whether the desk's table has become today's in this session.
+    // Whether the desk's table has caught up in this session.
     caught_up: bool,
 }
 

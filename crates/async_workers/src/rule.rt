@@ -8,7 +8,7 @@ use crossbeam_queue::{Pass, RuledArrayQueue};
 use scaled_values::Scaled;
 use std::marker::{Brand, PhantomData};
 
-/// What a desk knows: what it keeps for itself, and what it was told when it last put the book back.
+/// What a desk knows: what it keeps for itself, and what it learnt when it last put the book back.
 #[derive(Drop)]
 pub struct Known {
     /// The worker's number, from 1.
@@ -16,15 +16,15 @@ pub struct Known {
     /// The worker's own table of prices, of this version.
     pub table: Prices,
     pub version: u128,
-    /// How many of the worker's bids were accepted, and the worker's claim.
+    /// The number of the worker's accepted bids, and the worker's claim.
     pub accepted: u128,
     pub claim: Option<Claimed>,
     /// Whether the desk asked for a stop.
     pub stop: bool,
 }
 
-/// A desk while it is without the book: what it knows, and the books that it last took and put back.
-/// No value of it is made.
+/// A desk while it doesn't have the book: what it knows, and the books that it last took and put
+/// back. No value of this type is made.
 pub struct LastSession {
     pub base: Scaled,
     pub known: Known,
@@ -32,15 +32,15 @@ pub struct LastSession {
     pub put: Book,
 }
 
-/// What a pass knows. No value of it is made.
+/// What a pass knows. No value of this type is made.
 pub enum View {
-    /// The same for every place: nothing yet.
+    /// The first view, the same for every place: nothing yet.
     Fresh,
-    /// The opener has this book in hand, and has made so many desks.
+    /// The opener has this book in hand, and has made this many desks.
     Opening(Book, u16),
     Away(LastSession),
     Holding(LastSession, Book),
-    /// A closer, with the book in hand, has taken in the desk that was told this.
+    /// A closer with the book in hand has taken in a desk with this last session.
     Meeting(LastSession, Book, LastSession),
     Spent,
 }
@@ -65,7 +65,7 @@ impl Outcome<BoxedBook, View> for Take {
     ghost then = { Took };
 }
 
-/// What a desk knows when it gives the book back.
+/// What a desk knows when it puts the book back.
 pub trait Giver {
     ghost use Rattle.async_workers.specs.declared.rule.Known.{Known};
 
@@ -79,7 +79,7 @@ impl Giver for Brand {
     ghost known = { first_known no_book 0 };
 }
 
-/// A desk gives the book back.
+/// A desk puts the book back.
 pub struct Give<G: Giver> {
     giver: PhantomData<G>,
 }

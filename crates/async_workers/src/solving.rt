@@ -20,14 +20,14 @@ use std::alloc::{AllocError, Global};
 use std::sync::{Arc, Wait};
 use std::thread::Threads;
 
-/// How many bids of a worker were accepted.
+/// The number of a worker's accepted bids.
 #[derive(Clone, Copy, PartialEq, Eq)]
 pub struct Tally {
     pub worker: u16,
     pub accepted: u128,
 }
 
-// The workers take turns with the book until each run has ended.
+// Lets the workers take turns with the book until the run of each has ended.
 fn worked_book<G: Gate + Sync, R: Threads + Wait + Sync>(
     rt: &R,
     alloc: Global,
@@ -49,7 +49,7 @@ fn worked_book<G: Gate + Sync, R: Threads + Wait + Sync>(
     Ok((close_place(rt, place, desks), fault))
 }
 
-// What each worker's bids came to.
+// The tally of each worker.
 fn tally_all(alloc: Global, book: &Book) -> Result<Vec<Tally>, AllocError>
     ensures { IfOk result (λ told. told.items ≡ tallies book.now (length book.now.claims)) }
 {
@@ -65,7 +65,7 @@ fn tally_all(alloc: Global, book: &Book) -> Result<Vec<Tally>, AllocError>
     Ok(told)
 }
 
-// What the book answers. Where it has no answer yet this thread goes on with it alone.
+// The book's answer. If it has none yet, this thread goes on with it alone.
 fn finish<R: Wait>(rt: &R, alloc: Global, book: &mut Book) -> Result<Outcome, AllocError>
     requires { 0 < length book.old.claims }
     ensures goes_on { GoesOn book.old book.new }
@@ -93,21 +93,21 @@ fn answer<R: Wait>(
     Ok((outcome, told))
 }
 
-/// Solves by so many workers, 1 to 64 as a rule, each in a thread of its own: a worker bids from a
-/// table of its own, which it makes today's after a bid that was too low and every `refresh`
-/// sessions (0: only then), and submits its bids to the one book that all share. The run begins at
-/// these prices, one for each object and each at most `GREATEST_FIRST_PRICE`.
+/// Solves by `workers` workers, usually 1 to 64, each in a thread of its own. A worker bids from
+/// its own table, which catches up after a bid that was too low and every `refresh` sessions (0:
+/// only after a low bid), and submits its bids to one shared book. The run begins at these prices,
+/// one for each object and each at most `GREATEST_FIRST_PRICE`.
 ///
-/// The outcome is that of the book: a best assignment with prices that prove it, or a Hall set,
-/// with the count of each worker's accepted bids, from worker 1 on. Which one of several depends on how
-/// the threads run (Bertsekas and Castanon, Parallel synchronous and asynchronous implementations of
-/// the auction algorithm, 1991).
+/// The outcome is that of the book: an optimal assignment with prices that prove it, or a Hall set.
+/// It comes with the number of accepted bids of each worker, from worker 1 on. If several outcomes
+/// exist, the result depends on how the threads run (Bertsekas and Castanon, Parallel synchronous
+/// and asynchronous implementations of the auction algorithm, 1991).
 ///
-/// It may wait for its threads. A thread that can't be started is no fault: others do its work, or
-/// the calling thread. The gate is told of the workers' steps.
+/// It may wait for its threads. A thread that can't be started is no fault: other threads do its
+/// work, or the calling thread does. The gate receives the workers' steps.
 ///
 /// # Errors
-/// Only where memory is refused. A worker that meets a refusal stops the others.
+/// `Memory` if memory is refused. A worker that meets a refusal stops the others.
 pub fn solve_workers_from<G: Gate + Sync, R: Threads + Wait + Sync>(
     rt: &R,
     alloc: Global,
@@ -135,7 +135,7 @@ pub fn solve_workers_from<G: Gate + Sync, R: Threads + Wait + Sync>(
 /// Solves by workers as `solve_workers_from` does, with all first prices 0.
 ///
 /// # Errors
-/// Only where memory is refused.
+/// `Memory` if memory is refused.
 pub fn solve_workers<G: Gate + Sync, R: Threads + Wait + Sync>(
     rt: &R,
     alloc: Global,

@@ -1,4 +1,4 @@
-// Each worker's run, in a thread of its own where one can be started.
+// Each worker's run, in a thread of its own if one can be started.
 ghost use Rattle.std.specs.Prelude.{◌≡◌, ◌<◌, ◌≤◌, [], All, IfOk, OnSome, length, map, slice_index_or, true, vec_capacity, vec_len, ℕ};
 ghost use Rattle.async_workers.specs.Desk.{DeskData};
 ghost use Rattle.async_workers.specs.Turns.{CanTurn, IsLastTurn, IsMemory, WorksOn};
@@ -13,7 +13,7 @@ use std::sync::Wait;
 use std::thread;
 use std::thread::{Parker, Threads};
 
-/// A desk, and the fault that its worker met.
+/// A desk, and the fault of its worker, if there is one.
 #[derive(Drop)]
 pub struct Worker {
     pub desk: Desk,
@@ -21,10 +21,10 @@ pub struct Worker {
 }
 
 /// A worker's turns, until one ends its run: what each worker of `solve_workers_from` does in its
-/// thread. Where it finds nobody to claim it pauses, each time longer than the time before.
+/// thread. After a turn without a person to claim it pauses, each time longer than before.
 ///
-/// The fault, if there was one, which is only where memory is refused. The desk has then no claim and
-/// no offer, and may take turns again.
+/// Returns the fault, if there was one: `Memory` if memory was refused. The desk then has no claim
+/// and no offer, and may take turns again.
 pub fn take_turns<G: Gate, R: Wait>(
     rt: &R,
     alloc: Global,
@@ -57,7 +57,7 @@ pub fn take_turns<G: Gate, R: Wait>(
     unreachable!()
 }
 
-// A worker's whole run. After a fault it uses one session more to stop the book.
+// A worker's whole run. After a fault it stops the book in one more session.
 fn work<G: Gate, R: Wait>(
     rt: &R,
     alloc: Global,
@@ -79,7 +79,7 @@ fn work<G: Gate, R: Wait>(
     worker.fault = fault;
 }
 
-// Each worker's run goes to a thread of its own. Where none can be started the runs follow each other.
+// Gives each worker's run a thread of its own. If none can be started, the runs follow each other.
 fn run_each<G: Gate + Sync, R: Threads + Wait + Sync>(
     rt: &R,
     alloc: Global,
@@ -105,7 +105,7 @@ fn run_each<G: Gate + Sync, R: Threads + Wait + Sync>(
     );
 }
 
-/// The workers after their runs, each of which had a thread of its own where one could be started.
+/// The workers after their runs, each in a thread of its own if one could be started.
 pub fn run_all<G: Gate + Sync, R: Threads + Wait + Sync>(
     rt: &R,
     alloc: Global,
@@ -136,7 +136,7 @@ pub fn run_all<G: Gate + Sync, R: Threads + Wait + Sync>(
 /// A worker for each desk.
 ///
 /// # Errors
-/// Only where memory is refused.
+/// `AllocError` if memory is refused.
 pub fn seat_workers(alloc: Global, desks: Vec<Desk>) -> Result<Vec<CachePadded<Worker>>, AllocError>
     ensures { IfOk result (λ workers. map desk_in workers.items ≡ desks.items) }
 {
@@ -147,7 +147,7 @@ pub fn seat_workers(alloc: Global, desks: Vec<Desk>) -> Result<Vec<CachePadded<W
     Ok(workers)
 }
 
-// The fault of the lower of two workers, if it met one, or else the other's.
+// The fault of the lower of two workers, or else that of the other.
 fn earlier_fault(lower: Option<TurnFault>, higher: Option<TurnFault>) -> Option<TurnFault>
     requires lower { IsMemory lower }
     requires higher { IsMemory higher }
@@ -159,8 +159,8 @@ fn earlier_fault(lower: Option<TurnFault>, higher: Option<TurnFault>) -> Option<
     }
 }
 
-/// The workers' desks, into a list with room for them, and the fault of the first worker that met
-/// one. Takes no memory.
+/// Moves the workers' desks into a list with room for them, and returns the fault of the first
+/// worker that met one. It takes no memory.
 pub fn unseat_workers(
     mut desks: Vec<Desk>,
     workers: Vec<CachePadded<Worker>>,

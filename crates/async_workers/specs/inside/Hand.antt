@@ -1,4 +1,4 @@
--- The book in hand, between its take and its give.
+-- The book in hand, from its take to its give.
 use Rattle.std.specs.Prelude.{◌≡◌, ℕ, Bool, Option, Result, MatchResult, length}
 use Rattle.assign_core.specs.Numbered.{IsNumber}
 use Rattle.scaled_values.specs.Scaled.{ScaledProblem}
@@ -14,7 +14,7 @@ use Rattle.async_workers.specs.PlaceRule.{MayFollow}
 use Rattle.async_workers.specs.Desk.{DeskData}
 use Rattle.async_workers.specs.Session.{EndsUndone, EndsWell}
 
--- the book b stands where the book `taken` was taken, and may be put back by a desk with this view that knows this
+-- the book b replaces the book taken, and a desk with this view and knowledge may put it back
 pub record HasInHand (base : ScaledProblem) (view : View) (k : Known) (taken b : BookData) : Type 0 where
   pub told : LastSession
   pub holding : view ≡ Holding told taken

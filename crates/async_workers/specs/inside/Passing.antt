@@ -1,4 +1,4 @@
--- What the steps of openers and closers want of a view.
+-- What the steps of openers and closers require of a view.
 use Rattle.std.specs.Prelude.{ℕ, zero, suc, [], true, ◌≡◌, ◌⊎◌, List}
 use Rattle.assign_core.specs.declared.sense.Sense.TheVariants.{Min}
 use Rattle.auction_book.specs.Book.{BookData}
@@ -14,7 +14,7 @@ abbrev pub opener_at : BookData → ℕ → View
 opener_at b zero = Fresh
 opener_at b (suc made) = Opening b (suc made)
 
--- stands where a proof has to name some book
+-- a placeholder where a proof must name some book
 abbrev pub no_book : BookData
 no_book = opened (record { problem = []; sense = Min }) [] 0
 

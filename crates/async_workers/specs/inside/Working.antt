@@ -1,4 +1,4 @@
--- What a worker's run leaves.
+-- What a worker's run keeps.
 use Rattle.std.specs.Prelude.{Option}
 use Rattle.crossbeam_utils.specs.declared.cache_padded.CachePadded.{CachePadded}
 use Rattle.crossbeam_utils.specs.Padded.{padded_value}

@@ -15,9 +15,9 @@ use crate::rule::{DeskPass, Meet, Queue};
 use auction_book::Book;
 use std::sync::Wait;
 
-/// Takes the book out of its place for good, as soon as it lies there. The book is free, and all
-/// that each of the desks was told is true of it. It may wait for workers whose desk isn't
-/// among these, and takes no memory.
+/// Takes the book out of its place for good, as soon as it is there. The book is free, and all that
+/// the desks last learnt is true of it. It may wait for workers whose desks aren't among these. It
+/// takes no memory.
 pub fn close_place<R: Wait>(rt: &R, place: BookPlace, mut desks: Vec<Desk>) -> Book
     requires some_desk { 0 < vec_len desks }
     requires ready { All (IsReady place) desks.items }
@@ -57,7 +57,7 @@ fn meet_all(queue: &Queue, pass: &mut DeskPass, mut desks: Vec<Desk>)
     }
 }
 
-// Takes in one desk, and compares what it was told with the book in hand.
+// Takes in one desk, and compares what it last learnt with the book in hand.
 fn meet(queue: &Queue, pass: &mut DeskPass, other: DeskPass)
     requires queue { IsPassOf queue.now pass.old × IsPassOf queue.now other }
     requires closing { (t : LastSession) × (taken : BookData) × IsClosing (view pass.old) t taken }

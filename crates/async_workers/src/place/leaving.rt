@@ -1,4 +1,4 @@
-// How a worker leaves, and asks for a stop.
+// How a worker leaves, and how it asks for a stop.
 ghost use Rattle.std.specs.Prelude.{◌≡◌, ◌||◌, false, is_some, true};
 ghost use Rattle.auction_book.specs.Book.{BookData};
 ghost use Rattle.async_workers.specs.Desk.{IsReady};
@@ -8,7 +8,7 @@ ghost use Rattle.async_workers.specs.Turns.{CanTurn, StepsOut, WorksOn, stopped_
 use super::{BookPlace, Desk, Held};
 use std::sync::Wait;
 
-// The desk's claim is given up.
+// Gives up the desk's claim.
 fn let_go(held: &mut Held, desk: &Desk)
     requires hand { (taken : BookData) × IsInHand desk.now taken held.old.book }
     ensures hand { (taken : BookData) → IsInHand desk.now taken held.old.book → IsInHand desk.now taken held.new.book }
@@ -17,7 +17,7 @@ fn let_go(held: &mut Held, desk: &Desk)
     held.book_mut().give_up(desk.known.number);
 }
 
-// The book is stopped, and the desk notes that it asked, where this is wanted.
+// Stops the book, and notes that the desk asked for it, if `stopping` is true.
 fn stop_if(held: &mut Held, desk: &mut Desk, stopping: bool)
     requires hand { (taken : BookData) × IsInHand desk.old taken held.old.book }
     ensures hand { (taken : BookData) → IsInHand desk.old taken held.old.book → IsInHand desk.new taken held.new.book }
@@ -43,9 +43,9 @@ fn step_out<R: Wait>(rt: &R, place: &BookPlace, desk: &mut Desk, stopping: bool)
     held.give(rt, place, desk);
 }
 
-/// A worker leaves: one session that gives up the desk's claim, so that its person waits again, and
-/// drops its offer. True where the desk had a claim. The desk may take turns again later. It may
-/// wait for other workers, and takes no memory.
+/// A worker leaves: in one session it gives up the desk's claim, so that its person waits again,
+/// and drops its offer. Returns whether the desk had a claim. The desk may take turns again later.
+/// It may wait for other workers, and takes no memory.
 pub fn leave<R: Wait>(rt: &R, place: &BookPlace, desk: &mut Desk) -> bool
     requires { IsReady place.now desk.old }
     ensures can_turn { CanTurn place.now desk.new }
@@ -58,10 +58,10 @@ pub fn leave<R: Wait>(rt: &R, place: &BookPlace, desk: &mut Desk) -> bool
     had
 }
 
-/// A worker asks for a stop: one session that gives up the desk's claim, drops its offer and stops
-/// the book. From then on the desk's turns answer `Refuted`, `Done` or `Stopped`, unless one meets a
-/// fault; other desks still submit the offers that they have prepared. It may wait for other
-/// workers, and takes no memory.
+/// A worker asks for a stop: in one session it gives up the desk's claim, drops its offer and stops
+/// the book. After that the desk's turns answer `Refuted`, `Done` or `Stopped`, unless one meets a
+/// fault; other desks still submit their prepared offers. It may wait for other workers, and takes
+/// no memory.
 pub fn ask_stop<R: Wait>(rt: &R, place: &BookPlace, desk: &mut Desk)
     requires { IsReady place.now desk.old }
     ensures can_turn { CanTurn place.now desk.new }

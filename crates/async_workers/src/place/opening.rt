@@ -16,12 +16,12 @@ use std::alloc::{AllocError, Global};
 use std::marker::Brand;
 use std::sync::{Arc, Wait};
 
-/// Opens a place with a book in which nobody has a claim and no bid was accepted, and makes a desk
-/// for each of its workers: desk k, from 1, has number k, the book's prices as its table, version
-/// 0, no claim, no acceptance and no offer.
+/// Opens a place with a book in which no worker has a claim and no bid was accepted, and makes a
+/// desk for each of its workers. Desk k, from 1, has number k, the book's prices as its table,
+/// version 0, no claim, no acceptance and no offer.
 ///
 /// # Errors
-/// Only where memory is refused.
+/// `AllocError` if memory is refused.
 pub fn open_place<R: Wait>(
     rt: &R,
     alloc: Global,
@@ -33,7 +33,7 @@ pub fn open_place<R: Wait>(
     open_with::<Brand, R>(rt, alloc, book)
 }
 
-// Opens a place with the book that `O` names.
+// Opens a place with the book of `O`.
 fn open_with<O: Opening, R: Wait>(
     rt: &R,
     alloc: Global,

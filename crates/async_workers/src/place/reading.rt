@@ -1,4 +1,4 @@
-// What a desk keeps.
+// The content of a desk.
 ghost use Rattle.std.specs.Prelude.{◌≡◌};
 ghost use Rattle.std.specs.Arc.{arc_value};
 
@@ -37,28 +37,28 @@ impl Desk {
         self.known.version
     }
 
-    /// How many of the worker's bids were accepted, as it was last told.
+    /// The number of the worker's accepted bids, as the desk last learnt it.
     pub fn accepted(&self) -> u128
         ensures { result ≡ self.now.known.accepted }
     {
         self.known.accepted
     }
 
-    /// The worker's claim, as it was last told.
+    /// The worker's claim, as the desk last learnt it.
     pub fn claim(&self) -> Option<Claimed>
         ensures { result ≡ self.now.known.claim }
     {
         self.known.claim
     }
 
-    /// The offer that is prepared for the worker's claim.
+    /// The prepared offer for the worker's claim.
     pub fn offer(&self) -> Option<Offer>
         ensures { result ≡ self.now.offer }
     {
         self.offer
     }
 
-    /// How many sessions are over. It stays at `u64::MAX`.
+    /// The number of past sessions. It stays at `u64::MAX`.
     pub fn sessions(&self) -> u64
         ensures { result ≡ self.now.sessions }
     {

@@ -15,7 +15,7 @@ use auction_book::{Claim, Note, Refused, Submission, begin_next_if_over, submit_
 use bidder::Offer;
 use std::alloc::{AllocError, Global};
 
-// What came of a session: what is told of its offer, and what the worker's claim was answered.
+// The result of a session: the note on its offer, and the answer to the worker's claim.
 #[derive(Drop)]
 pub(super) struct Ended {
     pub note: Note,
@@ -23,7 +23,7 @@ pub(super) struct Ended {
 }
 
 impl Held {
-    // The offer, which is here no more.
+    // Takes the offer out of the book in hand.
     fn take_offer(&mut self) -> Option<Offer>
         ensures offer { result ≡ self.old.offer }
         ensures held { self.new ≡ record self.old { offer = None } }
@@ -32,7 +32,7 @@ impl Held {
     }
 }
 
-// The desk's offer goes in.
+// Submits the desk's offer.
 fn offer_in(alloc: Global, held: &mut Held, desk: &Desk) -> Submission
     requires hand { (taken : BookData) × IsInHand desk.now taken held.old.book }
     requires prepared { IsPrepared held.old.book desk.now.known.number desk.now.known.table desk.now.known.version held.old.offer }
@@ -52,7 +52,7 @@ fn was_too_low(note: Note) -> bool
 }
 
 impl Desk {
-    // Whether the table is to become today's, this session counted.
+    // Whether the table shall catch up, with this session counted.
     fn is_late(&self, refresh: u64, too_low: bool) -> bool
         ensures { result ≡ catches_up refresh too_low self.now.since }
     {
@@ -61,7 +61,7 @@ impl Desk {
     }
 }
 
-// Makes the desk's table today's where it is time.
+// Lets the desk's table catch up if it shall.
 fn keep_up(held: &mut Held, desk: &mut Desk, refresh: u64, too_low: bool)
     requires hand { (taken : BookData) × IsInHand desk.old taken held.old.book }
     requires fresh { held.old.caught_up ≡ false }
@@ -75,7 +75,7 @@ fn keep_up(held: &mut Held, desk: &mut Desk, refresh: u64, too_low: bool)
     }
 }
 
-// The worker claims.
+// Lets the worker claim a person.
 fn claim_next(held: &mut Held, worker: u16) -> Claim
     requires worker { IsNumber (length held.old.book.claims) worker }
     requires none { numbered held.old.book.claims worker None ≡ None }
@@ -87,7 +87,7 @@ fn claim_next(held: &mut Held, worker: u16) -> Claim
     held.book_mut().claim(worker)
 }
 
-// The next phase begins if this one is over, and the worker claims.
+// Begins the next phase if this one is over, and lets the worker claim a person.
 fn move_on(alloc: Global, held: &mut Held, desk: &Desk) -> Result<Claim, AllocError>
     requires hand { (taken : BookData) × IsInHand desk.now taken held.old.book }
     requires none { numbered held.old.book.claims desk.now.known.number None ≡ None }
@@ -102,8 +102,8 @@ fn move_on(alloc: Global, held: &mut Held, desk: &Desk) -> Result<Claim, AllocEr
     Ok(claim_next(held, desk.known.number))
 }
 
-// The offer goes in, the table becomes today's where it is time, the next phase begins if this one is
-// over, and the worker claims. Where a growth is refused the session ends there.
+// Submits the offer, lets the table catch up if it shall, begins the next phase if this one is
+// over, and lets the worker claim a person. If memory is refused, the session ends there.
 pub(super) fn session(alloc: Global, held: &mut Held, desk: &mut Desk, refresh: u64) -> Ended
     requires hand { (taken : BookData) × IsInHand desk.old taken held.old.book }
     requires prepared { IsPrepared held.old.book desk.old.known.number desk.old.known.table desk.old.known.version held.old.offer }

@@ -1,4 +1,4 @@
-// How a desk takes the book and gives it back.
+// How a desk takes the book and puts it back.
 ghost use Rattle.std.specs.Prelude.{◌≡◌, cond, length, None, true, false};
 ghost use Rattle.assign_core.specs.Numbered.{IsNumber};
 ghost use Rattle.price_log.specs.History.{IsEarlier};
@@ -21,7 +21,7 @@ use std::marker::Brand;
 use std::sync::Wait;
 use std::thread;
 
-// Tries until the book lies in the place.
+// Tries until the book is in the place.
 pub(super) fn take_book<R: Wait>(rt: &R, queue: &Queue, pass: &mut DeskPass) -> BoxedBook
     requires queue { IsPassOf queue.now pass.old }
     requires away { (t : LastSession) × (view pass.old ≡ Away t) }
@@ -73,11 +73,11 @@ pub(super) fn claim_in(book: &Book, worker: u16) -> Option<Claimed>
 }
 
 impl Desk {
-    /// Takes the book, as soon as it lies in the place, with the offer that the desk has prepared.
-    /// It may wait for other workers, and takes no memory.
+    /// Takes the book, as soon as it is in the place, with the offer that the desk has prepared. It
+    /// may wait for other workers, and takes no memory.
     ///
-    /// The book is free, and all that the desk was told is true of it: no price is below the desk's
-    /// table or below the book that the desk last put back, whose log it continues; and the
+    /// The book is free, and all that the desk last learnt is true of it: no price is below the
+    /// desk's table or below the book that the desk last put back, whose log it continues; and the
     /// worker's claim and acceptances are as they were.
     pub fn take<R: Wait>(&mut self, rt: &R, place: &BookPlace) -> Held
         requires place { self.old.place ≡ place.now }
@@ -95,7 +95,7 @@ impl Desk {
     }
 }
 
-// How many sessions are over since the table became today's, after one more.
+// The number of sessions since the table last caught up, after one more.
 fn since_after(since: u64, caught_up: bool) -> u64
     ensures { result ≡ cond caught_up 0 (one_more since) }
 {
@@ -107,8 +107,8 @@ fn since_after(since: u64, caught_up: bool) -> u64
 }
 
 impl Held {
-    /// Makes the desk's table today's: its sessions since it caught up are counted anew from the end of
-    /// this one. Takes no memory.
+    /// Makes the desk's table current. From the end of this session on its sessions since the last
+    /// catching up are counted from 0. It takes no memory.
     pub fn catch_up(&mut self, desk: &mut Desk)
         requires number { IsNumber (length self.old.book.claims) desk.old.known.number }
         requires earlier { IsEarlier self.old.book.log desk.old.known.table desk.old.known.version }
@@ -126,9 +126,9 @@ impl Held {
         self.caught_up = true;
     }
 
-    /// Puts the book back into its place, tells the desk its acceptances and its claim, and counts the
-    /// session. An offer that was left here is dropped. Takes no memory; what may wait for other workers
-    /// is the step on the place.
+    /// Puts the book back into its place, records the worker's acceptances and claim at the desk,
+    /// and counts the session. An offer that is still here is dropped. It takes no memory; only the
+    /// step on the place may wait for other workers.
     pub fn give<R: Wait>(self, rt: &R, place: &BookPlace, desk: &mut Desk)
         requires place { desk.old.place ≡ place.now }
         requires held { MayGive desk.old self.book }

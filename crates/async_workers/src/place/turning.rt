@@ -25,7 +25,8 @@ fn standing_of(book: &Book) -> Standing {
     }
 }
 
-// Takes the book, does a session with it, and puts it back. What came of the session, and how far the run is then.
+// Takes the book, does a session with it, and puts it back. Returns the result of the session, and
+// how far the run then is.
 fn one_session<R: Wait>(
     rt: &R,
     alloc: Global,
@@ -46,7 +47,7 @@ fn one_session<R: Wait>(
     (ended, standing)
 }
 
-// Prepares the offer of the person that was claimed, if one was.
+// Prepares the offer of the claimed person, if there is one.
 fn prepare_offer<G: Gate>(desk: &mut Desk, claim: Claim, gate: &G) -> Turn
     requires table { length desk.old.known.table ≡ length desk.old.base.problem }
     requires asked { IsAsked desk.old.base claim }
@@ -69,20 +70,21 @@ fn prepare_offer<G: Gate>(desk: &mut Desk, claim: Claim, gate: &G) -> Turn
     }
 }
 
-/// One turn of a worker: it takes the book and submits its offer, or has what stops its person below
-/// the floor recorded; its table becomes today's where its bid was too low or, this session
-/// counted, `refresh` sessions have passed since it last did (0: only where the bid was too low); the
-/// next phase begins if this one is over; and it claims a person. When the book is back in its
-/// place it prepares that person's offer from its own table, however old (Bertsekas and Castanon,
-/// Parallel synchronous and asynchronous implementations of the auction algorithm, 1991).
+/// One turn of a worker. It takes the book and submits its offer, or, if its person is below the
+/// floor, records a Hall set. Its table catches up if its bid was too low, or if `refresh`
+/// sessions, this one counted, have passed since it last did (0: only after a low bid). The next
+/// phase begins if this one is over. Then it claims a person and puts the book back, and prepares
+/// this person's offer from its own table, however old (Bertsekas and Castanon, Parallel
+/// synchronous and asynchronous implementations of the auction algorithm, 1991).
 ///
-/// The gate is told, while the book isn't in hand, before an offer goes in, after the session, how
-/// far the run was at its end, and before an offer is computed. It may wait for other workers.
+/// The gate is called, while the book isn't in hand: before an offer is submitted, after the
+/// session, with the state of the run at its end, and before an offer is computed. It may wait for
+/// other workers.
 ///
 /// # Errors
-/// `Memory`, where a growth was refused. The book is back in its place all the same: with the
-/// accepted bid, or with the person of a bid that wasn't accepted, or of a search, at the back of
-/// the queue. The desk has neither claim nor offer then. `Stuck` is never answered.
+/// `Memory` if memory is refused. The book is still put back: with the accepted bid, or with the
+/// person of an unaccepted bid or of a search at the back of the queue. The desk then has no
+/// claim and no offer. `Stuck` is never answered.
 pub fn turn<G: Gate, R: Wait>(
     rt: &R,
     alloc: Global,

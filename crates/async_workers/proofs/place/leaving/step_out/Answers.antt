@@ -23,7 +23,7 @@ stop_if-requires g c =
     let b = c.take-held.result.book in
     record { hand = (b, c.let_go.ensures.hand b (taken g (goal.at.stop_if-requires g c).After-take-held)) }
 
--- and before the give
+-- the book in hand before the give
 last : (g : given.Over) (c : After-stop_if g) → IsInHand c.take-held.new.self c.take-held.result.book c.take-held.result.book → IsInHand c.stop_if.new.desk c.take-held.result.book c.stop_if.new.held.book
 last g c hand = let b = c.take-held.result.book in c.stop_if.ensures.hand b (c.let_go.ensures.hand b hand)
 

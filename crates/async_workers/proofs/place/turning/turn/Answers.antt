@@ -11,13 +11,13 @@ use Rattle.async_workers.proofs.place.turning.turn.Given as given
 use Rattle.async_workers.proofs.place.turning.turn.Goals as goal
 use Rattle.async_workers.proofs.place.turning.turn.Goals.{In_err-outcome, In_ok-outcome}
 
--- the session, where no growth was refused
+-- the session if no growth was refused
 well : (g : given.Over) (c : In_ok-outcome g) → (let d = c.args.desk.now in Serves d c.one_session-outcome.new.desk (EndsWell c.args.refresh d.since d.known d.offer c.one_session-outcome.result.0.note c.in_ok-outcome.field-0))
 well g c =
     let d = c.args.desk.now in
     subst (λ (o : Result Claim AllocError). Serves d c.one_session-outcome.new.desk (Ends c.args.refresh d.since d.known d.offer c.one_session-outcome.result.0.note o)) c.in_ok-outcome.was c.one_session-outcome.ensures.serves
 
--- and where one was
+-- the session if a growth was refused
 undone : (g : given.Over) (c : In_err-outcome g) → (let d = c.args.desk.now in Serves d c.one_session-outcome.new.desk (EndsUndone c.args.refresh d.since d.known d.offer c.one_session-outcome.result.0.note))
 undone g c =
     let d = c.args.desk.now in
