@@ -1,4 +1,4 @@
--- Proofs among as many objects as there are, where a problem has more rows.
+-- Proofs among the problem's objects, if it has more rows.
 use Rattle.std.proofs.Common.{◌≡◌, ℕ, ◌≤◌, pos, List, length, max, take, arith, subst, ◌∙◌}
 use Rattle.std.proofs.lemmas.List.{length-take-le}
 use Rattle.std.proofs.lemmas.List.Elements.{All-weaker}
@@ -12,7 +12,7 @@ use Rattle.assign_core.specs.Outcomes.{IsProofAmong}
 use Rattle.assign_core.proofs.Distinct.{counted}
 use Rattle.assign_core.proofs.Listed.{objects_within}
 
--- who has different objects out of m are at most m
+-- persons with different objects out of m are at most m
 few_persons : (n m : ℕ) (rows : List Listing) (xs : List ℕ) → IsAmong n m rows → IsAssignment (take n rows) xs → n ≤ m
 few_persons n m rows xs a h =
     let range = objects_within m (take n rows) xs (All-weaker (IsRow m) (IsWithin m) (λ r k. k.within) (take n rows) a.each) h.listed in
@@ -20,7 +20,8 @@ few_persons n m rows xs a h =
     let long : length xs ≡ n = AllZip-long _ (take n rows) xs h.listed ∙ length-take-le n rows a.persons in
     omega arith
 
--- a proof among as many objects as there are rows is one among m objects, if more rows stand only for more persons
+-- a proof among as many objects as there are rows is one among m objects, if there are more rows
+-- only because there are more persons
 pub proof_among : (sense : Sense) (n m : ℕ) (rows : List Listing) (outcome : Outcome) → IsAmong n m rows → length rows ≡ max n m →
     IsProofAmong sense (length rows) (take n rows) outcome → IsProofAmong sense m (take n rows) outcome
 proof_among sense n m rows (Hall h) a count p = p

@@ -1,4 +1,4 @@
--- Answers fit into buffers of one place for each person.
+-- Answers fit into buffers with one place for each person.
 use Rattle.std.proofs.Common.{◌≡◌, ℕ, zero, suc, ◌<◌, ◌≤◌, ◌+◌, List, [], ◌∷◌, ◌++◌, length, slice_index, drop, map, ap, ◌∙◌, add-one, arith}
 use Rattle.std.specs.List.{All}
 use Rattle.std.specs.List.Sorted.{IsStrictlyIncreasing}
@@ -6,7 +6,7 @@ use Rattle.std.proofs.lemmas.List.{append-nil, map-id}
 use Rattle.std.proofs.Math.ListN.{drop_of_length-le}
 use Rattle.assign_core.specs.Numbered.{IsNumber}
 
--- of numbers from 1 on that rise, that at place k is above k
+-- of rising numbers from 1 on, the one at place k is above k
 above_place : (xs : List ℕ) (n k : ℕ) → IsStrictlyIncreasing xs → All (IsNumber n) xs → k < length xs → k < slice_index xs k
 above_place xs n zero rise within lt = (within 0 0 lt).first
 above_place xs n (suc k) rise within lt =
@@ -15,7 +15,7 @@ above_place xs n (suc k) rise within lt =
     let next = ap (slice_index xs) (add-one k) in
     omega arith
 
--- of numbers from 1 to n that rise there are at most n
+-- there are at most n rising numbers from 1 to n
 pub few_rise : (xs : List ℕ) (n : ℕ) → IsStrictlyIncreasing xs → All (IsNumber n) xs → length xs ≤ n
 few_rise [] n rise within = omega arith
 few_rise (x ∷ xs) n rise within =

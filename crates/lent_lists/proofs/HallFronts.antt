@@ -23,7 +23,7 @@ near n rows persons j h b = (b.0, b.1, listed_front n rows b.0 j (low n persons 
 far : (n : ℕ) (rows : List Listing) (persons : List ℕ) (j : ℕ) → All (IsNumber n) persons → IsNeighbour (take n rows) persons j → IsNeighbour rows persons j
 far n rows persons j h b = (b.0, b.1, listed_whole n rows b.0 j (low n persons b.0 h b.1) b.2)
 
--- what one of the first persons lists is one of m objects
+-- an object that one of the first persons lists is one of m objects
 listed_number : (n m : ℕ) (rows : List Listing) (i j : ℕ) → IsAmong n m rows → IsListed (take n rows) i j → IsNumber m j
 listed_number n m rows i j a l =
     let person = listing_within (take n rows) i j l in

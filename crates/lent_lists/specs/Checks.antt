@@ -1,4 +1,4 @@
--- What a checking call tells.
+-- What a checking call returns and records.
 use Rattle.std.specs.Prelude.{◌≡◌, ℕ, ℤ, pos, List}
 use Rattle.dual_checker.specs.declared.verdict.Verdict.TheVariants as verdict
 use Rattle.dual_checker.specs.declared.among.VerdictAmong.{VerdictAmong}
@@ -23,7 +23,7 @@ verdict_code (among.Usual (verdict.PriceRange j)) = pos 13
 verdict_code (among.Usual (verdict.Slack i j)) = pos 14
 verdict_code (among.Dear j) = pos 20
 
--- what is told with the person and the object that a verdict names
+-- the record with the person and the object that a verdict names
 abbrev pub with_verdict : VerdictAmong → Told → Told
 with_verdict (among.Usual verdict.Yes) told = told
 with_verdict (among.Usual verdict.Length) told = told
@@ -42,7 +42,7 @@ hall_code (hall.Missing i j) = pos 17
 hall_code (hall.Extra j) = pos 18
 hall_code hall.Count = pos 19
 
--- what is told with the person and the object that such a verdict names
+-- the record with the person and the object that this verdict names
 abbrev pub with_hall_verdict : HallVerdict → Told → Told
 with_hall_verdict hall.Yes told = told
 with_hall_verdict hall.Range told = told

@@ -1,4 +1,4 @@
--- What a solving call tells, and what it leaves in the buffers.
+-- What a solving call returns, and what it writes into the buffers.
 use Rattle.std.specs.Prelude.{◌≡◌, ℕ, ℤ, pos, List, Result, Ok, Err, length, map, drop, ◌++◌}
 use Rattle.assign_core.specs.declared.sense.Sense.{Sense}
 use Rattle.assign_core.specs.Rows.{Listing}
@@ -26,7 +26,7 @@ fault_code (fault.Cost k) = pos 7
 fault_code (fault.Price k) = pos 8
 fault_code fault.Memory = pos 9
 
--- the place that a fault names, and the one that was told before where it names none
+-- the place that a fault names, or the earlier place if it names none
 abbrev pub fault_place : ℕ → Fault → ℕ
 fault_place before (fault.Person k) = k
 fault_place before (fault.Object k) = k
@@ -54,7 +54,7 @@ abbrev pub buffers : List ℕ → List ℕ → List SplitPrice → Told → Buff
 buffers objects persons prices told =
     record { objects = objects; persons = persons; prices = prices; told = told }
 
--- a best assignment among m objects, with prices that prove it, and the sum of its costs
+-- an optimal assignment among m objects, with prices that prove it, and the sum of its costs
 pub record HoldsBest (sense : Sense) (m : ℕ) (rows : List Listing) (before after : Buffers) : Type 0 where
   pub proof : IsCertificateAmong sense m rows after.objects (map price_in after.prices)
   pub best : IsBest sense rows after.objects
@@ -76,11 +76,11 @@ abbrev pub HoldsEnd : Sense → ℕ → List Listing → Buffers → Buffers →
 HoldsEnd sense m rows before after Best = HoldsBest sense m rows before after
 HoldsEnd sense m rows before after Hall = HoldsHall rows before after
 
--- an answer to the problem that is given
+-- an answer to the given problem
 abbrev pub IsAnswered : GivenLists → Buffers → Buffers → End → Type 0
 IsAnswered g before after end = IsOfGiven g (λ sense rows. HoldsEnd sense g.m rows before after end)
 
--- the buffers with the place of a fault, if it has one, and else as they were
+-- the buffers with the place of a fault, if it has one; otherwise unchanged
 abbrev pub with_place : Fault → Buffers → Buffers
 with_place f before =
     record before { told = record before.told { place = fault_place before.told.place f } }
@@ -90,7 +90,7 @@ abbrev pub IsSolved : GivenLists → Buffers → Buffers → Result End Fault �
 IsSolved g before after (Ok end) = IsAnswered g before after end
 IsSolved g before after (Err f) = HasFault g f × (after ≡ with_place f before)
 
--- the end that a code tells
+-- the end with this code
 pub record IsReported (g : GivenLists) (before after : Buffers) (code : ℤ) : Type 0 where
   pub end : Result End Fault
   pub is : code ≡ end_code end

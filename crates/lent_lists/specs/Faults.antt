@@ -1,4 +1,4 @@
--- What may be wrong with what a caller gives.
+-- The faults of what a caller gives.
 use Rattle.std.specs.Prelude.{◌≡◌, ℕ, ◌<◌, List, None, Some, IsSome, length, All, slice_index_or}
 use Rattle.assign_core.specs.Numbered.{IsNumber}
 use Rattle.assign_core.specs.Rows.{Listing, IsCost, IsSize}
@@ -14,12 +14,12 @@ pub record IsFirstWithout {A : Type 0} (P : A → Type 0) (xs : List A) (k : ℕ
   pub lacks : (d : A) → ¬ P (slice_index_or xs k d)
   pub before : (i : ℕ) (d : A) → i < k → P (slice_index_or xs i d)
 
--- there may be so many persons and so many objects
+-- a problem may have this many persons and this many objects
 pub record HasSize (g : GivenLists) : Type 0 where
   pub persons : IsSize g.n
   pub objects : IsSize g.m
 
--- a sense, a size, and lists that are as long as they have to be
+-- a sense, a size, and lists of the right lengths
 pub record HasShape (g : GivenLists) : Type 0 where
   pub sense : IsSome (sense_of g.sense)
   pub size : HasSize g
@@ -30,7 +30,7 @@ pub record AreNumbers (g : GivenLists) : Type 0 where
   pub persons : All (IsNumber g.n) g.persons
   pub objects : All (IsNumber g.m) g.objects
 
--- nothing is wrong
+-- no fault
 pub record IsWhole (g : GivenLists) : Type 0 where
   pub shape : HasShape g
   pub numbers : AreNumbers g
@@ -50,7 +50,7 @@ HasFault g (Price k) =
     HasShape g × AreNumbers g × All IsCost g.costs × IsFirstWithout IsSplitFirstPrice g.first k
 HasFault g Memory = IsWhole g
 
--- what holds of the problem that is given, under the sense that is wanted
+-- what holds of the given problem, under the requested sense
 pub record IsOfGiven (g : GivenLists) (Holds : Wanted → List Listing → Type 0) : Type 0 where
   pub sense : Wanted
   pub wanted : sense_of g.sense ≡ Some sense

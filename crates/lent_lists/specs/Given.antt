@@ -1,4 +1,4 @@
--- What a caller gives.
+-- The lists that a caller gives.
 use Rattle.std.specs.Prelude.{◌≡◌, ℕ, zero, suc, ◌*◌, ℤ, List, [], ◌∷◌, Option, None, Some, length, All, ◌==◌, ◌&&◌, not, if◌then◌else◌}
 use Rattle.assign_core.specs.declared.sense.Sense.{Sense}
 use Rattle.assign_core.specs.declared.sense.Sense.TheVariants.{Min, Max}
@@ -10,9 +10,9 @@ use Rattle.lent_lists.specs.declared.form.Form.{Form}
 use Rattle.lent_lists.specs.declared.form.Form.TheVariants.{Dense, Sparse}
 use Rattle.lent_lists.specs.declared.split_price.SplitPrice.{SplitPrice}
 
--- a problem as it is given: which costs are wanted, how many persons there are and how many objects,
--- by number; how many values the lists have that want one for each person, and those that want one for
--- each object; the persons and the objects of the pairs, and the costs; and first prices
+-- a given problem: the sense and the numbers of persons and objects, as numbers; the lengths of the
+-- lists that need one value for each person, and of those that need one for each object; the
+-- persons, the objects and the costs of the pairs; and first prices
 pub record GivenLists : Type 0 where
   pub form : Form
   pub sense : ℕ
@@ -25,13 +25,13 @@ pub record GivenLists : Type 0 where
   pub costs : List ℤ
   pub first : List SplitPrice
 
--- the sense that a number stands for
+-- the sense with this number
 abbrev pub sense_of : ℕ → Option Sense
 sense_of zero = Some Min
 sense_of (suc zero) = Some Max
 sense_of (suc (suc k)) = None
 
--- the persons, the objects and the costs of the pairs, side by side
+-- the persons, the objects and the costs of the pairs as triples
 abbrev pub triples_of : List ℕ → List ℕ → List ℤ → List Triple
 triples_of (i ∷ persons) (j ∷ objects) (c ∷ costs) = (i, j, c) ∷ triples_of persons objects costs
 triples_of persons objects costs = []
@@ -41,7 +41,7 @@ abbrev pub HasPairs : Form → GivenLists → Type 0
 HasPairs Dense g = (g.persons ≡ []) × (g.objects ≡ []) × (length g.costs ≡ g.n * g.m)
 HasPairs Sparse g = (length g.objects ≡ length g.persons) × (length g.costs ≡ length g.persons)
 
--- each list is as long as it has to be
+-- each list has the right length
 pub record HasLengths (g : GivenLists) : Type 0 where
   pub pairs : HasPairs g.form g
   pub by_person : All (λ k. k ≡ g.n) g.by_person
@@ -77,7 +77,7 @@ sparse sense n m by_person by_object persons objects costs first = record {
   first = first;
 }
 
--- without lists of pairs a dense problem where there are costs, and else a sparse one
+-- without lists of pairs, dense if there are costs; otherwise sparse
 abbrev pub either_form : List ℕ → List ℕ → List ℤ → Form
 either_form persons objects costs =
     if (length persons == 0) && (length objects == 0) && not (length costs == 0) then Dense else Sparse

@@ -1,4 +1,5 @@
--- What each verdict says of a list of persons and a list of objects, where there may be more objects than persons.
+-- The meaning of each verdict on a list of persons and a list of objects, if there may be more
+-- objects than persons.
 use Rattle.std.specs.Prelude.{ℕ, ◌≤◌, List, length, All, Contains}
 use Rattle.assign_core.specs.Numbered.{IsNumber}
 use Rattle.assign_core.specs.Rows.{Listing}
@@ -12,8 +13,8 @@ use Rattle.dual_checker.specs.HallVerdicts.{AreNeighbours, AreRising, HasNeighbo
 abbrev pub AreInRangeAmong : ℕ → List Listing → List ℕ → List ℕ → Type 0
 AreInRangeAmong m rows persons objects = All (IsNumber (length rows)) persons × All (IsNumber m) objects
 
--- among m objects the first fault in the order of the variants, by the lowest number that has it, and Yes where there is
--- none
+-- among m objects, the first fault in the order of the variants, by the lowest number that has it,
+-- or Yes if there is none
 abbrev pub IsHallVerdictAmong : ℕ → List Listing → List ℕ → List ℕ → HallVerdict → Type 0
 IsHallVerdictAmong m rows persons objects Range = ¬ AreInRangeAmong m rows persons objects
 IsHallVerdictAmong m rows persons objects Order = AreInRangeAmong m rows persons objects × ¬ AreRising persons objects

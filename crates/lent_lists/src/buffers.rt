@@ -17,7 +17,7 @@ pub fn put_numbers<T: Numbered>(buffer: &mut [u16], all: &[T])
     }
 }
 
-/// Writes prices in halves.
+/// Writes prices in halves at the beginning of a buffer.
 pub fn put_prices(buffer: &mut [SplitPrice], prices: &[Price])
     requires long { length buffer.old ≡ length prices.now }
     requires range { All IsPrice prices.now }
@@ -28,7 +28,7 @@ pub fn put_prices(buffer: &mut [SplitPrice], prices: &[Price])
     }
 }
 
-/// Persons or objects by their numbers.
+/// The persons or objects with these numbers.
 pub fn numbered<T: Numbered + Drop>(alloc: Global, numbers: &[u16]) -> Result<Vec<T>, AllocError>
     ensures { IfOk result (λ all. map T.number_of all.items ≡ numbers.now) }
 {
@@ -39,7 +39,7 @@ pub fn numbered<T: Numbered + Drop>(alloc: Global, numbers: &[u16]) -> Result<Ve
     Ok(all)
 }
 
-/// Prices by their halves.
+/// The prices with these halves.
 pub fn prices_of(alloc: Global, halves: &[SplitPrice]) -> Result<Vec<Price>, AllocError>
     ensures { IfOk result (λ prices. prices.items ≡ map price_in halves.now) }
 {
@@ -50,7 +50,7 @@ pub fn prices_of(alloc: Global, halves: &[SplitPrice]) -> Result<Vec<Price>, All
     Ok(prices)
 }
 
-/// First prices by their halves.
+/// The first prices with these halves, as a table.
 pub fn first_prices(alloc: Global, first: &[SplitPrice]) -> Result<Prices, AllocError>
     requires few { length first.now ≤ MOST_PERSONS }
     requires low { All IsSplitFirstPrice first.now }

@@ -1,4 +1,4 @@
-// Answers of any program, held against the problem that is given.
+// Answers of any program, checked against the given problem.
 ghost use Rattle.std.specs.Prelude.{◌≡◌, ◌↔◌, All, IfErr, IfOk, IsTrue, map};
 ghost use Rattle.assign_core.specs.Numbered.{IsNumber};
 ghost use Rattle.dual_checker.specs.Verdicts.{IsVerdictAmong};
@@ -74,7 +74,7 @@ pub fn hall_verdict_on(
     Ok(verdict)
 }
 
-// The code of a verdict on persons, with what it names told.
+// The code of a verdict on persons. Records what the verdict names.
 fn report_usual(verdict: Verdict, told: &mut Told) -> i32
     ensures code { result ≡ verdict_code (VerdictAmong.Usual verdict) }
     ensures names { told.new ≡ with_verdict (VerdictAmong.Usual verdict) told.old }
@@ -102,7 +102,7 @@ fn report_usual(verdict: Verdict, told: &mut Told) -> i32
     }
 }
 
-/// The code of a verdict, with what it names told.
+/// The code of a verdict. Records what the verdict names.
 pub fn report_verdict(verdict: VerdictAmong, told: &mut Told) -> i32
     ensures code { result ≡ verdict_code verdict }
     ensures names { told.new ≡ with_verdict verdict told.old }
@@ -116,7 +116,7 @@ pub fn report_verdict(verdict: VerdictAmong, told: &mut Told) -> i32
     }
 }
 
-/// The code of a verdict on a Hall set, with what it names told.
+/// The code of a verdict on a Hall set. Records what the verdict names.
 pub fn report_hall_verdict(verdict: HallVerdict, told: &mut Told) -> i32
     ensures code { result ≡ hall_code verdict }
     ensures names { told.new ≡ with_hall_verdict verdict told.old }

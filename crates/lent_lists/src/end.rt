@@ -5,12 +5,12 @@ ghost use Rattle.lent_lists.specs.Ends.{end_code, fault_code, fault_place};
 use crate::fault::Fault;
 use crate::told::Told;
 
-/// Which answer there is.
+/// The kind of answer.
 #[derive(Clone, Copy, PartialEq, Eq)]
 pub enum End {
-    /// A best assignment.
+    /// An optimal assignment.
     Best,
-    /// A Hall set: there is no assignment.
+    /// A Hall set: no assignment exists.
     Hall,
 }
 
@@ -30,7 +30,7 @@ fn code_of(fault: Fault) -> i32
     }
 }
 
-/// The code of a fault, whose place is told if it has one.
+/// The code of a fault. Records its place, if it has one.
 pub fn refuse(fault: Fault, told: &mut Told) -> i32
     ensures code { result ≡ fault_code fault }
     ensures place { told.new ≡ record told.old { place = fault_place told.old.place fault } }
@@ -45,7 +45,7 @@ pub fn refuse(fault: Fault, told: &mut Told) -> i32
     code_of(fault)
 }
 
-/// The code of an end.
+/// The code of an end. Records the place of a fault, if it has one.
 pub fn answer(end: Result<End, Fault>, told: &mut Told) -> i32
     ensures code { result ≡ end_code end }
     ensures ok { OnOk end (told.new ≡ told.old) }

@@ -1,23 +1,23 @@
-// Why a call ends with no answer.
+// Why a call ends without an answer.
 use std::alloc::AllocError;
 
-/// Why a call ends with no answer: the first of these that applies, with the place, from 0, in the
-/// list where it stands.
+/// Why a call ends without an answer: the first of these that applies. Places in a list count from
+/// 0.
 #[derive(Clone, Copy, PartialEq, Eq)]
 pub enum Fault {
     /// The number of the sense is neither 0 nor 1.
     Sense,
-    /// There is nobody or nothing, or there are more persons or objects than `MOST_PERSONS`.
+    /// There are no persons, no objects, or more of either than `MOST_PERSONS`.
     Size,
-    /// A list or a buffer isn't as long as it has to be.
+    /// The length of a list or a buffer is wrong.
     Length,
-    /// The first person of a pair that isn't one of 1 to n.
+    /// The place of the first pair whose person isn't from 1 to n.
     Person(usize),
-    /// The first object of a pair that isn't one of 1 to m.
+    /// The place of the first pair whose object isn't from 1 to m.
     Object(usize),
-    /// The first cost beyond `GREATEST_COST` either way.
+    /// The place of the first cost whose absolute value is above `GREATEST_COST`.
     Cost(usize),
-    /// The first of the first prices that isn't from 0 to `GREATEST_FIRST_PRICE`.
+    /// The place of the first first price that isn't from 0 to `GREATEST_FIRST_PRICE`.
     Price(usize),
     /// Memory was refused.
     Memory,

@@ -4,7 +4,7 @@ ghost use Rattle.lent_lists.specs.Given.{either_form};
 
 use assign_core::Cost;
 
-/// How a problem is given.
+/// The form of a given problem.
 #[derive(Clone, Copy, PartialEq, Eq)]
 pub enum Form {
     /// Each person lists each object: the costs come row by row.
@@ -13,7 +13,7 @@ pub enum Form {
     Sparse,
 }
 
-/// Dense where there is no list of pairs but there are costs, and else sparse.
+/// Dense if there are costs but no list of pairs; otherwise sparse.
 pub fn form_of(persons: &[u16], objects: &[u16], costs: &[Cost]) -> Form
     ensures { result ≡ either_form persons.now objects.now costs.now }
 {

@@ -1,4 +1,4 @@
-// What a caller gives.
+// The lists that a caller gives.
 ghost use Rattle.std.specs.Prelude.{◌≡◌, ◌*◌, ◌↔◌, IsTrue};
 ghost use Rattle.assign_core.specs.Rows.{IsSize};
 ghost use Rattle.lent_lists.specs.Given.{GivenLists, HasPairs};
@@ -8,18 +8,18 @@ use crate::split_price::SplitPrice;
 use assign_core::Cost;
 use std::marker::Model;
 
-/// A problem as it is given, and first prices. Nothing is known of any of it.
+/// A given problem with first prices. None of it has been checked.
 #[derive(Drop)]
 pub struct Given<'a> {
     pub form: Form,
     pub sense: u32,
-    /// How many persons there are.
+    /// The number of persons.
     pub n: usize,
-    /// How many objects there are.
+    /// The number of objects.
     pub m: usize,
-    /// How many values each further list and buffer has that wants one for each person.
+    /// The lengths of the further lists and buffers that need one value for each person.
     pub by_person: &'a [usize],
-    /// The same for those that want one for each object.
+    /// The lengths of those that need one value for each object.
     pub by_object: &'a [usize],
     pub persons: &'a [u16],
     pub objects: &'a [u16],
@@ -44,7 +44,7 @@ impl<'a> Model for Given<'a> {
     } };
 }
 
-// How many pairs there are of so many persons and so many objects.
+// The number of pairs of this many persons and objects.
 fn pairs_of(n: usize, m: usize) -> usize
     requires persons { IsSize n }
     requires objects { IsSize m }
@@ -53,7 +53,7 @@ fn pairs_of(n: usize, m: usize) -> usize
     n * m
 }
 
-/// Whether the lists of pairs and costs are as long as they have to be.
+/// Whether the lists of pairs and costs have the right lengths.
 pub fn has_pairs(given: &Given<'_>) -> bool
     requires persons { IsSize given.now.n }
     requires objects { IsSize given.now.m }

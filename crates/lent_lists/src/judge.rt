@@ -1,4 +1,4 @@
-// Whether what a caller gives is a problem.
+// Whether the lists that a caller gives are a problem.
 ghost use Rattle.std.specs.Prelude.{◌≡◌, ◌<◌, ◌↔◌, ℕ, Some, None, IsTrue, length, All, MatchOption, IfOk, IfErr, OnOk};
 ghost use Rattle.assign_core.specs.Numbered.{IsNumber};
 ghost use Rattle.assign_core.specs.Rows.{IsCost, IsSize};
@@ -11,7 +11,7 @@ use crate::given::{Given, has_pairs};
 use crate::split_price::SplitPrice;
 use assign_core::{Cost, GREATEST_COST, GREATEST_FIRST_PRICE, MOST_PERSONS, Sense};
 
-// What stands in a list, each of which has to be right where numbers go up to `n`.
+// An element of a list, which is right or wrong for numbers up to `n`.
 trait Judged: Copy {
     ghost is_right: { ℕ → Self → Type 0 };
 
@@ -44,7 +44,7 @@ impl Judged for SplitPrice {
     }
 }
 
-// The place of the first element that isn't right.
+// The place of the first wrong element.
 pub fn first_wrong<T: Judged>(n: u16, all: &[T]) -> Option<usize>
     ensures { MatchOption result (All (T.is_right n) all.now) (IsFirstWithout (T.is_right n) all.now) }
 {
@@ -56,7 +56,7 @@ pub fn first_wrong<T: Judged>(n: u16, all: &[T]) -> Option<usize>
     None
 }
 
-// The sense that a number stands for.
+// The sense with this number.
 fn sense_by(number: u32) -> Option<Sense>
     ensures { result ≡ sense_of number }
 {
@@ -67,7 +67,7 @@ fn sense_by(number: u32) -> Option<Sense>
     }
 }
 
-// The number of persons or of objects, where there may be so many.
+// The number of persons or objects, if a problem may have this many.
 fn size_by(n: usize) -> Option<u16>
     ensures { MatchOption result (¬ IsSize n) (λ size. (size ≡ n) × IsSize n) }
 {
@@ -84,7 +84,7 @@ fn are_all(lengths: &[usize], n: usize) -> bool
     lengths.iter().all(|length| *length == n)
 }
 
-// The first of the lists that has something wrong in it, by the first place.
+// The fault of the first list with a wrong element, at its first place.
 fn first_fault(n: u16, m: u16, given: &Given<'_>) -> Option<Fault>
     requires persons { n ≡ given.now.n }
     requires objects { m ≡ given.now.m }
@@ -106,7 +106,7 @@ fn first_fault(n: u16, m: u16, given: &Given<'_>) -> Option<Fault>
     }
 }
 
-/// The sense that is wanted, where nothing is wrong with what is given, and else the first fault.
+/// The requested sense if the given lists have no fault, or else the first fault.
 pub fn judge(given: &Given<'_>) -> Result<Sense, Fault>
     ensures sense { IfOk result (λ sense. sense_of given.now.sense ≡ Some sense) }
     ensures whole { OnOk result (IsWhole given.now) }

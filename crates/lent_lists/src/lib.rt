@@ -1,5 +1,5 @@
-//! Lists and buffers that a caller in C lends: the lists are judged, and an answer is written into the
-//! buffers, with the code that tells which.
+//! Lists and buffers that a caller in C lends: the lists are checked, and an answer is written into
+//! the buffers. A code says which answer.
 #![tactic(auto)]
 
 mod buffers;

@@ -11,7 +11,7 @@ use assign_core::{Cost, Object, Person, Problem};
 use rectangles::sparse_among;
 use std::alloc::{AllocError, Global};
 
-// The pairs of three lists, side by side.
+// The pairs of three lists as triples.
 fn triples(
     alloc: Global,
     persons: &[u16],
@@ -43,11 +43,11 @@ fn dense(alloc: Global, n: u16, m: u16, costs: &[Cost]) -> Result<Problem, Alloc
     Problem::dense_among(alloc, n, m, costs)
 }
 
-/// The problem whose first persons are those that are given, where nothing is wrong with it. A pair
-/// that is given several times counts once, at its least cost.
+/// The problem whose first persons are the given ones, for lists without a fault. If a pair is
+/// given several times, its least cost counts.
 ///
 /// # Errors
-/// Only where memory is refused.
+/// `AllocError` if memory is refused.
 pub fn problem_of(alloc: Global, given: &Given<'_>) -> Result<Problem, AllocError>
     requires { IsWhole given.now }
     ensures rows { IfOk result (λ problem.

@@ -1,4 +1,4 @@
-// From what is given to an answer in the caller's buffers.
+// From given lists to an answer in the caller's buffers.
 ghost use Rattle.std.specs.Prelude.{◌≡◌, ◌≤◌, All, IfErr, IfOk, OnErr, length, take};
 ghost use Rattle.std.specs.Arc.{arc_value};
 ghost use Rattle.assign_core.specs.Assignment.{IsAssignment, total};
@@ -24,7 +24,7 @@ use shortest_paths::{solve_paths_among, solve_paths_among_from};
 use std::alloc::{AllocError, Global};
 use std::sync::Arc;
 
-// What the solver finds for the first `n` persons, from the first prices on if there is one for each
+// The solver's outcome for the first `n` persons, from the first prices if there is one for each
 // object of the problem.
 fn outcome_of(
     alloc: Global,
@@ -45,7 +45,7 @@ fn outcome_of(
     }
 }
 
-// Tells the sum of the costs of an assignment of the first `n` persons.
+// Records the sum of the costs of an assignment of the first `n` persons.
 fn tell_sum(problem: &Problem, n: u16, assignment: &Assignment, told: &mut Told)
     requires persons { n ≤ length problem.now }
     requires assignment { IsAssignment (take n problem.now) assignment.now }
@@ -54,8 +54,8 @@ fn tell_sum(problem: &Problem, n: u16, assignment: &Assignment, told: &mut Told)
     told.total = total_of_first(problem, n, assignment);
 }
 
-// Writes an answer that is a proof for the first `n` persons, among as many objects as the buffer for
-// prices has places.
+// Writes an answer that is a proof for the first `n` persons, among as many objects as the buffer
+// for prices has places.
 fn give(
     problem: &Problem,
     n: u16,
@@ -74,7 +74,7 @@ fn give(
         (buffers objects.old persons.old prices.old told.old)
         (buffers objects.new persons.new prices.new told.new) result }
 {
-    // That an assignment with such prices is best follows from this call.
+    // This law shows the prover that an assignment with these prices is optimal.
     slack_means_best_among();
     match outcome {
         Outcome::Best(best) => {
@@ -102,7 +102,8 @@ fn shared(alloc: Global, problem: Problem, sense: Sense) -> Result<Arc<Scaled>, 
     Ok(Arc::new(alloc, scaled)?)
 }
 
-// An answer to what is given, in the buffers, which are as they were where there is none.
+// Solves the given problem and writes the answer into the buffers. If there is no answer, they stay
+// as they were.
 fn solve(
     alloc: Global,
     given: &Given<'_>,
@@ -139,7 +140,7 @@ fn solve(
     ))
 }
 
-/// Solves what is given, writes the answer into the buffers, and tells its code.
+/// Solves the given problem, writes the answer into the buffers, and returns its code.
 pub fn solve_given(
     alloc: Global,
     given: &Given<'_>,

@@ -1,11 +1,11 @@
-// Prices in two halves, since no call takes numbers of 128 bits.
+// Prices in two halves, since a call can't take numbers of 128 bits.
 ghost use Rattle.std.specs.Prelude.{◌≡◌};
 ghost use Rattle.assign_core.specs.Prices.{IsPrice};
 ghost use Rattle.lent_lists.specs.Prices.{price_in};
 
 use assign_core::Price;
 
-/// A price in two halves: `low + 2^64 * high`. So every number of 128 bits has its halves.
+/// A price in two halves, `low + 2^64 * high`. Each number of 128 bits has these halves.
 #[repr(C)]
 #[derive(Clone, Copy)]
 pub struct SplitPrice {
@@ -13,7 +13,7 @@ pub struct SplitPrice {
     pub high: i64,
 }
 
-// What the upper half counts.
+// The factor of the upper half.
 const WIDE: Price = 1 << 64;
 
 impl SplitPrice {

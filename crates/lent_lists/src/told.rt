@@ -1,16 +1,17 @@
-// What a call tells beside its lists.
+// The record of a call, in addition to its lists.
 
-/// What a call tells beside its lists. Each call writes the fields that its end has, and no other.
+/// The record of a call, in addition to its lists. Each call writes only the fields that belong to
+/// its end.
 #[repr(C)]
 #[derive(Clone, Copy)]
 pub struct Told {
-    /// The sum of the costs of a best assignment.
+    /// The sum of the costs of an optimal assignment.
     pub total: i64,
-    /// The place, from 0, of what is wrong in a list.
+    /// The place, from 0, of a fault in a list.
     pub place: u64,
-    /// How many persons a Hall set has.
+    /// The number of persons of a Hall set.
     pub persons: u64,
-    /// How many objects a Hall set has.
+    /// The number of objects of a Hall set.
     pub objects: u64,
     /// The person that a verdict names.
     pub person: u64,
