@@ -47,7 +47,7 @@ pub extern "C" fn nushbaret_dense(
     solve_given(alloc, &given, objects, persons, prices, told)
 }
 
-/// Solves a dense problem from first prices on.
+/// Solves a dense problem from first prices.
 #[unsafe(no_mangle)]
 pub extern "C" fn nushbaret_dense_from(
     alloc: Global,
@@ -86,7 +86,7 @@ pub extern "C" fn nushbaret_dense_from(
 }
 
 /// Solves a sparse problem: `n` persons, `m` objects, and the persons, the objects and the costs of
-/// the pairs that are listed.
+/// the listed pairs.
 #[unsafe(no_mangle)]
 pub extern "C" fn nushbaret_sparse(
     alloc: Global,
@@ -124,7 +124,7 @@ pub extern "C" fn nushbaret_sparse(
     solve_given(alloc, &given, objects, persons, prices, told)
 }
 
-/// Solves a sparse problem from first prices on.
+/// Solves a sparse problem from first prices.
 #[unsafe(no_mangle)]
 pub extern "C" fn nushbaret_sparse_from(
     alloc: Global,
@@ -164,8 +164,8 @@ pub extern "C" fn nushbaret_sparse_from(
     solve_given(alloc, &given, objects, persons, prices, told)
 }
 
-/// Holds an assignment with its prices against a problem. The problem is dense where there is no
-/// list of pairs but there are costs, and else sparse.
+/// Checks an assignment with its prices against a problem. The problem is dense if there are costs
+/// but no list of pairs; otherwise it is sparse.
 #[unsafe(no_mangle)]
 pub extern "C" fn nushbaret_check(
     alloc: Global,
@@ -201,7 +201,7 @@ pub extern "C" fn nushbaret_check(
     }
 }
 
-/// Holds a Hall set against a problem, which is dense or sparse as in `nushbaret_check`.
+/// Checks a Hall set against a problem, which is dense or sparse as in `nushbaret_check`.
 #[unsafe(no_mangle)]
 pub extern "C" fn nushbaret_check_hall(
     alloc: Global,

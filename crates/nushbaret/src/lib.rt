@@ -1,4 +1,5 @@
-//! Nushbaret's calls for programs in C. `c/nushbaret.h` declares them and says what a caller owes.
+//! Nushbaret's calls for programs in C. `c/nushbaret.h` declares them, and says what a caller must
+//! do.
 #![tactic(auto)]
 
 mod calls;

@@ -1,11 +1,11 @@
-// Which version this is.
+// The version of the library.
 ghost use Rattle.std.specs.Prelude.{◌≡◌, ◌++◌, ◌∷◌, ◌<◌, ◌≤◌, codes, drop, length};
 
-// The library's number, as the file VERSION at the top has it.
+// The version, as the file VERSION at the top has it.
 const VERSION: &str = "2.0.0";
 
-/// The length of the version's text. Where the room has a place more than that, the text and a 0 stand at
-/// its beginning then; else it is as it was.
+/// Returns the length of the version's text. Writes the text and a 0 at the beginning of the room
+/// if they fit; otherwise the room stays as it was.
 #[unsafe(no_mangle)]
 pub extern "C" fn nushbaret_version(room: &mut [u8]) -> usize
     ensures long { result ≡ 5 }
