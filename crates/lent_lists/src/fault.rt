@@ -5,7 +5,7 @@ use std::alloc::AllocError;
 /// 0.
 #[derive(Clone, Copy, PartialEq, Eq)]
 pub enum Fault {
-    /// The number of the sense is neither 0 nor 1.
+    /// The number of the sense isn't 0 or 1.
     Sense,
     /// There are no persons, no objects, or more of either than `MOST_PERSONS`.
     Size,
