@@ -1,4 +1,4 @@
--- The search that tries each assignment: a best one is found among those with each next object.
+-- The search that tries each assignment: an optimal one is found among those with each next object.
 use Rattle.std.proofs.Common.{◌≡◌, ℕ, ℤ, pos, ◌<◌, ◌≤◌, ◌+◌, List, [], ◌∷◌, ◌++◌, Option, None, Some, IsSome, MatchOption, length, take, get_or, nat_eq, false, refl, arith, ap, sym, ◌∙◌, subst, ◌⊎◌, inl, inr, add-one, length-append}
 use Rattle.std.specs.Cmp.{IsEquivalence}
 use Rattle.std.specs.List.{AllZip, IsDistinct, Contains, list_any}
@@ -25,13 +25,13 @@ no_worse_through : (sense : Sense) (a b c : ℤ) → IsNoWorse sense a b → IsN
 no_worse_through Min a b c h k = omega (arith, ints)
 no_worse_through Max a b c h k = omega (arith, ints)
 
--- a best one of some lists is one of the same lists described otherwise
+-- an optimal one of some lists is one of the same lists under another description
 pub bests_same : (sense : Sense) (rows : List Listing) (P Q : List ℕ → Type 0) (answer : Option (List ℕ)) →
     ((ys : List ℕ) → P ys → Q ys) → ((ys : List ℕ) → Q ys → P ys) → IsBestIn sense rows P answer → IsBestIn sense rows Q answer
 bests_same sense rows P Q None to back h = λ ys q. h ys (back ys q)
 bests_same sense rows P Q (Some xs) to back h = (to xs h.0, λ ys q. h.1 ys (back ys q))
 
--- the better one of two best ones is a best one of all
+-- the better one of two optimal ones is an optimal one of all
 merged : (sense : Sense) (rows : List Listing) (P Q R : List ℕ → Type 0) (a b : Option (List ℕ)) (c : Option (List ℕ)) →
     ((ys : List ℕ) → P ys → R ys) → ((ys : List ℕ) → Q ys → R ys) → ((ys : List ℕ) → R ys → P ys ⊎ Q ys) →
     IsBestIn sense rows P a → IsBestIn sense rows Q b → IsBetterOf sense rows a b c → IsBestIn sense rows R c
@@ -56,7 +56,7 @@ merged sense rows P Q R (Some xs) (Some zs) c p q r ha hb e = elim e [
   )
 ]
 
--- an assignment that begins so, with one of the first k objects of a row next
+-- an assignment that begins with these objects and has one of the first k objects of a row next
 pub record IsAmong (rows : List Listing) (front : List ℕ) (row : Listing) (k : ℕ) (xs : List ℕ) : Type 0 where
   pub begins : Begins rows front xs
   pub place : ℕ
@@ -103,7 +103,7 @@ not_again rows front ys j short b c e =
 pub object_at : (row : Listing) (k : ℕ) (e : ℕ × ℤ) → k < length row → e ≡ get_or row k e → e.0 ≡ (get_or row k (0, pos 0)).0
 object_at row k e lt h = ap (λ f. f.0) (h ∙ get_or_default row k e (0, pos 0) lt)
 
--- an object that is taken already adds nothing
+-- a taken object adds nothing
 pub step_taken : (sense : Sense) (rows : List Listing) (front : List ℕ) (row : Listing) (k j : ℕ) (answer : Option (List ℕ)) → length front < length rows →
     j ≡ (get_or row k (0, pos 0)).0 → Contains front j → IsBestSoFar sense rows front row k answer → IsBestSoFar sense rows front row (k + 1) answer
 step_taken sense rows front row k j answer short e c h =
@@ -111,7 +111,7 @@ step_taken sense rows front row k j answer short e c h =
     (λ ys a. elim (narrower rows front row k ys a) [ inl f ↦ f | inr f ↦ absurd (not_again rows front ys j short a.begins c (e ∙ f)) ])
     h
 
--- to begin with one object more is to begin so, with this object next
+-- an assignment begins with one more object if it begins with these and has this object next
 begins_more : (rows : List Listing) (front ys : List ℕ) (j : ℕ) → length front < length rows → Begins rows front ys → j ≡ get_or ys (length front) 0 → Begins rows (front ++ j ∷ []) ys
 begins_more rows front ys j short b e =
     let long = assignment_length rows ys b.assigned in
@@ -183,7 +183,7 @@ pushed_apart xs j d fresh =
     ] in
     IsDistinct-push {eq = nat_eq} same_numbers xs j d none
 
--- an object that isn't taken makes the front longer
+-- an untaken object makes the front longer
 pub longer_front : (rows : List Listing) (front : List ℕ) (row : Listing) (k j : ℕ) → length front < length rows → IsFront rows front →
     row ≡ row_of rows (length front + 1) → k < length row → j ≡ (get_or row k (0, pos 0)).0 → (Contains front j → ⊥) → IsFront rows (front ++ j ∷ [])
 longer_front rows front row k j short f e lt o fresh =
@@ -199,7 +199,7 @@ longer_front rows front row k j short f e lt o fresh =
       apart = pushed_apart front j f.apart fresh;
     }
 
--- the objects of all persons are the one assignment that begins so
+-- the objects of all persons are the only assignment that begins with them
 pub whole_front : (sense : Sense) (rows : List Listing) (front : List ℕ) → length front ≡ length rows → IsFront rows front → IsBestIn sense rows (Begins rows front) (Some front)
 whole_front sense rows front long f =
     let all : take (length front) rows ≡ rows = take_all (length front) rows (omega arith) in (
@@ -213,7 +213,7 @@ whole_front sense rows front long f =
           rw same (no_worse_itself sense (total rows front)),
     )
 
--- what begins with no object is any assignment
+-- each assignment begins with no object
 pub from_none : (sense : Sense) (rows : List Listing) (answer : Option (List ℕ)) → IsBestIn sense rows (Begins rows []) answer →
     MatchOption answer ((xs : List ℕ) → IsAssignment rows xs → ⊥) (IsBest sense rows)
 from_none sense rows None h = λ xs a. h xs (record { assigned = a; same = refl })

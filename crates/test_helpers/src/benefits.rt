@@ -3,7 +3,7 @@ use super::problems::Pair;
 use assign_core::Sense;
 use std::alloc::{AllocError, Global};
 
-/// The benefits of these pairs, row by row, none where a pair isn't listed.
+/// The benefits of these pairs, row by row; `None` for a pair that isn't listed.
 pub fn plain_benefits(
     alloc: Global,
     n: u16,
@@ -29,7 +29,7 @@ pub fn plain_benefits(
     Ok(benefits)
 }
 
-/// The least benefit, and how far the greatest is above it.
+/// The least benefit, and the spread.
 pub fn benefit_range(benefits: &[Option<i128>]) -> (i128, i128) {
     let mut least = None;
     let mut most = None;

@@ -1,4 +1,4 @@
-// Dense problems by their costs, and what their assignments cost.
+// Dense problems from their costs, and the costs of their assignments.
 use super::plain::plain_best;
 use super::problems::{Pair, problem_of, size};
 use assign_core::{Cost, Sense};
@@ -28,7 +28,7 @@ pub fn cost_of(pairs: &[Pair], objects: &[u16]) -> Cost {
     sum
 }
 
-/// The cost of the least assignment, or of the greatest, if there is one: by a search of all.
+/// The cost of an optimal assignment, if one exists, by a search of all assignments.
 pub fn best_cost(
     alloc: Global,
     n: u16,

@@ -1,4 +1,4 @@
-// Numbers that look drawn by lot, and problems and prices of such numbers.
+// Pseudo-random numbers, and problems and prices of these numbers.
 ghost use Rattle.std.specs.Prelude.{◌≡◌, ◌<◌, ◌≤ℤ◌, length, IfOk};
 ghost use Rattle.assign_core.specs.Rows.{IsSize};
 ghost use Rattle.scaled_values.specs.Scaled.{greatest_of};
@@ -7,7 +7,7 @@ use super::problems::{Pair, first_prices};
 use assign_core::{Cost, GREATEST_FIRST_PRICE, Price, Prices, Sense};
 use std::alloc::{AllocError, Global};
 
-/// The next number of a congruential generator, by its high bits.
+/// The next number of a congruential generator, from its high bits.
 pub fn next_number(seed: &mut u64) -> u64 {
     *seed = seed
         .wrapping_mul(6364136223846793005)
@@ -23,7 +23,7 @@ pub fn draw(seed: &mut u64, end: u16) -> u16
     (next_number(seed) % u64::from(end)) as u16
 }
 
-/// A number from 0 to `end` - 1, for an end beyond 16 bits too, and 0 for an end of 0.
+/// A number from 0 to `end` - 1, also for an end beyond 16 bits; 0 for an end of 0.
 pub fn draw_wide(seed: &mut u64, end: u64) -> u64 {
     next_number(seed).checked_rem(end).unwrap_or(0)
 }
@@ -36,7 +36,8 @@ pub fn drawn_sense(seed: &mut u64) -> Sense {
     }
 }
 
-/// Pairs of n persons: some `share` of four, at so many costs, half of them below 0.
+/// Pairs of n persons: about `share` in four of all pairs, at `costs` different costs, half of them
+/// below 0.
 pub fn drawn_pairs(
     alloc: Global,
     seed: &mut u64,
@@ -53,7 +54,7 @@ pub fn drawn_pairs(
     Ok(pairs)
 }
 
-// The pairs of one person more.
+// The pairs of one more person.
 fn draw_row(
     seed: &mut u64,
     person: u16,

@@ -1,5 +1,5 @@
 //! What the tests of several crates share: problems, drawn numbers, streams in pieces, and a slow
-//! search for a best assignment.
+//! search for an optimal assignment.
 #![tactic(auto)]
 
 mod benefits;

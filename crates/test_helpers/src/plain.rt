@@ -1,4 +1,4 @@
-// A slow search for a best assignment, which tries all of them.
+// A slow search for an optimal assignment, which tries all assignments.
 ghost use Rattle.std.specs.Prelude.{◌≡◌, ℕ, ◌↔◌, List, [], ◌∷◌, ◌++◌, IfOk, IfSome, IsTrue, MatchOption};
 ghost use Rattle.std.specs.List.{Contains};
 ghost use Rattle.assign_core.specs.Assignment.{IsAssignment, IsBest, IsNoWorse};
@@ -7,7 +7,7 @@ ghost use Rattle.test_helpers.specs.inside.Plain.{Begins, IsBestIn, IsBetterOf, 
 use assign_core::{Assignment, Cost, Object, Person, Problem, Sense};
 use std::alloc::{AllocError, Global};
 
-// Whether a cost is wanted as much as another, or more.
+// Whether a cost is as good as another, or better.
 fn is_no_worse(sense: Sense, cost: Cost, other: Cost) -> bool
     ensures { IsTrue result ↔ IsNoWorse sense cost other }
 {
@@ -57,7 +57,7 @@ fn with_object(alloc: Global, front: &[Object], object: Object) -> Result<Vec<Ob
     Ok(longer)
 }
 
-// A best one of the assignments that begin with these objects.
+// The best of the assignments that begin with these objects.
 fn best_after(
     alloc: Global,
     problem: &Problem,
@@ -82,12 +82,12 @@ fn best_after(
     Ok(best)
 }
 
-/// A best assignment of the problem, or `None` where it has none: what a solver is to answer,
-/// found by trying all assignments. For tests on a few persons alone, since its time grows as the
+/// An optimal assignment of the problem, or `None` if it has none: the expected answer of a solver,
+/// found by trying all assignments. For tests on a few persons only, since its time grows as the
 /// factorial of their number.
 ///
 /// # Errors
-/// Only where memory is refused.
+/// `AllocError` if memory is refused.
 pub fn plain_best(
     alloc: Global,
     problem: &Problem,

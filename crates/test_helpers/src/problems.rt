@@ -1,4 +1,4 @@
-// Problems of given pairs, and first prices.
+// Problems from pairs, and first prices.
 ghost use Rattle.std.specs.Prelude.{◌≡◌, ◌≤ℤ◌, length, IfOk};
 ghost use Rattle.std.specs.Arc.{arc_value};
 ghost use Rattle.assign_core.specs.Numbered.{IsNumber};
@@ -18,7 +18,7 @@ use std::sync::Arc;
 /// A person and an object, with the pair's cost.
 pub type Pair = (u16, u16, Cost);
 
-/// A number of persons brought into range.
+/// A number of persons, brought into range.
 pub fn size(n: u16) -> u16
     ensures { IsSize result }
 {
@@ -64,7 +64,7 @@ pub fn problem_of(alloc: Global, n: u16, pairs: &[Pair]) -> Result<Problem, Allo
     Problem::sparse(alloc, n, triples.as_slice())
 }
 
-/// The same with its benefits.
+/// The same problem with its benefits.
 pub fn scaled_of(
     alloc: Global,
     n: u16,

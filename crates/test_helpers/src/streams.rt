@@ -3,7 +3,7 @@ use std::alloc::Global;
 use std::io;
 use std::io::{Read, Write};
 
-/// Gives a text in pieces of at most so many bytes, and fails behind it where told so.
+/// Gives a text in pieces of at most `most` bytes, and fails at its end if `fails` is true.
 #[derive(Clone, Copy)]
 pub struct Pieces<'a> {
     pub text: &'a [u8],
@@ -25,7 +25,7 @@ impl Read for Pieces<'_> {
     }
 }
 
-/// A text in pieces of at most so many bytes, and then its end.
+/// A text in pieces of at most `most` bytes, and then its end.
 pub fn whole_text(text: &[u8], most: usize) -> Pieces<'_> {
     Pieces {
         text,
@@ -34,7 +34,7 @@ pub fn whole_text(text: &[u8], most: usize) -> Pieces<'_> {
     }
 }
 
-/// Gives a text, and behind it one byte without end.
+/// Gives a text, and then one byte without end.
 #[derive(Clone, Copy)]
 pub struct Endless<'a> {
     pub front: Pieces<'a>,
@@ -52,7 +52,7 @@ impl Read for Endless<'_> {
     }
 }
 
-/// Takes so many bytes, in pieces of at most so many, and then is interrupted, or takes none.
+/// Takes `room` bytes, in pieces of at most `most`, and then is interrupted, or takes none.
 #[derive(Drop)]
 pub struct FailingWriter {
     pub taken: Vec<u8>,
@@ -78,7 +78,7 @@ impl Write for FailingWriter {
     }
 }
 
-/// Such a writer.
+/// A writer of this kind.
 pub fn failing_writer(alloc: Global, room: usize, most: usize, fails: bool) -> FailingWriter {
     FailingWriter {
         taken: Vec::new(alloc),

@@ -1,4 +1,4 @@
--- A best one among some assignments.
+-- An optimal assignment among some.
 use Rattle.std.specs.Prelude.{◌≡◌, ℕ, ◌≤◌, ◌⊎◌, List, Option, None, Some, MatchOption, length, take, nat_eq}
 use Rattle.std.specs.List.{IsDistinct}
 use Rattle.assign_core.specs.declared.sense.Sense.{Sense}
@@ -16,7 +16,8 @@ pub record Begins (rows : List Listing) (front xs : List ℕ) : Type 0 where
   pub assigned : IsAssignment rows xs
   pub same : take (length front) xs ≡ front
 
--- one of the lists with property P, no worse than any of them, and none where there is no such list
+-- one of the lists with property P, as good as any of them, or none if there is no list with this
+-- property
 abbrev pub IsBestIn : Sense → List Listing → (List ℕ → Type 0) → Option (List ℕ) → Type 0
 IsBestIn sense rows P answer =
     MatchOption answer ((ys : List ℕ) → P ys → ⊥)
