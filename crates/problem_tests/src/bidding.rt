@@ -1,4 +1,4 @@
-// The best two and offers on worked values, and both ways to give a row against a plain search.
+// The best two and offers on worked values, and both forms of a row compared with a plain search.
 ghost use Rattle.std.specs.Prelude.{◌≡◌, ◌≤◌, ◌≤ℤ◌, pos, neg_ℤ, length, All, IfOk};
 ghost use Rattle.assign_core.specs.Benefits.{IsBenefit};
 ghost use Rattle.assign_core.specs.Prices.{IsPrice};
@@ -29,14 +29,14 @@ fn pairs_of(alloc: Global, benefits: &[Benefit]) -> Result<Vec<(Object, Benefit)
     Ok(row)
 }
 
-// How great the prices of a table are.
+// The size of a table's prices.
 #[derive(Clone, Copy)]
 enum Size {
     // From 0 to 891.
     Small,
-    // One below the end of narrow prices, at it and one above it, and the greatest there are.
+    // One below the end of narrow prices, at it and one above it, and the greatest price.
     Mixed,
-    // The greatest, less 0 to 8.
+    // The greatest price, less 0 to 8.
     Great,
 }
 
@@ -52,7 +52,8 @@ fn price_at(size: Size, i: u16) -> Price
     }
 }
 
-// What makes up for the differences of the prices, but those of the greatest among the mixed ones.
+// What makes up for the differences of the prices, except for those of the greatest price among
+// mixed ones.
 fn offset_at(size: Size, i: u16) -> Benefit
     ensures least { neg_ℤ (pos 9) ≤ℤ result }
     ensures greatest { result ≤ℤ pos 900 }
@@ -88,14 +89,14 @@ fn worth(i: u16, first: u16, second: u16) -> Benefit
     }
 }
 
-// The benefit of an object that is worth so much under the table.
+// The benefit of an object with this value under the table.
 fn benefit_of(size: Size, i: u16, first: u16, second: u16) -> Benefit
     ensures { IsBenefit result }
 {
     offset_at(size, i) + worth(i, first, second)
 }
 
-// Benefits of n objects, those at two places greater than the others where prices are alike.
+// Benefits of n objects: those at two places are greater than the others if prices are alike.
 fn benefits_of(
     alloc: Global,
     size: Size,
@@ -114,7 +115,7 @@ fn benefits_of(
     Ok(benefits)
 }
 
-// What both calls say of a row of all objects.
+// The results of both calls on a row of all objects.
 fn answers(
     alloc: Global,
     benefits: &[Benefit],
@@ -131,7 +132,7 @@ fn answers(
     ])
 }
 
-// The best two, by a search for the best and one for the second.
+// The best two, by one search for the best and one for the second.
 fn searched(benefits: &[Benefit], prices: &[Price]) -> Option<BestTwo> {
     let mut best: Option<(usize, i128)> = None;
     for (i, (benefit, price)) in benefits.iter().zip(prices).enumerate() {
@@ -155,7 +156,7 @@ fn searched(benefits: &[Benefit], prices: &[Price]) -> Option<BestTwo> {
     })
 }
 
-// Whether both calls and the search agree, where the objects at two places are the best.
+// Whether both calls and the search agree, if the objects at two places are the best.
 fn agree(alloc: Global, size: Size, n: u16, first: u16, second: u16) -> Result<bool, AllocError>
     requires { n ≤ MOST_PERSONS }
 {
@@ -202,7 +203,7 @@ fn rows_of_many_lengths(rt: HostRuntime) -> Result<(), Fail> {
     Ok(())
 }
 
-// The best two of a row of all objects under as many prices, if both ways find the same.
+// The best two of a row of all objects under as many prices, if both forms give the same.
 fn both_ways(
     alloc: Global,
     benefits: &[Benefit],
@@ -306,7 +307,7 @@ fn offered(
     Ok(Some(make_bid(scaled, &prices, 7, ask, Person(person))))
 }
 
-// The same in a phase that has the first slackness.
+// The offer in a phase with the first slackness.
 fn offered_first(
     alloc: Global,
     scaled: &Scaled,
@@ -321,7 +322,7 @@ fn offered_first(
     offered(alloc, scaled, values, ask, person)
 }
 
-// The same in the second phase, if there is one.
+// The offer in the second phase, if there is one.
 fn offered_second(
     alloc: Global,
     scaled: &Scaled,
@@ -352,10 +353,10 @@ fn offered_in(
     }
 }
 
-// Some prices, a person, and the object and the level of the bid that it makes under them: object 0 where it makes none.
+// Prices, a person, and the object and the level of its bid under them; object 0 if it makes none.
 type Offered = (&'static [Price], u16, u16, Price);
 
-// That each of these offers is made.
+// Asserts that each of these offers is made.
 fn assert_offers(
     rt: &impl Abort,
     alloc: Global,
@@ -427,7 +428,8 @@ fn scaled_of(alloc: Global, persons: Persons) -> Result<Scaled, AllocError> {
     }
 }
 
-// That a phase has this slackness and this floor, and that each of these offers is made in it.
+// Asserts that a phase has this slackness and this floor, and that each of these offers is made in
+// it.
 fn assert_phase(
     rt: &impl Abort,
     alloc: Global,
@@ -441,7 +443,7 @@ fn assert_phase(
     assert_offers(rt, alloc, &scaled, phase, table)
 }
 
-// A problem of one person and what it lists.
+// A problem of one person, and its row.
 fn one_person(alloc: Global, row: Vec<(Object, Cost)>) -> Result<Scaled, AllocError>
     requires { IsRow 1 row.items }
 {
@@ -455,9 +457,9 @@ fn offers_of_two_persons(rt: HostRuntime) -> Result<(), Fail> {
         (&[0, 0], 1, 1, 5),
         (&[0, 0], 2, 1, 8),
         (&[8, 0], 1, 2, 7),
-        // the second value is under the floor
+        // The second value is below the floor.
         (&[0, 100], 1, 1, 28),
-        // the best value is the floor, and one less
+        // The best value is the floor, and one less.
         (&[26, 24], 1, 1, 28),
         (&[27, 24], 1, 0, 0),
     ];
@@ -502,7 +504,8 @@ fn offers_of_three_persons(rt: HostRuntime) -> Result<(), Fail> {
     Ok(())
 }
 
-// The offer of one person for one object at the greatest price, in a third phase that starts with this one.
+// The offer of one person for one object at the greatest price, in a third phase that starts with
+// this price.
 fn greatest_offer(alloc: Global, p0: Price) -> Result<Option<Offer>, AllocError>
     requires { IsPrice p0 }
 {

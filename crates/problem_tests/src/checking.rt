@@ -8,7 +8,7 @@ use dual_checker::{Verdict, check};
 use std::alloc::{AllocError, Global};
 use std::test::Fail;
 
-// Persons or objects by their digits.
+// Persons or objects from digits.
 pub fn by_digits<T: Numbered + Drop>(alloc: Global, digits: &str) -> Result<Vec<T>, AllocError> {
     let mut numbers = Vec::new(alloc);
     for digit in digits.bytes() {
@@ -17,7 +17,7 @@ pub fn by_digits<T: Numbered + Drop>(alloc: Global, digits: &str) -> Result<Vec<
     Ok(numbers)
 }
 
-// The verdict on objects by their digits.
+// The verdict on objects from digits.
 fn verdict_of(
     alloc: Global,
     problem: &Problem,
@@ -33,7 +33,7 @@ fn two_by_two(alloc: Global) -> Result<Problem, AllocError> {
     Problem::dense(alloc, 2, &[1, 2, 3, 5])
 }
 
-// The verdict on objects by their digits and two prices.
+// The verdict on objects from digits, and two prices.
 fn verdict_of_two(
     alloc: Global,
     sense: Sense,
@@ -93,7 +93,7 @@ fn two_persons(rt: HostRuntime) -> Result<(), Fail> {
     Ok(())
 }
 
-// The verdict on objects by their digits and some prices, where two are due.
+// The verdict on objects from digits and some prices, where two are required.
 fn verdict_of_lists(alloc: Global, objects: &str, prices: &[Price]) -> Result<Verdict, AllocError> {
     verdict_of(alloc, &two_by_two(alloc)?, Sense::Min, objects, prices)
 }
@@ -114,17 +114,17 @@ fn even(alloc: Global) -> Result<Problem, AllocError> {
     Problem::dense(alloc, 4, &costs)
 }
 
-// Each of three persons likes each object better than the one before.
+// Each of three persons prefers each object to the one before.
 fn falling(alloc: Global) -> Result<Problem, AllocError> {
     Problem::dense(alloc, 3, &[5, 1, 0, 5, 1, 0, 5, 1, 0])
 }
 
-// The verdict on two objects that two persons have each.
+// The verdict on two objects, each given to two persons.
 fn verdict_of_even(alloc: Global) -> Result<Verdict, AllocError> {
     verdict_of(alloc, &even(alloc)?, Sense::Min, "2211", &[0, 0, 0, 0])
 }
 
-// The verdict on each person's own object, at no prices.
+// The verdict on each person's own object, at prices of 0.
 fn verdict_of_falling(alloc: Global) -> Result<Verdict, AllocError> {
     verdict_of(alloc, &falling(alloc)?, Sense::Min, "123", &[0, 0, 0])
 }

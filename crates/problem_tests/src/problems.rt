@@ -20,7 +20,7 @@ fn two_persons(alloc: Global) -> Result<Problem, AllocError>
     Problem::dense(alloc, 2, &[1, 2, 3, 5])
 }
 
-// How many persons it has, and what two pairs cost.
+// The number of its persons, and the costs of two pairs.
 fn two_told(alloc: Global) -> Result<(u16, [Option<Cost>; 2]), AllocError> {
     let problem = two_persons(alloc)?;
     let costs = [
@@ -60,13 +60,13 @@ fn crossed(alloc: Global) -> Result<Assignment, AllocError>
     Ok(Assignment::new(vec![in alloc; Object(2), Object(1)]?))
 }
 
-// What it costs in a dense problem of two persons.
+// The cost of this assignment in a dense problem of two persons.
 fn cost_crossed(alloc: Global) -> Result<Cost, AllocError> {
     let problem = Problem::dense(alloc, 2, &[1, 2, 3, 5])?;
     Ok(problem.total(&crossed(alloc)?))
 }
 
-// It and the prices 14 and 12.
+// This assignment with the prices 14 and 12.
 fn certificate(alloc: Global) -> Result<Certificate, AllocError> {
     let assignment = crossed(alloc)?;
     let prices = Prices::new(alloc, vec![in alloc; 14, 12]?)?;
@@ -148,7 +148,7 @@ fn all_for_less(alloc: Global) -> Result<HallSet, AllocError> {
     Ok(HallSet::new(persons, objects))
 }
 
-// How many persons and objects a copy of it has, and its last person.
+// The numbers of persons and objects in a copy of this Hall set, and its last person.
 fn all_told(alloc: Global) -> Result<(usize, usize, Option<Person>), AllocError> {
     let copy = all_for_less(alloc)?.copy(alloc)?;
     let last = copy.persons().last().copied();
@@ -171,7 +171,8 @@ fn all_alike(alloc: Global, n: u16) -> Result<Problem, AllocError>
     Problem::dense(alloc, n, costs.as_slice())
 }
 
-// How many persons such a problem of 2000 has, how long the last row is, and what three pairs cost.
+// The number of persons in this problem with 2000 persons, the length of the last row, and the
+// costs of three pairs.
 fn many_told(alloc: Global) -> Result<(u16, usize, [Option<Cost>; 3]), AllocError> {
     let problem = all_alike(alloc, 2000)?;
     let costs = [
@@ -189,7 +190,7 @@ fn a_dense_problem_of_many_persons(rt: HostRuntime) -> Result<(), Fail> {
     Ok(())
 }
 
-// Three prices, of which that of object 2 is set.
+// Three prices, after the price of object 2 is set.
 fn one_set(alloc: Global) -> Result<Prices, AllocError>
     ensures { IfOk result (λ prices. length prices ≡ 3) }
 {
@@ -198,7 +199,7 @@ fn one_set(alloc: Global) -> Result<Prices, AllocError>
     Ok(prices)
 }
 
-// What such prices are, in either form.
+// Asserts the prices of a table, in both forms.
 fn assert_prices(rt: &impl Abort, prices: &Prices, wide: &[Price; 3], narrow: &[i64; 3]) {
     assert_eq!(rt; prices.as_slice(), wide.as_slice());
     assert_eq!(rt; prices.narrow(), narrow.as_slice());
@@ -218,7 +219,7 @@ fn a_price_is_set(rt: HostRuntime) -> Result<(), Fail> {
     Ok(())
 }
 
-// They, after the prices of others are copied into them.
+// These prices, after those of another table are copied into them.
 fn copied(alloc: Global) -> Result<Prices, AllocError> {
     let mut prices = one_set(alloc)?;
     let mut others = Prices::zeros(alloc, 3)?;
@@ -290,7 +291,7 @@ fn all_pairs_in_falling_order(rt: HostRuntime) -> Result<(), Fail> {
     Ok(())
 }
 
-// Whether a search of all assignments finds one that gives these objects, at this cost.
+// Whether a search of all assignments finds one with these objects, at this cost.
 fn finds(
     alloc: Global,
     problem: &Problem,
@@ -323,7 +324,7 @@ fn a_best_assignment_of_one_person(rt: HostRuntime) -> Result<(), Fail> {
     Ok(())
 }
 
-// Two persons who list one object alone.
+// Two persons who list only the same object.
 fn one_listed_object(alloc: Global) -> Result<Problem, AllocError> {
     let triples = [(Person(1), Object(1), 4), (Person(2), Object(1), 6)];
     Problem::sparse(alloc, 2, &triples)

@@ -1,4 +1,4 @@
-// Searches on small problems, worked by hand, and one among as many persons as there may be.
+// Searches on small problems, worked by hand, and one among the most persons.
 ghost use Rattle.std.specs.Prelude.{◌≡◌, ℕ, ◌<◌, ◌≤◌, Some, IfOk, length};
 ghost use Rattle.assign_core.specs.Numbered.{IsNumber};
 ghost use Rattle.assign_core.specs.Rows.{IsListed};
@@ -23,7 +23,7 @@ fn hall_told(alloc: Global, hall: &HallSet) -> Result<String, AllocError> {
     )
 }
 
-// What a search finds, as a line.
+// The result of a search, as a line.
 fn told(
     alloc: Global,
     problem: Problem,
@@ -45,7 +45,7 @@ fn told(
     }
 }
 
-// Person 1 lists one object, which is free.
+// Person 1 lists one object, which is unowned.
 fn one_object(alloc: Global) -> Result<String, AllocError> {
     let row = vec![in alloc; (Object(1), 4)]?;
     let problem = Problem::from_rows(vec![in alloc; row]?);
@@ -75,7 +75,7 @@ fn a_path_of_two_objects(rt: HostRuntime) -> Result<(), Fail> {
     Ok(())
 }
 
-// Each person lists the object of the one before and its own, and the last is free.
+// Each person lists its own object and that of the person before, and the last object is unowned.
 fn five_objects(alloc: Global) -> Result<String, AllocError> {
     let a = vec![in alloc; (Object(1), 0)]?;
     let b = vec![in alloc; (Object(1), 0), (Object(2), 0)]?;
@@ -116,7 +116,7 @@ fn one_person_is_reached(rt: HostRuntime) -> Result<(), Fail> {
     Ok(())
 }
 
-// Persons 1 and 3 list one object alone.
+// Persons 1 and 3 list only the same object.
 fn two_persons(alloc: Global) -> Result<String, AllocError> {
     let first = vec![in alloc; (Object(2), 4)]?;
     let second = vec![in alloc; (Object(1), 6), (Object(3), 1)]?;
@@ -133,7 +133,7 @@ fn two_persons_are_reached(rt: HostRuntime) -> Result<(), Fail> {
     Ok(())
 }
 
-// Nobody lists object 2.
+// No person lists object 2.
 fn all_persons(alloc: Global) -> Result<String, AllocError> {
     let first = vec![in alloc; (Object(1), 4), (Object(3), 4)]?;
     let second = vec![in alloc; (Object(1), 6)]?;
@@ -178,7 +178,7 @@ fn own(alloc: Global, problem: &Problem) -> Result<Vec<Option<Person>>, AllocErr
     Ok(owners)
 }
 
-// What stops the first person of the star.
+// What blocks the first person of the star.
 fn hall_of_star(alloc: Global) -> Result<Option<HallSet>, AllocError> {
     let problem = star(alloc)?;
     let owners = own(alloc, &problem)?;
@@ -189,7 +189,7 @@ fn hall_of_star(alloc: Global) -> Result<Option<HallSet>, AllocError> {
     }
 }
 
-// That it is all persons, and all objects but the first.
+// Asserts that the Hall set has all persons, and all objects except for the first.
 fn assert_all(rt: &impl Abort, hall: &HallSet) {
     let persons = hall.persons();
     assert_eq!(rt; persons.len(), 8192);

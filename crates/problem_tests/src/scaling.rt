@@ -8,7 +8,7 @@ use scaled_values::{Row, Scaled, next_eps, scale};
 use std::alloc::{AllocError, Global};
 use std::test::Fail;
 
-// A wide problem with two listed pairs, of these costs and their negations.
+// A wide problem with two listed pairs, with this cost and its negation.
 fn two_pairs(alloc: Global, cost: Cost) -> Result<Scaled, AllocError>
     requires least { pos 0 ≤ℤ cost }
     requires greatest { cost ≤ℤ GREATEST_COST }
@@ -48,7 +48,7 @@ fn next_bounds(scaled: &Scaled, p0: Price, eps: i64) -> Option<(Price, Price)>
     Some(bounds(scaled, p0, next))
 }
 
-// The spread of a wide problem with such costs.
+// The spread of a wide problem with these costs.
 fn wide_spread(alloc: Global, cost: Cost) -> Result<i64, AllocError>
     requires least { pos 0 ≤ℤ cost }
     requires greatest { cost ≤ℤ GREATEST_COST }
@@ -139,7 +139,7 @@ fn range_told(scaled: &Scaled) -> ([i64; 4], Option<i64>) {
     (range, next_eps(eps))
 }
 
-// What a person lists, as a line.
+// A person's row, as a line.
 fn row_told(alloc: Global, scaled: &Scaled, i: u16) -> Result<String, AllocError> {
     if i == 0 || i > scaled.n() {
         return format!(in alloc; "no person");
@@ -157,7 +157,7 @@ fn first_bounds(scaled: &Scaled, p0: Price) -> (Price, Price)
     bounds(scaled, p0, scaled.first_eps())
 }
 
-// Those of a second phase.
+// The floor and the top of a second phase.
 fn second_bounds(scaled: &Scaled, p0: Price) -> Option<(Price, Price)>
     requires { IsPrice p0 }
 {
@@ -170,7 +170,7 @@ fn dense_pair(alloc: Global) -> Result<Scaled, AllocError> {
     scale(alloc, problem, Sense::Min)
 }
 
-// What a person of it lists, as a line.
+// The row of a person of this problem, as a line.
 fn dense_row(alloc: Global, i: u16) -> Result<String, AllocError> {
     row_told(alloc, &dense_pair(alloc)?, i)
 }
@@ -213,7 +213,7 @@ fn few_pairs(alloc: Global, sense: Sense) -> Result<Scaled, AllocError> {
     scale(alloc, problem, sense)
 }
 
-// The first person of it that lists something else than its line says.
+// The first person of this problem whose row isn't the expected line.
 fn other_row(alloc: Global, sense: Sense, lines: &[&str; 3]) -> Result<Option<u16>, AllocError> {
     for (i, line) in lines.iter().enumerate() {
         let row = row_told(alloc, &few_pairs(alloc, sense)?, i as u16 + 1)?;

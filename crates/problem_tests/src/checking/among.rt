@@ -20,7 +20,7 @@ fn three_among_two(alloc: Global) -> Result<Problem, AllocError>
     Problem::dense_among(alloc, 3, 2, &[1, 2, 3, 4, 5, 6])
 }
 
-// How many rows there are, the length of the last one, and what person 2 pays for object 3.
+// The number of rows, the length of the last one, and the cost of object 3 for person 2.
 fn rows_of_two(alloc: Global) -> Result<(u16, Option<Cost>, Option<Cost>), AllocError> {
     let problem = two_among_three(alloc)?;
     let spare = problem.cost_of(Person(3), Object(1));
@@ -33,7 +33,7 @@ fn rows_of_persons_among_more_objects(rt: HostRuntime) -> Result<(), Fail> {
     Ok(())
 }
 
-// The verdict on two persons' objects by their digits, among three.
+// The verdict on two persons' objects from digits, among three.
 fn verdict_of_two(
     alloc: Global,
     objects: &str,
@@ -60,7 +60,7 @@ fn two_persons_among_three_objects(rt: HostRuntime) -> Result<(), Fail> {
         ("13", &[4, 0, 0], VerdictAmong::Usual(Verdict::Yes)),
         ("21", &[4, 0, 2], VerdictAmong::Dear(Object(3))),
         ("13", &[6, 3, 1], VerdictAmong::Dear(Object(2))),
-        // Enough where costs are scaled by 3, one more than the persons.
+        // Enough if costs are scaled by 3, one more than the persons.
         (
             "21",
             &[2, 0, 0],
@@ -91,7 +91,7 @@ fn two_persons_among_three_objects(rt: HostRuntime) -> Result<(), Fail> {
     Ok(())
 }
 
-// The verdict on three persons' objects by their digits, among two.
+// The verdict on three persons' objects from digits, among two.
 fn verdict_of_three(alloc: Global, objects: &str) -> Result<VerdictAmong, AllocError> {
     let problem = three_among_two(alloc)?;
     let objects: Vec<Object> = by_digits(alloc, objects)?;
@@ -115,7 +115,7 @@ fn three_persons_among_two_objects(rt: HostRuntime) -> Result<(), Fail> {
     Ok(())
 }
 
-// Whether two persons' objects by their digits are taken at these prices.
+// Whether two persons' objects from digits are accepted at these prices.
 fn is_taken(alloc: Global, objects: &str, prices: [Price; 3]) -> Result<bool, AllocError> {
     let problem = two_among_three(alloc)?;
     let objects: Vec<Object> = by_digits(alloc, objects)?;

@@ -6,8 +6,8 @@ use dual_checker::{confirm_best, confirm_hall, confirms};
 use std::alloc::{AllocError, Global};
 use std::test::Fail;
 
-// Whether objects by their digits, at prices 14 and 12, are taken under a sense, and if so, whether
-// the outcome is a proof under Min and under Max.
+// Whether objects from digits, at prices 14 and 12, are accepted under a sense; and if they are,
+// whether the outcome is a proof under Min and under Max.
 fn best_taken(
     alloc: Global,
     sense: Sense,
@@ -37,8 +37,8 @@ fn lists_of_objects_and_prices(rt: HostRuntime) -> Result<(), Fail> {
     Ok(())
 }
 
-// Whether persons and objects by their digits are taken, and if so, whether the outcome is a proof
-// of the same problem and of another.
+// Whether persons and objects from digits are accepted; and if they are, whether the outcome is a
+// proof of the same problem and of another.
 fn hall_taken(
     alloc: Global,
     persons: &str,

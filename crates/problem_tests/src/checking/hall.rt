@@ -5,7 +5,7 @@ use dual_checker::{HallVerdict, check_hall};
 use std::alloc::{AllocError, Global};
 use std::test::Fail;
 
-// Persons 1 and 2 list object 1 alone, and person 3 objects 2 and 3.
+// Persons 1 and 2 list only object 1, and person 3 lists objects 2 and 3.
 pub fn three_persons(alloc: Global) -> Result<Problem, AllocError> {
     let first = vec![in alloc; (Object(1), 4)]?;
     let second = vec![in alloc; (Object(1), 6)]?;
@@ -13,7 +13,7 @@ pub fn three_persons(alloc: Global) -> Result<Problem, AllocError> {
     Ok(Problem::from_rows(vec![in alloc; first, second, third]?))
 }
 
-// Their verdict on persons and objects by their digits.
+// The verdict on persons and objects from digits, in this problem.
 fn verdict_of(alloc: Global, persons: &str, objects: &str) -> Result<HallVerdict, AllocError> {
     let problem = three_persons(alloc)?;
     let persons: Vec<Person> = by_digits(alloc, persons)?;

@@ -7,7 +7,7 @@ use Rattle.assign_core.proofs.Matchings.{matching_more, owner_cases}
 use Rattle.assign_core.proofs.NumberedLemmas.{renumber-set}
 use Rattle.problem_tests.proofs.refuting.own.Goals as goal
 
--- a matching in which persons 2 to i - 1 alone may own something
+-- a matching in which only persons 2 to i - 1 may own something
 record IsOwned (rows : List Listing) (owners : List (Option ℕ)) (i : ℕ) : Type 0 where
   matching : IsMatching rows owners
   passed : (k x : ℕ) → owner_of owners k ≡ Some x → (1 < x) × (x < i)

@@ -30,7 +30,7 @@ given_last : (ts : List Triple) (i j : ℕ) (c : ℤ) → IsSome (least_given (t
 given_last [] i j c = some_here (nat_eq i i && nat_eq j j) _ _ (and_from (nat_eq i i) (nat_eq j j) (eq-eqb i i refl) (eq-eqb j j refl))
 given_last (u ∷ ts) i j c = some_later (nat_eq u.0 i && nat_eq u.1 j) _ _ (given_last ts i j c)
 
--- two triples more
+-- two more triples
 record IsFurther (n i : ℕ) (ts : List Triple) : Type 0 where
   triples : All (IsTriple n) ts
   given : (k : ℕ) → 1 < k → k < i → IsSome (least_given ts k k)
