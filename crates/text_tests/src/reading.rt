@@ -1,4 +1,4 @@
-// Texts with what they are told to be, read at once and byte by byte.
+// Texts with their expected results, read at once and byte by byte.
 ghost use Rattle.std.specs.Prelude.{◌<◌};
 
 use assign_core::{Person, Problem};
@@ -7,7 +7,7 @@ use std::alloc::{AllocError, Global};
 use std::test::Fail;
 use test_helpers::{Endless, Pieces, whole_text};
 
-// How a text is laid out.
+// The layout of a text.
 #[derive(Clone, Copy)]
 enum Layout {
     Dense,
@@ -25,7 +25,7 @@ fn rows_told(alloc: Global, problem: &Problem) -> Result<String, AllocError> {
     Ok(line)
 }
 
-// What a reader gives, as a line.
+// A reader's result, as a line.
 fn told(alloc: Global, read: Result<Problem, InputFault>) -> Result<String, AllocError> {
     match read {
         Ok(problem) => rows_told(alloc, &problem),
@@ -33,7 +33,7 @@ fn told(alloc: Global, read: Result<Problem, InputFault>) -> Result<String, Allo
     }
 }
 
-// What a text gives, read in pieces of at most so many bytes.
+// The result of a text read in pieces of at most `most` bytes, as a line.
 fn line(alloc: Global, layout: Layout, text: &[u8], most: usize) -> Result<String, AllocError> {
     let mut reader = whole_text(text, most);
     let read = match layout {
@@ -50,7 +50,7 @@ fn is_told(alloc: Global, layout: Layout, text: &[u8], wanted: &[u8]) -> Result<
     Ok(once.as_bytes() == wanted && bytewise.as_bytes() == wanted)
 }
 
-// Of texts and the lines that they give, in turn, the first text that gives another.
+// The first of these texts whose line isn't the one after it.
 fn other_text<'a>(
     alloc: Global,
     layout: Layout,
@@ -198,7 +198,7 @@ fn sparse_texts(rt: HostRuntime) -> Result<(), Fail> {
     Ok(())
 }
 
-// A text with one byte in place of another.
+// A text with another byte at one place.
 fn with_byte<const N: usize>(text: &[u8; N], place: usize, byte: u8) -> [u8; N]
     requires { place < N }
 {
@@ -250,7 +250,7 @@ fn repeated(alloc: Global, front: &[u8], part: &[u8], back: &[u8]) -> Result<Vec
     Ok(text)
 }
 
-// What a text gives that has a part many times.
+// The result of a text that repeats a part many times.
 fn long_line(
     alloc: Global,
     layout: Layout,

@@ -1,4 +1,4 @@
-// Shared by all tests here: a report in both versions, and what is told of a text.
+// Shared by all tests here: a report in both versions, and the result of a text as a line.
 mod fronts;
 mod long;
 mod plain;
@@ -26,7 +26,7 @@ fn told(alloc: Global, read: Result<Report, ReportFault>) -> Result<String, Allo
     }
 }
 
-// What is told of a text that is given in pieces of at most so many bytes.
+// The line of a text that is read in pieces of at most `most` bytes.
 fn line(alloc: Global, text: &[u8], most: usize, fails: bool) -> Result<String, AllocError> {
     let mut reader = Pieces { text, most, fails };
     told(alloc, read_report(alloc, &mut reader))

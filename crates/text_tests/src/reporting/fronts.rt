@@ -1,7 +1,7 @@
 // The fronts of a report.
 use super::*;
 
-// How many whole lines there are.
+// The number of whole lines.
 fn lines_of(text: &[u8]) -> usize {
     let mut lines: usize = 0;
     for byte in text {
@@ -12,7 +12,7 @@ fn lines_of(text: &[u8]) -> usize {
     lines
 }
 
-// What is told of a front: that of so many whole lines, or that the last line is a bad one.
+// The expected line of a front: that of its whole lines, or that its last line is bad.
 fn told_of_front(alloc: Global, front: &[u8], whole: &[&str]) -> Result<String, AllocError> {
     let lines = lines_of(front);
     let number = lines.wrapping_add(1);
@@ -22,8 +22,8 @@ fn told_of_front(alloc: Global, front: &[u8], whole: &[&str]) -> Result<String, 
     }
 }
 
-// The length of the first front of a text that is told otherwise, or that a failing reader gives as
-// anything but a fault of the device.
+// The length of the first front of a text with another line than expected, or with another result
+// than a failed device when its reader fails.
 fn told_otherwise(alloc: Global, text: &[u8], whole: &[&str]) -> Result<Option<usize>, AllocError> {
     for count in 0..text.len() + 1 {
         let (front, _) = text.split_at(count);

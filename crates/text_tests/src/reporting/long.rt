@@ -2,7 +2,7 @@
 use super::*;
 use test_helpers::{Endless, whole_text};
 
-// A line that ends at the limit is judged, and one that ends behind it is not.
+// A line that ends at the limit is judged; one that ends after it isn't.
 #[test]
 fn texts_at_the_limit(rt: HostRuntime) -> Result<(), Fail> {
     let table: [(usize, &[u8], &str); 4] = [

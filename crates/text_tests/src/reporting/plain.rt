@@ -1,9 +1,9 @@
-// The grammar of reports, transcribed plainly: the tests compare the reader with it.
+// The grammar of reports in a plain transcription, with which the tests compare the reader.
 use assign_core::{Numbered, Object, Price, Sense};
 use report::{Report, ReportFault};
 use std::alloc::{AllocError, Global};
 
-// How far from 0 costs and their sums may be, and what prices are below.
+// The greatest absolute values of costs and their sums, and the end of prices.
 #[derive(Clone, Copy)]
 struct Widths {
     cost: i128,
@@ -23,7 +23,7 @@ const SECOND: Widths = Widths {
     price: 10_000_000_000_000_000_000_000,
 };
 
-// What the lines so far were; with how many rows and prices.
+// The lines so far, with the numbers of rows and prices.
 #[derive(Clone, Copy)]
 enum Stage {
     Start,
@@ -58,7 +58,7 @@ fn number(word: &[u8]) -> Option<i128> {
     }
 }
 
-// The numbers of a line behind its first word, each behind one space.
+// The numbers of a line after its first word, each after one space.
 fn numbers_behind(
     alloc: Global,
     line: &[u8],
@@ -86,7 +86,7 @@ fn is_within(number: i128, least: i128, greatest: i128) -> bool {
     least <= number && number <= greatest
 }
 
-// The first line, or the one behind the sense.
+// The first line, or the one after the sense.
 fn opening(alloc: Global, line: &[u8], widths: Widths) -> Result<Option<Stage>, AllocError> {
     if line == b"infeasible".as_slice() {
         return Ok(Some(Stage::Infeasible));
@@ -138,7 +138,7 @@ fn price(
     }
 }
 
-// A list of at least so many numbers, each above the one before.
+// A list of at least `least` numbers, rising.
 fn is_list(alloc: Global, line: &[u8], word: &[u8], least: i128) -> Result<bool, AllocError> {
     let numbers = numbers_behind(alloc, line, word)?.unwrap_or(Vec::new(alloc));
     let Some((count, numbers)) = numbers.as_slice().split_first() else {
@@ -175,7 +175,7 @@ fn stage_after(alloc: Global, stage: Stage, line: &[u8]) -> Result<Option<Stage>
     }
 }
 
-/// The fault of a text within the limit, if it is no report.
+/// The fault of a text within the limit, if it isn't a report.
 pub fn fault_of(alloc: Global, text: &[u8]) -> Result<Option<ReportFault>, AllocError> {
     let mut stage = Stage::Start;
     let mut number: u64 = 1;

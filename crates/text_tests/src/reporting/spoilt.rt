@@ -36,8 +36,8 @@ fn agree_on_any_byte(alloc: Global, front: &[u8], back: &[u8]) -> Result<bool, A
     Ok(true)
 }
 
-// The first place at which they don't agree on a text with that byte dropped, doubled or changed to
-// any one.
+// The first place at which they disagree on a text with this byte dropped, doubled or changed to
+// any other.
 fn spoilt_otherwise(alloc: Global, text: &[u8]) -> Result<Option<usize>, AllocError> {
     for place in 0..text.len() {
         let (front, rest) = text.split_at(place);
@@ -101,7 +101,7 @@ fn agree_on_long(alloc: Global, text: &str, most: usize) -> Result<bool, AllocEr
     Ok(text.len() > most && agree(alloc, text.as_bytes())?)
 }
 
-// The longest reports, with memory enough.
+// The longest reports, with enough memory.
 #[test]
 fn longest_texts(rt: HostRuntime) -> Result<(), Fail> {
     let best = longest_best(rt.alloc())?;

@@ -1,9 +1,9 @@
-// Reports with what they give as first prices.
+// Reports with their results as first prices.
 use super::*;
 use report::start_prices;
 use test_helpers::whole_text;
 
-// What a text gives as the first prices of a run with so many objects, as a line.
+// A text as the first prices of a run with `n` objects, as a line.
 fn start_line(alloc: Global, text: &[u8], n: u16) -> Result<String, AllocError> {
     let mut reader = whole_text(text, 64);
     match read_report(alloc, &mut reader) {
@@ -19,11 +19,11 @@ fn start_line(alloc: Global, text: &[u8], n: u16) -> Result<String, AllocError> 
 const GREAT: &[u8] =
     b"sense min\ncost 5\nassign 1 2 2\nassign 2 1 3\nprice 1 1000000000000000000000\nprice 2 1000000000000000000001\n";
 
-// Both prices are.
+// Both prices are too great.
 const GREATER: &[u8] =
     b"sense min\ncost 5\nassign 1 2 2\nassign 2 1 3\nprice 1 1000000000000000000001\nprice 2 9999999999999999999999\n";
 
-// Texts, each with a number of objects and what is told of a start from it.
+// Texts, each with a number of objects and the expected line of a start from it.
 const STARTS: [(&[u8], u16, &str); 13] = [
     (FIRST, 2, "[14, 12]"),
     (SECOND, 2, "[14, 12]"),
@@ -48,7 +48,7 @@ const STARTS: [(&[u8], u16, &str); 13] = [
     (GREAT, 65535, "start: 2 prices"),
 ];
 
-// The place of the first row that is told otherwise.
+// The place of the first row with another line than expected.
 fn other_start(alloc: Global, table: &[(&[u8], u16, &str)]) -> Result<Option<usize>, AllocError> {
     for (i, (text, n, answer)) in table.iter().enumerate() {
         let said = start_line(alloc, text, *n)?;

@@ -1,15 +1,15 @@
-// Texts with what they are told to be.
+// Texts with their expected results.
 use super::*;
 use report::WriteFault;
 
-// Whether a text is told so, read at once and byte by byte.
+// Whether a text gives this line, read at once and byte by byte.
 fn is_told(alloc: Global, text: &[u8], answer: &str) -> Result<bool, AllocError> {
     let once = line(alloc, text, text.len().max(1), false)?;
     let bytewise = line(alloc, text, 1, false)?;
     Ok(once.as_str() == answer && bytewise.as_str() == answer)
 }
 
-// The place of the first of these texts that isn't told so.
+// The place of the first of these texts that gives another line.
 fn other_text(alloc: Global, texts: &[&[u8]], answer: &str) -> Result<Option<usize>, AllocError> {
     for (i, text) in texts.iter().enumerate() {
         if !is_told(alloc, text, answer)? {
@@ -81,7 +81,7 @@ fn bad_second_lines(rt: HostRuntime) -> Result<(), Fail> {
     Ok(())
 }
 
-// The place of the first of these texts that isn't told as the answer beside it.
+// The place of the first of these texts that gives another line than the one next to it.
 fn other_answer(alloc: Global, table: &[(&[u8], &str)]) -> Result<Option<usize>, AllocError> {
     for (i, (text, answer)) in table.iter().enumerate() {
         if !is_told(alloc, text, answer)? {
@@ -91,7 +91,7 @@ fn other_answer(alloc: Global, table: &[(&[u8], &str)]) -> Result<Option<usize>,
     Ok(None)
 }
 
-// Texts, each with what is told of it.
+// Texts, each with its expected line.
 const TOLD_TEXTS: [(&[u8], &str); 19] = [
     (
         b"sense max\ncost 5\nassign 1 1 -1000000000001\n",

@@ -1,4 +1,4 @@
-// Outcomes with what is written of them.
+// Outcomes with the reports written of them.
 ghost use Rattle.std.specs.Prelude.{IfOk};
 ghost use Rattle.report.specs.Outcomes.{IsOutcome};
 
@@ -17,7 +17,8 @@ fn two_persons(alloc: Global) -> Result<(Problem, Outcome), AllocError>
     Ok((problem, Outcome::Best(Certificate { assignment, prices })))
 }
 
-// What a writer with so much room has then of the report on two persons, and whether it took all.
+// The bytes that a writer with this much room takes of the report on two persons, and whether all
+// were written.
 fn written(
     alloc: Global,
     sense: Sense,
@@ -31,7 +32,7 @@ fn written(
     Ok((result.is_ok(), writer.taken))
 }
 
-// Whether a writer that fails behind so many bytes, or takes no more, has just these then.
+// Whether a writer that fails after `room` bytes, or takes no more, has taken just these.
 fn is_cut_off(alloc: Global, room: usize, fails: bool) -> Result<bool, AllocError> {
     let (is_whole, taken) = written(alloc, Sense::Min, true, room, fails)?;
     let (front, _) = SECOND.split_at(room.min(SECOND.len()));
@@ -47,7 +48,7 @@ fn outcome_cut_off(rt: HostRuntime) -> Result<(), Fail> {
     Ok(())
 }
 
-// Whether a writer with room enough has this then.
+// Whether a writer with enough room has taken this text.
 fn is_written(alloc: Global, sense: Sense, prices: bool, text: &[u8]) -> Result<bool, AllocError> {
     let (is_whole, taken) = written(alloc, sense, prices, 1000, true)?;
     Ok(is_whole && taken.as_slice() == text)
@@ -61,13 +62,13 @@ fn outcome_written(rt: HostRuntime) -> Result<(), Fail> {
     Ok(())
 }
 
-// Two persons who list one object alone.
+// Two persons who list only the same object.
 fn two_for_one(alloc: Global) -> Result<Problem, AllocError> {
     let triples = [(Person(1), Object(1), 4), (Person(2), Object(1), 6)];
     Problem::sparse(alloc, 2, &triples)
 }
 
-// What is written of a Hall set, if all of it is.
+// The report written on a Hall set, if all of it is.
 fn hall_written(alloc: Global) -> Result<Option<Vec<u8>>, AllocError> {
     let problem = two_for_one(alloc)?;
     let persons = vec![in alloc; Person(1), Person(2)]?;
