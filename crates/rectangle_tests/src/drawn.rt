@@ -1,4 +1,4 @@
-// Drawn rectangles beside a slow search.
+// Drawn rectangles, compared with a slow search.
 ghost use Rattle.std.specs.Prelude.{◌<◌};
 ghost use Rattle.assign_core.specs.Rows.{IsSize};
 
@@ -8,7 +8,8 @@ use std::alloc::{AllocError, Global};
 use std::test::Fail;
 use test_helpers::{Pair, draw, drawn_prices, drawn_sense};
 
-// Pairs of n persons and m objects: some `share` of four, at so many costs, half of them below 0.
+// Pairs of n persons and m objects: about `share` in four of all pairs, at `costs` different costs,
+// half of them below 0.
 fn pairs_among(
     alloc: Global,
     seed: &mut u64,
@@ -31,7 +32,7 @@ fn pairs_among(
     Ok(pairs)
 }
 
-// Whether the solver comes to what a slow search does, without first prices and from some.
+// Whether the solver and a slow search agree, without first prices and with some.
 fn agrees(
     alloc: Global,
     seed: &mut u64,
@@ -49,7 +50,7 @@ fn agrees(
     Ok(wanted == solved(alloc, n, m, pairs, sense)? && wanted == from)
 }
 
-// Whether all of so many drawn problems agree, with at most so many persons and objects.
+// Whether they agree on all of `count` drawn problems with at most this many persons and objects.
 fn all_agree(
     alloc: Global,
     first: u64,

@@ -40,7 +40,7 @@ pub fn rectangle(alloc: Global, n: u16, m: u16, pairs: &[Pair]) -> Result<Proble
     sparse_among(alloc, n, m, triples.as_slice())
 }
 
-// The same with its benefits.
+// The same problem with its benefits.
 pub fn scaled_rectangle(
     alloc: Global,
     n: u16,
@@ -57,7 +57,7 @@ pub fn scaled_rectangle(
     Ok(Arc::new(alloc, scale(alloc, problem, sense)?)?)
 }
 
-// The sum of what the objects of persons 1, 2, .. cost.
+// The sum of the costs of the objects of persons 1, 2, ..
 fn sum_of(problem: &Problem, objects: &[Object]) -> Cost {
     let mut sum: Cost = 0;
     let mut person = 0u16;
@@ -69,10 +69,10 @@ fn sum_of(problem: &Problem, objects: &[Object]) -> Cost {
     sum
 }
 
-// What an answer comes to.
+// The kind of an answer.
 #[derive(Clone, Copy, PartialEq, Eq, Debug)]
 pub enum Came {
-    // A certificate of an assignment that costs so much.
+    // A certificate of an assignment of this cost.
     Best(Cost),
     // A Hall set of the first persons.
     Hall,
@@ -113,7 +113,7 @@ fn came_of_hall(
     }
 }
 
-// What an outcome comes to, held against the problem anew.
+// The kind of an outcome, checked against the problem again.
 pub fn came_of(
     alloc: Global,
     n: u16,
@@ -132,7 +132,7 @@ pub fn came_of(
     }
 }
 
-// What the solver comes to.
+// The kind of the solver's answer.
 pub fn solved(
     alloc: Global,
     n: u16,
@@ -148,7 +148,8 @@ pub fn solved(
     came_of(alloc, n, m, pairs, sense, &outcome)
 }
 
-// The same from first prices on, one for each of as many objects as there are persons or objects.
+// The kind of the solver's answer from first prices, one for each of as many objects as there are
+// persons or objects.
 pub fn solved_from(
     alloc: Global,
     n: u16,
@@ -166,7 +167,7 @@ pub fn solved_from(
     came_of(alloc, n, m, pairs, sense, &outcome)
 }
 
-// The pairs with those of dummies, who list all of as many objects as there are persons then.
+// The pairs with those of dummies, who list all objects of the square.
 fn with_dummies(alloc: Global, n: u16, m: u16, pairs: &[Pair]) -> Result<Vec<Pair>, AllocError> {
     let mut all = pairs.to_vec(alloc)?;
     for k in 0..u32::from(m.saturating_sub(n)) * u32::from(m) {
@@ -177,7 +178,7 @@ fn with_dummies(alloc: Global, n: u16, m: u16, pairs: &[Pair]) -> Result<Vec<Pai
     Ok(all)
 }
 
-// What a slow search of the square with dummies comes to.
+// The kind of a slow search's answer for the square with dummies.
 pub fn tried(
     alloc: Global,
     n: u16,

@@ -25,7 +25,7 @@ fn two_persons_of_four_objects(rt: HostRuntime) -> Result<(), Fail> {
     Ok(())
 }
 
-// Both want object 2 alone; the third has a choice.
+// Both list only object 2; the third has a choice.
 #[test]
 fn two_persons_of_one_object(rt: HostRuntime) -> Result<(), Fail> {
     let pairs = [(1, 2, 1), (2, 2, 1), (3, 2, 1), (3, 5, 1)];
@@ -64,7 +64,7 @@ fn from_first_prices(rt: HostRuntime) -> Result<(), Fail> {
     Ok(())
 }
 
-// Costs of one person to so many objects, the last the least.
+// The costs of one person to `m` objects, the last the least.
 fn one_row(alloc: Global, m: u16) -> Result<Vec<Pair>, AllocError> {
     let mut pairs = Vec::with_capacity(alloc, m as usize)?;
     for j in 0..m {
@@ -87,7 +87,7 @@ fn one_person_of_all_objects(rt: HostRuntime) -> Result<(), Fail> {
     Ok(())
 }
 
-// What the first dummy pays for object 3 of the square, and what person 2 pays for object 1.
+// The cost of object 3 of the square for the first dummy, and that of object 1 for person 2.
 fn costs_of_square(alloc: Global) -> Result<(Option<Cost>, Option<Cost>), AllocError> {
     let problem = rectangle(alloc, 2, 4, &FOUR)?;
     let square = filled_up(alloc, &problem, 2)?;
