@@ -1,4 +1,4 @@
-// Calls of a book by workers with tables of their own, each where its conditions are met.
+// Calls of a book by workers with their own tables, each made only if its conditions hold.
 ghost use Rattle.std.specs.Prelude.{◌≡◌, All, IfOk, length};
 ghost use Rattle.assign_core.specs.Numbered.{IsNumber};
 ghost use Rattle.assign_core.specs.Prices.{IsBelow};
@@ -30,13 +30,13 @@ pub(crate) struct Trial {
     ghost earlier: { All (λ d. IsEarlier book.log d.table d.version) desks.items },
 }
 
-// How what a worker brings differs from what it should bring.
+// How a worker's bid or Hall set differs from the right one.
 #[derive(Clone, Copy, PartialEq, Eq)]
 pub(crate) enum Mistake {
     Nothing,
     // It names another phase.
     Phase,
-    // It is of another person than the one claimed.
+    // It belongs to another person than the claimed one.
     Person,
 }
 
@@ -55,30 +55,30 @@ pub(crate) enum Call {
     NextPhase,
 }
 
-// What a call answers, in plain numbers.
+// The answer of a call, in plain numbers.
 #[derive(Clone, Copy, PartialEq, Eq)]
 pub(crate) enum Reply {
-    // The call's conditions aren't met, so it wasn't made.
+    // The call's conditions don't hold, so it wasn't made.
     Unasked,
     Refuted,
     Done,
     Stopped,
     Wait,
-    // A person, and phase, eps and floor of what is asked.
+    // A person, and the phase, eps and floor of its bid.
     Person(u16, u16, i64, Price),
-    // The object and the level of the bid, and who owned the object before, 0 for nobody.
+    // The object and the level of the bid, and the previous owner, 0 for none.
     Accepted(u16, Price, u16),
-    // The object and the level of the bid, here and below.
+    // The object and the level of the bid; the same below.
     NotClaimed(u16, Price),
     WrongPhase(u16, Price),
-    // And the object's price now.
+    // The object and the level of the bid, and the object's current price.
     TooLow(u16, Price, Price),
     Memory,
     // A Hall set was recorded.
     Recorded,
     // The search found an unowned object.
     Path,
-    // The call answers nothing.
+    // The call has no answer.
     Nothing,
 }
 
@@ -111,7 +111,7 @@ pub(crate) fn told_bid(object: Object, level: Price, answer: Result<Accepted, Re
     }
 }
 
-// A Hall set has no object and no level: 0 stands for both.
+// A Hall set has no object and no level: 0 replaces both.
 pub(crate) fn told_below(answer: Result<(), Refused>) -> Reply {
     match answer {
         Ok(()) => Reply::Recorded,
@@ -129,7 +129,7 @@ pub(crate) fn claim(book: &mut Book, worker: u16) -> Reply
     told_claim(book.claim(worker))
 }
 
-// The person that a worker claimed, or another one.
+// The person that a worker claimed, or another person.
 fn spoken_for(book: &Book, worker: u16, mistake: Mistake) -> Person
     requires { IsNumber (length book.now.claims) worker }
     ensures person { IsNumber (persons_of book.now) result }
@@ -148,7 +148,7 @@ fn spoken_for(book: &Book, worker: u16, mistake: Mistake) -> Person
     }
 }
 
-// The phase, or another one.
+// This phase, or another one.
 pub(crate) fn named(phase: u16, mistake: Mistake) -> u16 {
     if mistake != Mistake::Phase {
         phase
@@ -159,7 +159,7 @@ pub(crate) fn named(phase: u16, mistake: Mistake) -> u16 {
     }
 }
 
-// What a person offers from a worker's table.
+// The offer of a person from a worker's table.
 pub(crate) fn offered(book: &Book, desk: &Desk, person: Person) -> Offer
     requires person { IsNumber (persons_of book.now) person }
     requires table { length desk.now.table ≡ persons_of book.now }
@@ -169,7 +169,7 @@ pub(crate) fn offered(book: &Book, desk: &Desk, person: Person) -> Offer
     make_bid(book.scaled(), &desk.table, desk.version, book.ask(), person)
 }
 
-// The same from the table of a worker, if there is one.
+// The offer of a person from the table of a worker, if there is one.
 pub(crate) fn offer_of(trial: &Trial, worker: u16, person: u16) -> Option<Offer> {
     trial.book.invariant();
     let desk = trial.desks.get((worker as usize).wrapping_sub(1))?;
@@ -188,7 +188,7 @@ fn submit_bid(book: &mut Book, desk: &Desk, worker: u16, bid: Bid) -> Reply
     told_bid(object, level, book.submit(worker, bid))
 }
 
-// The same bid, of this phase.
+// The same bid in this phase.
 fn in_phase(bid: Bid, phase: u16) -> Bid
     ensures person { result.person ≡ bid.person }
     ensures object { result.object ≡ bid.object }
@@ -209,7 +209,7 @@ pub(crate) fn submit(book: &mut Book, desk: &Desk, worker: u16, mistake: Mistake
     }
 }
 
-// A bid of an earlier phase or of a later one.
+// Submits a bid of an earlier phase or of a later one.
 pub(crate) fn submit_untimely(book: &mut Book, worker: u16, bid: Bid) -> Reply
     requires { IsNumber (length book.old.claims) worker }
     ensures { GoesOn book.old book.new }
@@ -335,7 +335,7 @@ fn call_by(
     call_at(alloc, book, desk, worker, call)
 }
 
-// A call by a worker, if there is such a worker.
+// A call by a worker, if there is a worker with this number.
 pub(crate) fn call_of(
     alloc: Global,
     trial: &mut Trial,
@@ -350,7 +350,7 @@ pub(crate) fn call_of(
     call_by(alloc, &mut trial.book, desk, worker, call)
 }
 
-// A desk for each of so many workers, with these prices.
+// A desk for each worker, with these prices.
 fn open_desks(alloc: Global, book: &Book, workers: u16) -> Result<Vec<Desk>, AllocError>
     ensures below { IfOk result (λ desks. All (λ d. IsBelow d.table (prices_of book.now)) desks.items) }
     ensures earlier { IfOk result (λ desks. All (λ d. IsEarlier book.now.log d.table d.version) desks.items) }
@@ -366,7 +366,7 @@ fn open_desks(alloc: Global, book: &Book, workers: u16) -> Result<Vec<Desk>, All
     Ok(desks)
 }
 
-// The book with such desks.
+// The book with these desks.
 pub(crate) fn open_trial(alloc: Global, book: Book, workers: u16) -> Result<Trial, AllocError> {
     let desks = open_desks(alloc, &book, workers)?;
     Ok(Trial { book, desks })

@@ -5,7 +5,7 @@ use assign_core::{Price, Sense};
 use std::alloc::{AllocError, Global};
 use test_helpers::{Pair, draw, draw_wide, drawn_pairs, drawn_sense};
 
-// A problem with first prices, and how many workers there are.
+// A problem with first prices, and the number of workers.
 #[derive(Drop)]
 pub(crate) struct Case {
     pub n: u16,
@@ -33,7 +33,7 @@ fn drawn_number(seed: &mut u64, last: u16) -> u16 {
     u16::try_from(place).unwrap_or(0).wrapping_add(1)
 }
 
-// How many costs there may be, few or many.
+// The number of different costs, few or many.
 fn drawn_costs(seed: &mut u64) -> u16
     ensures { 0 < result }
 {
@@ -61,7 +61,7 @@ fn drawn_rows(alloc: Global, seed: &mut u64, n: u16) -> Result<Vec<Pair>, AllocE
     drawn_pairs(alloc, seed, n, share, costs)
 }
 
-// A case of at most so many persons and workers.
+// A case of at most this many persons and workers.
 pub(crate) fn drawn_case(
     alloc: Global,
     seed: &mut u64,

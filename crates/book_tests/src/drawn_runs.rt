@@ -1,4 +1,4 @@
-// Runs over drawn lists of events, beside a plain book and its workers.
+// Runs over drawn lists of events, compared with a plain book and its workers.
 use super::drawn::{Case, drawn_case};
 use super::plain::PlainBook;
 use super::plain_calls::answer;
@@ -9,7 +9,7 @@ use std::alloc::{AllocError, Global};
 use std::test::Fail;
 use test_helpers::{draw_wide, first_prices, scaled_of, size};
 
-// At most so many events, a few of them of numbers that no worker has.
+// At most `most` events, a few of them for numbers without a worker.
 fn drawn_events(
     alloc: Global,
     seed: &mut u64,
@@ -54,7 +54,7 @@ fn run(alloc: Global, case: &Case, events: &[Event]) -> Result<World, AllocError
     run_schedule_from(alloc, scaled, prices, case.workers.max(1), events)
 }
 
-// How so many runs ended.
+// The ends of the runs.
 #[derive(Clone, Copy)]
 struct Ends {
     done: u32,
@@ -74,7 +74,7 @@ fn note(alloc: Global, plain: &PlainBook, ends: &mut Ends) -> Result<(), AllocEr
     Ok(())
 }
 
-// Whether both worlds are the same, and how the plain one ended.
+// Whether both worlds are the same, with the end of the plain one counted.
 fn note_and_compare(
     alloc: Global,
     world: &World,
@@ -93,7 +93,7 @@ fn same_world(alloc: Global, world: &World, plain: &PlainWorld) -> Result<bool, 
     )
 }
 
-// Whether the plain world of these events is the same, and how it ended.
+// Whether the plain world of these events is the same, with its end counted.
 fn agrees(
     alloc: Global,
     world: &World,

@@ -1,4 +1,5 @@
-//! Tests of the log of prices and of the book: by hand, and drawn beside a plain book.
+//! Tests of the log of prices and of the book: worked by hand, and drawn and compared with a plain
+//! book.
 #![tactic(auto)]
 
 #[cfg(test)]

@@ -19,7 +19,7 @@ fn one_price(alloc: Global, price: Price) -> Result<Prices, AllocError>
     Ok(table)
 }
 
-// A price that is 1 above that of object 1, where that stays in range.
+// A price that is 1 above that of object 1, if it is in range.
 fn next_level(log: &PriceLog) -> Option<Price>
     ensures object { IfSome result (λ level. IsNumber (length (today log.now)) 1) }
     ensures above { IfSome result (λ level. price_of (today log.now) 1 <ℤ level) }
@@ -49,13 +49,13 @@ fn raise_by_one(log: &mut PriceLog) -> Result<(), AllocError>
     log.raise(Object(1), level)
 }
 
-// The same so many times.
+// Raises the price of object 1 by 1 `times` times.
 fn raise_times(log: &mut PriceLog, times: u32) -> Result<(), AllocError>
     ensures continues { IfOk result (λ _. Continues log.old log.new) }
     ensures below { IfOk result (λ _. IsBelow (today log.old) (today log.new)) }
     ensures log { IfOk result (λ _. IsHistory log.new) }
 {
-    // That the log is one before the first raise follows from this call.
+    // This call shows the prover that the log is one before the first raise.
     let _log = log.prices();
     for _ in 0..times {
         raise_by_one(log)?;
@@ -63,7 +63,7 @@ fn raise_times(log: &mut PriceLog, times: u32) -> Result<(), AllocError>
     Ok(())
 }
 
-// The price of a table of one.
+// The price of a table of one object.
 fn only_price(table: &Prices) -> Option<Price> {
     if table.as_slice().len() != 1 {
         return None;
@@ -71,14 +71,14 @@ fn only_price(table: &Prices) -> Option<Price> {
     table.as_slice().first().copied()
 }
 
-// The version, the first version that is kept, and the only price.
+// The version, the first version kept, and the only price.
 type Seen = (u128, u128, Option<Price>);
 
 fn seen(log: &PriceLog) -> Seen {
     (log.version(), log.first_kept(), only_price(log.prices()))
 }
 
-// A log of one price after so many raises.
+// A log of one price after `times` raises.
 fn raised_log(alloc: Global, price: Price, times: u32) -> Result<PriceLog, AllocError>
     requires { IsPrice price }
     ensures { IfOk result IsHistory }
@@ -88,8 +88,7 @@ fn raised_log(alloc: Global, price: Price, times: u32) -> Result<PriceLog, Alloc
     Ok(log)
 }
 
-// The version and the price of a table that is made before so many raises, and those that it has
-// once it caught up after them.
+// The version and the price of a table made before `times` raises, before and after it catches up.
 fn caught_up(
     alloc: Global,
     log: &mut PriceLog,
@@ -105,7 +104,8 @@ fn caught_up(
     Ok([before, (version, only_price(&table))])
 }
 
-// What is seen of a log, of a table that catches up after so many raises more, and of the log then.
+// A log as seen before and after further raises, and a table before and after it catches up with
+// them.
 type Around = (Seen, [(u128, Option<Price>); 2], Seen);
 
 fn seen_around(alloc: Global, log: &mut PriceLog, times: u32) -> Result<Around, AllocError> {
@@ -114,7 +114,7 @@ fn seen_around(alloc: Global, log: &mut PriceLog, times: u32) -> Result<Around, 
     Ok((before, table, seen(log)))
 }
 
-// The same of a log after so many first raises.
+// A log as seen after `first` raises, and after `times` more.
 fn seen_after(alloc: Global, first: u32, times: u32) -> Result<Around, AllocError> {
     let mut log = raised_log(alloc, 0, first)?;
     seen_around(alloc, &mut log, times)
@@ -138,7 +138,7 @@ fn an_old_table_is_copied_whole(rt: HostRuntime) -> Result<(), Fail> {
     Ok(())
 }
 
-// What is seen of a log whose five raises are forgotten.
+// A log as seen after its five raises are forgotten.
 fn seen_after_trim(alloc: Global) -> Result<Seen, AllocError> {
     let mut log = raised_log(alloc, 7, 5)?;
     let last = log.version();
@@ -153,7 +153,7 @@ fn a_trim_keeps_prices_and_version(rt: HostRuntime) -> Result<(), Fail> {
     Ok(())
 }
 
-// A raise, after which a log is as before where the raise was refused.
+// A raise, which leaves the log as it was if it is refused.
 fn raise_or_keep(rt: &impl Abort, log: &mut PriceLog) -> Result<(), AllocError> {
     let before = seen(log);
     let raised = raise_by_one(log);
@@ -161,7 +161,7 @@ fn raise_or_keep(rt: &impl Abort, log: &mut PriceLog) -> Result<(), AllocError> 
     raised
 }
 
-// What is seen of a log after a thousand such raises.
+// A log as seen after a thousand of these raises.
 fn seen_after_thousand(rt: &impl Abort, log: &mut PriceLog) -> Result<Seen, AllocError> {
     for _ in 0..1000 {
         raise_or_keep(rt, log)?;

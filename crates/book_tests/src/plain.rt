@@ -7,7 +7,7 @@ use test_helpers::{Pair, benefit_range, plain_benefits};
 #[derive(Drop)]
 pub(crate) struct PlainBook {
     pub n: u16,
-    // Benefits row by row, none where a pair isn't listed.
+    // Benefits row by row; `None` for a pair that isn't listed.
     pub benefits: Vec<Option<i128>>,
     pub least: i128,
     pub spread: i128,
@@ -21,19 +21,19 @@ pub(crate) struct PlainBook {
     pub claims: Vec<Option<Person>>,
     pub counts: Vec<u128>,
     pub taken: Vec<u128>,
-    // The prices of versions 0, 1, .., today's last.
+    // The prices of versions 0, 1, .., the current ones last.
     pub tables: Vec<Vec<Price>>,
     pub first_kept: u128,
     pub hall: Option<(Vec<Person>, Vec<Object>)>,
     pub stopped: bool,
 }
 
-// What stands at a number, from 1.
+// The element with a number, from 1.
 pub(crate) fn at<T: Copy>(items: &[T], number: u16) -> Option<T> {
     items.get((number as usize).wrapping_sub(1)).copied()
 }
 
-// Writes what stands at a number, from 1.
+// Writes the element with a number, from 1.
 pub(crate) fn put<T: Copy>(items: &mut [T], number: u16, item: T) {
     if let Some(place) = items.get_mut((number as usize).wrapping_sub(1)) {
         *place = item;
@@ -64,7 +64,7 @@ fn empty(alloc: Global, n: u16) -> PlainBook {
     }
 }
 
-// So many workers, who have claimed nobody.
+// Adds workers without claims.
 fn add_workers(book: &mut PlainBook, workers: u16) -> Result<(), AllocError> {
     for _ in 0..workers {
         book.claims.push(None)?;
@@ -74,7 +74,7 @@ fn add_workers(book: &mut PlainBook, workers: u16) -> Result<(), AllocError> {
     Ok(())
 }
 
-// What a case says goes into an empty book.
+// Fills an empty book with a case.
 fn fill(alloc: Global, book: &mut PlainBook, case: &Case) -> Result<(), AllocError> {
     book.benefits = plain_benefits(alloc, case.n, case.pairs.as_slice(), case.sense)?;
     let (least, spread) = benefit_range(book.benefits.as_slice());
@@ -113,7 +113,7 @@ pub(crate) fn begin_phase(alloc: Global, book: &mut PlainBook) -> Result<(), All
     Ok(())
 }
 
-// Today's prices.
+// The current prices.
 pub(crate) fn prices(book: &PlainBook) -> &[Price] {
     match book.tables.last() {
         Some(table) => table.as_slice(),
@@ -121,7 +121,7 @@ pub(crate) fn prices(book: &PlainBook) -> &[Price] {
     }
 }
 
-// Today's version.
+// The current version.
 pub(crate) fn version(book: &PlainBook) -> u128 {
     (book.tables.len() as u128).wrapping_sub(1)
 }
@@ -134,13 +134,13 @@ fn greatest(prices: &[Price]) -> Price {
     most
 }
 
-// What the phase's prices stay below.
+// The top of the phase.
 fn top(book: &PlainBook) -> Price {
     let steps = i128::from(book.n).wrapping_mul(book.spread.wrapping_add(book.eps));
     greatest(book.start.as_slice()).wrapping_add(steps)
 }
 
-// How many bids the phase accepts at most.
+// The most bids that the phase accepts.
 pub(crate) fn bound(book: &PlainBook) -> i128 {
     let top = top(book);
     let mut room: i128 = 0;
@@ -150,7 +150,7 @@ pub(crate) fn bound(book: &PlainBook) -> i128 {
     room.checked_div(book.eps).unwrap_or(0)
 }
 
-// What a pair's benefit is, if the person lists the object.
+// The benefit of a pair, if the person lists the object.
 pub(crate) fn benefit(book: &PlainBook, person: u16, object: u16) -> Option<i128> {
     let place = (person as usize)
         .wrapping_sub(1)
@@ -183,7 +183,8 @@ fn best_of(book: &PlainBook, table: &[Price], person: u16) -> Option<(u16, i128,
     Some((object, value, second))
 }
 
-// What a person offers under a table: an object at a level, if one is worth the floor.
+// The offer of a person under a table: an object at a level, if the value of one is at least the
+// floor.
 pub(crate) fn offer(book: &PlainBook, table: &[Price], person: u16) -> Option<(Object, Price)> {
     let (object, value, second) = best_of(book, table, person)?;
     if value < book.floor {

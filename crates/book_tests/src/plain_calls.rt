@@ -36,7 +36,7 @@ pub(crate) fn claim(book: &mut PlainBook, worker: u16) -> Claim {
     Claim::Person(person, ask(book))
 }
 
-// The worker's claim is over, and its person waits.
+// Ends the worker's claim; its person waits.
 pub(crate) fn give_up(book: &mut PlainBook, worker: u16) -> Result<(), AllocError> {
     if let Some(person) = at(book.claims.as_slice(), worker).flatten() {
         book.queue.push(person)?;
@@ -45,8 +45,8 @@ pub(crate) fn give_up(book: &mut PlainBook, worker: u16) -> Result<(), AllocErro
     Ok(())
 }
 
-// Whether the worker can speak for the person in this phase. Where it holds the person in another
-// one, its claim is over.
+// Whether the worker holds the person's claim in this phase. If it holds the claim in another
+// phase, the claim ends.
 fn admitted(
     book: &mut PlainBook,
     worker: u16,
@@ -109,7 +109,7 @@ pub(crate) fn below(
     Ok(Ok(()))
 }
 
-// The worker has today's prices from here on. What no worker needs is forgotten.
+// The worker has the current prices from here on. What no worker needs is forgotten.
 pub(crate) fn catch_up(book: &mut PlainBook, worker: u16) {
     let now = version(book);
     put(book.taken.as_mut_slice(), worker, now);
@@ -128,7 +128,7 @@ pub(crate) fn next_phase(alloc: Global, book: &mut PlainBook) -> Result<(), Allo
     begin_phase(alloc, book)
 }
 
-// The objects of persons 1, 2, .., where the auction has ended with an assignment.
+// The objects of persons 1, 2, .., if the auction has ended with an assignment.
 pub(crate) fn answer(alloc: Global, book: &PlainBook) -> Result<Option<Vec<Object>>, AllocError> {
     if !is_done(book) {
         return Ok(None);
@@ -144,7 +144,8 @@ pub(crate) fn answer(alloc: Global, book: &PlainBook) -> Result<Option<Vec<Objec
     Ok(Some(objects))
 }
 
-// Takes the objects that a person lists and their owners. Whether one of them is free.
+// Takes the objects that a person lists, and their owners. Returns whether one of the objects is
+// unowned.
 fn spread(
     book: &PlainBook,
     person: Person,
@@ -166,8 +167,8 @@ fn spread(
     Ok(false)
 }
 
-// The persons that a person reaches and the objects that they list, both rising, if none of the
-// objects is free.
+// The persons that a person reaches and the objects that they list, both rising, if all these
+// objects are owned.
 pub(crate) fn search(
     alloc: Global,
     book: &PlainBook,

@@ -7,7 +7,7 @@ use auction_book::{Claim, Event};
 use bidder::{BelowFloor, Bid, Offer};
 use std::alloc::{AllocError, Global};
 
-// What a worker has.
+// The state of a worker.
 #[derive(Drop)]
 pub(crate) struct PlainState {
     pub table: Vec<Price>,
@@ -26,7 +26,7 @@ fn open_state(alloc: Global, first: &[Price]) -> Result<PlainState, AllocError> 
     })
 }
 
-// A state more for each worker, with these prices.
+// Adds a state for each worker, with these prices.
 fn add_states(
     alloc: Global,
     states: &mut Vec<PlainState>,
@@ -39,8 +39,8 @@ fn add_states(
     Ok(())
 }
 
-// The prepared offer is submitted. A person below the floor is searched, and where an unowned object
-// is found it waits again.
+// Submits the prepared offer. For a person below the floor it searches, and if it finds an unowned
+// object the person waits again.
 fn submit(
     alloc: Global,
     plain: &mut PlainBook,
@@ -110,7 +110,7 @@ fn happen(
     Ok(())
 }
 
-// A plain book and what its workers have.
+// A plain book and the states of its workers.
 #[derive(Drop)]
 pub(crate) struct PlainWorld {
     pub book: PlainBook,
@@ -126,7 +126,7 @@ fn open_world(alloc: Global, case: &Case) -> Result<PlainWorld, AllocError> {
     })
 }
 
-// The workers of a case sit down, and these events happen.
+// The events of a case, from new states of its workers.
 fn all_happen(
     alloc: Global,
     world: &mut PlainWorld,

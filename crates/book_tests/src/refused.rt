@@ -1,5 +1,5 @@
-// What a refused growth leaves. Where no growth is refused, these are calls of two persons to the
-// end; the refusals come from runs in which one allocation after the other fails.
+// What a refused growth leaves. Without refusals these are calls of two persons to the end; the
+// refusals come from runs in which one allocation after the other fails.
 use super::calls::{Call, Mistake, Reply, Trial, call_of};
 use super::drawn::two_persons;
 use super::plain_calls;
@@ -7,8 +7,8 @@ use super::sequences::{PlainTrial, open_both, plain_call, same, same_answer};
 use std::alloc::{AllocError, Global};
 use std::test::Fail;
 
-// Whether a call does the same to both books. Where a growth of the book's is refused, it is unchanged,
-// or the bid's person waits again and nothing else has changed.
+// Whether a call does the same to both books. If a growth is refused, the book is unchanged, or
+// only the bid's person waits again.
 fn keeps(
     alloc: Global,
     trial: &mut Trial,
@@ -32,7 +32,7 @@ fn keeps(
     same(alloc, &trial.book, &plain.book)
 }
 
-// Two persons and two workers to the end, with the table of worker 1 today's before each claim: two
+// Two persons and two workers to the end; the table of worker 1 catches up before each claim. Two
 // calls a row.
 fn all_calls() -> [[(u16, Call); 2]; 10] {
     let claim = Call::Claim;

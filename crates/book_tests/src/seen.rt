@@ -1,9 +1,9 @@
-// What tests compare of a book.
+// The parts of a book that tests compare.
 use assign_core::{Object, Person, Price};
 use auction_book::Book;
 use std::alloc::{AllocError, Global};
 
-// Who waits, from the front on.
+// The persons who wait, the next one first.
 pub(crate) fn waiting(alloc: Global, book: &Book) -> Result<Vec<Person>, AllocError> {
     let mut persons = Vec::new(alloc);
     for person in book.waiting().iter() {
@@ -12,7 +12,7 @@ pub(crate) fn waiting(alloc: Global, book: &Book) -> Result<Vec<Person>, AllocEr
     Ok(persons)
 }
 
-// Whether the answer is of these objects and prices.
+// Whether the answer has these objects and prices.
 pub(crate) fn answers(
     alloc: Global,
     book: &Book,

@@ -1,4 +1,4 @@
-// Drawn sequences of calls, beside a plain book.
+// Drawn sequences of calls, compared with a plain book.
 use super::calls::{
     Call, Mistake, Reply, Trial, call_of, named, open_trial, told_below, told_bid, told_claim,
 };
@@ -27,7 +27,7 @@ pub(crate) struct PlainTrial {
     pub desks: Vec<PlainDesk>,
 }
 
-// Whom a worker speaks for: whom it claimed, or another one.
+// The person that a worker claimed, or another person.
 fn spoken_for(plain: &PlainBook, worker: u16, mistake: Mistake) -> Person {
     let held = at(plain.claims.as_slice(), worker).flatten();
     let person = held.unwrap_or(Person(1));
@@ -138,7 +138,7 @@ fn open_plain_desk(alloc: Global, first: &[Price]) -> Result<PlainDesk, AllocErr
     })
 }
 
-// A desk more for each worker, with these prices.
+// Adds a desk for each worker, with these prices.
 fn add_plain_desks(
     alloc: Global,
     desks: &mut Vec<PlainDesk>,
@@ -210,7 +210,7 @@ pub(crate) fn same_answer(
     }
 }
 
-// What a worker brings is right in most draws.
+// A worker's bid or Hall set is right in most draws.
 fn drawn_mistake(seed: &mut u64) -> Mistake {
     match draw_wide(seed, 12) {
         0 => Mistake::Phase,
@@ -232,7 +232,7 @@ fn drawn_call(seed: &mut u64) -> Call {
     }
 }
 
-// How often each kind of answer came.
+// The number of answers of each kind.
 #[derive(Clone, Copy)]
 struct Kinds {
     refuted: u64,
@@ -249,7 +249,7 @@ struct Kinds {
     phases: u64,
 }
 
-// The place of an answer's count, if it's one that is counted.
+// The count of an answer's kind, if this kind is counted.
 fn count_of(kinds: &mut Kinds, call: Call, told: Reply) -> Option<&mut u64> {
     match told {
         Reply::Refuted => Some(&mut kinds.refuted),
@@ -274,7 +274,7 @@ fn note(kinds: &mut Kinds, call: Call, told: Reply) {
     }
 }
 
-// Whether each kind came so often.
+// Whether each kind came at least `times` times.
 fn all_came(kinds: Kinds, times: u64) -> bool {
     [
         kinds.refuted,
@@ -294,7 +294,7 @@ fn all_came(kinds: Kinds, times: u64) -> bool {
     .all(|count| *count >= times)
 }
 
-// Where the drawing stands, and what came so far.
+// The state of the drawing, and the counts so far.
 #[derive(Drop)]
 struct Draws {
     seed: u64,
@@ -324,7 +324,7 @@ fn agrees(
     )
 }
 
-// Whether so many drawn calls do the same to both books.
+// Whether `calls` drawn calls do the same to both books.
 fn all_agree(
     alloc: Global,
     trial: &mut Trial,
@@ -350,7 +350,7 @@ pub(crate) fn open_case(alloc: Global, case: &Case) -> Result<Trial, AllocError>
     open_trial(alloc, book, workers)
 }
 
-// The same in plain.
+// The plain trial of a case.
 fn open_plain(alloc: Global, case: &Case) -> Result<PlainTrial, AllocError> {
     let mut plain = PlainTrial {
         book: opened(alloc, case)?,
@@ -365,7 +365,7 @@ pub(crate) fn open_both(alloc: Global, case: &Case) -> Result<(Trial, PlainTrial
     Ok((trial, open_plain(alloc, case)?))
 }
 
-// Whether so many drawn calls on a drawn problem do the same to both books.
+// Whether `calls` drawn calls on a drawn problem do the same to both books.
 fn sequence_agrees(alloc: Global, draws: &mut Draws, calls: u32) -> Result<bool, AllocError> {
     let case = drawn_case(alloc, &mut draws.seed, 4, 3)?;
     let (mut trial, mut plain) = open_both(alloc, &case)?;

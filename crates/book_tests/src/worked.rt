@@ -10,7 +10,7 @@ use std::alloc::{AllocError, Global};
 use std::test::Fail;
 use test_helpers::{Pair, scaled_of, size};
 
-// Three persons, of whom 1 and 2 list object 1 alone.
+// Three persons, of which 1 and 2 list only object 1.
 fn three_persons(alloc: Global) -> Result<Trial, AllocError> {
     let n = size(3);
     let pairs = [(1, 1, 4), (2, 1, 6), (3, 2, 1), (3, 3, 2)];
@@ -18,11 +18,11 @@ fn three_persons(alloc: Global) -> Result<Trial, AllocError> {
     open_trial(alloc, Book::open(alloc, scaled, 2)?, 2)
 }
 
-// A call by a worker, what it answers, and then the first two who wait and the first two prices.
+// A call by a worker, its answer, and then the first two who wait and the first two prices.
 type Step = (u16, Call, Reply, [u16; 2], [Price; 2]);
 
-// What a worker is told that gets person 1, or 2: with slackness 2 and floor -29 in the first phase, and with 1 and -36
-// in the second.
+// The answers to a worker that gets person 1 or 2: with slackness 2 and floor -29 in the first
+// phase, and with 1 and -36 in the second.
 const FIRST_OF_1: Reply = Reply::Person(1, 1, 2, -29);
 
 const FIRST_OF_2: Reply = Reply::Person(2, 1, 2, -29);
@@ -65,7 +65,7 @@ fn first_two(waiting: &[Person]) -> [u16; 2] {
     [first.0, second.0]
 }
 
-// Whether a step goes as it was worked out.
+// Whether a step goes as worked out.
 fn goes(alloc: Global, trial: &mut Trial, step: Step) -> Result<bool, AllocError> {
     let (worker, call, told, queue, prices) = step;
     let answer = call_of(alloc, trial, worker, call)?;
@@ -77,7 +77,7 @@ fn goes(alloc: Global, trial: &mut Trial, step: Step) -> Result<bool, AllocError
     )
 }
 
-// How many of the first steps go as they were worked out.
+// The number of first steps that go as worked out.
 fn steps_that_go(alloc: Global, trial: &mut Trial, steps: &[Step]) -> Result<usize, AllocError> {
     let mut count: usize = 0;
     for step in steps {
@@ -89,8 +89,8 @@ fn steps_that_go(alloc: Global, trial: &mut Trial, steps: &[Step]) -> Result<usi
     Ok(count)
 }
 
-// How many of the steps go as they were worked out, and then how many bids the phase has accepted
-// and how many it accepts at most.
+// The number of steps that go as worked out, and then the number of bids that the phase has
+// accepted, and its bound.
 fn after_steps(
     alloc: Global,
     trial: &mut Trial,
@@ -100,14 +100,14 @@ fn after_steps(
     Ok((count, trial.book.phase_accepted(), trial.book.phase_bound()))
 }
 
-// Whether both phases go as they were worked out.
+// Whether both phases go as worked out.
 fn both_phases_go(alloc: Global, trial: &mut Trial) -> Result<bool, AllocError> {
     let first = after_steps(alloc, trial, &FIRST_PHASE)?;
     let second = after_steps(alloc, trial, &SECOND_PHASE)?;
     Ok(first == (8, 3, 28) && second == (11, 3, 53))
 }
 
-// The person that a worker claimed and how many of its bids were accepted, if there is such a worker.
+// The person that a worker claimed, and the number of its accepted bids, if there is this worker.
 fn worker_of(book: &Book, worker: u16) -> Option<(Option<Person>, u128)> {
     if worker == 0 || worker > book.workers() {
         return None;
@@ -115,8 +115,8 @@ fn worker_of(book: &Book, worker: u16) -> Option<(Option<Person>, u128)> {
     Some((book.claimed_by(worker), book.accepted_by(worker)))
 }
 
-// Whether six bids were accepted, four and two of the workers', and nobody is claimed; and whether the
-// answer is the best.
+// Whether six bids were accepted, four and two of the workers', and nobody is claimed; and whether
+// the answer is optimal.
 fn stands_after_six(alloc: Global, book: &Book) -> Result<bool, AllocError> {
     let answered = answers(alloc, book, &[Object(2), Object(1)], &[14, 12])?;
     Ok(
@@ -133,7 +133,7 @@ fn trial_of_two(alloc: Global, first: &[Price]) -> Result<Trial, AllocError> {
     open_case(alloc, &case)
 }
 
-// Whether all goes as it was worked out.
+// Whether all goes as worked out.
 fn six_bids_go(alloc: Global, trial: &mut Trial) -> Result<bool, AllocError> {
     let went = both_phases_go(alloc, trial)?;
     Ok(went && stands_after_six(alloc, &trial.book)?)
@@ -145,7 +145,7 @@ fn six_bids_of_two_persons(rt: HostRuntime) -> Result<(), Fail> {
     Ok(())
 }
 
-// The second phase begins, and worker 1 brings a bid of a person that it doesn't hold.
+// The second phase begins, and worker 1 submits a bid of a person that it doesn't hold.
 const UNHELD: [Step; 4] = [
     (1, Call::NextPhase, Reply::Nothing, [1, 2], [8, 7]),
     (1, Call::CatchUp, Reply::Nothing, [1, 2], [8, 7]),
@@ -168,7 +168,7 @@ const LATE: Bid = Bid {
     version: 0,
 };
 
-// Whether worker 1 is told that the bid names another phase.
+// Whether worker 1 learns that the bid names another phase.
 fn is_late(book: &mut Book) -> bool {
     book.workers() > 0 && submit_untimely(book, 1, LATE) == Reply::WrongPhase(1, 5)
 }
@@ -184,7 +184,7 @@ fn stands_after_late(alloc: Global, book: &Book) -> Result<bool, AllocError> {
     )
 }
 
-// Whether the steps before go as they were worked out.
+// Whether the steps before go as worked out.
 fn late_steps_go(alloc: Global, trial: &mut Trial) -> Result<bool, AllocError> {
     let first = steps_that_go(alloc, trial, &FIRST_PHASE)?;
     let second = steps_that_go(alloc, trial, &UNHELD)?;
@@ -212,7 +212,7 @@ const CONTESTED: [Step; 3] = [
     (1, SUBMIT, Reply::Accepted(1, 60, 0), [3, 0], [60, 0]),
 ];
 
-// Worker 2 catches up, and records what stops person 2.
+// Worker 2 catches up, and records the Hall set for person 2.
 const RECORDED: [Step; 3] = [
     (2, SUBMIT, Reply::Unasked, [3, 0], [60, 0]),
     (
@@ -225,7 +225,7 @@ const RECORDED: [Step; 3] = [
     (2, Call::Claim, Reply::Refuted, [3, 2], [60, 0]),
 ];
 
-// The level of what person 2 offers worker 2, if it's a bid.
+// The level of person 2's offer to worker 2, if it's a bid.
 fn level_of_second(trial: &Trial) -> Option<Price> {
     match offer_of(trial, 2, 2) {
         Some(Offer::Bid(bid)) => Some(bid.level),
@@ -233,7 +233,7 @@ fn level_of_second(trial: &Trial) -> Option<Price> {
     }
 }
 
-// What person 2 offers from the first table and from today's.
+// Person 2's offers from the first table and from the current one.
 fn old_and_new_offer(
     alloc: Global,
     trial: &mut Trial,
@@ -258,7 +258,7 @@ fn an_old_table_hides_the_floor(rt: HostRuntime) -> Result<(), Fail> {
     Ok(())
 }
 
-// Whether worker 2, which hasn't caught up, is told today's price of object 1.
+// Whether worker 2, which hasn't caught up, learns the current price of object 1.
 fn low_bid_goes(alloc: Global, trial: &mut Trial) -> Result<bool, AllocError> {
     let first = steps_that_go(alloc, trial, &CONTESTED)?;
     let low = (2, SUBMIT, Reply::TooLow(1, 52, 60), [3, 2], [60, 0]);
@@ -321,7 +321,7 @@ const LOWERED: Ask = Ask {
     floor: -43,
 };
 
-// Whether the book starts so. The top is 42, so the bound is (42 - 14 + 42 - 12) / 2.
+// Whether the book starts like this. The top is 42, so the bound is (42 - 14 + 42 - 12) / 2.
 fn starts_lowered(book: &Book) -> bool {
     book.ask() == LOWERED
         && book.phase_bound() == 29
@@ -334,8 +334,8 @@ fn first_prices_lower_the_floor(rt: HostRuntime) -> Result<(), Fail> {
     Ok(())
 }
 
-// ---- as many persons as there may be
-// Person i lists one object: i, or the one before where there are to be two persons for object 1.
+// ---- the most persons
+// Person i lists one object: i, or the one before if two persons shall list object 1.
 fn narrow_pairs(alloc: Global, n: u16, shift: u16) -> Result<Vec<Pair>, AllocError> {
     let mut pairs = Vec::new(alloc);
     for i in 0..n {
@@ -346,7 +346,7 @@ fn narrow_pairs(alloc: Global, n: u16, shift: u16) -> Result<Vec<Pair>, AllocErr
     Ok(pairs)
 }
 
-// Worker 1 claims, bids, and begins the next phase where this one is over.
+// Worker 1 claims and bids, and begins the next phase if this one is over.
 fn session(alloc: Global, trial: &mut Trial) -> Result<(), AllocError> {
     let _claim = call_of(alloc, trial, 1, Call::Claim)?;
     let _bid = call_of(alloc, trial, 1, SUBMIT)?;
@@ -361,7 +361,7 @@ fn sessions(alloc: Global, trial: &mut Trial, count: u32) -> Result<(), AllocErr
     Ok(())
 }
 
-// A trial of as many persons as there may be. With a shift of 1 persons 1 and 2 both list object 1.
+// A trial of the most persons. With a shift of 1, persons 1 and 2 both list object 1.
 fn wide_trial(
     alloc: Global,
     shift: u16,
@@ -428,7 +428,7 @@ const TWO_SEARCHES: [(u16, Call); 10] = [
     (2, Call::Below(Mistake::Nothing)),
 ];
 
-// What the last of these calls answers.
+// The answer of the last of these calls.
 fn last_told(alloc: Global, trial: &mut Trial, calls: &[(u16, Call)]) -> Result<Reply, AllocError> {
     let mut told = Reply::Unasked;
     for pair in calls {
@@ -437,7 +437,7 @@ fn last_told(alloc: Global, trial: &mut Trial, calls: &[(u16, Call)]) -> Result<
     Ok(told)
 }
 
-// Whether the last search is told as recorded.
+// Whether the last search is recorded.
 fn is_recorded(alloc: Global, trial: &mut Trial) -> Result<bool, AllocError> {
     Ok(last_told(alloc, trial, &TWO_SEARCHES)? == Reply::Recorded)
 }
@@ -460,7 +460,7 @@ fn searches_among_as_many_persons_as_there_may_be(rt: HostRuntime) -> Result<(),
     Ok(())
 }
 
-// What was worked out.
+// The problems worked by hand.
 #[derive(Clone, Copy)]
 enum Work {
     SixBids,
@@ -494,8 +494,8 @@ fn goes_on(alloc: Global, trial: &mut Trial, work: Work) -> Result<bool, AllocEr
     }
 }
 
-// Whether all goes as it was worked out. This function alone owns the trial, since the checker
-// follows all that an owner drops at each place where it may return early.
+// Whether all goes as worked out. Only this function owns the trial, since the checker follows all
+// that an owner drops at each place where it may return early.
 fn goes_as_worked(alloc: Global, work: Work) -> Result<bool, AllocError> {
     let mut trial = trial_for(alloc, work)?;
     goes_on(alloc, &mut trial, work)

@@ -14,7 +14,7 @@ fn two_persons(alloc: Global) -> Result<Arc<Scaled>, AllocError> {
     Ok(Arc::new(alloc, scale(alloc, problem, Sense::Min)?)?)
 }
 
-// Three persons, of whom 1 and 2 list object 1 alone.
+// Three persons, of which 1 and 2 list only object 1.
 fn three_persons(alloc: Global) -> Result<Arc<Scaled>, AllocError> {
     let first = vec![in alloc; (Object(1), 4)]?;
     let second = vec![in alloc; (Object(1), 6)]?;
@@ -27,8 +27,8 @@ fn event(worker: u16, catch_up: bool) -> Event {
     Event { worker, catch_up }
 }
 
-// What stands after an event: the prices of the worker's table and their version, its prepared bid as
-// person, object and level, today's prices and their version.
+// After an event: the prices of the worker's table and their version, its prepared bid as person,
+// object and level, and the current prices and their version.
 type Step = (
     [Price; 2],
     u128,
@@ -81,13 +81,13 @@ fn run_two(alloc: Global, events: &[Event]) -> Result<World, AllocError> {
     run_schedule(alloc, scaled, 2, events)
 }
 
-// Whether the last of these events leaves this.
+// Whether this holds after the last of these events.
 fn goes(alloc: Global, events: &[Event], worker: u16, step: Step) -> Result<bool, AllocError> {
     let world = run_two(alloc, events)?;
     Ok(is_step(&world, worker, step))
 }
 
-// Whether the twelve events go as they were worked out, one after the other.
+// Whether the twelve events go as worked out, one after the other.
 fn steps_go(alloc: Global) -> Result<bool, AllocError> {
     let mut events = Vec::new(alloc);
     for (event, step) in twelve_events() {
@@ -99,7 +99,7 @@ fn steps_go(alloc: Global) -> Result<bool, AllocError> {
     Ok(true)
 }
 
-// The twelve events alone.
+// The twelve events.
 fn known_events(alloc: Global) -> Result<Vec<Event>, AllocError> {
     let mut events = Vec::new(alloc);
     for (known, _) in twelve_events() {
@@ -108,7 +108,7 @@ fn known_events(alloc: Global) -> Result<Vec<Event>, AllocError> {
     Ok(events)
 }
 
-// Whether the workers were told so many acceptances.
+// Whether these acceptances were reported to the workers.
 fn told(states: &[WorkerState]) -> bool {
     match states {
         [first, second] => first.accepted == 2 && second.accepted == 3,
@@ -116,7 +116,7 @@ fn told(states: &[WorkerState]) -> bool {
     }
 }
 
-// Whether all is so after the twelve events.
+// Whether all is right after the twelve events.
 fn ends(alloc: Global, world: &World) -> Result<bool, AllocError> {
     let answered = answers(alloc, &world.book, &[Object(2), Object(1)], &[14, 9])?;
     Ok(
@@ -140,7 +140,7 @@ fn twelve_events_of_two_workers(rt: HostRuntime) -> Result<(), Fail> {
     Ok(())
 }
 
-// The twelve events, each between two of numbers that no worker has.
+// The twelve events, each between two events for numbers without a worker.
 fn events_between(alloc: Global) -> Result<Vec<Event>, AllocError> {
     let mut events = Vec::new(alloc);
     for (known, _) in twelve_events() {
@@ -192,8 +192,8 @@ fn events_of_no_worker_change_nothing(rt: HostRuntime) -> Result<(), Fail> {
     Ok(())
 }
 
-// Sixty events of workers in turn. Who never catches up never learns that its bids are too low, so
-// the last half of the events catch up.
+// Sixty events of workers in turn. A worker that never catches up never learns that its bids are
+// too low, so the last half of the events catch up.
 fn in_turn(alloc: Global, workers: u16, catch_up: bool) -> Result<Vec<Event>, AllocError> {
     let mut events = Vec::new(alloc);
     let mut worker = 1u16;
@@ -204,7 +204,7 @@ fn in_turn(alloc: Global, workers: u16, catch_up: bool) -> Result<Vec<Event>, Al
     Ok(events)
 }
 
-// Whether such events refute the problem of the three persons.
+// Whether these events refute the problem of the three persons.
 fn refutes(alloc: Global, workers: u16, catch_up: bool) -> Result<bool, AllocError> {
     let events = in_turn(alloc, workers, catch_up)?;
     let scaled = three_persons(alloc)?;
