@@ -1,5 +1,5 @@
-// Shortest paths: problems of all kinds beside a slow search and beside rounds. A search that finds
-// nothing meets the contract too, so that it does find something is shown here alone.
+// Shortest paths: problems of all kinds, compared with a slow search and with rounds. The contract
+// also allows a search that finds nothing; only these tests show that it finds answers.
 ghost use Rattle.rounds.specs.Outcomes.{IsProof};
 
 mod kinds;
@@ -18,7 +18,7 @@ use shortest_paths::{
 use std::alloc::{AllocError, Global};
 use test_helpers::{Pair, best_cost, first_prices, next_number, problem_of, scaled_of, size};
 
-// What a search comes to.
+// The result of a search.
 #[derive(Clone, Copy, Debug, PartialEq, Eq)]
 enum Finding {
     // An assignment of this cost, with prices that are multiples of n + 1.
@@ -51,7 +51,7 @@ fn found_in(scaled: &Scaled, outcome: &Outcome) -> Finding
     }
 }
 
-// What paths find, from first prices where they are given.
+// What paths find, from first prices if they are given.
 fn found(
     alloc: Global,
     n: u16,

@@ -1,4 +1,4 @@
-// Rounds of offers: what a run comes to.
+// Rounds of offers: the outcome of a run.
 mod beside;
 mod drawn;
 mod equal_rows;
@@ -18,7 +18,7 @@ use test_helpers::{
 // Persons 1 and 2 list objects 1 and 2 at costs 1, 2 and 3, 5.
 const TWO_PERSONS: [Pair; 4] = [(1, 1, 1), (1, 2, 2), (2, 1, 3), (2, 2, 5)];
 
-// Persons 1 and 2 list object 1 alone, and person 3 the two others.
+// Persons 1 and 2 list only object 1, and person 3 the two others.
 const CONTESTED: [Pair; 4] = [(1, 1, 4), (2, 1, 6), (3, 2, 1), (3, 3, 2)];
 
 // Both senses in turn.
@@ -30,7 +30,7 @@ fn sense_of(turn: usize) -> Sense {
     }
 }
 
-// What became of a run: the objects and prices, or the persons and objects of a Hall set.
+// The result of a run: the objects and prices, or the persons and objects of a Hall set.
 #[derive(PartialEq, Eq, Drop)]
 enum Seen {
     Best(Vec<u16>, Vec<Price>),
@@ -51,7 +51,7 @@ fn told(alloc: Global, outcome: &Outcome) -> Result<Seen, AllocError> {
     }
 }
 
-// What came of a call.
+// The result of a call.
 fn settled(alloc: Global, came: Result<Outcome, SolveFault>) -> Result<Seen, AllocError> {
     match came {
         Ok(outcome) => told(alloc, &outcome),
@@ -59,7 +59,7 @@ fn settled(alloc: Global, came: Result<Outcome, SolveFault>) -> Result<Seen, All
     }
 }
 
-// What rounds come to whose offers are made so.
+// The result of rounds with this maker of offers.
 fn solved_by<O: Offering>(
     offering: &mut O,
     alloc: Global,
@@ -76,7 +76,7 @@ fn solved_by<O: Offering>(
     settled(alloc, solve_rounds_by(offering, alloc, scaled, prices))
 }
 
-// What rounds in pieces of at least so many pairs come to.
+// The result of rounds in pieces of at least this many pairs.
 fn solved(
     rt: &(impl Threads + Sync),
     alloc: Global,

@@ -3,10 +3,10 @@ use super::*;
 use rounds::solve_rounds_alone;
 use std::test::Fail;
 
-// How many kinds there are.
+// The number of kinds.
 const KINDS: u8 = 19;
 
-// What person i pays for object j, numbered from 0 among n, where a number is drawn.
+// The cost of object j for person i, numbered from 0 among n, with a drawn number.
 fn cost(kind: u8, n: u16, i: u16, j: u16, drawn: Cost) -> Option<Cost> {
     let (row, column) = (Cost::from(i), Cost::from(j));
     let half = n / 2;
@@ -18,13 +18,13 @@ fn cost(kind: u8, n: u16, i: u16, j: u16, drawn: Cost) -> Option<Cost> {
         3 => Some(column * 7919 % 1000),
         4 => Some(row * 7919 % 1000),
         5 => Some(7),
-        // Like rows.
+        // Similar rows.
         6 => Some(row * 7919 % 4000 + column * 104_729 % 4000 + drawn % 50),
         7 => Some(row * column),
         8 => Some(if j == 0 { 1_000_000 } else { 1 }),
         // Three objects of each person at a low cost.
         9 => Some(if i ^ j < 3 { 1 } else { 1000 }),
-        // Dear marks in place of forbidden pairs.
+        // High costs in place of forbidden pairs.
         10 => Some(if drawn % 5 == 0 {
             drawn % 1000
         } else {
@@ -35,12 +35,13 @@ fn cost(kind: u8, n: u16, i: u16, j: u16, drawn: Cost) -> Option<Cost> {
         12 => Some(if j % 4 == 0 { 0 } else { drawn % 1000 }),
         13 => Some(if i % 10 == 0 { drawn % 1000 } else { 0 }),
         14 => (drawn % 4 == 0).then_some(drawn % 100),
-        // One person more than objects that they list.
+        // One more person than the objects that they list.
         15 => (i > half || j < half).then_some(drawn % 100),
         // Few pairs: an assignment and drawn ones, or ten persons for nine objects.
         16 => (i == j || drawn % 16 == 0).then_some(drawn % 100),
         17 => (i < 10 && j < 9 || i >= 10 && i == j).then_some(drawn % 100),
-        // Persons and objects in a line, ten places apart: who is at its end moves all others on.
+        // Persons and objects in a line, ten places apart: the person at its end moves all others
+        // on.
         _ => {
             let apart = row + 10 - column;
             Some(apart.wrapping_mul(apart))
@@ -76,7 +77,8 @@ fn plainly_found(
     })
 }
 
-// Of so many small problems of all kinds, drawn from a seed, those that are found otherwise.
+// The first of `turns` small problems of all kinds, drawn from a seed, for which paths and the slow
+// search differ.
 fn found_otherwise(alloc: Global, turns: u64) -> Result<Option<(u64, Finding)>, AllocError> {
     for turn in 0..turns {
         let sense = if turn / 6 % 2 == 0 {
@@ -103,7 +105,7 @@ fn drawn_problems(rt: HostRuntime) -> Result<(), Fail> {
     Ok(())
 }
 
-// What rounds come to: the cost alone.
+// The cost that rounds find.
 fn found_by_rounds(alloc: Global, n: u16, pairs: &[Pair]) -> Result<Option<Cost>, AllocError> {
     let scaled = scaled_of(alloc, size(n), pairs, Sense::Min)?;
     let again = scaled.clone()?;
@@ -121,7 +123,8 @@ fn cost_of(found: Finding) -> Option<Cost> {
     }
 }
 
-// What paths find in a problem of some kind, where rounds find another cost or prices aren't exact.
+// What paths find in a problem of some kind, if rounds find another cost or the prices aren't
+// exact.
 fn other_than_rounds(alloc: Global, kind: u8, n: u16) -> Result<Option<Finding>, AllocError> {
     let pairs = pairs_of(alloc, kind, n, u64::from(kind))?;
     let seen = found(alloc, n, pairs.as_slice(), Sense::Min, None)?;
@@ -138,11 +141,12 @@ fn found_from_zeros(alloc: Global, kind: u8, n: u16) -> Result<Finding, AllocErr
     found(alloc, n, pairs.as_slice(), Sense::Min, Some(&[]))
 }
 
-// Starts that are left for the usual prices: of kind 7 few persons are matched with best objects, and
-// of the other one all but ten, each of whom takes a search through all others.
+// First prices that the solver leaves for its usual ones: with kind 7 few persons are matched with
+// best objects; with the other kind all but ten are, each of which needs a search through all
+// others.
 #[test]
 fn starts_that_are_given_up(rt: HostRuntime) -> Result<(), Fail> {
-    // The greatest row number with the least column number: i * (199 - i) in sum.
+    // The greatest row number with the least column number: the sum of i * (199 - i).
     assert_eq!(rt;
         found_from_zeros(rt.alloc(), 7, 200)?,
         Finding::Best(1_313_400)
@@ -158,7 +162,8 @@ fn starts_that_are_given_up(rt: HostRuntime) -> Result<(), Fail> {
 #[test]
 fn kinds_beside_rounds(rt: HostRuntime) -> Result<(), Fail> {
     for kind in 0..KINDS {
-        // In these a large part of the work is an auction's, or few are left to search for.
+        // For these an auction does a large part of the work, or few persons are left to search
+        // for.
         let n = if kind == 7 || kind >= 16 { 200 } else { 48 };
         assert_eq!(rt;
             other_than_rounds(rt.alloc(), kind, n)?,

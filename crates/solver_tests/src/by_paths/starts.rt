@@ -1,9 +1,9 @@
-// First prices that are used, by what an observer is told.
+// First prices that are used, as an observer sees.
 use super::*;
 use std::sync::atomic::{AtomicU64, Ordering};
 use std::test::Fail;
 
-// The least number of persons with an object that was told.
+// The least number of persons with an object that was reported.
 #[derive(Drop)]
 struct Least {
     persons: AtomicU64,
@@ -15,7 +15,7 @@ impl Observer for Least {
     }
 }
 
-// The least number that is told of a problem of two persons from first prices.
+// The least number reported for a problem of two persons from first prices.
 fn least_told(alloc: Global, pairs: &[Pair], first: &[Price]) -> Result<u64, AllocError> {
     let n = size(2);
     let scaled = scaled_of(alloc, n, pairs, Sense::Min)?;
@@ -27,8 +27,8 @@ fn least_told(alloc: Global, pairs: &[Pair], first: &[Price]) -> Result<u64, All
     Ok(least.persons.load(Ordering::SeqCst))
 }
 
-// At a price that is higher by 3 object 1 is as good to person 1 as object 2, so each gets one at
-// once; at equal prices both want object 1 alone.
+// At a price that is higher by 3, object 1 is as good to person 1 as object 2, so each person gets
+// an object at once; at equal prices both prefer object 1.
 #[test]
 fn a_start_that_leaves_nobody_to_search_for(rt: HostRuntime) -> Result<(), Fail> {
     let pairs = [(1, 1, 1), (1, 2, 2), (2, 1, 3), (2, 2, 5)];

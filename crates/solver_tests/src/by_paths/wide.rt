@@ -1,9 +1,9 @@
-// Costs so great, and chains so long, that distances leave 64 bits: searches go on in 128.
+// Costs so great, and chains so long, that distances leave 64 bits: searches go on in 128 bits.
 use super::worked::chain;
 use super::*;
 use std::test::Fail;
 
-// A chain of so many persons in which each wants the object before its own as much as can be.
+// A chain of `n` persons in which each prefers the object before its own by as much as possible.
 fn long_chain(alloc: Global, n: u16) -> Result<Vec<Pair>, AllocError> {
     chain(alloc, n, GREATEST_COST, -GREATEST_COST)
 }
@@ -17,7 +17,7 @@ fn the_longest_chain_at_the_greatest_costs(rt: HostRuntime) -> Result<(), Fail> 
     Ok(())
 }
 
-// A chain of so many, and more persons who list the objects from one to another at a cost of 0.
+// A chain, and more persons who list the objects of a range at cost 0.
 fn chain_beside(
     alloc: Global,
     length: u16,
@@ -34,7 +34,7 @@ fn chain_beside(
     Ok(pairs)
 }
 
-// Ten persons list nine objects, beside a chain whose searches leave 64 bits.
+// Ten persons list nine objects, next to a chain whose searches leave 64 bits.
 #[test]
 fn too_few_objects_beside_a_chain(rt: HostRuntime) -> Result<(), Fail> {
     let pairs = chain_beside(rt.alloc(), 1500, 10, (1501, 1510))?;
@@ -43,7 +43,7 @@ fn too_few_objects_beside_a_chain(rt: HostRuntime) -> Result<(), Fail> {
     Ok(())
 }
 
-// Two hundred persons list all objects, so that no heap is wanted.
+// Two hundred persons list all objects, so that no heap is needed.
 #[test]
 fn full_rows_beside_a_chain(rt: HostRuntime) -> Result<(), Fail> {
     let pairs = chain_beside(rt.alloc(), 1000, 200, (1, 1201))?;

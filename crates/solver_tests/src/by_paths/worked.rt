@@ -1,4 +1,4 @@
-// Problems whose outcomes are known, and the public calls.
+// Problems with known outcomes, and the public calls.
 use super::*;
 use std::sync::atomic::{AtomicBool, AtomicU64, Ordering};
 use std::test::Fail;
@@ -39,7 +39,7 @@ fn small_problems(rt: HostRuntime) -> Result<(), Fail> {
     Ok(())
 }
 
-// A war of prices for an auction, which here is one search; and prices between multiples of n + 1.
+// A price war for an auction, which is one search here; and prices between multiples of n + 1.
 #[test]
 fn first_prices_of_any_size(rt: HostRuntime) -> Result<(), Fail> {
     let mut pairs = [(1, 1, 2); 9];
@@ -73,7 +73,7 @@ fn as_many_persons_as_there_may_be(rt: HostRuntime) -> Result<(), Fail> {
     Ok(())
 }
 
-// The sum of the costs of these objects of persons 1, 2, ..
+// The sum of the costs of the objects of persons 1, 2, ..
 fn cost_by(scaled: &Scaled, objects: &[Object]) -> Cost {
     let mut sum: Cost = 0;
     for i in 0..scaled.n() {
@@ -85,8 +85,8 @@ fn cost_by(scaled: &Scaled, objects: &[Object]) -> Cost {
     sum
 }
 
-// What the public calls come to, from first prices where they are given: the cost, and none where
-// there is no assignment.
+// The result of the public calls, from first prices if they are given: the cost, or none if no
+// assignment exists.
 fn solved(
     alloc: Global,
     n: u16,
@@ -115,8 +115,8 @@ fn public_calls(rt: HostRuntime) -> Result<(), Fail> {
     Ok(())
 }
 
-// Follows a search: how often it told a number, the last one, whether it told that nobody has an
-// object, and whether it told a number that can't be.
+// Follows a search: how often it reported a number, the last number, whether it reported 0, and
+// whether it reported an impossible number.
 #[derive(Drop)]
 struct Follower {
     persons: u16,
@@ -150,7 +150,7 @@ impl Observer for Follower {
     }
 }
 
-// The cost of what is found while this follower is told of it.
+// The cost that is found while this follower observes.
 fn followed(
     alloc: Global,
     pairs: &[Pair],
@@ -173,7 +173,7 @@ fn followed(
     }
 }
 
-// Each person pays the product of the two numbers, which takes long searches.
+// The cost of a pair is the product of its two numbers, which takes long searches.
 fn products(alloc: Global, n: u16) -> Result<Vec<Pair>, AllocError> {
     let mut pairs = Vec::new(alloc);
     for place in 0..u32::from(n) * u32::from(n) {
@@ -184,8 +184,8 @@ fn products(alloc: Global, n: u16) -> Result<Vec<Pair>, AllocError> {
     Ok(pairs)
 }
 
-// The cost of the products of 120 persons from such first prices, and what an observer was told: how often, how many
-// persons have an object in the end, and whether it was something that can't be.
+// The cost for the products of 120 persons from these first prices, how often a number was
+// reported, the last number, and whether one was impossible.
 fn products_followed(
     alloc: Global,
     first: Option<&[Price]>,
@@ -197,7 +197,7 @@ fn products_followed(
     Ok((seen, told, follower.wrong.load(Ordering::SeqCst)))
 }
 
-// The dearest objects go to the first persons: the sum of i * (n + 1 - i) is n (n + 1) (n + 2) / 6.
+// The first persons get the last objects: the sum of i * (n + 1 - i) is n (n + 1) (n + 2) / 6.
 #[test]
 fn numbers_of_assigned_persons(rt: HostRuntime) -> Result<(), Fail> {
     for first in [None, Some([5].as_slice())] {
@@ -208,7 +208,8 @@ fn numbers_of_assigned_persons(rt: HostRuntime) -> Result<(), Fail> {
     Ok(())
 }
 
-// The cost of a problem of two persons from first prices, and whether all began without an object.
+// The cost of a problem of two persons from first prices, and whether all persons once had no
+// object.
 fn cost_and_beginning(
     alloc: Global,
     pairs: &[Pair],
@@ -219,8 +220,8 @@ fn cost_and_beginning(
     Ok((seen, follower.nobody.load(Ordering::SeqCst)))
 }
 
-// Both persons like object 1 best, so that the price of the other one falls below 0. The start is
-// kept all the same: nothing begins anew.
+// Both persons prefer object 1, so that the price of the other object falls below 0. The first
+// prices are still used: nothing begins again.
 #[test]
 fn a_start_whose_prices_fall(rt: HostRuntime) -> Result<(), Fail> {
     let pairs = [(1, 1, 1), (1, 2, 5), (2, 1, 3), (2, 2, 4)];

@@ -1,19 +1,19 @@
-// Rounds beside the plain transcription, one by one.
+// Rounds compared one by one with the plain transcription.
 use super::transcription::{Auction, PlainOffer, Round, auction_of, is_over, next_round};
 use super::*;
 use assign_core::{Person, Prices};
 use bidder::{Ask, Offer};
 use scaled_values::Scaled;
 
-// Makes offers as another does, and takes each round in a plain auction too.
+// Makes offers as another maker does, and takes each round in a plain auction too.
 #[derive(Drop)]
 pub(super) struct Beside<O> {
     alloc: Global,
     offering: O,
     pub auction: Auction,
-    // How many persons wait in this round.
+    // The number of persons who wait in this round.
     waiting: usize,
-    // Whether all rounds were alike so far.
+    // Whether all rounds so far were the same.
     pub same: bool,
 }
 
@@ -32,7 +32,7 @@ fn is_offer(phase: u16, offer: Offer, plain: PlainOffer) -> bool {
     }
 }
 
-// Whether there are offers, each that of a person who waits.
+// Whether the offers are those of the persons who wait.
 fn are_offers(phase: u16, offers: &[Offer], plain: &[PlainOffer]) -> bool {
     !offers.is_empty()
         && offers.iter().all(|offer| plain.iter().any(|other| is_offer(phase, *offer, *other)))
@@ -70,7 +70,7 @@ impl<O: Offering> Offering for Beside<O> {
     }
 }
 
-// Whether the rounds of a run were those of the plain auction, and so its end.
+// Whether the rounds and the result of a run were those of the plain auction.
 fn is_alike<O>(beside: &Beside<O>, seen: &Seen) -> bool {
     let auction = &beside.auction;
     let ended = match (seen, auction.halted) {
@@ -84,8 +84,7 @@ fn is_alike<O>(beside: &Beside<O>, seen: &Seen) -> bool {
     beside.same && is_over(auction) && ended
 }
 
-// What rounds whose offers are made so come to, if they are those of the plain auction from their first
-// round to their end.
+// The result of rounds with this maker of offers, if each round is that of the plain auction.
 pub(super) fn alike<O: Offering + Drop>(
     offering: O,
     alloc: Global,
@@ -107,7 +106,7 @@ pub(super) fn alike<O: Offering + Drop>(
     Ok(is_alike(&beside, &seen).then_some(seen))
 }
 
-// The cost of what a run came to, and none without an assignment.
+// The cost of a run's result, or none without an assignment.
 fn cost_seen(pairs: &[Pair], seen: &Seen) -> Option<Cost> {
     match seen {
         Seen::Best(objects, _) => Some(cost_of(pairs, objects.as_slice())),
@@ -115,8 +114,8 @@ fn cost_seen(pairs: &[Pair], seen: &Seen) -> Option<Cost> {
     }
 }
 
-// Whether rounds whose offers are made so are those of the plain auction, and come to the cost that a
-// search of all assignments finds, where that is asked for.
+// Whether rounds with this maker of offers are those of the plain auction, and, if requested, find
+// the cost that a search of all assignments finds.
 pub(super) fn agrees<O: Offering + Drop>(
     offering: O,
     alloc: Global,

@@ -1,4 +1,4 @@
-// Drawn problems beside a search of all assignments and the plain transcription.
+// Drawn problems, compared with a search of all assignments and with the plain transcription.
 use super::beside::agrees;
 use super::*;
 use std::test::Fail;
@@ -20,7 +20,7 @@ fn drawn(alloc: Global, seed: &mut u64) -> Result<(u16, Vec<Pair>), AllocError> 
     Ok((n, pairs))
 }
 
-// How many of so many problems drawn from a seed agree.
+// The number of problems, of these drawn from a seed, that agree.
 fn agreeing(
     rt: &(impl Threads + Sync),
     alloc: Global,

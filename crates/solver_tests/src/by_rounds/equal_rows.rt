@@ -1,5 +1,5 @@
-// Drawn problems in which many persons have the same row, beside a search of all assignments and the plain
-// transcription, and how many offers are made for them.
+// Drawn problems in which many persons have the same row, compared with a search of all assignments
+// and with the plain transcription; and how many offers are made for them.
 ghost use Rattle.std.specs.Prelude.{◌<◌};
 
 use super::beside::agrees;
@@ -9,7 +9,7 @@ use bidder::{Ask, Offer};
 use scaled_values::Scaled;
 use std::test::Fail;
 
-// A row of n costs. Of four pairs so many are listed as the share says.
+// A row of n costs. About `share` in four of all pairs are listed.
 fn drawn_row(
     alloc: Global,
     seed: &mut u64,
@@ -29,7 +29,7 @@ fn drawn_row(
     Ok(row)
 }
 
-// Pairs of n persons, each of whom has one of a few rows: dense where all four of four pairs are listed.
+// Pairs of n persons, each of which has one of a few rows: dense if the share is four in four.
 fn drawn_kinds(alloc: Global, seed: &mut u64, n: u16, share: u16) -> Result<Vec<Pair>, AllocError> {
     let range = if draw(seed, 2) == 0 { 3 } else { 1000 };
     let mut rows = Vec::new(alloc);
@@ -71,7 +71,7 @@ fn drawn_agrees(
     Ok(alone && agrees(InPieces { rt, least }, alloc, n, pairs, sense, n <= 6)?)
 }
 
-// How many of so many problems drawn from a seed agree, of up to so many persons.
+// The number of problems, of these drawn from a seed, that agree, with up to this many persons.
 fn agreeing(
     rt: &(impl Threads + Sync),
     alloc: Global,
@@ -103,8 +103,8 @@ fn larger_problems_of_a_few_kinds(rt: HostRuntime) -> Result<(), Fail> {
     Ok(())
 }
 
-// What the persons who wait offer, each its own; how many rounds began, how many persons waited in all of them, and the
-// most offers that were asked for in one.
+// Makes for each person who waits its own offer. Counts the rounds, the persons who waited in all
+// of them, and the most offers that one round requested.
 #[derive(Drop)]
 struct Counted {
     rounds: u64,
@@ -133,7 +133,8 @@ impl Offering for Counted {
     }
 }
 
-// How many rounds began, how many persons waited in all of them, and the most offers that were made in one.
+// The number of rounds, the number of persons who waited in all of them, and the most offers made
+// in one round.
 fn counts_of(alloc: Global, n: u16, pairs: &[Pair]) -> Result<(u64, u64, usize), AllocError> {
     let mut counted = Counted {
         rounds: 0,
@@ -144,8 +145,9 @@ fn counts_of(alloc: Global, n: u16, pairs: &[Pair]) -> Result<(u64, u64, usize),
     Ok((counted.rounds, counted.waited, counted.most))
 }
 
-// All costs are 1, so eps is 1 in the only phase, and each person's bid is a price of 1 for the first free object. Four
-// wait in the first round and three of them in the second, for one of the four gets object 1.
+// All costs are 1, so eps is 1 in the only phase, and each person bids a price of 1 for the first
+// unowned object. Four persons wait in the first round and three of them in the second, since one
+// of the four gets object 1.
 #[test]
 fn equal_persons_make_one_offer(rt: HostRuntime) -> Result<(), Fail> {
     let pairs = dense(rt.alloc(), 4, &[1; 16])?;

@@ -1,11 +1,11 @@
-// Runs told round by round: what each phase asks, its table, and the offers with their answers. The plain
-// transcription tells them, and each round of the run has to be the plain one.
+// Runs round by round: what each phase asks, its table, and the offers with their answers. The
+// plain transcription prints them, and each round of the run must be the plain one.
 use super::beside::alike;
 use super::transcription::{Auction, PlainOffer, Round, auction_of, is_over, next_round};
 use super::*;
 use std::test::Fail;
 
-// What a phase asks and the prices from which it is asked, in a line.
+// What a phase asks and its prices, as a line.
 fn phase_line(
     alloc: Global,
     phase: u16,
@@ -20,7 +20,7 @@ fn phase_line(
     Ok(line)
 }
 
-// An offer in a line, with its answer.
+// An offer with its answer, as a line.
 fn offer_line(alloc: Global, offer: PlainOffer, accepted: bool) -> Result<String, AllocError> {
     let person = offer.person.wrapping_add(1);
     let answer = if accepted { "accepted" } else { "refused" };
@@ -33,7 +33,7 @@ fn offer_line(alloc: Global, offer: PlainOffer, accepted: bool) -> Result<String
     }
 }
 
-// A round told: what its phase asks, its table, and one by one the offers that went in.
+// A round as lines: what its phase asks, its table, and the submitted offers one by one.
 fn tell_round(alloc: Global, round: &Round, lines: &mut Vec<String>) -> Result<(), AllocError> {
     let prices = round.prices.as_slice();
     lines.push(phase_line(alloc, round.phase, round.eps, round.floor, prices)?)?;
@@ -56,7 +56,7 @@ fn tell_rounds(alloc: Global, auction: &mut Auction) -> Result<Vec<String>, Allo
     Ok(lines)
 }
 
-// The rounds that the plain transcription takes, and its table in the end where everybody has an object.
+// The rounds of the plain transcription, and its final table if everybody has an object.
 fn plainly_told(
     alloc: Global,
     n: u16,
@@ -72,7 +72,7 @@ fn plainly_told(
     Ok(lines)
 }
 
-// The place of the first line that is told otherwise, and whether each round of the run is the plain one.
+// The place of the first line that differs, and whether each round of the run is the plain one.
 fn told_otherwise(
     alloc: Global,
     n: u16,
@@ -90,7 +90,7 @@ fn told_otherwise(
     Ok(((!whole).then_some(same), is_run(alloc, n, pairs, first)?))
 }
 
-// Whether rounds are those of the plain transcription.
+// Whether the rounds of a run are those of the plain transcription.
 fn is_run(alloc: Global, n: u16, pairs: &[Pair], first: &[Price]) -> Result<bool, AllocError> {
     Ok(alike(Alone, alloc, n, pairs, Sense::Min, first)?.is_some())
 }
@@ -178,7 +178,7 @@ fn three_persons_below_the_floor(rt: HostRuntime) -> Result<(), Fail> {
     Ok(())
 }
 
-// A phase of one round, in which two persons get different objects at prices that are alike.
+// A phase of one round, in which two persons get different objects at equal prices.
 fn tell_phase(
     alloc: Global,
     (phase, eps, floor): (u16, i128, i128),
@@ -192,8 +192,8 @@ fn tell_phase(
     Ok(())
 }
 
-// Two persons who want different objects: in each phase one round, in which both prices rise by the
-// spread and eps.
+// Two persons who prefer different objects: in each phase one round, in which both prices rise by
+// the spread and eps.
 fn ten_phases(alloc: Global) -> Result<Vec<String>, AllocError> {
     let mut lines = Vec::new(alloc);
     for (phase, eps, floor, price, level) in [
@@ -215,7 +215,8 @@ fn ten_phases(alloc: Global) -> Result<Vec<String>, AllocError> {
     Ok(lines)
 }
 
-// Whether the rounds on two such persons are told so, and each round of the run is so.
+// Whether the rounds on these two persons are these lines, and whether each round of the run is the
+// plain one.
 fn are_ten_phases(alloc: Global) -> Result<(bool, bool), AllocError> {
     let pairs = dense(alloc, 2, &[1_000_000, -1_000_000, -1_000_000, 1_000_000])?;
     let told = plainly_told(alloc, 2, pairs.as_slice(), &[])?;

@@ -1,15 +1,16 @@
-// A plain transcription of rounds, on wide numbers and with no thought of memory.
+// A plain transcription of rounds, in wide numbers and without regard to memory.
 use super::*;
 
-// An offer of a person: an object at a level, or none where nothing is worth the floor.
+// An offer of a person: an object at a level, or none if no object has a value of at least the
+// floor.
 #[derive(Clone, Copy)]
 pub(super) struct PlainOffer {
     pub person: usize,
     pub bid: Option<(usize, i128)>,
 }
 
-// A round: what its phase asks, its table, the offers of all who wait, and for each of those that went in whether it was
-// accepted.
+// A round: what its phase asks, its table, the offers of all who wait, and for each submitted one
+// whether it was accepted.
 #[derive(Drop)]
 pub(super) struct Round {
     pub phase: u16,
@@ -20,7 +21,7 @@ pub(super) struct Round {
     pub answers: Vec<bool>,
 }
 
-// An auction of n persons: benefits row by row, none where a pair isn't listed.
+// An auction of n persons: benefits row by row, `None` for a pair that isn't listed.
 #[derive(Drop)]
 pub(super) struct Auction {
     n: usize,
@@ -33,11 +34,11 @@ pub(super) struct Auction {
     pub prices: Vec<i128>,
     owners: Vec<Option<usize>>,
     queue: Vec<usize>,
-    // Who found nothing worth the floor, which ends the run.
+    // The person without an object worth the floor, which ends the run.
     pub halted: Option<usize>,
 }
 
-// What a person offers: an object at a level, if any is worth the floor.
+// A person's offer: an object at a level, if one has a value of at least the floor.
 fn bid_of(auction: &Auction, person: usize) -> Option<(usize, i128)> {
     let mut best: Option<(usize, i128)> = None;
     let mut second: Option<i128> = None;
@@ -70,7 +71,7 @@ fn bid_of(auction: &Auction, person: usize) -> Option<(usize, i128)> {
     Some((object, level))
 }
 
-// A bid is submitted. Whether it is accepted.
+// Submits a bid. Returns whether it is accepted.
 fn submit(
     auction: &mut Auction,
     person: usize,
@@ -94,7 +95,7 @@ fn submit(
     Ok(true)
 }
 
-// The offers of all who wait, none of whom waits from here on.
+// The offers of all who wait; nobody waits after that.
 fn offers_of(alloc: Global, auction: &mut Auction) -> Result<Vec<PlainOffer>, AllocError> {
     let mut offers = Vec::new(alloc);
     for person in auction.queue.iter() {
@@ -107,7 +108,7 @@ fn offers_of(alloc: Global, auction: &mut Auction) -> Result<Vec<PlainOffer>, Al
     Ok(offers)
 }
 
-// Offers are submitted one by one. A person that finds nothing worth the floor ends the run.
+// Submits offers one by one. A person without an object worth the floor ends the run.
 fn submit_all(
     alloc: Global,
     auction: &mut Auction,
@@ -134,7 +135,7 @@ fn greatest(numbers: &[i128]) -> i128 {
     most
 }
 
-// A phase begins with all persons waiting.
+// Begins a phase, in which all persons wait.
 fn begin(alloc: Global, auction: &mut Auction) -> Result<(), AllocError> {
     let n = auction.n;
     let steps = (n as i128).wrapping_sub(1);
@@ -151,12 +152,12 @@ fn begin(alloc: Global, auction: &mut Auction) -> Result<(), AllocError> {
     Ok(())
 }
 
-// Whether the run is over: a person halted it, or nobody waits in the last phase.
+// Whether the run is over: a person ended it, or nobody waits in the last phase.
 pub(super) fn is_over(auction: &Auction) -> bool {
     auction.halted.is_some() || (auction.queue.is_empty() && auction.eps == 1)
 }
 
-// The next round of a run that isn't over, in the next phase where nobody waits in this one.
+// The next round of a run that isn't over, in the next phase if nobody waits in this one.
 pub(super) fn next_round(alloc: Global, auction: &mut Auction) -> Result<Round, AllocError> {
     if auction.queue.is_empty() {
         auction.eps = auction.eps.wrapping_div(5).max(1);
@@ -176,7 +177,7 @@ pub(super) fn next_round(alloc: Global, auction: &mut Auction) -> Result<Round, 
     })
 }
 
-// The first prices of n objects: those given, and 0 for the rest.
+// The first prices of n objects: the given ones, and 0 for the rest.
 fn prices_of(alloc: Global, n: u16, first: &[Price]) -> Result<Vec<i128>, AllocError> {
     let mut prices = Vec::new(alloc);
     for i in 0..n {

@@ -1,9 +1,9 @@
-// Problems whose outcomes are known, solved in pieces of several lengths, and the public calls.
+// Problems with known outcomes, solved in pieces of several lengths, and the public calls.
 use super::*;
 use rounds::{solve_rounds, solve_rounds_alone, solve_rounds_alone_from, solve_rounds_from};
 use std::test::Fail;
 
-// What the public calls come to: from zeros, or from these first prices.
+// The result of the public calls: from zeros, or from these first prices.
 fn publicly_solved(
     rt: &(impl Threads + Sync),
     alloc: Global,
@@ -20,7 +20,7 @@ fn publicly_solved(
     settled(alloc, outcome)
 }
 
-// The same of the calls that need no handle.
+// The result of the calls that need no handle.
 fn solved_alone(
     alloc: Global,
     n: u16,
@@ -44,7 +44,7 @@ fn hall(alloc: Global, persons: &[u16], objects: &[u16]) -> Result<Seen, AllocEr
     Ok(Seen::Hall(persons.to_vec(alloc)?, objects.to_vec(alloc)?))
 }
 
-// Whether rounds in pieces of some lengths all come to this.
+// Whether rounds in pieces of several lengths all have this result.
 fn are_outcome(
     rt: &(impl Threads + Sync),
     alloc: Global,
@@ -61,7 +61,7 @@ fn are_outcome(
     Ok(all)
 }
 
-// Whether rounds on a dense problem come to a best assignment with these objects and prices.
+// Whether rounds on a dense problem find an optimal assignment with these objects and prices.
 fn are_dense(
     rt: &(impl Threads + Sync),
     alloc: Global,
@@ -76,7 +76,8 @@ fn are_dense(
     are_outcome(rt, alloc, n, pairs.as_slice(), sense, first, &wanted)
 }
 
-// How many persons there are, all costs, the first prices where they aren't 0, and the objects and prices in the end.
+// The number of persons, all costs, the sense, the first prices if they aren't 0, and the final
+// objects and prices.
 type Dense<'a> = (u16, &'a [Cost], Sense, &'a [Price], &'a [u16], &'a [Price]);
 
 #[test]
@@ -128,7 +129,7 @@ fn worked_dense_problems(rt: HostRuntime) -> Result<(), Fail> {
     Ok(())
 }
 
-// Whether all public calls come to these prices from the first ones.
+// Whether all public calls end at these prices from the first ones.
 fn publicly_agreed(
     rt: &(impl Threads + Sync),
     alloc: Global,
@@ -155,7 +156,7 @@ fn public_calls(rt: HostRuntime) -> Result<(), Fail> {
     Ok(())
 }
 
-// Whether rounds find these persons, who list these objects alone.
+// Whether rounds find these persons, who list only these objects.
 fn is_hall(
     rt: &(impl Threads + Sync),
     alloc: Global,
@@ -182,7 +183,7 @@ fn worked_sparse_problems(rt: HostRuntime) -> Result<(), Fail> {
     Ok(())
 }
 
-// The objects of a best assignment at the least costs, if there is one.
+// The objects of an optimal assignment at the least costs, if one exists.
 fn best_objects(
     rt: &(impl Threads + Sync),
     alloc: Global,
@@ -204,7 +205,8 @@ fn a_pair_listed_twice(rt: HostRuntime) -> Result<(), Fail> {
     Ok(())
 }
 
-// Costs with one least assignment: person i pays u_i + v_j, and more where it isn't given j.
+// Costs with only one least assignment: the cost of person i for object j is u_i + v_j if j is its
+// object there, and more otherwise.
 #[test]
 fn eight_persons(rt: HostRuntime) -> Result<(), Fail> {
     let costs = [
