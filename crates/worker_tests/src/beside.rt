@@ -1,5 +1,5 @@
-// Drawn orders of turns, leaves and stops beside plain workers, whose steps are calls of a book that
-// lies in no place.
+// Drawn orders of turns, leaves and stops, compared with plain workers, whose steps are calls of a
+// book outside a place.
 ghost use Rattle.std.specs.Prelude.{◌≡◌, length, true, IfSome, Some};
 ghost use Rattle.assign_core.specs.Numbered.{IsNumber};
 ghost use Rattle.assign_core.specs.Prices.{IsBelow};
@@ -16,7 +16,7 @@ use bidder::{Offer, make_bid};
 use std::alloc::{AllocError, Global};
 use std::sync::Wait;
 
-// What a worker has.
+// The state of a worker.
 #[derive(Drop)]
 struct Plain {
     number: u16,
@@ -25,7 +25,7 @@ struct Plain {
     accepted: u128,
     claim: Option<Claimed>,
     offer: Option<Offer>,
-    // Sessions in all, and since the table last became today's.
+    // The number of sessions, in all and since the table last caught up.
     sessions: u64,
     since: u64,
 }
@@ -69,7 +69,7 @@ fn is_at(book: &Book, plain: &Plain) -> bool
     0 < plain.number && plain.number <= book.workers()
 }
 
-// The offer of the person that the worker holds, from its table.
+// The offer of the worker's claimed person, from its table.
 fn offered(book: &Book, plain: &Plain) -> Option<Offer>
     ensures worker { IfSome result (λ offer. IsNumber (length book.now.claims) plain.now.number) }
     ensures below { IfSome result (λ offer. IsBelow plain.now.table (prices_of book.now)) }
@@ -104,7 +104,7 @@ fn is_low(book: &Book, offer: Option<Offer>) -> bool {
     }
 }
 
-// An offer of the person that the worker holds goes in.
+// Submits an offer of the worker's claimed person.
 fn submit(alloc: Global, book: &mut Book, plain: &Plain, offer: Offer) -> Result<(), AllocError>
     requires worker { IsNumber (length book.old.claims) plain.now.number }
     requires below { IsBelow plain.now.table (prices_of book.old) }
@@ -120,7 +120,7 @@ fn is_prepared(plain: &Plain, offer: &Offer) -> bool {
     }
 }
 
-// The prepared offer goes in. Whether it is the one that the worker's table gives.
+// Submits the prepared offer. Returns whether it is the one from the worker's table.
 fn hand_in(alloc: Global, book: &mut Book, plain: &Plain) -> Result<bool, AllocError> {
     let Some(offer) = offered(book, plain) else {
         return Ok(plain.offer.is_none());
@@ -130,7 +130,7 @@ fn hand_in(alloc: Global, book: &mut Book, plain: &Plain) -> Result<bool, AllocE
     Ok(same)
 }
 
-// The worker has today's prices from here on.
+// The worker has the current prices from here on.
 fn catch_up(alloc: Global, book: &mut Book, plain: &mut Plain) -> Result<(), AllocError> {
     plain.since = 0;
     plain.table = book.prices().copy(alloc)?;
@@ -141,7 +141,7 @@ fn catch_up(alloc: Global, book: &mut Book, plain: &mut Plain) -> Result<(), All
     Ok(())
 }
 
-// The worker claims, and prepares the offer of the person. A letter for the answer.
+// The worker claims a person and prepares its offer. Returns a letter for the answer.
 fn claim(book: &mut Book, plain: &mut Plain) -> u8 {
     if !is_at(book, plain) || book.claimed_by(plain.number).is_some() {
         return b'?';
@@ -157,7 +157,7 @@ fn claim(book: &mut Book, plain: &mut Plain) -> u8 {
     }
 }
 
-// A turn, and a letter for what came of it.
+// A turn, and a letter for its result.
 fn take_turn(
     alloc: Global,
     book: &mut Book,
@@ -175,7 +175,7 @@ fn take_turn(
     Ok(claim(book, plain))
 }
 
-// The worker gives its claim up. Whether it had one.
+// The worker gives its claim up. Returns whether it had one.
 fn give_up(book: &mut Book, plain: &mut Plain) -> bool {
     plain.offer = None;
     if is_at(book, plain) {
@@ -184,7 +184,7 @@ fn give_up(book: &mut Book, plain: &mut Plain) -> bool {
     plain.claim.is_some()
 }
 
-// A step, and a letter for what came of it. The worker is told its acceptances and its claim.
+// A step, and a letter for its result. Records the worker's acceptances and its claim.
 fn plain_step(
     alloc: Global,
     book: &mut Book,
@@ -248,7 +248,7 @@ impl Alike for Plain {
     }
 }
 
-// Who waits, in turn, once all claims are given up.
+// The persons who wait, in turn, once all claims are given up.
 fn queue_of(alloc: Global, book: &mut Book) -> Result<Vec<Person>, AllocError> {
     let mut queue = Vec::new(alloc);
     book.resume();
@@ -262,7 +262,7 @@ fn queue_of(alloc: Global, book: &mut Book) -> Result<Vec<Person>, AllocError> {
     Ok(queue)
 }
 
-// Whether the closed book of a place is that of plain workers, with who waits.
+// Whether the closed book of a place is that of plain workers, with the same persons waiting.
 fn is_left(alloc: Global, story: &mut Story, other: &mut Book) -> Result<bool, AllocError> {
     let Some(book) = &mut story.book else {
         return Ok(false);
@@ -275,7 +275,7 @@ fn is_left(alloc: Global, story: &mut Story, other: &mut Book) -> Result<bool, A
     Ok(queue.as_slice() == waiting.as_slice())
 }
 
-// What came of a script of plain workers, and they and their book after it.
+// The letters of a script of plain workers, and the workers and their book after it.
 #[derive(Drop)]
 struct PlainStory {
     came: Vec<u8>,
@@ -294,7 +294,7 @@ fn plain_story(
     Ok(PlainStory { came, plain, book })
 }
 
-// Whether a story of desks is that of plain workers. What came of it is added to what came before.
+// Whether a story of desks is that of plain workers. Adds its letters to the earlier ones.
 fn is_told(
     alloc: Global,
     story: &mut Story,
@@ -308,8 +308,8 @@ fn is_told(
     Ok(same && seated && left)
 }
 
-// Whether the desks of a place with this book are alike to plain workers with the other one in all that
-// they show once these steps were taken.
+// Whether the desks of a place with this book show the same after these steps as plain workers with
+// the other book.
 pub(crate) fn agrees<R: Wait>(
     rt: &R,
     alloc: Global,

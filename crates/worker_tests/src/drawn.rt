@@ -1,5 +1,5 @@
-// Drawn orders of turns beside the core's run of the same events, and of turns, leaves and stops beside
-// plain workers.
+// Drawn orders of turns, compared with the core's run of the same events; and of turns, leaves and
+// stops, compared with plain workers.
 ghost use Rattle.std.specs.Prelude.{◌≡◌, ◌<◌, ◌≤ℤ◌, length, IfOk};
 ghost use Rattle.std.specs.Arc.{arc_value};
 ghost use Rattle.assign_core.specs.Rows.{IsSize};
@@ -16,7 +16,7 @@ use std::sync::{Arc, Wait};
 use std::test::Fail;
 use test_helpers::{draw, drawn_pairs, drawn_prices, drawn_sense, scaled_of, size};
 
-// A turn; or now and then a leave, and seldom a stop.
+// A turn; sometimes a leave, and rarely a stop.
 fn drawn_step(seed: &mut u64, leaving: bool) -> u8 {
     if !leaving {
         return b't';
@@ -28,7 +28,7 @@ fn drawn_step(seed: &mut u64, leaving: bool) -> u8 {
     }
 }
 
-// A script of so many steps of some of these workers, at most nine: all of them turns, or not.
+// A script of `count` steps of some of these workers, at most nine: all of them turns, or not.
 fn drawn_script(
     alloc: Global,
     seed: &mut u64,
@@ -47,7 +47,7 @@ fn drawn_script(
     Ok(script)
 }
 
-// The events of the core that the sessions are of which a gate was told.
+// The core's events for the sessions that a gate saw.
 fn events_of(
     alloc: Global,
     heard: &[Heard],
@@ -71,7 +71,7 @@ fn events_of(
     Ok(events)
 }
 
-// What a worker has in another telling of the same steps.
+// The state of a worker in another run of the same steps.
 pub(crate) trait Alike {
     // Whether its desk shows the same.
     fn is_alike(&self, shown: &Shown) -> bool;
@@ -145,7 +145,7 @@ fn is_world(story: &Story, world: &World) -> bool {
     }
 }
 
-// Whether a story is the core's run of the events of which its gate was told.
+// Whether a story is the core's run of the events that its gate saw.
 fn is_run(
     alloc: Global,
     scaled: &Arc<Scaled>,
@@ -165,7 +165,7 @@ fn is_run(
     Ok(is_world(story, &world))
 }
 
-// Whether desks and book are those of the core's world once these turns were taken.
+// Whether desks and book are those of the core's world after these turns.
 fn agrees<R: Wait>(
     rt: &R,
     alloc: Global,
@@ -184,15 +184,15 @@ fn agrees<R: Wait>(
     is_run(alloc, scaled, prices, workers, refresh, &story)
 }
 
-// The script without so many of its last letters.
+// The script without its last `letters` letters.
 fn front_of(script: &[u8], letters: usize) -> &[u8] {
     script
         .get(..script.len().saturating_sub(letters))
         .unwrap_or(script)
 }
 
-// Whether desks and book are those of plain workers after a script, and after some of its fronts. What
-// came of the whole script is added to what came before.
+// Whether desks and book are those of plain workers after a script, and after some of its fronts.
+// Adds the letters of the whole script to the earlier ones.
 fn fronts_agree<R: Wait>(
     rt: &R,
     alloc: Global,
@@ -220,7 +220,7 @@ fn fronts_agree<R: Wait>(
     Ok(true)
 }
 
-// A problem at few different costs or at many.
+// A problem with few different costs or with many.
 fn drawn_problem(alloc: Global, seed: &mut u64, n: u16) -> Result<Arc<Scaled>, AllocError>
     requires { IsSize n }
     ensures { IfOk result (λ scaled. length (arc_value scaled).problem ≡ n) }
@@ -255,7 +255,7 @@ fn drawn_agrees<R: Wait>(
     }
 }
 
-// How many of so many drawn orders agree.
+// The number of drawn orders, of these, that agree.
 fn agreeing<R: Wait>(
     rt: &R,
     alloc: Global,
@@ -273,7 +273,7 @@ fn agreeing<R: Wait>(
     Ok(agreed)
 }
 
-// The same, and whether each of these letters came a hundred times.
+// The number of drawn orders that agree, and whether each of these letters came a hundred times.
 fn agreeing_with<R: Wait>(
     rt: &R,
     alloc: Global,
@@ -286,7 +286,7 @@ fn agreeing_with<R: Wait>(
     Ok((agreed, all_came(came.as_slice(), letters, 100)))
 }
 
-// Whether each of these letters came so often.
+// Whether each of these letters came at least `times` times.
 fn all_came(came: &[u8], letters: &str, times: usize) -> bool {
     letters.as_bytes().iter().all(|letter| came.iter().filter(|other| *other == letter).count()
         >= times)

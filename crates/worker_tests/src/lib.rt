@@ -1,4 +1,4 @@
-//! Tests of a book that workers share: turns from one thread, and threads of workers.
+//! Tests of a book that workers share: turns in one thread, and threads of workers.
 #![tactic(auto)]
 
 #[cfg(test)]

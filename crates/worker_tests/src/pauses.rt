@@ -1,4 +1,4 @@
-// The pauses of a worker that finds nobody to claim, one after the other.
+// The pauses of a worker without a person to claim, one after the other.
 use async_workers::{FIRST_PAUSE, Pause};
 use std::test::Fail;
 use std::thread::Parker;

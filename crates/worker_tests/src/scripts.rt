@@ -17,7 +17,7 @@ use std::alloc::{AllocError, Global};
 use std::cell::RefCell;
 use std::sync::{Arc, Wait};
 
-// What a desk does next.
+// The next step of a desk.
 #[derive(Clone, Copy)]
 pub(crate) enum Step {
     Turn,
@@ -25,7 +25,7 @@ pub(crate) enum Step {
     AskStop,
 }
 
-// What a gate is told.
+// What a gate sees.
 #[derive(Clone, Copy)]
 pub(crate) enum Heard {
     Offer(u16),
@@ -33,7 +33,7 @@ pub(crate) enum Heard {
     Session(u16, Note),
 }
 
-// A gate that keeps what it is told.
+// A gate that keeps what it sees.
 #[derive(Drop)]
 struct Listener {
     heard: RefCell<Vec<Heard>>,
@@ -93,7 +93,7 @@ fn all_shown(alloc: Global, desks: &[Desk]) -> Result<Vec<Shown>, AllocError> {
     Ok(all)
 }
 
-// What came of a script: its letters, what the gate was told, what the desks showed, and the book of
+// The result of a script: its letters, what the gate saw, what the desks showed, and the book of
 // the closed place.
 #[derive(Drop)]
 pub(crate) struct Story {
@@ -103,7 +103,7 @@ pub(crate) struct Story {
     pub book: Option<Book>,
 }
 
-// The script of the desks of a place with this book.
+// The result of the script for the desks of a place with this book.
 pub(crate) fn played<R: Wait>(
     rt: &R,
     alloc: Global,
@@ -157,7 +157,7 @@ pub(crate) fn opened<R: Wait>(
     open_place(rt, alloc, book)
 }
 
-// A letter for what a turn answers.
+// A letter for the answer of a turn.
 fn letter_of(answer: Result<Turn, TurnFault>) -> u8 {
     match answer {
         Ok(Turn::Claimed) => b'C',
@@ -169,7 +169,7 @@ fn letter_of(answer: Result<Turn, TurnFault>) -> u8 {
     }
 }
 
-// One step of a desk, and a letter for what came of it: y and n where a claim was left or was not.
+// One step of a desk, and a letter for its result: y if it left a claim, n if it had none.
 fn one_step<R: Wait, G: Gate>(
     rt: &R,
     alloc: Global,
@@ -230,7 +230,7 @@ pub(crate) fn run_script<R: Wait, G: Gate>(
     Ok((desks, came))
 }
 
-// The book of a place, once its desks have been closed.
+// The book of a place after its desks are closed.
 fn closed<R: Wait>(rt: &R, place: BookPlace, desks: Vec<Desk>) -> Option<Book>
     requires { All (CanTurn place) desks.items }
 {
@@ -240,7 +240,7 @@ fn closed<R: Wait>(rt: &R, place: BookPlace, desks: Vec<Desk>) -> Option<Book>
     Some(close_place(rt, place, desks))
 }
 
-// All claims of a book are given up.
+// Gives up all claims of a book.
 pub(crate) fn give_all_up(book: &mut Book) {
     for worker in 0..book.workers() {
         if worker < book.workers() {
@@ -249,7 +249,7 @@ pub(crate) fn give_all_up(book: &mut Book) {
     }
 }
 
-// The person whom a worker of a book claims next.
+// The person that a worker of a book claims next.
 pub(crate) fn next_person(book: &mut Book, worker: u16) -> Option<Person>
     requires { 0 < worker }
 {

@@ -1,4 +1,4 @@
-// Worked problems under gates that hold workers back, and drawn ones beside a search of all
+// Worked problems under gates that hold workers back, and drawn ones, compared with a search of all
 // assignments.
 use assign_core::{Cost, Outcome, Price, Sense};
 use async_workers::{Gate, Note, OpenGate, Standing, Tally, solve_workers};
@@ -13,8 +13,8 @@ use test_helpers::{
     Pair, best_cost, cost_of, dense, draw, drawn_pairs, drawn_sense, numbers_of, scaled_of, size,
 };
 
-// What became of a run: the objects and prices, or the persons and objects of a Hall set; and how
-// many bids of each worker were accepted.
+// The result of a run: the objects and prices, or the persons and objects of a Hall set; and the
+// number of accepted bids of each worker.
 #[derive(Drop)]
 enum Seen {
     Best(Vec<u16>, Vec<Price>, Vec<u128>),
@@ -44,7 +44,7 @@ fn told(alloc: Global, outcome: &Outcome, tallies: &[Tally]) -> Result<Seen, All
     }
 }
 
-// What these workers come to.
+// The result of these workers.
 fn solved<G: Gate + Sync, R: Threads + Wait + Sync>(
     rt: &R,
     alloc: Global,
@@ -62,7 +62,7 @@ fn solved<G: Gate + Sync, R: Threads + Wait + Sync>(
     }
 }
 
-// What workers come to on a dense problem, under `Min`.
+// The result of workers on a dense problem, under `Min`.
 fn dense_solved<G: Gate + Sync, R: Threads + Wait + Sync>(
     rt: &R,
     alloc: Global,
@@ -86,11 +86,12 @@ fn dense_solved<G: Gate + Sync, R: Threads + Wait + Sync>(
 }
 
 // ---- gates
-// So many turns a gate holds a worker at most.
+// The most turns for which a gate holds a worker.
 const TURNS: u32 = 1_000_000;
 
-// Holds the first offers, and where `waiting` is above 0 the first submissions, until as many workers
-// have reached theirs; and then that of worker 1 until worker 2 was told so many acceptances.
+// Holds the first offers, and if `waiting` is above 0 the first submissions, until this many
+// workers have reached theirs; and then that of worker 1 until worker 2 has seen this many
+// acceptances.
 #[derive(Drop)]
 struct Holding {
     workers: u64,
@@ -120,7 +121,7 @@ fn is_first(reached: &AtomicU64, worker: u16) -> bool {
     reached.fetch_or(bit, Ordering::SeqCst) & bit == 0
 }
 
-// Waits, but not for ever, until `reached` has so many bits, or is so great.
+// Waits, for at most `TURNS` turns, until `reached` has this many bits or is at least this great.
 fn hold(reached: &AtomicU64, least: u64, bits: bool, late: &AtomicU64) {
     for _ in 0..TURNS {
         let now = reached.load(Ordering::SeqCst);
@@ -168,7 +169,7 @@ impl Gate for Holding {
     }
 }
 
-// Holds each worker after its first session until the other one was told of one.
+// Holds each worker after its first session until the other one has finished one.
 #[derive(Drop)]
 struct Telling {
     told: AtomicU64,
@@ -187,8 +188,8 @@ impl Gate for Telling {
     }
 }
 
-// Follows a run of one worker: what it was told last, the bids that it heard were accepted, and whether it was told
-// something that can't come after what it was told before.
+// Follows a run of one worker: its last report, the number of acceptances that it saw, and whether
+// a report was impossible after the one before.
 #[derive(Drop)]
 struct Following {
     sessions: AtomicU64,
@@ -240,7 +241,8 @@ impl Gate for Following {
 }
 
 // ---- worked problems
-// Costs with one least assignment: person i pays u_i + v_j, and more where it isn't given j.
+// Costs with only one least assignment: the cost of person i for object j is u_i + v_j if j is its
+// object there, and more otherwise.
 const EIGHT: [Cost; 64] = [
     14, 20, 22, 28, 34, 40, 46, 48, 8, 14, 21, 24, 31, 34, 41, 44, 18, 22, 26, 29, 38, 42, 46, 50,
     10, 15, 20, 25, 30, 35, 40, 44, 15, 18, 27, 29, 35, 41, 47, 49, 10, 13, 20, 23, 30, 33, 37, 43,
@@ -250,7 +252,7 @@ const EIGHT: [Cost; 64] = [
 // The objects of their one least assignment.
 const LEAST_OF_EIGHT: [u16; 8] = [3, 1, 4, 8, 2, 7, 5, 6];
 
-// Whether some workers give these to the eight persons.
+// Whether some workers give these objects to the eight persons.
 fn eight<G: Gate + Sync, R: Threads + Wait + Sync>(
     rt: &R,
     alloc: Global,
@@ -277,7 +279,7 @@ fn number_at(place: &AtomicU64) -> u64 {
     place.load(Ordering::SeqCst)
 }
 
-// The acceptances of a run of one worker that found an assignment.
+// The acceptances of a run of one worker, if it found an assignment.
 fn accepted_by_one(seen: &Seen) -> Option<u128> {
     match seen {
         Seen::Best(_, _, accepted) if accepted.len() == 1 => accepted.first().copied(),
@@ -285,8 +287,8 @@ fn accepted_by_one(seen: &Seen) -> Option<u128> {
     }
 }
 
-// The acceptances of one worker on the eight persons, those that were told last, and those that it heard; the last
-// phase, slackness and number of assigned persons; and 1 where something was told that can't be.
+// One worker on the eight persons: its acceptances, those last reported, and those that the gate
+// saw; the last phase, slackness and number of assigned persons; and 1 if a report was impossible.
 fn followed<R: Threads + Wait + Sync>(
     rt: &R,
     alloc: Global,
@@ -312,8 +314,8 @@ fn one_worker_is_followed(rt: HostRuntime) -> Result<(), Fail> {
     Ok(())
 }
 
-// Whether eight workers whose first offers are held find the least assignment, whether one was held too long, and how
-// many there were.
+// Whether eight workers whose first offers are held find the least assignment, whether one was held
+// too long, and the number of workers.
 fn eight_at_once<R: Threads + Wait + Sync>(
     rt: &R,
     alloc: Global,
@@ -347,8 +349,9 @@ fn is_wanted(seen: &Seen, wanted: Wanted) -> bool {
         && accepted.as_slice() == wanted.accepted
 }
 
-// Whether two workers that never catch up by themselves come to what is wanted, where worker 1 is held until worker 2
-// was told so many acceptances; how many bids were refused at price 1; and whether one was held too long.
+// Whether two workers that never catch up by themselves get the expected result, if worker 1 is
+// held until worker 2 has seen this many acceptances; the number of bids refused at price 1; and
+// whether one was held too long.
 fn stale_bid<R: Threads + Wait + Sync>(
     rt: &R,
     alloc: Global,
@@ -363,8 +366,8 @@ fn stale_bid<R: Threads + Wait + Sync>(
     Ok((is_wanted(&seen, wanted), refused, late))
 }
 
-// Whether two workers that wait for each other find the least assignment, how many were told of a session, and whether
-// one was held too long.
+// Whether two workers that wait for each other find the least assignment, the number of workers
+// that finished a session, and whether one was held too long.
 fn eight_told<R: Threads + Wait + Sync>(
     rt: &R,
     alloc: Global,
@@ -409,7 +412,7 @@ fn stale_bid_accepted(rt: HostRuntime) -> Result<(), Fail> {
     Ok(())
 }
 
-// Whether workers find on these pairs that these persons list these objects alone.
+// Whether workers find on these pairs that these persons list only these objects.
 fn is_hall<R: Threads + Wait + Sync>(
     rt: &R,
     alloc: Global,
@@ -437,8 +440,8 @@ fn three_persons_and_no_assignment(rt: HostRuntime) -> Result<(), Fail> {
 }
 
 // ---- drawn problems
-// A problem of at most eight persons, of which each may list some objects or all. Few are the
-// greatest, since the search that they are compared with tries all assignments.
+// A problem of at most eight persons, each of which may list some objects or all. The greatest are
+// few, since the search that they are compared with tries all assignments.
 fn drawn(alloc: Global, seed: &mut u64) -> Result<(u16, Vec<Pair>), AllocError> {
     let n = draw(seed, 8).min(draw(seed, 8)) + 1;
     let share = draw(seed, 4) + 1;
@@ -446,7 +449,7 @@ fn drawn(alloc: Global, seed: &mut u64) -> Result<(u16, Vec<Pair>), AllocError> 
     Ok((n, drawn_pairs(alloc, seed, n, share, costs)?))
 }
 
-// Whether workers agree with a search of all assignments on a problem that is drawn.
+// Whether workers agree with a search of all assignments on a drawn problem.
 fn agrees<R: Threads + Wait + Sync>(
     rt: &R,
     alloc: Global,
@@ -475,7 +478,7 @@ fn agrees<R: Threads + Wait + Sync>(
     }
 }
 
-// How many of so many problems drawn from a seed agree.
+// The number of problems, of these drawn from a seed, that agree.
 fn agreeing<R: Threads + Wait + Sync>(
     rt: &R,
     alloc: Global,

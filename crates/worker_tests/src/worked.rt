@@ -17,8 +17,8 @@ use test_helpers::{Pair, first_prices, numbers_of, scaled_of};
 
 const PAIRS: [Pair; 4] = [(1, 1, 1), (1, 2, 2), (2, 1, 3), (2, 2, 5)];
 
-// What is to come of a script: its letters, what the gate is told, and the prices, the acceptances and
-// the claims of the book in the end.
+// The expected result of a script: its letters, what the gate sees, and the final prices,
+// acceptances and claims of the book.
 #[derive(Clone, Copy)]
 struct Wanted {
     came: &'static str,
@@ -53,8 +53,8 @@ fn digit(number: u64) -> u8 {
     (number % 10) as u8 + b'0'
 }
 
-// The worker's number and o for an offer, s and the sessions before a submission, and after a session
-// a sign for what was told.
+// The worker's number, and o for an offer, s and the number of sessions before a submission, and
+// after a session a sign for its note.
 fn letters_of(alloc: Global, heard: &[Heard]) -> Result<Vec<u8>, AllocError> {
     let mut letters = Vec::new(alloc);
     for told in heard {
@@ -86,7 +86,7 @@ fn sign_of(note: Note) -> u8 {
     }
 }
 
-// The persons whom workers 1, 2, .. of a book hold.
+// The persons that workers 1, 2, .. of a book hold.
 fn held_by(alloc: Global, book: &Book) -> Result<Vec<u16>, AllocError> {
     let mut held = Vec::new(alloc);
     for worker in 0..book.workers() {
@@ -99,7 +99,7 @@ fn held_by(alloc: Global, book: &Book) -> Result<Vec<u16>, AllocError> {
     Ok(held)
 }
 
-// How many bids of workers 1, 2, .. a book has accepted.
+// The number of bids of workers 1, 2, .. that a book has accepted.
 fn accepted_by(alloc: Global, book: &Book) -> Result<Vec<u128>, AllocError> {
     let mut accepted = Vec::new(alloc);
     for worker in 0..book.workers() {
@@ -108,7 +108,7 @@ fn accepted_by(alloc: Global, book: &Book) -> Result<Vec<u128>, AllocError> {
     Ok(accepted)
 }
 
-// What of a story isn't as it is to be, if anything.
+// The part of a story that isn't as expected, if there is one.
 fn fault_of(alloc: Global, story: &Story, wanted: &Wanted) -> Result<&'static str, AllocError> {
     let heard = letters_of(alloc, story.heard.as_slice())?;
     if story.came.as_slice() != wanted.came.as_bytes() {
@@ -141,7 +141,7 @@ fn book_fault_of(
     }
 }
 
-// What of these wants a script doesn't meet, if anything.
+// The expectation that a script doesn't meet, if there is one.
 fn fault<R: Wait>(
     rt: &R,
     alloc: Global,
@@ -193,8 +193,8 @@ fn an_old_table_is_told_the_price(rt: HostRuntime) -> Result<(), Fail> {
     Ok(())
 }
 
-// Whom worker 1 claims next from the book of the closed place once all claims are given up, and whether
-// that is all that workers hold then.
+// The person that worker 1 claims next from the book of the closed place after all claims are given
+// up, and whether this is then the only claim.
 fn claimed_anew<R: Wait>(
     rt: &R,
     alloc: Global,
@@ -228,7 +228,7 @@ fn a_claim_outlives_its_place(rt: HostRuntime) -> Result<(), Fail> {
     Ok(())
 }
 
-// What is seen of a book of two objects.
+// What a test sees of a book of two objects.
 #[derive(Clone, Copy)]
 struct Found {
     prices: [Price; 2],
@@ -273,7 +273,7 @@ fn prices_found<R: Wait>(
     Some((own, prices))
 }
 
-// The same after a script of one desk.
+// The table and the prices found after a script of one desk.
 fn prices_after<R: Wait>(
     rt: &R,
     alloc: Global,
@@ -292,8 +292,8 @@ fn the_next_book_has_the_own_raise(rt: HostRuntime) -> Result<(), Fail> {
     Ok(())
 }
 
-// A desk's turns up to the one that ends its run: whether there was a fault, the sessions, and the
-// book found then.
+// A desk's turns up to the one that ends its run: whether there was a fault, the number of
+// sessions, and the book found then.
 fn run_of<R: Wait>(rt: &R, alloc: Global, place: &BookPlace, desk: &mut Desk) -> (bool, u64, Found)
     requires { CanTurn place.now desk.old }
 {
@@ -351,7 +351,7 @@ fn a_worker_takes_no_more_turns_after_a_stop(rt: HostRuntime) -> Result<(), Fail
     Ok(())
 }
 
-// The objects of a best assignment, and none of another outcome.
+// The objects of an optimal assignment, and none of another outcome.
 fn objects_given(alloc: Global, outcome: &Outcome) -> Result<Vec<u16>, AllocError> {
     match outcome {
         Outcome::Best(certificate) => numbers_of(alloc, certificate.assignment.objects()),
