@@ -16,7 +16,7 @@ const SOLVE_HELP: &str =
 
 const VERIFY_HELP: &str = "Read a problem from standard input, and check a report on it";
 
-// None of these are answered as refused memory, which no clause rules out.
+// None of these end in refused memory, which no clause rules out.
 #[test]
 fn lines_that_are_taken(rt: HostRuntime) -> Result<(), Fail> {
     let slack = "not verified: slack of person 1 at object 3";
@@ -124,7 +124,7 @@ fn lines_that_are_refused(rt: HostRuntime) -> Result<(), Fail> {
 
 const FILE_HINT: &[u8] = b"\n\nTo read the problem from a file, write '--input' before its name.\n";
 
-// The option is named beneath clap's words where one of the words may be the problem's file.
+// A hint at the option follows clap's words if one of the words may be the problem's file.
 #[test]
 fn a_file_without_its_option(rt: HostRuntime) -> Result<(), Fail> {
     for (line, is_hinted) in [
@@ -146,7 +146,7 @@ fn a_file_without_its_option(rt: HostRuntime) -> Result<(), Fail> {
     Ok(())
 }
 
-// How long the longest line is.
+// The length of the longest line.
 fn width(text: &[u8]) -> usize {
     let (mut most, mut columns) = (0usize, 0usize);
     for byte in text {

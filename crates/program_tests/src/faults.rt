@@ -1,4 +1,4 @@
-// Runs that fail, with the lines and the statuses that they are to give.
+// Runs that fail, with their expected lines and statuses.
 use crate::watched::{assert_told, leaves, run_on, run_with, watched_run, whole_devices};
 use assign_core::{Object, Person};
 use auction_command::{CliFault, NoWords, status_of};
@@ -62,7 +62,7 @@ fn input_that_fails(rt: HostRuntime) -> Result<(), Fail> {
     Ok(())
 }
 
-// The report is opened before the problem is read, and read behind it.
+// The report is opened before the problem is read, and read after it.
 #[test]
 fn reports_that_cannot_be_read(rt: HostRuntime) -> Result<(), Fail> {
     let alloc = rt.alloc();
@@ -96,7 +96,7 @@ fn reports_that_cannot_be_read(rt: HostRuntime) -> Result<(), Fail> {
     Ok(())
 }
 
-// Whether a run with room for these bytes alone writes just them, and tells that the write failed.
+// Whether a run with room for only these bytes writes just them, and reports that the write failed.
 fn is_cut_off(
     rt: &(impl Threads + Wait + Sync),
     alloc: Global,
@@ -116,7 +116,7 @@ fn is_cut_off(
     Ok(leaves(&seen, 4, front, b"device: write failed\n"))
 }
 
-// With room for each count of bytes that is less than the text has, just its beginning goes out.
+// With room for fewer bytes than the text has, just its beginning is written.
 fn assert_cut_off(
     rt: &(impl Threads + Wait + Sync + Abort + AllocGlobal),
     line: &str,
@@ -149,7 +149,8 @@ fn output_that_fails(rt: HostRuntime) -> Result<(), Fail> {
     assert_cut_off(&rt, "--help", b"Solve as")
 }
 
-// Whether a run with room for these bytes alone on standard error tells just them, and ends as it would have.
+// Whether a run with room for only these bytes on standard error writes just them, and has this
+// status.
 fn is_told_in_part(
     rt: &(impl Threads + Wait + Sync),
     alloc: Global,
@@ -163,7 +164,7 @@ fn is_told_in_part(
     Ok(leaves(&seen, status, b"", front) && !seen.whole)
 }
 
-// Where standard error fails, the status is what it would have been.
+// If standard error fails, the status stays the same.
 #[test]
 fn errors_that_fail(rt: HostRuntime) -> Result<(), Fail> {
     let table: [(&str, u8, &[u8]); 4] = [

@@ -1,4 +1,4 @@
-// What a gate is told of a run by one worker.
+// What a gate sees of a run by one worker.
 use assign_core::Sense;
 use async_workers::{Gate, Note, Standing};
 use auction_command::{Ended, Mode, SolveOpts, run_solve};
@@ -9,8 +9,8 @@ use std::test::Fail;
 use std::thread::Threads;
 use test_helpers::{ample_writer, whole_text};
 
-// How often it was told of an offer, of a submission and of a refused bid, and how many persons had
-// an object in the end.
+// Counts the offers, the submissions and the refused bids, and keeps the last number of assigned
+// persons.
 #[derive(Drop)]
 struct Counting {
     offers: AtomicU64,
@@ -40,8 +40,8 @@ impl Gate for Counting {
     }
 }
 
-// What such a gate is told while one worker solves three persons at equal costs: offers, submissions,
-// refused bids and assigned persons; nothing where there is no best assignment.
+// What this gate sees while one worker solves three persons at equal costs: offers, submissions,
+// refused bids and assigned persons; `None` without an optimal assignment.
 fn told(rt: &(impl Threads + Wait + Sync), alloc: Global, refresh: u64) -> Option<[u64; 4]> {
     let gate = Counting {
         offers: AtomicU64::new(0),
@@ -71,8 +71,9 @@ fn told(rt: &(impl Threads + Wait + Sync), alloc: Global, refresh: u64) -> Optio
     }
 }
 
-// A worker that refreshes after each session never bids too low. One that does so after such bids alone
-// bids for object 1 again where it has raised its price: twice more than the three bids that are taken.
+// A worker that refreshes after each session never bids too low. One that refreshes only after a
+// low bid bids for object 1 again after raising its price: two bids more than the three accepted
+// ones.
 #[test]
 fn bids_by_refresh(rt: HostRuntime) -> Result<(), Fail> {
     assert_eq!(rt; told(&rt, rt.alloc(), 1), Some([3, 3, 0, 3]));

@@ -1,4 +1,4 @@
-// Runs whose problem lies in a file that the words name.
+// Runs whose problem is in a file that the words name.
 use crate::watched::{Seen, assert_reported, assert_told, run_on, whole_devices};
 use std::alloc::{AllocError, Global};
 use std::process::Abort;
@@ -7,14 +7,14 @@ use std::test::Fail;
 use std::thread::Threads;
 use test_helpers::whole_text;
 
-// A problem on standard input, which such a run leaves alone.
+// A problem on standard input, which these runs don't read.
 const STANDARD: &[u8] = b"1 7";
 
 const PROBLEM: &[u8] = b"2 1 2 3 5";
 
 const REPORT: &[u8] = b"sense min\ncost 5\nassign 1 2 2\nassign 2 1 3\nprice 1 14\nprice 2 12\n";
 
-// A run with the words of a line beside such a file, all in pieces of at most so many bytes.
+// A run with the words of a line and this file, all in pieces of at most `most` bytes.
 fn run_on_file(
     rt: &(impl Threads + Wait + Sync),
     alloc: Global,
@@ -57,7 +57,7 @@ fn problems_in_files(rt: HostRuntime) -> Result<(), Fail> {
     Ok(())
 }
 
-// The report is opened first, then the problem's file, and nothing is read before.
+// The report is opened first, then the problem's file; nothing is read before.
 #[test]
 fn files_that_cannot_be_read(rt: HostRuntime) -> Result<(), Fail> {
     let no_report = "device: cannot open the report\n";

@@ -9,7 +9,8 @@ use std::thread::Threads;
 // The report with prices on two persons.
 const TWO: &[u8] = b"sense min\ncost 5\nassign 1 2 2\nassign 2 1 3\nprice 1 14\nprice 2 12\n";
 
-// Each has one answer but for its prices; the options of the auction are read and not used.
+// Each has only one answer, except for its prices; the options of the auction are read and not
+// used.
 #[test]
 fn reports_by_paths(rt: HostRuntime) -> Result<(), Fail> {
     let table: [(&str, &[u8], u8, &str); 8] = [

@@ -1,4 +1,5 @@
-// Both modes, on problems whose reports, or what is compared of them, are the same for any threads.
+// Both modes, on problems whose reports, or the compared parts of them, are the same for any
+// threads.
 use crate::watched::{Seen, assert_words_refused, run_with};
 use assign_core::Sense;
 use async_workers::{Gate, Note};
@@ -33,11 +34,12 @@ const MODES: [&str; 6] = [
     "--refresh=1000 --workers=2 --mode=workers",
 ];
 
-// A problem under some options, a report for `--start`, and the status and the beginning of the
-// report that is written.
+// A problem with some options, a report for `--start`, and the expected status and beginning of the
+// report.
 type Worked = (&'static str, &'static [u8], &'static [u8], u8, &'static str);
 
-// The run wrote a report that starts so, told nothing, and ended with this status.
+// The run wrote a report with this beginning, nothing on standard error, and ended with this
+// status.
 fn assert_starts(rt: &impl Abort, seen: &Seen, status: u8, start: &str) {
     let begins = seen.out.as_slice().starts_with(start.as_bytes());
     assert!(rt;
@@ -64,7 +66,7 @@ fn reports_in_both_modes(rt: HostRuntime) -> Result<(), Fail> {
             0,
             "sense min\ncost 5\nassign 1 2 2\nassign 2 1 3\n",
         ),
-        // All alike: which object is whose is open.
+        // All costs are equal: any assignment is optimal.
         (
             "solve --max --prices",
             b"3 2 2 2 2 2 2 2 2 2",
@@ -155,7 +157,7 @@ fn refused_modes(rt: HostRuntime) -> Result<(), Fail> {
 }
 
 // Holds each worker's first offer until both have reached theirs, likewise each first bid, and then
-// worker 1 until worker 2 was told that its bid is accepted.
+// worker 1 until worker 2 has seen that its bid is accepted.
 #[derive(Drop)]
 struct Holding {
     offers: AtomicU64,
@@ -166,7 +168,7 @@ struct Holding {
 }
 
 impl Holding {
-    // Waits until all of these bits are set, but for a million turns at most.
+    // Waits until all of these bits are set, for at most a million turns.
     fn hold(&self, reached: &AtomicU64, bits: u64) {
         for _ in 0..1_000_000 {
             if reached.load(Ordering::SeqCst) & bits == bits {
@@ -210,7 +212,7 @@ impl Gate for Holding {
     }
 }
 
-// The report of two workers on four equal costs, who are held so, if it is on a best assignment.
+// The report of two workers on four equal costs, with this gate, if it is on an optimal assignment.
 fn report_of_two(
     rt: &(impl Threads + Wait + Sync),
     alloc: Global,
@@ -232,12 +234,14 @@ fn report_of_two(
     }
 }
 
-// The workers whose bids were accepted, those whose bids were refused, and whether one was held in vain.
+// The workers whose bids were accepted, those whose bids were refused, and whether one was held too
+// long.
 fn told_workers(gate: &Holding) -> [u64; 3] {
     [&gate.accepted, &gate.refused, &gate.late].map(|bits| bits.load(Ordering::SeqCst))
 }
 
-// Both bid for the first object at 1; worker 2 gets it, and worker 1 bids for the other one at 2.
+// Both bid for the first object at 1; worker 2 gets it, and worker 1 bids for the other object at
+// 2.
 #[test]
 fn stale_bid_refused(rt: HostRuntime) -> Result<(), Fail> {
     let gate = Holding {

@@ -1,4 +1,4 @@
-// What a watch is told of a run, and the lines that a teller makes of it.
+// What a watch sees of a run, and the progress lines.
 use assign_core::Sense;
 use async_workers::OpenGate;
 use auction_command::{
@@ -12,7 +12,7 @@ use std::test::Fail;
 use std::thread::Threads;
 use test_helpers::{ample_writer, whole_text};
 
-// Follows a run: what it was told last and how often, and whether it was told something that can't be.
+// Follows a run: its last reports, how often they came, and whether one was impossible.
 #[derive(Drop)]
 struct Follower {
     bytes: AtomicU64,
@@ -42,7 +42,7 @@ fn new_follower() -> Follower {
     }
 }
 
-// The number there.
+// The value of a counter.
 fn seen(number: &AtomicU64) -> u64 {
     number.load(Ordering::SeqCst)
 }
@@ -107,7 +107,8 @@ const WAR: &[u8] = b"3 1 1 1 1 1 1 1 1 1";
 const FAR: &[u8] =
     b"sense min\ncost 3\nassign 1 1 1\nassign 2 2 1\nassign 3 3 1\nprice 1 0\nprice 2 0\nprice 3 5000\n";
 
-// Whether a run that is followed writes such a report and ends well, and was told nothing that can't be.
+// Whether a followed run writes a report on an optimal assignment and ends well, without an
+// impossible report.
 fn follows(
     rt: &(impl Threads + Wait + Sync),
     alloc: Global,
@@ -145,8 +146,8 @@ fn follows(
         && !follower.wrong.load(Ordering::SeqCst)
 }
 
-// How often such a run told of rounds, of sessions and of paths, and the last phase, how many phases there are and the
-// last slackness, if it is followed as it should be.
+// How often a run reported rounds, sessions and paths; and the last phase, the number of phases and
+// the last slackness; if it passes `follows`.
 fn told_of(
     rt: &(impl Threads + Wait + Sync),
     alloc: Global,
@@ -166,7 +167,8 @@ fn told_of(
     ))
 }
 
-// The spread is 12, three times that of the costs, so the phases have slackness 2 and 1; each is told once.
+// The spread is 12, three times that of the costs, so the phases have slackness 2 and 1; each is
+// reported once.
 #[test]
 fn each_phase_is_told(rt: HostRuntime) -> Result<(), Fail> {
     let (mode, method) = (Mode::Rounds, Method::Auction);
@@ -175,12 +177,13 @@ fn each_phase_is_told(rt: HostRuntime) -> Result<(), Fail> {
     Ok(())
 }
 
-// Whether each count is 0 where the least is, and at least that elsewhere.
+// Whether each count is 0 where the least is 0, and at least the least elsewhere.
 fn is_told(counts: [u64; 3], least: [u64; 3]) -> bool {
     counts.iter().zip(&least).all(|(count, least)| (*count == 0) == (*least == 0) && count >= least)
 }
 
-// Rounds are told now and then, each session of the workers counts, and paths are told in place of both.
+// Rounds are reported now and then, each session of the workers counts, and paths are reported in
+// place of both.
 #[test]
 fn long_runs_are_told(rt: HostRuntime) -> Result<(), Fail> {
     let table: [(Option<&[u8]>, Mode, Method, [u64; 3]); 3] = [
@@ -198,7 +201,8 @@ fn long_runs_are_told(rt: HostRuntime) -> Result<(), Fail> {
     Ok(())
 }
 
-// A clock that goes on by a step each time it is asked, and a screen that takes so many texts and then fails.
+// A clock that moves on by a step each time it is read, and a screen that takes `most` texts and
+// then fails.
 #[derive(Drop)]
 struct Screen<'a> {
     time: AtomicU64,
@@ -224,7 +228,7 @@ impl Console for Screen<'_> {
     }
 }
 
-// A screen whose clock goes on by so many milliseconds a look, and which takes so many texts.
+// A screen whose clock moves on by `step` milliseconds at each look, and which takes `most` texts.
 fn new_screen(written: &RefCell<Vec<u8>>, step: u64, most: u64) -> Screen<'_> {
     Screen {
         time: AtomicU64::new(7),
@@ -235,7 +239,7 @@ fn new_screen(written: &RefCell<Vec<u8>>, step: u64, most: u64) -> Screen<'_> {
     }
 }
 
-// What some news of each kind leave on a screen.
+// What some reports of each kind leave on a screen.
 fn told(alloc: Global, step: u64, most: u64, in_place: bool, asked: bool, ends: bool) -> Vec<u8> {
     let written = RefCell::new(Vec::new(alloc));
     let teller = Teller::new(new_screen(&written, step, most), in_place, false);
@@ -267,12 +271,12 @@ progress: phase 3 of 8, 812 of 1000 persons, 128 sessions, 99 bids, 2.4 s
 progress: shortest paths, 731 of 1000 persons, 3.0 s
 ";
 
-// The third and the fifth: no two lines come within half a second.
+// The third and the fifth report: two lines are at least half a second apart.
 const SOME: &str = "progress: phase 3 of 8, slackness 125, 812 of 1000 persons, 0.6 s
 progress: phase 3 of 8, 812 of 1000 persons, 128 sessions, 99 bids, 1.2 s
 ";
 
-// Ten seconds after the first news of an auction its lines say what may be faster.
+// Ten seconds after the first report of an auction its lines say what may be faster.
 const SLOW: &str = "progress: 12.3 MB read, 6.0 s
 progress: phase 3 of 8, slackness 125, 812 of 1000 persons, 12.0 s
 progress: phase 3 of 8, 812 of 1000 persons, 64 sessions, 50 bids, 18.0 s
@@ -295,7 +299,7 @@ fn lines_on_a_file(rt: HostRuntime) -> Result<(), Fail> {
     Ok(())
 }
 
-// The shorter line covers what stands behind it of the longer one.
+// The shorter line covers the rest of the longer one.
 const LEFT: &str = "\rphase 3 of 8, 812 of 1000 persons, 128 sessions, 99 bids, 2.4 s\
     \rshortest paths, 731 of 1000 persons, 3.0 s                     ";
 
@@ -304,7 +308,7 @@ const ERASED: &str = "\rphase 3 of 8, 812 of 1000 persons, 128 sessions, 99 bids
     \rshortest paths, 731 of 1000 persons, 3.0 s                     \
     \r                                          \r";
 
-// Unasked, the first line comes after two seconds.
+// By default, the first line comes after two seconds.
 #[test]
 fn lines_on_a_terminal(rt: HostRuntime) -> Result<(), Fail> {
     for (ends, wanted) in [(false, LEFT), (true, ERASED)] {
@@ -314,7 +318,7 @@ fn lines_on_a_terminal(rt: HostRuntime) -> Result<(), Fail> {
     Ok(())
 }
 
-// What a long auction leaves on a screen whose clock goes on by ten seconds a look.
+// What a long auction leaves on a screen whose clock moves on by ten seconds at each look.
 fn long_auction(alloc: Global, in_place: bool) -> Vec<u8> {
     let written = RefCell::new(Vec::new(alloc));
     let teller = Teller::new(new_screen(&written, 10_000, 9), in_place, false);
@@ -337,7 +341,7 @@ const LONG: &str = "progress: phase 3 of 8, slackness 125, 812 of 1000 persons, 
 progress: phase 3 of 8, slackness 125, 812 of 1000 persons, 20.0 s; --method paths may be faster
 ";
 
-// On a terminal there is no room for all figures.
+// A terminal has no room for all figures.
 const LONG_IN_PLACE: &str = "\rphase 3 of 8, slackness 125, 812 of 1000 persons, 10.0 s\
     \rphase 3 of 8, 812 of 1000 persons, 20.0 s; --method paths may be faster\
     \r                                                                       \r";
@@ -354,7 +358,7 @@ fn a_long_auction_is_told_what_is_faster(rt: HostRuntime) -> Result<(), Fail> {
 const WAITING: &str =
     "waiting for a problem on standard input; Ctrl-D ends it, --input names a file\n";
 
-// A run whose problem is to be typed says so where somebody sees it.
+// A run that waits for a typed problem says so where a person can see it.
 #[test]
 fn a_typed_problem_is_waited_for(rt: HostRuntime) -> Result<(), Fail> {
     for (in_place, typed, named, wanted) in [

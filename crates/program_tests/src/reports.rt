@@ -1,4 +1,4 @@
-// Texts with the reports and the statuses that they are to give.
+// Texts with their expected reports and statuses.
 use crate::texts::problem_in;
 use crate::watched::{assert_reported, run_with};
 use assign_core::Sense;
@@ -9,7 +9,7 @@ use std::test::Fail;
 use std::thread::Threads;
 use test_helpers::{next_number, plain_best};
 
-// Runs with these words on each text, in bytes and at once, end with the status and this report.
+// Runs with these words on each text, in bytes and at once, end with this status and this report.
 fn assert_reports(
     rt: &(impl Threads + Wait + Sync + Abort + AllocGlobal),
     line: &str,
@@ -187,7 +187,7 @@ fn text_of(alloc: Global, sparse: bool, seed: &mut u64) -> Result<String, AllocE
     }
 }
 
-// Whether the report on a text begins as the best of all assignments has it.
+// Whether the report on a text begins as the best of all assignments requires.
 fn is_best(
     rt: &(impl Threads + Wait + Sync),
     alloc: Global,

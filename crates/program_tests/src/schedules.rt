@@ -1,4 +1,4 @@
-// The answers and Hall sets of drawn runs of the book, held against the checkers.
+// The answers and Hall sets of drawn runs of the book, checked by the checkers.
 use crate::texts::problem_in;
 use assign_core::{Price, Problem, Sense};
 use auction_book::{Book, Event, World, run_schedule_from};
@@ -10,7 +10,7 @@ use std::sync::Arc;
 use std::test::Fail;
 use test_helpers::{first_prices, next_number};
 
-// The text of at most five persons, who list all objects or some, at few costs or many.
+// The text of at most five persons, who list all objects or some, with few different costs or many.
 fn drawn_text(alloc: Global, seed: &mut u64) -> Result<String, AllocError> {
     let n = next_number(seed) % 5 + 1;
     let share = next_number(seed) % 3 + 2;
@@ -36,7 +36,7 @@ fn drawn_prices(alloc: Global, seed: &mut u64, n: u16) -> Result<Vec<Price>, All
     Ok(prices)
 }
 
-// Events of workers 0 to 4, so that there are some of no worker.
+// Events of workers 0 to 4, some of which don't exist.
 fn drawn_events(alloc: Global, seed: &mut u64) -> Result<Vec<Event>, AllocError> {
     let share = next_number(seed) % 4 + 1;
     let mut events = Vec::new(alloc);
@@ -65,14 +65,14 @@ fn drawn_world(
     run_schedule_from(alloc, scaled, prices, workers, events.as_slice())
 }
 
-// How so many runs ended.
+// The ends of the runs.
 #[derive(Clone, Copy)]
 struct Ends {
     done: u32,
     refuted: u32,
 }
 
-// Whether a checker takes what the book has found, if it has found anything.
+// Whether a checker accepts what the book has found, if it has found anything.
 fn is_taken(
     alloc: Global,
     problem: &Problem,
@@ -100,7 +100,7 @@ fn is_taken(
     Ok(verdict == Verdict::Yes)
 }
 
-// Whether the checkers take what a drawn list of events leads to on the problem of a text.
+// Whether the checkers accept the result of a drawn list of events on the problem of a text.
 fn goes_well(
     alloc: Global,
     seed: &mut u64,
@@ -118,7 +118,7 @@ fn goes_well(
     Ok(is_taken(alloc, &problem, sense, &world.book, ends)?)
 }
 
-// That they take it on a drawn problem.
+// Asserts that they accept it on a drawn problem.
 fn assert_drawn(
     rt: &impl Abort,
     alloc: Global,

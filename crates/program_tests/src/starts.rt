@@ -23,14 +23,14 @@ fn runs_from_reports(rt: HostRuntime) -> Result<(), Fail> {
             TWO,
             TWO_FROM_TWO,
         ),
-        // In version 1, which has no sense.
+        // A report of version 1, which has no sense.
         (
             "solve --start report --prices",
             b"2 1 2 3 5",
             b"cost 5\nassign 1 2 2\nassign 2 1 3\nprice 1 14\nprice 2 12\n",
             TWO_FROM_TWO,
         ),
-        // The prices alone are looked at.
+        // Only the prices matter.
         (
             "solve --start report --prices",
             b"2 1 2 3 5",
@@ -163,7 +163,7 @@ fn cost_line(text: &[u8]) -> &[u8] {
     }
 }
 
-// The report of a run that ends with an assignment, and else nothing.
+// The report of a run that ends with an assignment, or else nothing.
 pub fn report_of(
     rt: &(impl Threads + Wait + Sync),
     alloc: Global,
@@ -179,8 +179,8 @@ pub fn report_of(
     }
 }
 
-// Whether a run from the prices of a report on one text ends at the same cost as one from zeros on
-// another text.
+// Whether a run from the prices of a report on one text ends at the same cost as a run from zeros
+// on another text.
 fn same_cost(
     rt: &(impl Threads + Wait + Sync),
     alloc: Global,
@@ -227,7 +227,7 @@ const PAIRS: [(&str, &str); 6] = [
     ),
 ];
 
-// How many of so many drawn problems end at the same cost from the prices of a neighbour.
+// The number of drawn problems, of these, that end at the same cost from the prices of a neighbour.
 fn agreeing(
     rt: &(impl Threads + Wait + Sync),
     alloc: Global,

@@ -1,4 +1,4 @@
-// Reports held against problems, with the lines that are told of them.
+// Reports checked against problems, with their expected lines.
 use assign_core::{Object, Sense};
 use auction_command::{CliFault, Finding, Verified, run_verify, run_verify_under};
 use dual_checker::{HallVerdict, Verdict};
@@ -6,7 +6,7 @@ use std::alloc::{AllocError, Global};
 use std::test::Fail;
 use test_helpers::{Pieces, failing_writer, whole_text};
 
-// What a run answered, and what it wrote.
+// The result of a run, and what it wrote.
 #[derive(Drop)]
 struct Seen {
     answer: Result<Verified, CliFault>,
@@ -49,13 +49,13 @@ fn tells(run: &Seen, line: &str) -> bool {
     text == Some(line.as_bytes()) && yes == line.starts_with("verified ") && yes != no
 }
 
-// Whether runs on these texts, byte by byte and at once, tell this line.
+// Whether runs on these texts, byte by byte and at once, write this line.
 fn told_both_ways(alloc: Global, problem: &[u8], report: &[u8], sparse: bool, line: &str) -> bool {
     tells(&held(alloc, problem, report, sparse, 1), line)
         && tells(&held(alloc, problem, report, sparse, 65536), line)
 }
 
-// How many of these reports, each with this text in front, are told by their lines.
+// The number of these reports, each after this text, that have the expected lines.
 fn told(
     alloc: Global,
     problem: &[u8],
@@ -202,7 +202,7 @@ fn widest_costs(rt: HostRuntime) -> Result<(), Fail> {
     Ok(())
 }
 
-// Of a pair that is given twice the least cost counts.
+// If a pair is given twice, its least cost counts.
 #[test]
 fn pairs_given_twice(rt: HostRuntime) -> Result<(), Fail> {
     let alloc = rt.alloc();
@@ -286,7 +286,7 @@ fn persons_that_list_nothing(rt: HostRuntime) -> Result<(), Fail> {
     Ok(())
 }
 
-// The run where this sense is asked for.
+// The run with this requested sense.
 fn asked(alloc: Global, problem: &[u8], report: &[u8], wanted: Sense) -> Seen {
     let mut problem = whole_text(problem, 16);
     let mut report = whole_text(report, 16);
@@ -299,13 +299,13 @@ fn asked(alloc: Global, problem: &[u8], report: &[u8], wanted: Sense) -> Seen {
     }
 }
 
-// Whether a run tells this line where the least cost is asked for, and this where the greatest is.
+// Whether a run writes this line if the least cost is requested, and that line if the greatest is.
 fn tell(alloc: Global, problem: &[u8], report: &[u8], min: &str, max: &str) -> bool {
     tells(&asked(alloc, problem, report, Sense::Min), min)
         && tells(&asked(alloc, problem, report, Sense::Max), max)
 }
 
-// Each report with its line where the least cost is asked for, and where the greatest is.
+// Each report with its lines if the least cost is requested, and if the greatest is.
 #[test]
 fn senses_that_are_asked_for(rt: HostRuntime) -> Result<(), Fail> {
     let roster = b"2 1 1 1 1 2 2 2 1 3 2 2 5";
@@ -356,7 +356,7 @@ fn senses_that_are_asked_for(rt: HostRuntime) -> Result<(), Fail> {
     Ok(())
 }
 
-// The report is read whole before its sense is looked at.
+// The report is read whole before its sense is compared.
 #[test]
 fn a_sense_before_a_bad_line(rt: HostRuntime) -> Result<(), Fail> {
     let problem = b"2 1 1 1 1 2 2 2 1 3 2 2 5";
@@ -393,7 +393,7 @@ fn fault_line(alloc: Global, run: &Seen) -> Result<Option<String>, AllocError> {
     }
 }
 
-// That line, or nothing where the run failed otherwise, of a run on whole texts.
+// This line of a run on whole texts, or nothing if the run failed otherwise.
 fn refused(alloc: Global, problem: &[u8], report: &[u8]) -> Result<Option<String>, AllocError> {
     fault_line(alloc, &held(alloc, problem, report, false, 65536))
 }
@@ -423,7 +423,7 @@ fn refused_texts(rt: HostRuntime) -> Result<(), Fail> {
 
 const PROVED: &[u8] = b"cost 5\nassign 1 2 2\nassign 2 1 3\nprice 1 14\nprice 2 12\n";
 
-// The line of the fault of a run whose report's reader fails behind this text, if that is the fault.
+// The line of the fault of a run whose report's reader fails after this text, if that is the fault.
 fn broken_report(alloc: Global, text: &[u8]) -> Result<Option<String>, AllocError> {
     let failing = Pieces {
         text,
@@ -437,7 +437,7 @@ fn broken_report(alloc: Global, text: &[u8]) -> Result<Option<String>, AllocErro
     }
 }
 
-// The reader may fail behind a whole text or in the middle of one.
+// The reader may fail after a whole text or in the middle of one.
 #[test]
 fn reports_whose_readers_fail(rt: HostRuntime) -> Result<(), Fail> {
     for at in 0..PROVED.len() + 1 {
@@ -464,7 +464,7 @@ fn problems_whose_readers_fail(rt: HostRuntime) -> Result<(), Fail> {
     Ok(())
 }
 
-// A run on a report that is right, with room for so many bytes.
+// A run on a right report, with room for `room` bytes.
 fn written(alloc: Global, room: usize, fails: bool) -> Seen {
     let (problem, report) = (whole_text(TWO, 16), whole_text(PROVED, 16));
     watched_run(alloc, problem, report, false, room, fails)

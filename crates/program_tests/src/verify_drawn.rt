@@ -1,5 +1,5 @@
-// What is printed for drawn problems is verified, and with a number changed only where it is
-// right still.
+// Reports printed for drawn problems are verified; with a changed number they are verified only if
+// they are still right.
 use crate::texts::problem_in;
 use assign_core::{Cost, Object, Person, Price, Problem, Sense};
 use async_workers::OpenGate;
@@ -12,7 +12,7 @@ use std::test::Fail;
 use std::thread::Threads;
 use test_helpers::{ample_writer, next_number, plain_best, whole_text};
 
-// A problem's text, whether it lists pairs, and which costs are wanted.
+// A problem's text, whether it lists pairs, and the sense.
 #[derive(Drop)]
 struct Drawn {
     text: String,
@@ -81,7 +81,7 @@ fn is_verified(alloc: Global, drawn: &Drawn, report: &[u8]) -> bool {
     matches!(end, Ok(Verified::Yes))
 }
 
-// The whole number that a word is.
+// The whole number of a word.
 fn number_of(word: &[u8]) -> Option<i128> {
     let (digits, sign) = match word {
         [b'-', digits @ ..] => (digits, -1),
@@ -102,14 +102,14 @@ fn number_of(word: &[u8]) -> Option<i128> {
     Some(value.wrapping_mul(sign))
 }
 
-// A text with one of its numbers changed, and how many numbers it has.
+// A text with one of its numbers changed, and the count of its numbers.
 #[derive(Drop)]
 struct Changed {
     text: Vec<u8>,
     numbers: usize,
 }
 
-// Adds a word, changed where it is the number that is to be.
+// Adds a word, changed if it is the number to change.
 fn push_word(
     changed: &mut Changed,
     word: &[u8],
@@ -130,7 +130,7 @@ fn push_word(
     changed.text.extend_from_slice(digits.as_bytes())
 }
 
-// The text with its number `which`, from 0, changed by so much.
+// The text with its number `which`, from 0, changed by this amount.
 fn with_change(
     alloc: Global,
     text: &[u8],
@@ -154,7 +154,7 @@ fn with_change(
     Ok(changed)
 }
 
-// What an object is worth to a person: its benefit, less its price.
+// The value of an object to a person: its benefit, less its price.
 fn worth(
     problem: &Problem,
     sense: Sense,
@@ -172,7 +172,7 @@ fn worth(
     Some(factor.wrapping_mul(i128::from(cost)).wrapping_sub(*price))
 }
 
-// Whether no object is worth more to a person than its own by over 1.
+// Whether no object has a value to a person over 1 above that of its own.
 fn has_slack(
     problem: &Problem,
     sense: Sense,
@@ -193,8 +193,8 @@ fn has_slack(
     true
 }
 
-// Whether each person has a listed object at the cost that is given, with slackness 1, and no
-// other person has it.
+// Whether each person has a listed object at the given cost, with slackness 1, which no other
+// person has.
 fn pairs_are_right(
     problem: &Problem,
     sense: Sense,
@@ -218,7 +218,7 @@ fn pairs_are_right(
     true
 }
 
-// The cost of a best assignment, found by trying all.
+// The cost of an optimal assignment, found by trying all.
 fn best_cost(alloc: Global, problem: &Problem, sense: Sense) -> Result<Option<Cost>, AllocError> {
     let best = plain_best(alloc, problem, sense)?;
     Ok(best.map(|assignment| problem.total(&assignment)))
@@ -245,7 +245,7 @@ fn hall_is_right(problem: &Problem, persons: &[Person], objects: &[Object]) -> b
     objects.len() < persons.len() && objects.iter().all(|object| object.0 <= problem.n())
 }
 
-// Whether what a report says is so, and its prices prove it.
+// Whether a report is right, and its prices prove it.
 fn is_right(alloc: Global, problem: &Problem, report: &Report) -> Result<bool, AllocError> {
     match report {
         Report::Best {
@@ -276,7 +276,7 @@ fn problem_of(alloc: Global, drawn: &Drawn) -> Result<Problem, InputFault> {
     problem_in(alloc, drawn.text.as_bytes(), drawn.sparse)
 }
 
-// Whether a report is verified just where it is right; no text but a report's is.
+// Whether a report is verified exactly if it is right; other texts aren't verified.
 fn is_told_rightly(
     alloc: Global,
     drawn: &Drawn,
@@ -290,7 +290,7 @@ fn is_told_rightly(
     Ok(is_verified(alloc, drawn, text) == right)
 }
 
-// Whether what is printed is verified, and with each number changed is told rightly.
+// Whether the printed report is verified, and each change of a number has the right result.
 fn agrees(
     rt: &(impl Threads + Wait + Sync),
     alloc: Global,
@@ -315,7 +315,7 @@ fn agrees(
     Ok(numbers > 0)
 }
 
-// How many of so many problems drawn from a seed agree.
+// The number of problems, of these drawn from a seed, that agree.
 fn agreeing(
     rt: &(impl Threads + Wait + Sync),
     alloc: Global,
@@ -359,7 +359,7 @@ fn with_bytes(
     Ok(other)
 }
 
-// How many texts are told wrongly of those with one byte dropped, doubled or changed.
+// The number of texts with a wrong result, of those with one byte dropped, doubled or changed.
 fn told_wrongly(alloc: Global, drawn: &Drawn, text: &[u8]) -> Result<usize, AllocError> {
     let Ok(problem) = problem_of(alloc, drawn) else {
         return Ok(1);
@@ -379,7 +379,8 @@ fn told_wrongly(alloc: Global, drawn: &Drawn, text: &[u8]) -> Result<usize, Allo
     Ok(count)
 }
 
-// How many texts are told wrongly of those that differ by one byte from a report on this problem, if that is verified.
+// The number of texts with a wrong result, of those that differ by one byte from a report on this
+// problem, if this report is verified.
 fn told_wrongly_of(
     alloc: Global,
     problem: &str,

@@ -1,4 +1,4 @@
-// Runs of the whole program whose streams are watched, for tests.
+// Runs of the whole program with watched streams, for tests.
 use auction_command::{Files, NoFile, NoWords, ProgramEnd, Told, Unwatched, run_program};
 use std::alloc::{AllocError, Global};
 use std::process::Abort;
@@ -6,7 +6,7 @@ use std::sync::Wait;
 use std::thread::Threads;
 use test_helpers::{FailingWriter, Pieces, failing_writer, whole_text};
 
-// A report and a problem under these names, and a file that memory is refused for under `refused`.
+// A report and a problem under these names, and a file for which memory is refused under `refused`.
 #[derive(Drop)]
 struct Shelf<'a> {
     report: Pieces<'a>,
@@ -30,7 +30,7 @@ impl<'a> Files for Shelf<'a> {
     }
 }
 
-/// What a run reads, from standard input and from files, and what it may write on.
+/// What a run reads, from standard input and from files, and where it writes.
 #[derive(Drop)]
 pub struct Devices<'a> {
     pub text: Pieces<'a>,
@@ -40,7 +40,7 @@ pub struct Devices<'a> {
     pub errors: FailingWriter,
 }
 
-/// A text, a report, an empty problem and ample room, all in pieces of at most so many bytes.
+/// A text, a report, an empty problem and ample room, all in pieces of at most `most` bytes.
 pub fn whole_devices<'a>(
     alloc: Global,
     text: &'a [u8],
@@ -56,8 +56,8 @@ pub fn whole_devices<'a>(
     }
 }
 
-/// The status of a run, what it wrote on each stream, whether that was all it had to say, and how
-/// many bytes it left on standard input.
+/// The status of a run, what it wrote on each stream, whether standard error took all of it, and
+/// the number of bytes left on standard input.
 #[derive(Drop)]
 pub struct Seen {
     pub status: u8,
@@ -67,7 +67,7 @@ pub struct Seen {
     pub left: usize,
 }
 
-// Whether standard error took all that it was told.
+// Whether standard error took all that was written to it.
 fn is_whole(end: &ProgramEnd) -> bool {
     !matches!(
         end,
@@ -108,7 +108,7 @@ pub fn watched_run(
     }
 }
 
-// The words of a line, parted by single blanks, behind the program's own name; an empty line has
+// The words of a line, separated by single blanks, after the program's own name; an empty line has
 // none.
 fn words_of(alloc: Global, line: &str) -> Result<Vec<&str>, AllocError> {
     let mut words: Vec<&str> = Vec::new(alloc);
@@ -132,8 +132,8 @@ pub fn run_on(
     Ok(watched_run(rt, alloc, Ok(words_of(alloc, line)?), devices))
 }
 
-/// A run with the words of a line on a text and a report in pieces of at most so many bytes, written
-/// in such pieces too.
+/// A run with the words of a line on a text and a report, read and written in pieces of at most
+/// `most` bytes.
 pub fn run_with(
     rt: &(impl Threads + Wait + Sync),
     alloc: Global,
@@ -160,7 +160,7 @@ pub fn leaves(seen: &Seen, status: u8, out: &[u8], errors: &[u8]) -> bool {
     seen.status == status && seen.out.as_slice() == out && seen.errors.as_slice() == errors
 }
 
-// Whether these are its status and its first lines, and it could tell all.
+// Whether these are its status and its first lines, and standard error took all.
 fn begins(seen: &Seen, status: u8, out: &str, errors: &str) -> bool {
     seen.status == status
         && seen.whole
@@ -168,12 +168,12 @@ fn begins(seen: &Seen, status: u8, out: &str, errors: &str) -> bool {
         && first_line(seen.errors.as_slice()) == errors.as_bytes()
 }
 
-/// The run wrote this text, told nothing, and ended with this status.
+/// The run wrote this text, nothing on standard error, and ended with this status.
 pub fn assert_reported(rt: &impl Abort, seen: &Seen, status: u8, text: &str) {
     assert!(rt; leaves(seen, status, text.as_bytes(), b""), "{text}");
 }
 
-/// The run told this line, and all of it, wrote nothing, and ended with this status.
+/// The run wrote this whole line on standard error, nothing else, and ended with this status.
 pub fn assert_told(rt: &impl Abort, seen: &Seen, status: u8, line: &str) {
     assert!(rt;
         leaves(seen, status, b"", line.as_bytes()) && seen.whole,
@@ -181,7 +181,7 @@ pub fn assert_told(rt: &impl Abort, seen: &Seen, status: u8, line: &str) {
     );
 }
 
-/// The first lines of a run on each stream, all of which it could tell, and its status.
+/// The run has these first lines on each stream and this status, and standard error took all.
 pub fn assert_begins(rt: &impl Abort, seen: &Seen, status: u8, out: &str, errors: &str) {
     assert!(rt; begins(seen, status, out, errors), "{out}{errors}");
 }
