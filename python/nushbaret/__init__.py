@@ -4,10 +4,10 @@
     result = nushbaret.solve([[1, 2], [3, 5]])
     result.columns, result.cost, result.column_duals
 
-`solve` takes a matrix, `solve_sparse` listed pairs, and `linear_sum_assignment` is SciPy's call. `k_best` yields the plans behind
-the best one, and `bottleneck` makes the worst pair as good as can be. `check` and `compare` judge plans from elsewhere. Every
-best plan is found and held by Nushbaret's proved library; what this package adds, the reading of costs, the dummies where some stay
-out and the plans behind the best, is tested, not proved.
+`solve` takes a matrix, `solve_sparse` listed pairs, and `linear_sum_assignment` is SciPy's call. `k_best` yields plans from the best
+on, and `bottleneck` makes the worst pair as good as possible. `check` and `compare` judge plans from elsewhere. Each best plan comes
+from Nushbaret's proved library, which also checks the plans after it. What this package adds is tested, not proved: how costs are
+read, dummies where some stay out, and the order of the plans after the best one.
 """
 from ._checking import Comparison, Verdict, check, compare
 from ._infeasible import Infeasible

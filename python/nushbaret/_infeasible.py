@@ -3,9 +3,9 @@ augmenting paths), and every group that is short: from one fullest matching, all
 connected parts."""
 from array import array
 from collections import deque
-from typing import Any, Dict, List, NamedTuple
+from typing import Any, Dict, List, NamedTuple, Union
 
-from . import _exact as exact, _problem as reading, _proved as proved
+from . import _library as library
 
 
 def _shown(numbers):
@@ -134,7 +134,7 @@ def groups_of(lists: List[array], other: int) -> List[Group]:
                 waiting.append(mates[item])
     groups = _parts(sorted(reached), lists)
     for group in groups:
-        _prove(group, lists)
+        prove_short(group, lists)
     return groups
 
 
@@ -164,12 +164,13 @@ def _part(first: int, left: set, lists: List[array], who: Dict[int, List[int]]) 
     return Group(sorted(many), sorted(few))
 
 
-def _prove(group: Group, lists: List[array]) -> None:
-    """Lets the library say that these nodes can't all be served by what they list."""
-    place = {item: number for number, item in enumerate(group.few)}
-    rows = array("q", [number for number, node in enumerate(group.many) for _ in lists[node]])
-    columns = array("q", [place[item] for node in group.many for item in lists[node]])
-    size = len(group.many)
-    problem = reading.of_pairs(size, size, rows, columns, array("q", bytes(8 * len(rows))), exact.manner(False))
-    if not isinstance(proved.answer(problem, proved.given(problem)), proved.Short):
-        raise RuntimeError("a group was found to be short, and the library says otherwise")
+def prove_short(group: Group, lists: Union[List[array], Dict[int, List[int]]]) -> None:
+    """Lets the library check that these nodes list just these others, which are fewer."""
+    place = {item: number for number, item in enumerate(group.few, 1)}
+    own = array("H", [number for number, node in enumerate(group.many, 1) for _ in lists[node]])
+    others = array("H", [place[item] for node in group.many for item in lists[node]])
+    many, few = len(group.many), len(group.few)
+    code, _ = library.call("check_hall", None, many, max(many, few), own, others, array("q", bytes(8 * len(own))),
+                           array("H", range(1, many + 1)), array("H", range(1, few + 1)))
+    if code != "HALL":
+        raise RuntimeError(f"a group was found to be short, and the library says otherwise: {code}")

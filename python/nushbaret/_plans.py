@@ -1,28 +1,34 @@
 """Plans in the order of their costs.
 
-Murty (1968): the plans beside one are parted by the first row that has another column than in it. The best plan of each part is
-one shortest way away, along which rows change columns, in reduced costs, which are never below 0; the duals that the way leaves
-behind belong to that part. Rows and columns that stay out are held by one dummy column and one dummy row, which cost nothing."""
+Murty (1968): all plans but a best one are split by the first row whose column differs from that plan's. The best plan of each part is
+one shortest alternating path away, in reduced costs, which are never below 0; the duals that the path leaves behind belong to that
+part. Rows and columns that stay out are held by one dummy column and one dummy row, which cost nothing.
+
+The library checks each plan before it is handed out: the duals of its part prove that it is a best plan of the part. That the parts
+hold all plans, and that no part that waits has a better one, is computed here."""
 import heapq
 import operator
 from array import array
 from bisect import insort
-from itertools import repeat
-from typing import Any, Dict, FrozenSet, Iterator, List, NamedTuple, Optional, Tuple
+from itertools import compress, repeat
+from typing import Any, Dict, FrozenSet, Iterable, Iterator, List, NamedTuple, Optional, Sequence, Tuple
 
-from ._checking import problem_of
+from ._checking import check_problem, problem_of
 from ._exact import manner
-from ._infeasible import most_served
+from ._infeasible import Group, most_served, prove_short
 from ._problem import Problem, listed, lists_of
 from ._result import Plan, Result, in_unit
 from ._solving import Decimals, solve_problem, solve_served
 
 INFINITE = float("inf")
+NOBODY: FrozenSet[int] = frozenset()
+
+Choice = Tuple[int, int]
 
 
 class _Part(NamedTuple):
-    """All plans that keep the columns of the rows below `first`, whose row `first` has none of `banned`: the columns of the best
-    one and its cost, with duals that prove it. Whose column is the number of columns stays out."""
+    """All plans that keep the columns of the rows below `first`, and in which row `first` has none of `banned`: the columns of the best
+    one and its cost, with duals that prove it. A row whose column is the number of columns stays out."""
 
     columns: List[int]
     cost: int
@@ -32,10 +38,11 @@ class _Part(NamedTuple):
     banned: FrozenSet[int]
 
 
-class _Way(NamedTuple):
-    """A shortest way: its length, the row that takes each column, by which column each row was reached, and how far columns are."""
+class _Search(NamedTuple):
+    """A search for a shortest alternating path: its length, None where none was found; the row that takes each column, by which column
+    each row was reached, and how far columns are (below 0: closed)."""
 
-    length: int
+    length: Optional[int]
     taker: Dict[int, int]
     reached: Dict[int, int]
     far: List[Any]
@@ -56,68 +63,84 @@ class Ranking:
         duals, own = result._whole_duals, [self.n_columns] * self.n_rows
         for row, column in zip(rows, columns):
             own[row] = column
-        self.whole = _Part(own, self.sign * result._answer.total, duals.rows + [0], duals.columns + [-duals.unmatched], 0, frozenset())
+        self.whole = _Part(own, self.sign * result._answer.total, duals.rows + [0], duals.columns + [-duals.unmatched], 0, NOBODY)
 
     def wait(self, part: _Part) -> None:
         """Puts a part in line: at first by the least columns that its best plans can begin with."""
         insort(self.costs, part.cost)
         self._put(part, 0, part.columns[:part.first] + [self._least_column(part)])
 
-    def _least_column(self, part):
-        """The first column that the row which tells a part from others can have at the part's cost, as far as its duals say."""
+    def _least_column(self, part: _Part) -> int:
+        """The first column that the first free row of a part can have at the part's cost, as far as the duals say."""
         row, taken = part.first, set(part.columns[:part.first])
         if row == self.n_rows:
             return 0
         base = part.row_duals[row]
-        return next(column for column, cost in self._choices(row)
-                    if cost - base == part.column_duals[column] and column not in part.banned
-                    and (column not in taken or column == self.n_columns))
+        return next((column for column, cost in self._choices(row)
+                     if cost - base == part.column_duals[column] and column not in part.banned
+                     and (column not in taken or column == self.n_columns)), 0)
 
-    def _put(self, part, stage, key):
+    def _put(self, part: _Part, stage: int, key: List[int]) -> None:
         self.count += 1
         heapq.heappush(self.waiting, (part.cost, key, stage, self.count, part))
 
     def take(self) -> Optional[_Part]:
-        """The next part in order; None where there is none."""
+        """The next part in order, with its plan checked; None where there is none."""
         while self.waiting:
             _, _, stage, _, part = heapq.heappop(self.waiting)
             if stage:
                 self.costs.pop(0)
+                self._prove(part)
                 return part
             part = self._first_of_its_cost(part)
             self._put(part, 1, part.columns)
         return None
 
     def part(self, part: _Part, wanted: int) -> None:
-        """Puts in line the parts of the plans beside a part's best one, as far as they can be among so many that are wanted."""
-        holder = self._holder(part)
-        closed = [part.columns[row] for row in range(part.first) if part.columns[row] < self.n_columns]
+        """Puts in line the parts of all plans of a part but its best one, as far as they can be among so many that are wanted. Where
+        the row that differs stays out in the best plan, there is a part for each column that it may have."""
+        holder, closed = self._holder(part), self._closed(part)
         for row in range(part.first, self.n_rows):
-            own = part.columns[row]
-            banned = (part.banned if row == part.first else frozenset()) | {own}
-            most = self.costs[wanted - 1] - part.cost if len(self.costs) >= wanted else INFINITE
-            way = self._way(part, holder, closed, row, banned, None, most)
-            if way is not None:
-                self.wait(self._behind(part, holder, way, row, banned))
+            own, most = part.columns[row], self._most(part, wanted)
+            banned = part.banned if row == part.first else NOBODY
+            choices = [choice for choice in self._choices(row) if choice[0] not in banned and choice[0] != own]
             if own < self.n_columns:
+                found = self._search(part, holder, closed, row, choices, most)
+                if found.length is not None:
+                    self.wait(self._behind(part, found, row, row, banned | {own}))
+                elif most == INFINITE:
+                    self._prove_empty(part, row, choices, found)
                 closed.append(own)
+                continue
+            for column, cost in choices:
+                if cost - part.row_duals[row] - part.column_duals[column] <= most:
+                    found = self._search(part, holder, closed, row, [(column, cost)], self._most(part, wanted))
+                    if found.length is not None:
+                        self.wait(self._behind(part, found, row, row + 1, NOBODY))
 
-    def _holder(self, part):
+    def _most(self, part: _Part, wanted: int) -> float:
+        """How long a path may be, so that what it leads to can be among so many that are wanted."""
+        return self.costs[wanted - 1] - part.cost if len(self.costs) >= wanted else INFINITE
+
+    def _closed(self, part: _Part) -> List[int]:
+        """The columns of the rows that a part keeps."""
+        return [column for column in part.columns[:part.first] if column < self.n_columns]
+
+    def _holder(self, part: _Part) -> List[int]:
         """The row of each column, which is the dummy row for columns that are out."""
         holder = [self.n_rows] * (self.n_columns + 1)
         for row, column in enumerate(part.columns):
             holder[column] = row
         return holder
 
-    def _holders(self, part, holder, column, row):
-        """Who may be asked to leave a column: of rows that are out all behind the row that the way begins with."""
+    def _holders(self, part: _Part, holder: List[int], column: int, row: int) -> Sequence[int]:
+        """Who may be asked to leave a column: of rows that are out all after the row that the path begins with."""
         if column < self.n_columns:
             return (holder[column],)
         return [other for other in range(row + 1, self.n_rows) if part.columns[other] == column]
 
-    def _way(self, part, holder, closed, row, banned, only, most):
-        """The shortest way by which a row leaves its column and gets another one, none that is banned (and that one alone which is
-        named); None where it is longer than `most`."""
+    def _search(self, part: _Part, holder: List[int], closed: List[int], row: int, choices: Iterable[Choice], most: float) -> _Search:
+        """The shortest path of at most a length by which a row leaves its column for one of some choices (Dijkstra 1959)."""
         target, rows, columns = part.columns[row], part.row_duals, part.column_duals
         far: List[Any] = [INFINITE] * (self.n_columns + 1)
         for column in closed:
@@ -126,101 +149,142 @@ class Ranking:
         reached: Dict[int, int] = {}
         heap: List[Tuple[int, int]] = []
 
-        def go(taking, base, choices):
+        def go(taking: int, base: int, choices: Iterable[Choice]) -> None:
             for column, cost in choices:
                 length = base + cost - columns[column]
                 if length < far[column] and length <= most:
                     far[column], taker[column] = length, taking
                     heapq.heappush(heap, (length, column))
 
-        first = self._choices(row)
-        go(row, -rows[row], [pair for pair in first if pair[0] not in banned and (only is None or pair[0] == only)])
+        go(row, -rows[row], choices)
         while heap:
             length, column = heapq.heappop(heap)
             if column == target:
-                return _Way(length, taker, reached, far)
+                return _Search(length, taker, reached, far)
             if length > far[column]:
                 continue
             for other in self._holders(part, holder, column, row):
                 if other not in reached:
                     reached[other] = column
                     go(other, length - rows[other], self._choices(other))
-        return None
+        return _Search(None, taker, reached, far)
 
-    def _choices(self, row):
+    def _choices(self, row: int) -> Iterable[Choice]:
         choices = zip(*self.lists[row])
         return [*choices, (self.n_columns, 0)] if self.rows_out and row < self.n_rows else choices
 
-    def _changed(self, part, way, row):
-        """The columns behind a way."""
+    def _changed(self, part: _Part, found: _Search, row: int) -> List[int]:
+        """The columns after the changes of a path."""
         columns, column = part.columns.copy(), part.columns[row]
         while True:
-            taking = way.taker[column]
+            taking = found.taker[column]
             if taking < self.n_rows:
                 columns[taking] = column
             if taking == row:
                 return columns
-            column = way.reached[taking]
+            column = found.reached[taking]
 
-    def _behind(self, part, holder, way, row, banned):
-        """The part whose best plan a way leads to. Columns that are nearer than the way is long get cheaper by the rest of it, and
-        whoever holds them gains as much."""
-        rows, columns = part.row_duals, part.column_duals
-        if way.length:
+    def _behind(self, part: _Part, found: _Search, row: int, first: int, banned: FrozenSet[int]) -> _Part:
+        """The part whose best plan a row's path leads to. Columns that are nearer than the path is long get cheaper by the rest of
+        it, and whoever holds them gains as much."""
+        rows, columns, whole = part.row_duals, part.column_duals, found.length or 0
+        if whole:
             rows, columns = rows.copy(), columns.copy()
-            rows[row] += way.length
-            for column, length in enumerate(way.far):
-                if 0 <= length < way.length:
-                    columns[column] -= way.length - length
-            for other, column in way.reached.items():
-                rows[other] += max(way.length - way.far[column], 0)
-        return _Part(self._changed(part, way, row), part.cost + way.length, rows, columns, row, banned)
+            rows[row] += whole
+            for column, length in enumerate(found.far):
+                if 0 <= length < whole:
+                    columns[column] -= whole - length
+            for other, column in found.reached.items():
+                rows[other] += max(whole - found.far[column], 0)
+        return _Part(self._changed(part, found, row), part.cost + whole, rows, columns, first, banned)
 
-    def _first_of_its_cost(self, part):
+    def _first_of_its_cost(self, part: _Part) -> _Part:
         """The part with that one of its best plans whose columns come first, row by row."""
-        closed = [column for column in part.columns[:part.first] if column < self.n_columns]
+        closed = self._closed(part)
         for row in range(part.first, self.n_rows):
-            banned = part.banned if row == part.first else frozenset()
+            banned = part.banned if row == part.first else NOBODY
             base = part.row_duals[row]
             for column, cost in self._choices(row):
                 if column >= part.columns[row]:
                     break
                 if cost - base == part.column_duals[column] and column not in banned and column not in closed:
-                    way = self._way(part, self._holder(part), closed, row, frozenset(), column, 0)
-                    if way is not None:
-                        part = part._replace(columns=self._changed(part, way, row))
+                    found = self._search(part, self._holder(part), closed, row, [(column, cost)], 0)
+                    if found.length is not None:
+                        part = part._replace(columns=self._changed(part, found, row))
                         break
             if part.columns[row] < self.n_columns:
                 closed.append(part.columns[row])
         return part
 
+    def _prove(self, part: _Part) -> None:
+        """Lets the library check that a part's plan is a best one of the part, by the part's duals: of the problem that is left to the
+        rows and columns that the part leaves free."""
+        taken, first = set(self._closed(part)), part.first
+        free = [column for column in range(self.n_columns) if column not in taken]
+        left = self._left(part, free)
+        rows = [row for row in range(first, self.n_rows) if part.columns[row] < self.n_columns]
+        numbers = {column: number for number, column in enumerate(free)}
+        verdict = check_problem(left, [row - first for row in rows], [numbers[part.columns[row]] for row in rows],
+                                [-part.column_duals[column] for column in free])
+        if not verdict:
+            raise RuntimeError(f"a plan was found to be the best of its part, and the library says otherwise: {verdict.why}")
+        cost = sum(self._cost(row, column) for row, column in enumerate(part.columns) if column < self.n_columns)
+        if cost != part.cost:
+            raise RuntimeError(f"a plan was found to cost {part.cost}, and its pairs cost {cost}")
+
+    def _cost(self, row: int, column: int) -> int:
+        columns, values = self.lists[row]
+        cost: int = values[columns.index(column)]
+        return cost
+
+    def _left(self, part: _Part, free: List[int]) -> Problem:
+        """The pairs that a part leaves to its free rows and columns."""
+        persons, objects, costs = array("H"), array("H"), array("q")
+        number = dict(zip(free, range(1, len(free) + 1)))
+        seen: Any = None
+        own: List[int] = []
+        for row in range(part.first, self.n_rows):
+            columns, values = self.lists[row]
+            if columns is not seen:
+                seen, own = columns, [number.get(column, 0) for column in columns]
+            banned = part.banned if row == part.first else NOBODY
+            kept = [0 if column in banned else held for column, held in zip(columns, own)] if banned else own
+            objects.extend(compress(kept, kept))
+            costs.extend(compress(values, kept))
+            persons.extend(array("H", (row - part.first + 1,)) * (len(objects) - len(persons)))
+        return Problem(self.n_rows - part.first, len(free), False, costs, persons, objects, 0, False, None)
+
+    def _prove_empty(self, part: _Part, row: int, choices: Iterable[Choice], found: _Search) -> None:
+        """Lets the library say that no plan of a part keeps the columns of the rows below a row, which gets one of some choices: the
+        rows that the search reached have fewer columns than they are. Each row that stays out brings a dummy column."""
+        out = range(self.n_columns, self.n_columns + part.columns[row + 1:].count(self.n_columns))
+        lists = {}
+        for other, its_choices in [(row, choices), *((other, self._choices(other)) for other in found.reached)]:
+            columns = [column for column, _ in its_choices if found.far[column] >= 0]
+            lists[other] = columns[:-1] + [*out] if self.n_columns in columns else columns
+        prove_short(Group(sorted(lists), sorted({column for columns in lists.values() for column in columns})), lists)
+
     def has_other(self) -> bool:
-        """Whether there is another plan of the least cost: a round of changes that cost nothing."""
-        part = self.whole
-        holder, out = self._holder(part), self.n_rows + 1
-        leads: List[List[int]] = []
-        for row, base in enumerate(part.row_duals):
-            own = part.columns[row] if row < self.n_rows else None
-            tight = [column for column, cost in self._choices(row) if cost - base == part.column_duals[column] and column != own]
-            leads.append([out if column == self.n_columns else holder[column] for column in tight])
-        leads[self.n_rows] = [row for row in leads[self.n_rows] if row != self.n_rows]
-        leads.append([row for row, column in enumerate(part.columns) if column == self.n_columns])
-        return _has_round(leads)
+        """Whether there is another plan of the least cost.
 
-
-def _has_round(leads: List[List[int]]) -> bool:
-    """Whether one can come back along a graph's arrows: whether no order has all arrows lead forwards."""
-    entering = [0] * len(leads)
-    for ends in leads:
-        for end in ends:
-            entering[end] += 1
-    free = [node for node, count in enumerate(entering) if not count]
-    for node in free:
-        for end in leads[node]:
-            entering[end] -= 1
-            if not entering[end]:
-                free.append(end)
-    return len(free) < len(leads)
+        All best plans, and no others, have pairs of reduced cost 0 alone and use each row and column that is worth more than to stay
+        out. Of these the library finds one with as few of this plan's pairs as can be."""
+        rows, columns, out = self.whole.row_duals[:-1], self.whole.column_duals[:-1], -self.whole.column_duals[-1]
+        pairs = self.n_rows - self.whole.columns.count(self.n_columns)
+        worth_rows = [self.rows_out and dual < out for dual in rows]
+        worth_columns = [self.columns_out and dual < 0 for dual in columns]
+        persons, objects, costs = array("H"), array("H"), array("q")
+        for row, own in enumerate(self.whole.columns):
+            for column, cost in zip(*self.lists[row]):
+                if cost == rows[row] + columns[column]:
+                    persons.append(row + 1)
+                    objects.append(column + 1)
+                    costs.append((column == own) - (pairs + 1) * (worth_rows[row] + worth_columns[column]))
+        best = solve_served(Problem(self.n_rows, self.n_columns, False, costs, persons, objects, 0, False, None), pairs)
+        most = pairs - (pairs + 1) * (sum(worth_rows) + sum(worth_columns))
+        if best is None or best.cost > most:
+            raise RuntimeError("a plan was found to be along pairs of reduced cost 0, and the library says otherwise")
+        return best.cost < most
 
 
 def _plan(result: Result, ranking: Ranking, part: _Part) -> Plan:
@@ -277,8 +341,10 @@ def k_best(costs: Any, k: int, maximize: bool = False, decimals: Decimals = None
 
     Notes
     -----
-    Murty (1968), each plan from the duals of the one before. The first plan is solved by the library; those behind it are found
-    in Python. Plans differ in their rows or columns; equal rows make plans of one cost, and there may be very many.
+    Murty (1968), each plan from the duals of the one before. Python finds the plans, and the library checks each before it is
+    yielded: it is a best one of its part, which has the plans that agree with an earlier plan in the first rows and differ from
+    it in the next. That the parts hold all plans and are taken in order is tested, not proved. Plans differ in their rows or
+    columns; equal rows make plans of one cost, and there may be very many.
     """
     k = operator.index(k)
     if k < 0:

@@ -2,6 +2,7 @@
 import operator
 import sys
 from array import array
+from itertools import compress
 from typing import Any, List, NamedTuple, Optional, Tuple
 
 from . import _exact as exact
@@ -126,16 +127,19 @@ def plain(values):
 
 
 def costs_of_pairs(problem, pairs):
-    """The whole costs of some pairs, None where one is forbidden; of a pair that is given several times the least."""
+    """The whole costs of some pairs, no two of one row; None where one is forbidden. Of a pair that is given several times the least."""
     if problem.persons is None:
         costs = plain(problem.costs)
         return [int(costs[row * problem.n_columns + column]) for row, column in pairs]
-    wanted = {(row + 1, column + 1): None for row, column in pairs}
-    for person, item, cost in zip(problem.persons.tolist(), problem.objects.tolist(), problem.costs.tolist()):
-        if (person, item) in wanted:
-            least = wanted[person, item]
-            wanted[person, item] = cost if least is None else min(cost, least)
-    return [wanted[row + 1, column + 1] for row, column in pairs]
+    own = [0] * (problem.n_rows + 1)
+    for row, column in pairs:
+        own[row + 1] = column + 1
+    persons = problem.persons.tolist()
+    wanted = map(operator.eq, map(own.__getitem__, persons), problem.objects.tolist())
+    least = {}
+    for person, cost in compress(zip(persons, problem.costs.tolist()), wanted):
+        least[person] = min(cost, least.get(person, cost))
+    return [least.get(row + 1) for row, _ in pairs]
 
 
 def lists_of(problem):
@@ -145,8 +149,8 @@ def lists_of(problem):
         costs = plain(problem.costs)
         if problem.maximize:
             costs = -costs if problem.numpy else array("q", map(operator.neg, costs))
-        view = memoryview(costs)
-        return [(range(n_columns), view[row * n_columns:(row + 1) * n_columns]) for row in range(n_rows)]
+        view, columns = memoryview(costs), range(n_columns)
+        return [(columns, view[row * n_columns:(row + 1) * n_columns]) for row in range(n_rows)]
     held = [{} for _ in range(n_rows)]
     for person, item, cost in zip(problem.persons.tolist(), problem.objects.tolist(), problem.costs.tolist()):
         row = held[person - 1]

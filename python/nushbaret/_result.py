@@ -36,7 +36,7 @@ def _arrays_of(numpy, problem, answer):
 
 
 class Plan(NamedTuple):
-    """A plan without its proof: row rows[k] has column columns[k], and all cost so much."""
+    """A plan: row rows[k] has column columns[k], and all pairs together cost `cost`."""
 
     rows: Any
     columns: Any
@@ -79,7 +79,8 @@ class Result:
     maximize : bool
         Whether the greatest sum was wanted.
     is_unique : bool
-        Whether no other plan of as many pairs is as good.
+        Whether no other plan of as many pairs is as good: of the plans along pairs without reduced cost, the library has none that
+        differs. Which pairs these are follows from the proved prices.
     """
 
     def __init__(self, problem: Any, answer: Any):
@@ -147,7 +148,8 @@ class Result:
         Returns
         -------
         Plan or None
-            None where there is no other plan. Of several, the one that comes first in the order of `k_best`.
+            None where there is no other plan. Of several, the one that comes first in the order of `k_best`, whose notes say what
+            the library checks of it.
         """
         from ._plans import next_best
         return next_best(self)

@@ -2,8 +2,11 @@
 import itertools
 import unittest
 from decimal import Decimal
+from unittest import mock
 
 import nushbaret
+from nushbaret import _plans
+from nushbaret._plans import Ranking
 from drawn import drawing, matrix
 
 try:
@@ -91,6 +94,53 @@ class Plans(unittest.TestCase):
         result = nushbaret.solve(costs)
         self.assertEqual((plans[0].cost, plans[1]), (result.cost, result.next_best()))
         self.assertEqual(plans[1].cost, min(result.without(*pair).cost for pair in result.pairs))
+
+
+class Checked(unittest.TestCase):
+    """The library sees each plan that is handed out, and a wrong one isn't."""
+
+    COSTS = [[4, 1, 3], [2, 0, 5], [3, 2, 2]]
+
+    def test_each_plan_is_checked(self):
+        draw = drawing(35)
+        for costs in (self.COSTS, matrix(draw, 9, 4, 5, 0.7), matrix(draw, 4, 9, 5, 0.7)):
+            with mock.patch.object(_plans, "check_problem", side_effect=_plans.check_problem) as check:
+                plans = list(nushbaret.k_best(costs, 5, partial=True))
+            self.assertEqual(check.call_count, len(plans))
+
+    def refused(self, name, wrong, said, costs=None):
+        with mock.patch.object(Ranking, name, wrong), self.assertRaisesRegex(RuntimeError, said):
+            list(nushbaret.k_best(costs or self.COSTS, 6))
+
+    def test_a_wrong_plan(self):
+        def turned(ranking, part):
+            return part._replace(columns=part.columns[::-1])
+        self.refused("_first_of_its_cost", turned, "found to be the best of its part, and the library says otherwise: row 0")
+
+    def test_a_wrong_cost(self):
+        def cheaper(ranking, part):
+            return part._replace(cost=part.cost - 1)
+        self.refused("_first_of_its_cost", cheaper, "found to cost 4, and its pairs cost 5")
+
+    def test_wrong_duals(self):
+        behind = Ranking._behind
+
+        def same(ranking, part, *words):
+            return behind(ranking, part, *words)._replace(column_duals=part.column_duals)
+        self.refused("_behind", same, "the library says otherwise", matrix(drawing(36), 9, 9, 9))
+
+    def test_a_part_taken_for_empty(self):
+        def none(ranking, part, *words):
+            return _plans._Search(None, {}, {}, [0] * (ranking.n_columns + 1))
+        self.refused("_search", none, "a group was found to be short, and the library says otherwise")
+
+    def test_a_plan_taken_for_the_only_one(self):
+        result = nushbaret.solve([[1, 1], [1, 1]])
+        ranking = Ranking(result)
+        self.assertTrue(ranking.has_other())
+        ranking.whole = ranking.whole._replace(row_duals=[dual + 1 for dual in ranking.whole.row_duals])
+        with self.assertRaisesRegex(RuntimeError, "along pairs of reduced cost 0, and the library says otherwise"):
+            ranking.has_other()
 
 
 class Bottlenecks(unittest.TestCase):
