@@ -53,6 +53,17 @@ def compare(what, n, m, most, count, times=3):
     measure(what, [(name, lambda call=call: [call() for _ in range(count)]) for name, call in calls], times)
 
 
+def plans():
+    """The plans after the best one, and the best worst pair, in the form that costs mostly have."""
+    rows = drawn(100, 100, 10**6)[1]
+    result = nushbaret.solve(rows)
+    measure("n = 100", [("k_best, k = 10", lambda: list(nushbaret.k_best(rows, 10))), ("next_best", result.next_best)])
+    costs = drawn(1000, 1000, 10**6)[1]
+    if np:
+        costs = np.array(costs)
+    measure("n = 1000", [("solve", lambda: nushbaret.solve(costs)), ("bottleneck", lambda: nushbaret.bottleneck(costs))])
+
+
 compare("1000 problems of n = 8", 8, 8, 100, 1000, 10)
 compare("1000 problems of 20 x 30", 20, 30, 100, 1000, 10)
 compare("n = 300", 300, 300, 1000, 1, 10)
@@ -62,3 +73,4 @@ compare("1000 x 2000", 1000, 2000, 10**6, 1)
 compare("1000 x 1100", 1000, 1100, 10**6, 1)
 compare("n = 2000, costs to 1000", 2000, 2000, 1000, 1)
 compare("n = 2000, costs to a million", 2000, 2000, 10**6, 1)
+plans()

@@ -103,15 +103,19 @@ def _plan(roster: Roster, wish: Wish, nodes: Nodes, costs: List[int], result: An
     rents = {} if roster.counts else dict(zip(nodes.of_columns, result._rents))
     if wish.kept is not None and wish.change is not None:
         return plan_of(roster, wish.fixed, nodes.pairs(result.rows, result.columns), rents)
-    face = face_of(nodes, costs, result)
-    if wish.kept is None:
-        chosen = nodes.pairs(result.rows, result.columns)
-    else:
-        chosen = fewest_changes(nodes, face, result, wish.kept)
-    plan = plan_of(roster, wish.fixed, chosen, rents)._replace(swaps=swaps_of(nodes, face, chosen))
+    face, chosen = face_of(nodes, costs, result), nodes.pairs(result.rows, result.columns)
+    plan = plan_of(roster, wish.fixed, chosen, rents)
+    if wish.kept is not None:
+        best, chosen = plan, fewest_changes(nodes, face, result, wish.kept)
+        plan = plan_of(roster, wish.fixed, chosen, rents)
+        if (len(plan.pairs), plan.cost) != (len(best.pairs), best.cost):
+            raise RuntimeError("a plan with fewest changes was found to be as good as the best, and isn't")
+    plan = plan._replace(swaps=swaps_of(nodes, face, chosen))
     if plan.swaps or not wish.others:
         return plan
     more = _more(roster, nodes, costs, chosen, result)
+    if more == 0:
+        raise RuntimeError("no other plan was found to be as good, and then one was")
     return plan if more is None else plan._replace(next_cost=plan.cost + more * (-1 if wish.maximize else 1))
 
 

@@ -1,10 +1,10 @@
 """Plans from elsewhere, held against a problem."""
 import operator
 from array import array
-from typing import Any, NamedTuple, Optional
+from typing import Any, List, NamedTuple, Optional, Sequence, Set, Tuple
 
 from . import _exact as exact, _library as library, _problem as reading, _proved as proved
-from ._problem import costs_of_pairs
+from ._problem import Problem, costs_of_pairs
 from ._result import Result, in_unit
 from ._solving import Decimals, solve_problem
 
@@ -42,9 +42,11 @@ class Comparison(NamedTuple):
     result: Result
 
 
-def problem_of(costs, rows, columns, sizes, manner):
+def problem_of(costs: Any, rows: Any, columns: Any, sizes: Optional[Tuple[int, int]], manner: exact.Manner) -> Problem:
     """The problem of a matrix, of a sparse matrix, or of listed pairs; it must be of these sizes, where they are given."""
-    if rows is not None or columns is not None:
+    if (rows is None) != (columns is None):
+        raise TypeError("rows and columns of listed pairs are given together")
+    if rows is not None:
         found = reading.of_pairs(*sizes, rows, columns, costs, manner)
     elif hasattr(costs, "tocsr"):
         found = reading.of_sparse_matrix(costs, manner)
@@ -55,7 +57,7 @@ def problem_of(costs, rows, columns, sizes, manner):
     return found
 
 
-def _pairs_of(problem, columns, rows):
+def _pairs_of(problem: Problem, columns: Any, rows: Any) -> List[Tuple[int, int]]:
     """The pairs of a plan, judged: each number is one of the problem, and no row comes twice."""
     columns = [None if column is None else operator.index(column) for column in columns]
     rows = range(len(columns)) if rows is None else [operator.index(row) for row in rows]
@@ -74,7 +76,7 @@ def _pairs_of(problem, columns, rows):
     return pairs
 
 
-def check_problem(problem, rows, columns, prices):
+def check_problem(problem: Problem, rows: Sequence[int], columns: Sequence[int], prices: Any) -> Verdict:
     """The verdict on a plan whose rows and columns are known to be some of the problem's."""
     pairs = list(zip(rows, columns))
     if not pairs:
@@ -93,13 +95,13 @@ def check_problem(problem, rows, columns, prices):
     return _judged(problem, pairs, costs, prices)
 
 
-def _verdict_on_none(problem):
+def _verdict_on_none(problem: Problem) -> Verdict:
     if not min(problem.n_rows, problem.n_columns) or problem.persons is not None and not len(problem.persons):
         return Verdict()
     return Verdict("no row has a column")
 
 
-def _judged(problem, pairs, costs, prices):
+def _judged(problem: Problem, pairs: List[Tuple[int, int]], costs: List[int], prices: Any) -> Verdict:
     """The library's verdict, in the caller's numbers.
 
     Staying out is worth as much as the dearest pair: so none that is served would rather stay out. Where that is less than the
@@ -121,7 +123,7 @@ def _judged(problem, pairs, costs, prices):
     return _in_words(problem, pairs, prices, asked, code, told)
 
 
-def _objects(problem, pairs, n, most):
+def _objects(problem: Problem, pairs: List[Tuple[int, int]], n: int, most: int) -> Any:
     """An object for each person, from 1 on: those that stay out have dummies."""
     objects = array("H", bytes(2 * n))
     for row, column in pairs:
@@ -136,7 +138,8 @@ def _objects(problem, pairs, n, most):
     return objects
 
 
-def _in_words(problem, pairs, prices, asked, code, told):
+def _in_words(problem: Problem, pairs: List[Tuple[int, int]], prices: List[int], asked: proved.Given, code: str,
+              told: library.Told) -> Verdict:
     if code == "SLACK":
         row, column = told.person - 1, told.object - 1
         if proved.is_turned(problem):
@@ -154,7 +157,7 @@ def _in_words(problem, pairs, prices, asked, code, told):
     return _dear(prices, dear[0]) if dear else Verdict()
 
 
-def _dear(prices, unused):
+def _dear(prices: List[int], unused: int) -> Verdict:
     cheaper = next(column for column, price in enumerate(prices) if price + 1 < prices[unused])
     return Verdict(f"column {unused} stays unused, and column {cheaper} is cheaper", None, cheaper)
 

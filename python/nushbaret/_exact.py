@@ -8,9 +8,9 @@ import sys
 from array import array
 from fractions import Fraction
 from itertools import chain
-from typing import NamedTuple, Union
+from typing import Any, Callable, List, NamedTuple, NoReturn, Optional, Sequence, Tuple, Union
 
-from ._library import FEW, GREATEST_COST
+from ._library import FEW, GREATEST_COST, Numbers
 
 MOST_PLACES = 6
 # In place of a number of decimals: as many as fit; and a power of two, for costs that are taken as doubles.
@@ -22,6 +22,10 @@ MOST_SHIFT = 900
 STICKY = 30
 _PLAIN = frozenset((int, float, bool, type(None)))
 
+# What a place in a list of costs is called, for messages; a number as (whole, exponent), times a power of ten.
+Where = Callable[[int], str]
+Scaled = Tuple[int, int]
+
 
 class Manner(NamedTuple):
     """How costs are read: `decimals` is None for exactly, a number of places, FIT or DOUBLES; `forbid_nan` takes NaN as forbidden."""
@@ -31,12 +35,12 @@ class Manner(NamedTuple):
     forbid_nan: bool = False
 
     @property
-    def forbids(self):
+    def forbids(self) -> float:
         """The infinity that forbids a pair."""
         return -math.inf if self.maximize else math.inf
 
     @property
-    def whole(self):
+    def whole(self) -> bool:
         """Whether whole numbers stay as they are."""
         return not self.decimals or isinstance(self.decimals, str)
 
@@ -50,7 +54,7 @@ class Costs(NamedTuple):
     rounded: bool
 
 
-def numpy_of(value):
+def numpy_of(value: Any) -> Any:
     """NumPy's module where the value is one of its arrays, or can become one by itself; else None."""
     numpy = sys.modules.get("numpy")
     if numpy is None:
@@ -58,14 +62,14 @@ def numpy_of(value):
     return numpy if isinstance(value, numpy.ndarray) or hasattr(value, "__array__") else None
 
 
-def manner(maximize, decimals=None, missing="refuse"):
+def manner(maximize: Any, decimals: Any = None, missing: Any = "refuse") -> Manner:
     """The words of a call, judged."""
     if missing not in ("refuse", FORBID):
         raise ValueError(f"missing is {missing!r}: 'refuse' or 'forbid' can be had")
     return Manner(bool(maximize), _judged_decimals(decimals), missing == FORBID)
 
 
-def _judged_decimals(decimals):
+def _judged_decimals(decimals: Any) -> Union[None, int, str]:
     if decimals is None or isinstance(decimals, str) and decimals == FIT:
         return decimals
     if isinstance(decimals, str):
@@ -76,22 +80,22 @@ def _judged_decimals(decimals):
     return decimals
 
 
-def refuse_range(where, places):
+def refuse_range(where: str, places: int) -> NoReturn:
     scaled = f", with {places} decimal places: decimals=0 to {places - 1} takes fewer, decimals=\"fit\" as many as fit" if places else ""
     raise ValueError(f"{where}: the cost is beyond {GREATEST_COST // 10**places}{scaled}")
 
 
-def _refuse_places(where, value):
+def _refuse_places(where: str, value: Any) -> NoReturn:
     raise ValueError(f"{where}: {value} has more than {MOST_PLACES} decimal places: round the costs, as by "
                      f"nushbaret.solve(costs, decimals={MOST_PLACES}), or decimals=\"fit\" for as many places as fit")
 
 
-def refuse_invalid(where, value):
+def refuse_invalid(where: str, value: Any) -> NoReturn:
     hint = ": None or an infinite cost forbids a pair, and missing=\"forbid\" takes nan so" if "nan" in str(value).lower() else ""
     raise ValueError(f"matrix contains invalid numeric entries: {value} at {where}{hint}")
 
 
-def is_nan(value):
+def is_nan(value: Any) -> bool:
     """Whether a value is NaN, or what pandas has in its place."""
     return isinstance(value, (float, decimal.Decimal)) and value != value or type(value).__name__ in ("NAType", "NaTType")
 
@@ -99,14 +103,14 @@ def is_nan(value):
 class _Decimals:
     """Reads numbers of a list one after the other; each is a whole number times a power of ten."""
 
-    def __init__(self, manner, where):
+    def __init__(self, manner: Manner, where: Where):
         self.manner = manner
         self.decimals = manner.decimals
         self.where = where
         self.places = 0
         self.rounded = False
 
-    def of_digits(self, place, value):
+    def of_digits(self, place: int, value: decimal.Decimal) -> Scaled:
         """A finite decimal as (whole, exponent), with an exponent of at most 0 that is as near 0 as can be."""
         sign, digits, exponent = value.as_tuple()
         if not value:
@@ -120,7 +124,7 @@ class _Decimals:
             whole, exponent = whole // 10, exponent + 1
         return self.judged(place, value, whole, exponent)
 
-    def judged(self, place, value, whole, exponent):
+    def judged(self, place: int, value: Any, whole: int, exponent: int) -> Scaled:
         """The pair, where it has no more places than it may."""
         if exponent >= -MOST_PLACES:
             return whole, exponent
@@ -131,7 +135,7 @@ class _Decimals:
         self.rounded = True
         return 0, 0
 
-    def of_float(self, place, value):
+    def of_float(self, place: int, value: float) -> Optional[Scaled]:
         """A float that isn't whole, by the text that it prints as."""
         text = repr(float(value))
         if "e" in text or "n" in text:
@@ -139,7 +143,7 @@ class _Decimals:
         before, _, after = text.partition(".")
         return self.judged(place, text, int(before + after), -len(after)) if after != "0" else (int(before), 0)
 
-    def of_fraction(self, place, value):
+    def of_fraction(self, place: int, value: Fraction) -> Scaled:
         if value.denominator == 1 or 10**MOST_PLACES % value.denominator == 0:
             return int(value * 10**MOST_PLACES), -MOST_PLACES
         if self.decimals is None:
@@ -148,7 +152,7 @@ class _Decimals:
         whole, rest = divmod(value.numerator * 10**STICKY, value.denominator)
         return whole * 10 + (rest != 0), -STICKY - 1
 
-    def pair(self, place, value):
+    def pair(self, place: int, value: Any) -> Optional[Scaled]:
         """(whole, exponent), or None where the pair is forbidden."""
         if value is None or self.manner.forbid_nan and is_nan(value):
             return None
@@ -162,20 +166,20 @@ class _Decimals:
             return self.of_decimal(place, decimal.Decimal(str(value)))
         return self.of_whole(place, value)
 
-    def of_decimal(self, place, number):
+    def of_decimal(self, place: int, number: decimal.Decimal) -> Optional[Scaled]:
         if number.is_finite():
             return self.of_digits(place, number)
         if number.is_infinite() and (number < 0) == self.manner.maximize:
             return None
         return refuse_invalid(self.where(place), str(number).lower().replace("infinity", "inf"))
 
-    def of_digits_of_fraction(self, place, value):
+    def of_digits_of_fraction(self, place: int, value: Fraction) -> Scaled:
         whole, exponent = self.of_fraction(place, value)
         while exponent < 0 and whole % 10 == 0:
             whole, exponent = whole // 10, exponent + 1
         return whole, exponent
 
-    def of_whole(self, place, value):
+    def of_whole(self, place: int, value: Any) -> Scaled:
         try:
             return operator.index(value), 0
         except TypeError:
@@ -183,14 +187,14 @@ class _Decimals:
                 refuse_invalid(self.where(place), "nan")
             refuse_kind(self.where(place), value)
 
-    def fitting(self, pairs):
+    def fitting(self, pairs: Sequence[Optional[Scaled]]) -> int:
         """As many places as the costs have, as far as these fit."""
         least = min(MOST_PLACES, max((-pair[1] for pair in pairs if pair), default=0))
         while least and any(abs(pair[0]) * 10**least > GREATEST_COST * 10**-pair[1] for pair in pairs if pair):
             least -= 1
         return least
 
-    def scaled(self, place, pair):
+    def scaled(self, place: int, pair: Scaled) -> int:
         """The number times 10**places, rounded to the nearest, halves to even ones."""
         whole, exponent = pair
         shift = self.places + exponent
@@ -205,11 +209,11 @@ class _Decimals:
         return number
 
 
-def refuse_kind(where, value):
+def refuse_kind(where: str, value: Any) -> NoReturn:
     raise TypeError(f"Cannot cast array data: {where} is {value!r}, which is no number") from None
 
 
-def of_rows(rows, length, manner, where):
+def of_rows(rows: Any, length: int, manner: Manner, where: Where) -> Costs:
     """The costs of rows of one length. `where(place)` names a place for the caller."""
     if length * len(rows) <= FEW:
         rows, length = [list(chain.from_iterable(rows))], length * len(rows)
@@ -221,12 +225,12 @@ def of_rows(rows, length, manner, where):
     return doubles_of_list(values, manner, where) if manner.decimals == DOUBLES else _of_numbers(values, manner, where)
 
 
-def of_list(values, manner, where):
+def of_list(values: List[Any], manner: Manner, where: Where) -> Costs:
     """The costs of a list."""
     return of_rows([values], len(values), manner, where)
 
 
-def _packed(rows, length):
+def _packed(rows: Any, length: int) -> Optional[Numbers]:
     """Rows as one array of 64-bit numbers; None where a number isn't whole, or is no number of 64 bits."""
     pack = struct.Struct(f"{length}q").pack_into
     numbers = array("q", (0,)) * (length * len(rows))
@@ -238,7 +242,7 @@ def _packed(rows, length):
     return numbers
 
 
-def _pack(pack, numbers, place, row):
+def _pack(pack: Callable[..., None], numbers: Numbers, place: int, row: Any) -> None:
     """Writes a row of whole numbers, or one of floats that hold such. An `array` would take floats as well, and in Python 3.9
     cut off what stands behind the point."""
     try:
@@ -249,7 +253,7 @@ def _pack(pack, numbers, place, row):
         pack(numbers, place, *map(int, row))
 
 
-def _of_plain(values, manner):
+def _of_plain(values: List[Any], manner: Manner) -> Optional[Costs]:
     """The costs of a list of ints, floats and None; None where they have too many places, or one is out of range or NaN."""
     forbids = manner.forbids
     forbidden = [place for place, value in enumerate(values)
@@ -265,7 +269,7 @@ def _of_plain(values, manner):
     return Costs(numbers, forbidden, places, False)
 
 
-def _scaled_plain(values):
+def _scaled_plain(values: List[Any]) -> Tuple[Numbers, int]:
     """The numbers times the least power of ten that makes all whole, and which one that is."""
     numbers, places = array("q"), 0
     for begin in range(0, len(values), FEW):
@@ -277,7 +281,7 @@ def _scaled_plain(values):
     return numbers, places
 
 
-def _block_scaled(block, least):
+def _block_scaled(block: List[Any], least: int) -> Tuple[Numbers, int]:
     """As `_scaled_plain`, with `least` places or more. What `_least_places` says holds here too."""
     for places in range(least, MOST_PLACES + 1):
         power = 10**places
@@ -287,7 +291,7 @@ def _block_scaled(block, least):
     raise ValueError(f"more than {MOST_PLACES} decimal places")
 
 
-def _of_numbers(values, manner, where):
+def _of_numbers(values: List[Any], manner: Manner, where: Where) -> Costs:
     """The costs of a list of numbers of any kind."""
     if manner.decimals in (None, FIT) and _PLAIN.issuperset(map(type, values)):
         read = _of_plain(values.copy(), manner)
@@ -304,7 +308,7 @@ def _of_numbers(values, manner, where):
     return Costs(numbers, forbidden, reader.places, reader.rounded)
 
 
-def doubles_of_list(values, manner, where):
+def doubles_of_list(values: List[Any], manner: Manner, where: Where) -> Costs:
     """Costs as doubles, times the greatest power of two that leaves all within range."""
     if set(map(type, values)) == {float} and math.isfinite(sum(values)):
         shift = shift_of(max(max(values), -min(values)))
@@ -318,7 +322,7 @@ def doubles_of_list(values, manner, where):
     return Costs(numbers, [place for place, value in enumerate(doubles) if value is None], 0, False)
 
 
-def _double(place, value, manner, where):
+def _double(place: int, value: Any, manner: Manner, where: Where) -> Optional[float]:
     """A finite float; None where the pair is forbidden."""
     kind = getattr(getattr(value, "dtype", None), "kind", "f")
     if value is None or isinstance(value, (str, bytes, complex)) or kind not in "biuf":
@@ -336,13 +340,13 @@ def _double(place, value, manner, where):
     return None if double == manner.forbids else refuse_invalid(where(place), double)
 
 
-def shift_of(most):
+def shift_of(most: float) -> int:
     """The greatest power of two that leaves a float within the library's range."""
     part, power = math.frexp(most)
     return 40 - power - (part > GREATEST_COST / 2**40)
 
 
-def of_array(numpy, values, manner, where):
+def of_array(numpy: Any, values: Any, manner: Manner, where: Where) -> Costs:
     """The costs of a NumPy array, whatever its shape, in the order of C."""
     kind = values.dtype.kind
     if kind in "biu" or kind == "f" and values.dtype.itemsize <= 8:
@@ -357,11 +361,11 @@ def of_array(numpy, values, manner, where):
     raise TypeError(f"Cannot cast array data from {values.dtype!r} to costs: they must be numbers")
 
 
-def _refuse_first(numpy, beyond, where, places):
+def _refuse_first(numpy: Any, beyond: Any, where: Where, places: int) -> NoReturn:
     refuse_range(where(int(numpy.flatnonzero(beyond)[0])), places)
 
 
-def _of_whole_array(numpy, values, places, where):
+def _of_whole_array(numpy: Any, values: Any, places: int, where: Where) -> Costs:
     flat = values.ravel()
     kind = flat.dtype.kind
     if kind == "u" and flat.dtype.itemsize == 8 or places and kind != "b":
@@ -373,7 +377,7 @@ def _of_whole_array(numpy, values, places, where):
     return Costs(numbers * 10**places if places else numbers, (), places, False)
 
 
-def doubles_of_array(numpy, values, manner, where):
+def doubles_of_array(numpy: Any, values: Any, manner: Manner, where: Where) -> Costs:
     """Costs as doubles, times the greatest power of two that leaves all within range; whole numbers within it stay."""
     flat = values.ravel()
     if flat.dtype.kind != "f" and (not flat.size or flat.max() <= GREATEST_COST and flat.min() >= -GREATEST_COST):
@@ -383,7 +387,7 @@ def doubles_of_array(numpy, values, manner, where):
     return Costs(numpy.rint(numpy.ldexp(flat, shift_of(most))).astype(numpy.int64), forbidden, 0, False)
 
 
-def _finite(numpy, flat, manner, where):
+def _finite(numpy: Any, flat: Any, manner: Manner, where: Where) -> Tuple[Any, Any]:
     """The costs with 0 for those that forbid their pair, and the places of these."""
     infinite = ~numpy.isfinite(flat)
     if not infinite.any():
@@ -397,7 +401,7 @@ def _finite(numpy, flat, manner, where):
     return numpy.where(infinite, 0.0, flat), numpy.flatnonzero(infinite)
 
 
-def _of_float_array(numpy, values, manner, where):
+def _of_float_array(numpy: Any, values: Any, manner: Manner, where: Where) -> Costs:
     flat = values.ravel()
     wide = flat.astype(numpy.float64, copy=False)
     numbers = whole_numbers(numpy, wide) if manner.whole else None
@@ -416,7 +420,7 @@ def _of_float_array(numpy, values, manner, where):
     return Costs(numbers, forbidden, places, rounded)
 
 
-def _places_of(numpy, flat, manner, where):
+def _places_of(numpy: Any, flat: Any, manner: Manner, where: Where) -> int:
     if manner.decimals is None:
         return _least_places(numpy, flat, where)
     if manner.decimals != FIT:
@@ -431,7 +435,7 @@ def _places_of(numpy, flat, manner, where):
     return places
 
 
-def whole_numbers(numpy, flat):
+def whole_numbers(numpy: Any, flat: Any) -> Any:
     """Floats as whole numbers of 64 bits; None where one isn't whole or is too great."""
     # With such a sum of squares none is beyond 10**18, and none is infinite or NaN.
     if not flat.dot(flat) <= 1e36:
@@ -442,7 +446,7 @@ def whole_numbers(numpy, flat):
     return numbers if numpy.logical_and.reduce(numbers == flat) else None
 
 
-def _least_places(numpy, flat, where):
+def _least_places(numpy: Any, flat: Any, where: Where) -> int:
     """The least power of ten that makes all whole. Two decimals of at most 15 digits are never one float, so that
     equality after the division tells the decimal that a float prints as."""
     left = flat
@@ -457,7 +461,7 @@ def _least_places(numpy, flat, where):
     return _refuse_places(where(place), repr(float(left[0])))
 
 
-def _round_halves(numpy, flat, numbers, places):
+def _round_halves(numpy: Any, flat: Any, numbers: Any, places: int) -> bool:
     """Rounds those near a half anew, as decimals; whether any number was changed by rounding."""
     power = 10.0**places
     product = flat * power

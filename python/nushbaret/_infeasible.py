@@ -3,12 +3,13 @@ augmenting paths), and every group that is short: from one fullest matching, all
 connected parts."""
 from array import array
 from collections import deque
-from typing import Any, Dict, List, NamedTuple, Union
+from typing import Any, Dict, List, NamedTuple, Optional, Sequence, Set, Tuple, Union
 
 from . import _library as library
+from ._problem import Problem
 
 
-def _shown(numbers):
+def _shown(numbers: Any) -> str:
     """Some numbers in words, at most ten of them."""
     shown = ", ".join(str(number) for number in list(numbers)[:10])
     return shown if len(numbers) <= 10 else f"{shown}, .. ({len(numbers)} in all)"
@@ -28,7 +29,7 @@ class Infeasible(ValueError):
         Those of the first group: numbers of the caller's rows and columns, from 0, rising.
     """
 
-    def __init__(self, groups):
+    def __init__(self, groups: List[Tuple[Any, Any]]):
         rows, columns = groups[0]
         if len(rows) > len(columns):
             why = f"rows {_shown(rows)} may have " + (f"columns {_shown(columns)} only" if len(columns) else "no column")
@@ -40,15 +41,17 @@ class Infeasible(ValueError):
         self.rows = rows
         self.columns = columns
 
-    def __reduce__(self):
+    def __reduce__(self) -> Tuple[Any, ...]:
         return type(self), (self.groups,)
 
+
+Lists = Sequence[Sequence[int]]
 
 # So many pairs are taken out of their arrays at once, since as Python's numbers they take many times the memory.
 AT_ONCE = 2**16
 
 
-def lists_of_nodes(count, nodes, others):
+def lists_of_nodes(count: int, nodes: Any, others: Any) -> Lists:
     """What each of `count` nodes lists, from 0: node nodes[k] lists others[k], both from 1."""
     lists = [array("H") for _ in range(count)]
     for start in range(0, len(nodes), AT_ONCE):
@@ -58,7 +61,7 @@ def lists_of_nodes(count, nodes, others):
     return lists
 
 
-def _augment(columns, owner, start, seen):
+def _augment(columns: Lists, owner: List[Optional[int]], start: int, seen: Set[int]) -> bool:
     """Gives the row `start` a column, and others another one where need be; whether that could be done. `seen` are columns
     from which no free one can be reached: those of a search that fails stay in it, since no later one would find more."""
     reached, waiting, last = {}, deque([start]), None
@@ -82,7 +85,7 @@ def _augment(columns, owner, start, seen):
     return True
 
 
-def fullest(columns, n_columns):
+def fullest(columns: Lists, n_columns: int) -> List[Optional[int]]:
     """The row that has each column in a fullest matching, None where it is free; `columns` are those that each row may have."""
     owner = [None] * n_columns
     seen = set()
@@ -91,7 +94,7 @@ def fullest(columns, n_columns):
     return owner
 
 
-def most_served(problem):
+def most_served(problem: Problem) -> int:
     """The greatest number of rows that can have a column each."""
     owner = fullest(lists_of_nodes(problem.n_rows, problem.persons, problem.objects), problem.n_columns)
     return len(owner) - owner.count(None)
@@ -104,7 +107,7 @@ class Group(NamedTuple):
     few: List[int]
 
 
-def infeasible(problem: Any) -> Infeasible:
+def infeasible(problem: Problem) -> Infeasible:
     """The proof that a problem which lists its pairs can't be solved: of its rows, or of its columns where these are fewer."""
     of_columns = problem.n_rows > problem.n_columns
     count, other = sorted((problem.n_rows, problem.n_columns))
@@ -113,12 +116,12 @@ def infeasible(problem: Any) -> Infeasible:
     return Infeasible([(few, many) if of_columns else (many, few) for many, few in groups])
 
 
-def groups_of(lists: List[array], other: int) -> List[Group]:
+def groups_of(lists: Lists, other: int) -> List[Group]:
     """The groups that are short on one side, in the order of their first nodes, each proved by the library.
 
     Parameters
     ----------
-    lists : list of arrays of int
+    lists : list of lists of int
         What each node of that side lists.
     other : int
         How many nodes there are on the other side.
@@ -138,7 +141,7 @@ def groups_of(lists: List[array], other: int) -> List[Group]:
     return groups
 
 
-def _parts(reached: List[int], lists: List[array]) -> List[Group]:
+def _parts(reached: List[int], lists: Lists) -> List[Group]:
     """The connected parts of some nodes with what they list."""
     who: Dict[int, List[int]] = {}
     for node in reached:
@@ -151,7 +154,7 @@ def _parts(reached: List[int], lists: List[array]) -> List[Group]:
     return parts
 
 
-def _part(first: int, left: set, lists: List[array], who: Dict[int, List[int]]) -> Group:
+def _part(first: int, left: Set[int], lists: Lists, who: Dict[int, List[int]]) -> Group:
     left.discard(first)
     waiting, many, few = [first], [first], set()
     while waiting:
@@ -164,7 +167,7 @@ def _part(first: int, left: set, lists: List[array], who: Dict[int, List[int]]) 
     return Group(sorted(many), sorted(few))
 
 
-def prove_short(group: Group, lists: Union[List[array], Dict[int, List[int]]]) -> None:
+def prove_short(group: Group, lists: Union[Lists, Dict[int, List[int]]]) -> None:
     """Lets the library check that these nodes list just these others, which are fewer."""
     place = {item: number for number, item in enumerate(group.few, 1)}
     own = array("H", [number for number, node in enumerate(group.many, 1) for _ in lists[node]])

@@ -4,7 +4,13 @@ import ctypes
 import pathlib
 import threading
 from array import array
-from typing import Dict, List, Tuple
+from typing import TYPE_CHECKING, Any, Dict, List, Optional, Tuple, Union
+
+# An array of whole numbers; before Python 3.12 `array` takes no type while a program runs.
+if TYPE_CHECKING:
+    Numbers = array[int]
+else:
+    Numbers = array
 
 VERSION = "2.0.0"
 MOST_PERSONS = 8192
@@ -39,10 +45,10 @@ _TOLD = ctypes.sizeof(Told)
 # How many lists each call takes, and whether a sense and what is told stand among its arguments.
 _LISTS = {"dense": 4, "dense_from": 5, "sparse": 6, "sparse_from": 7, "check": 5, "check_hall": 5}
 _loading = threading.Lock()
-_calls = {}
+_calls: Dict[str, Any] = {}
 
 
-def _open():
+def _open() -> ctypes.CDLL:
     for place in PLACES:
         if place.exists():
             try:
@@ -52,7 +58,7 @@ def _open():
     raise LibraryNotFound(f"{NAME} isn't there: c/build.sh makes it, at the top of a checkout of Nushbaret")
 
 
-def _load():
+def _load() -> None:
     library = _open()
     room = (ctypes.c_uint8 * 32)()
     library.nushbaret_version.argtypes = [ctypes.c_void_p, ctypes.c_size_t]
@@ -76,12 +82,12 @@ def _load():
 class Lent:
     """A buffer of 64-bit numbers of another owner, which stays as long as this does."""
 
-    def __init__(self, view):
+    def __init__(self, view: memoryview):
         self.held = (ctypes.c_char * view.nbytes).from_buffer(view)
         self.place = ctypes.addressof(self.held)
         self.count = view.nbytes // 8
 
-    def __len__(self):
+    def __len__(self) -> int:
         return self.count
 
 
@@ -94,7 +100,7 @@ FEW = 1024
 _FEW_BYTES = 8 * FEW
 
 
-def _lend(values):
+def _lend(values: Any) -> Tuple[Union[int, bytes], int]:
     """Address, or bytes that stand for it, and count; the address is never null."""
     if isinstance(values, array):
         place, count = values.buffer_info()
@@ -112,23 +118,23 @@ def _lend(values):
 class Halves:
     """Prices as the library has them: two words each."""
 
-    def __init__(self, count=0, prices=None):
+    def __init__(self, count: int = 0, prices: Optional[List[int]] = None):
         if prices is None:
             self.words = array("Q", bytes(16 * count))
         else:
             self.words = array("Q", [word for price in prices for word in (price & 0xFFFFFFFFFFFFFFFF, price >> 64)])
 
-    def __len__(self):
+    def __len__(self) -> int:
         return len(self.words) // 2
 
-    def prices(self):
+    def prices(self) -> List[int]:
         low, high = self.words[0::2].tolist(), self.words[1::2]
         if not any(high):
             return low
         return [part + (upper << 64) for part, upper in zip(low, high)]
 
 
-def _loaded():
+def _loaded() -> Dict[str, Any]:
     """The calls by their names."""
     if not _calls:
         with _loading:
@@ -137,7 +143,7 @@ def _loaded():
     return _calls
 
 
-def call(name, sense, n, m, *lists):
+def call(name: str, sense: Optional[bool], n: int, m: int, *lists: Any) -> Tuple[str, Told]:
     """The name of the code, and what is told. `sense` is None for `check_hall`; MemoryError where memory is refused."""
     told = Told()
     words = [n, m] if sense is None else [1 if sense else 0, n, m]
@@ -154,7 +160,7 @@ class Room:
     problem: a sense, sizes, costs, and the rest. The call answers 0 where it found a best assignment, whose objects stand here
     then. `doubles` and `numbers` are one memory, for costs that are to become whole numbers, and `own` is its address."""
 
-    def __init__(self, numpy, n, m):
+    def __init__(self, numpy: Any, n: int, m: int):
         self.words = array("Q", bytes(_TOLD + 16 * m + 4 * n + 8 - 4 * n % 8))
         self.rows, self.objects = numpy.arange(n), numpy.frombuffer(self.words, numpy.uint16, n, _TOLD + 16 * m)
         told = self.words.buffer_info()[0]
@@ -165,13 +171,13 @@ class Room:
         self.rest = count(n * m), address(objects), few, address(persons), few, address(prices), many, address(told)
         self.call, self.doubles, self.numbers, self.own = _calls["dense, made ready"], None, None, None
 
-    def held(self, numbers):
+    def held(self, numbers: Any) -> Any:
         """The address of an array of 64-bit numbers, which stays as long as this does. NumPy tells it slowly: a copy of a small
         array, as bytes, is had sooner."""
         self.numbers = numbers
         return ctypes.c_void_p.from_param(numbers.__array_interface__["data"][0])
 
-    def hold_doubles(self, numpy, shape):
+    def hold_doubles(self, numpy: Any, shape: Tuple[int, int]) -> None:
         """Makes memory for costs that are to become whole numbers."""
         self.doubles = numpy.empty(shape)
         self.own = self.held(self.doubles.view(numpy.int64))
@@ -182,7 +188,7 @@ _MOST_SIZES = 256
 _rooms: Dict[Tuple[int, int], List[Room]] = {}
 
 
-def rooms_for(n, m):
+def rooms_for(n: int, m: int) -> List[Room]:
     """A list of rooms that no call has: take one of it, and put it back when it is done."""
     rooms = _rooms.get((n, m))
     if rooms is None:

@@ -14,7 +14,7 @@ from collections import Counter, deque
 from heapq import heappop, heappush
 from typing import Any, Collection, Dict, List, NamedTuple, Optional, Sequence, Set, Tuple
 
-from ._library import MOST_PERSONS
+from ._library import MOST_PERSONS, Numbers
 from ._solving import solve_sparse
 
 Pair = Tuple[int, int]
@@ -37,9 +37,9 @@ class Nodes(NamedTuple):
     of_rows: List[int]
     of_columns: List[int]
     joined: List[Pair]
-    rows: array
-    columns: array
-    costs: array
+    rows: Numbers
+    columns: Numbers
+    costs: Numbers
     edges: List[Pair]
 
     def pairs(self, rows: Sequence[int], columns: Sequence[int]) -> List[Pair]:

@@ -3,10 +3,14 @@ import operator
 import sys
 from array import array
 from itertools import compress
-from typing import Any, List, NamedTuple, Optional, Tuple
+from typing import Any, Dict, List, NamedTuple, Optional, Sequence, Tuple
 
 from . import _exact as exact
 from ._library import MOST_PERSONS, Lent
+
+
+# Rows, columns, the costs, and NumPy's module where an array came in.
+Matrix = Tuple[int, int, exact.Costs, Any]
 
 
 class Problem(NamedTuple):
@@ -25,27 +29,27 @@ class Problem(NamedTuple):
     numpy: Any
     labels: Optional[Tuple[List[Any], List[Any]]] = None
 
-    def place(self, place):
+    def place(self, place: int) -> Tuple[int, int]:
         """Row and column of a place in the lists of pairs."""
         return int(self.persons[place]) - 1, int(self.objects[place]) - 1
 
-    def numbers(self, values):
+    def numbers(self, values: Sequence[int]) -> Any:
         """Row or column numbers in the form that the caller wants."""
         return values if self.numpy is None else self.numpy.array(values, self.numpy.intp)
 
 
-def _place_in(n_columns):
+def _place_in(n_columns: int) -> exact.Where:
     return lambda place: "row {}, column {}".format(*divmod(place, n_columns))
 
 
-def _judge_size(n_rows, n_columns):
+def _judge_size(n_rows: int, n_columns: int) -> None:
     if n_rows < 0 or n_columns < 0:
         raise ValueError(f"{n_rows} rows and {n_columns} columns: neither can be below 0")
     if max(n_rows, n_columns) > MOST_PERSONS:
         raise ValueError(f"{n_rows} rows and {n_columns} columns: at most {MOST_PERSONS} of each can be had")
 
 
-def _rows_of_any(costs):
+def _rows_of_any(costs: Any) -> List[Any]:
     try:
         rows = [row if hasattr(row, "__len__") else list(row) for row in costs]
     except TypeError:
@@ -55,7 +59,7 @@ def _rows_of_any(costs):
     return rows
 
 
-def _rows_of(costs):
+def _rows_of(costs: Any) -> Tuple[List[Any], int]:
     """The rows of a matrix that is no array of NumPy's, and how long they are."""
     if type(costs) is list and {list}.issuperset(map(type, costs)):
         rows = costs
@@ -68,7 +72,7 @@ def _rows_of(costs):
     return rows, lengths.pop() if rows else 0
 
 
-def _of_view(view, manner):
+def _of_view(view: memoryview, manner: exact.Manner) -> Matrix:
     """Of a memoryview of two dimensions: lent where it has just the numbers that the library wants."""
     if view.ndim != 2:
         raise ValueError(f"expected a matrix (2-D array), got a {view.ndim} array")
@@ -80,7 +84,7 @@ def _of_view(view, manner):
     return n_rows, n_columns, exact.of_rows(view.tolist(), n_columns, manner, _place_in(n_columns)), None
 
 
-def _of_array(numpy, costs, manner):
+def _of_array(numpy: Any, costs: Any, manner: exact.Manner) -> Matrix:
     costs = numpy.asarray(costs)
     if costs.ndim != 2:
         raise ValueError(f"expected a matrix (2-D array), got a {costs.ndim} array")
@@ -89,7 +93,7 @@ def _of_array(numpy, costs, manner):
     return n_rows, n_columns, exact.of_array(numpy, costs, manner, _place_in(n_columns)), numpy
 
 
-def _read_matrix(costs, manner):
+def _read_matrix(costs: Any, manner: exact.Manner) -> Matrix:
     numpy = exact.numpy_of(costs)
     if numpy:
         return _of_array(numpy, costs, manner)
@@ -103,7 +107,7 @@ def _read_matrix(costs, manner):
     return len(rows), n_columns, exact.of_rows(rows, n_columns, manner, _place_in(n_columns)), None
 
 
-def of_matrix(costs, manner):
+def of_matrix(costs: Any, manner: exact.Manner) -> Problem:
     """The problem of a matrix. ValueError and TypeError name what is wrong, with row and column from 0."""
     labels = (list(costs.index), list(costs.columns)) if is_frame(costs) else None
     n_rows, n_columns, read, numpy = _read_matrix(costs.to_numpy() if labels else costs, manner)
@@ -113,20 +117,20 @@ def of_matrix(costs, manner):
     return Problem(n_rows, n_columns, manner.maximize, numbers, persons, objects, read.places, read.rounded, numpy, labels)
 
 
-def is_frame(costs):
+def is_frame(costs: Any) -> bool:
     """Whether this is a DataFrame of pandas."""
     pandas = sys.modules.get("pandas")
     return pandas is not None and isinstance(costs, pandas.DataFrame)
 
 
-def plain(values):
+def plain(values: Any) -> Any:
     """A list of the problem's as one whose items are had one by one."""
     if hasattr(values, "held"):
         return memoryview(values.held).cast("B").cast("q")
     return values.reshape(-1) if hasattr(values, "reshape") else values
 
 
-def costs_of_pairs(problem, pairs):
+def costs_of_pairs(problem: Problem, pairs: Sequence[Tuple[int, int]]) -> List[Any]:
     """The whole costs of some pairs, no two of one row; None where one is forbidden. Of a pair that is given several times the least."""
     if problem.persons is None:
         costs = plain(problem.costs)
@@ -142,7 +146,7 @@ def costs_of_pairs(problem, pairs):
     return [least.get(row + 1) for row, _ in pairs]
 
 
-def lists_of(problem):
+def lists_of(problem: Problem) -> List[Tuple[Sequence[int], Any]]:
     """The columns of each row, rising, and what they cost where costs are to be little."""
     n_rows, n_columns, sign = problem.n_rows, problem.n_columns, -1 if problem.maximize else 1
     if problem.persons is None:
@@ -158,7 +162,7 @@ def lists_of(problem):
     return [(sorted(row), [sign * row[column] for column in sorted(row)]) for row in held]
 
 
-def listed(problem):
+def listed(problem: Problem) -> Problem:
     """A dense problem as a sparse one."""
     if problem.persons is not None:
         return problem
@@ -173,7 +177,7 @@ def listed(problem):
     return problem._replace(costs=costs, persons=persons, objects=objects)
 
 
-def _without_forbidden(n_rows, n_columns, read, numpy):
+def _without_forbidden(n_rows: int, n_columns: int, read: exact.Costs, numpy: Any) -> Tuple[Any, Any, Any]:
     """Costs, persons and objects of the pairs that aren't forbidden."""
     if numpy:
         allowed = numpy.ones(n_rows * n_columns, bool)
@@ -188,7 +192,7 @@ def _without_forbidden(n_rows, n_columns, read, numpy):
     return array("q", [read.numbers[place] for place in places]), persons, objects
 
 
-def _numbered(values, most, what):
+def _numbered(values: Any, most: int, what: str) -> Any:
     """Row or column numbers, from 1 on."""
     numpy = exact.numpy_of(values)
     if numpy:
@@ -209,7 +213,7 @@ def _numbered(values, most, what):
     return array("H", [number + 1 for number in numbers])
 
 
-def _pair_costs(costs, manner, where):
+def _pair_costs(costs: Any, manner: exact.Manner, where: exact.Where) -> Tuple[exact.Costs, Any]:
     numpy = exact.numpy_of(costs)
     if numpy:
         costs = numpy.asarray(costs)
@@ -219,18 +223,18 @@ def _pair_costs(costs, manner, where):
     return exact.of_list(list(costs), manner, where), None
 
 
-def _one_form(numpy, values, kind):
+def _one_form(numpy: Any, values: Any, kind: str) -> Any:
     """A list in the form of the others: an array of NumPy's where any came as one."""
     return numpy.asarray(values, kind) if numpy else values
 
 
-def of_pairs(n_rows, n_columns, rows, columns, costs, manner):
+def of_pairs(n_rows: Any, n_columns: Any, rows: Any, columns: Any, costs: Any, manner: exact.Manner) -> Problem:
     """The problem of listed pairs, whose costs may be infinite or None to forbid a pair after all."""
     n_rows, n_columns = operator.index(n_rows), operator.index(n_columns)
     _judge_size(n_rows, n_columns)
     persons, objects = _numbered(rows, n_rows, "rows"), _numbered(columns, n_columns, "columns")
 
-    def where(place):
+    def where(place: int) -> str:
         pair = f" (row {persons[place] - 1}, column {objects[place] - 1})" if place < min(len(persons), len(objects)) else ""
         return f"costs[{place}]{pair}"
 
@@ -247,7 +251,7 @@ def of_pairs(n_rows, n_columns, rows, columns, costs, manner):
     return Problem(n_rows, n_columns, manner.maximize, lists[2], lists[0], lists[1], read.places, read.rounded, numpy)
 
 
-def of_sparse_matrix(matrix, manner):
+def of_sparse_matrix(matrix: Any, manner: exact.Manner) -> Problem:
     """The problem of a sparse matrix of SciPy's, whose stored entries are its pairs, also those that are 0."""
     once = getattr(matrix, "has_canonical_format", False)
     entries = matrix.tocoo(copy=not once)

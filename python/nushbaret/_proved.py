@@ -8,12 +8,12 @@ import math
 import numbers
 from array import array
 from fractions import Fraction
-from typing import Any, List, NamedTuple, Tuple
+from typing import Any, List, NamedTuple, NoReturn, Optional, Tuple, Union
 
 from . import _library as library
 from ._exact import refuse_range
 from ._library import GREATEST_FIRST_PRICE, MOST_PERSONS, Halves
-from ._problem import costs_of_pairs, listed, lists_of, plain
+from ._problem import Problem, costs_of_pairs, listed, lists_of, plain
 
 
 class Given(NamedTuple):
@@ -47,12 +47,12 @@ class Short(NamedTuple):
 NONE = array("H")
 
 
-def is_turned(problem: Any) -> bool:
+def is_turned(problem: Problem) -> bool:
     """Whether the columns are the persons."""
     return problem.n_rows > problem.n_columns
 
 
-def sizes_of(problem: Any, served: Any) -> Tuple[int, int, int]:
+def sizes_of(problem: Problem, served: Optional[int]) -> Tuple[int, int, int]:
     """How many persons there are, how many objects, and how many of these are dummies."""
     n, most = sorted((problem.n_rows, problem.n_columns))
     dummies = 0 if served is None else n - served
@@ -62,7 +62,7 @@ def sizes_of(problem: Any, served: Any) -> Tuple[int, int, int]:
     return n, most + dummies, dummies
 
 
-def _turned_costs(problem):
+def _turned_costs(problem: Problem) -> Any:
     """The costs of a dense problem, column by column."""
     n_rows, n_columns = problem.n_rows, problem.n_columns
     if problem.numpy:
@@ -73,7 +73,7 @@ def _turned_costs(problem):
     return turned
 
 
-def given(problem: Any, served: Any = None, out: int = 0) -> Given:
+def given(problem: Problem, served: Optional[int] = None, out: int = 0) -> Given:
     """The problem in whose assignments `served` pairs are made, all that can be where it isn't given. `out` is what it costs to
     stay out."""
     n, m, dummies = sizes_of(problem, served)
@@ -86,7 +86,7 @@ def given(problem: Any, served: Any = None, out: int = 0) -> Given:
     return Given(n, m, *lists)
 
 
-def _dummies(n, m, dummies, out):
+def _dummies(n: int, m: int, dummies: int, out: int) -> Tuple[Any, Any, Any]:
     """Persons, objects and costs of the pairs that dummies are in."""
     everybody, objects = array("H", range(1, n + 1)), array("H")
     for item in range(m - dummies + 1, m + 1):
@@ -94,11 +94,11 @@ def _dummies(n, m, dummies, out):
     return everybody * dummies, objects, array("q", (out,)) * len(objects)
 
 
-def _joined(numpy, own, more):
+def _joined(numpy: Any, own: Any, more: Any) -> Any:
     return numpy.concatenate((own, more)) if numpy else own + more
 
 
-def refuse(problem: Any, asked: Given, code: str, told: Any) -> Any:
+def refuse(problem: Problem, asked: Given, code: str, told: library.Told) -> NoReturn:
     """Raises what a code of the library means that is no answer."""
     if code == "COST":
         if problem.persons is not None:
@@ -109,7 +109,7 @@ def refuse(problem: Any, asked: Given, code: str, told: Any) -> Any:
     raise RuntimeError(f"the library refused its lists: {code} at {told.place}")
 
 
-def answer(problem: Any, asked: Given, first: Any = None) -> Any:
+def answer(problem: Problem, asked: Given, first: Optional[Halves] = None) -> Union[Answer, Short]:
     """The library's answer, an Answer or a Short. `first` are first prices."""
     n, m = asked.n, asked.m
     objects, persons, halves = array("H", bytes(2 * n)), array("H", bytes(2 * n)), Halves(m)
@@ -126,13 +126,13 @@ def answer(problem: Any, asked: Given, first: Any = None) -> Any:
     return refuse(problem, asked, code, told)
 
 
-def no_pairs(problem: Any) -> Answer:
+def no_pairs(problem: Problem) -> Answer:
     """The answer where there is no pair to make: all stay out, at prices of 0."""
     n, most = sorted((problem.n_rows, problem.n_columns))
     return Answer(n, most + n, 0, array("H", (most + 1,)) * n, Halves(most + n))
 
 
-def pairs_of(problem: Any, found: Answer) -> Tuple[List[int], List[int]]:
+def pairs_of(problem: Problem, found: Answer) -> Tuple[List[int], List[int]]:
     """Rows and columns of the pairs of an answer, rows rising: dummies stand in none."""
     most = max(problem.n_rows, problem.n_columns)
     own = [item - 1 for item in found.objects]
@@ -146,7 +146,7 @@ def pairs_of(problem: Any, found: Answer) -> Tuple[List[int], List[int]]:
     return [own[place] for place in columns], [persons[place] for place in columns]
 
 
-def prices_of(problem: Any, found: Answer, rows: List[int], columns: List[int]) -> List[int]:
+def prices_of(problem: Problem, found: Answer, rows: List[int], columns: List[int]) -> List[int]:
     """One price for each column, in the library's unit: its own, or where rows are more those that follow from the rows' prices."""
     prices = found.halves.prices()
     if not is_turned(problem):
@@ -173,7 +173,7 @@ class Duals(NamedTuple):
     unmatched: int
 
 
-def duals_of(problem: Any, found: Answer, rows: List[int], columns: List[int]) -> Duals:
+def duals_of(problem: Problem, found: Answer, rows: List[int], columns: List[int]) -> Duals:
     """The duals that an answer's prices tell: a row's and a column's are together no more than their pair's cost, and are that cost
     in the plan. Columns have no dual above 0, and 0 where they are unmatched; where all are matched and rows are left over, this
     holds for rows instead."""
@@ -193,7 +193,7 @@ def duals_of(problem: Any, found: Answer, rows: List[int], columns: List[int]) -
     return Duals([dual + out for dual in of_objects], [dual - out for dual in of_persons], out)
 
 
-def _whole_prices(problem, found, served):
+def _whole_prices(problem: Problem, found: Answer, served: int) -> List[int]:
     """Prices without any slack, in whole costs, from prices with slackness 1 in the library's unit.
 
     There are fewer prices than residues by the unit, so that one residue is had by none. Counted from behind it, no price's rest
@@ -223,7 +223,7 @@ def rents(duals: Duals) -> List[int]:
 # Prices of the caller's, in the unit of the costs, one for each column.
 
 
-def _whole(price, scale, place):
+def _whole(price: Any, scale: int, place: int) -> int:
     """A price times the scale, to the nearest whole number."""
     if type(price) is int:
         return price * scale
@@ -237,7 +237,7 @@ def _whole(price, scale, place):
         raise TypeError(f"the price of column {place} is {price!r}: it must be a number") from None
 
 
-def scaled(problem: Any, prices: Any, unit: int) -> List[int]:
+def scaled(problem: Problem, prices: Any, unit: int) -> List[int]:
     """Prices become whole ones in the library's unit, the least 0."""
     prices = list(prices)
     if len(prices) != problem.n_columns:
@@ -251,7 +251,7 @@ def scaled(problem: Any, prices: Any, unit: int) -> List[int]:
     return whole
 
 
-def first_prices(problem: Any, prices: Any, served: Any) -> Halves:
+def first_prices(problem: Problem, prices: Any, served: Optional[int]) -> Halves:
     """First prices for the library; dummies begin at 0."""
     _, m, dummies = sizes_of(problem, served)
     first = scaled(problem, prices, m + 1)
@@ -260,7 +260,7 @@ def first_prices(problem: Any, prices: Any, served: Any) -> Halves:
     return Halves(prices=first + [0] * dummies)
 
 
-def _of_rows(problem, prices, unit):
+def _of_rows(problem: Problem, prices: List[int], unit: int) -> List[int]:
     """What rows gain at prices of columns, the least 0: first prices of the turned problem."""
     paid = [min((unit * cost + prices[column] for column, cost in zip(*held)), default=None) for held in lists_of(problem)]
     most = max((price for price in paid if price is not None), default=0)

@@ -1,11 +1,11 @@
 """A best assignment as the caller sees it."""
 import decimal
 from functools import cached_property
-from typing import TYPE_CHECKING, Any, List, NamedTuple, Optional, Tuple, Union
+from typing import TYPE_CHECKING, Any, Iterable, List, NamedTuple, Optional, Tuple, Union
 
 from . import _proved as proved
 from ._exact import manner
-from ._problem import costs_of_pairs
+from ._problem import Problem, costs_of_pairs
 
 if TYPE_CHECKING:
     from ._checking import Verdict
@@ -14,17 +14,17 @@ if TYPE_CHECKING:
 Number = Union[int, decimal.Decimal]
 
 
-def in_unit(number, places):
+def in_unit(number: int, places: int) -> Number:
     """number / 10**places, exactly: an int where places is 0, else a Decimal."""
     return decimal.Decimal(f"{number}E-{places}") if places else number
 
 
-def rows_and_columns(problem, answer):
+def rows_and_columns(problem: Problem, answer: proved.Answer) -> Tuple[Any, Any]:
     """The numbers of the pairs of an answer, in the form that the caller wants: dummies stand in none."""
     return _arrays_of(problem.numpy, problem, answer) if problem.numpy else proved.pairs_of(problem, answer)
 
 
-def _arrays_of(numpy, problem, answer):
+def _arrays_of(numpy: Any, problem: Problem, answer: proved.Answer) -> Tuple[Any, Any]:
     own = numpy.array(answer.objects, numpy.intp)
     own -= 1
     persons = numpy.flatnonzero(own < max(problem.n_rows, problem.n_columns))
@@ -83,7 +83,7 @@ class Result:
         differs. Which pairs these are follows from the proved prices.
     """
 
-    def __init__(self, problem: Any, answer: Any):
+    def __init__(self, problem: Problem, answer: proved.Answer):
         self._problem = problem
         self._answer = answer
         self.rows, self.columns = rows_and_columns(problem, answer)
@@ -96,7 +96,7 @@ class Result:
         return f"<nushbaret.Result: cost {self.cost}, {len(self.rows)} pairs>"
 
     @cached_property
-    def _pairs(self):
+    def _pairs(self) -> Tuple[List[int], List[int]]:
         return proved.pairs_of(self._problem, self._answer)
 
     @cached_property
@@ -119,10 +119,10 @@ class Result:
         return proved.prices_of(self._problem, self._answer, *self._pairs)
 
     @cached_property
-    def _whole_duals(self):
+    def _whole_duals(self) -> proved.Duals:
         return proved.duals_of(self._problem, self._answer, *self._pairs)
 
-    def _in_unit(self, numbers):
+    def _in_unit(self, numbers: Iterable[int]) -> List[Number]:
         return [in_unit(number, self.decimals) for number in numbers]
 
     @cached_property
@@ -134,7 +134,7 @@ class Result:
         return self._in_unit(-dual if self.maximize else dual for dual in self._whole_duals.columns)
 
     @cached_property
-    def _rents(self):
+    def _rents(self) -> List[Number]:
         return self._in_unit(proved.rents(self._whole_duals))
 
     @cached_property

@@ -16,7 +16,7 @@ from decimal import Decimal
 from typing import Any, Dict, Iterator, List, NamedTuple, NoReturn, Optional, Set, Tuple, Union
 
 from ._exact import MOST_PLACES
-from ._library import GREATEST_COST, MOST_PERSONS
+from ._library import GREATEST_COST, MOST_PERSONS, Numbers
 
 MOST_BYTES = 2**30
 
@@ -276,7 +276,7 @@ class Costs:
             self._sheet.refuse(f"{quoted(cell)} has more than {self._most} decimal places", line, column)
         self._places = places
 
-    def scaled(self) -> Tuple[int, array]:
+    def scaled(self) -> Tuple[int, Numbers]:
         """How many places are used or were asked for, and the costs as whole numbers of that unit."""
         decimals = self._places if self._given is None else self._given
         unit = 10 ** (MOST_PLACES - decimals)
@@ -300,6 +300,10 @@ class Costs:
         self._sheet.refuse(f"a cost beyond {GREATEST_COST // 10**decimals}{places}", line, column)
 
 
+# Titles, persons, objects, and the person and the object of each cost.
+Read = Tuple[Tuple[str, ...], Names, Names, Numbers, Numbers]
+
+
 class Roster(NamedTuple):
     """A problem by names. Pair k is of `persons[of_persons[k]]` and `objects[of_objects[k]]`, no pair twice; `costs[k]` is in
     units of 10^-decimals. `titles` are the words for a person, an object and a cost. `tasks` and `places` say of persons and of
@@ -310,9 +314,9 @@ class Roster(NamedTuple):
     objects: List[str]
     person_numbers: Dict[str, int]
     object_numbers: Dict[str, int]
-    of_persons: array
-    of_objects: array
-    costs: array
+    of_persons: Numbers
+    of_objects: Numbers
+    costs: Numbers
     decimals: int
     titles: Tuple[str, str, str]
     separator: str
@@ -418,7 +422,7 @@ def read_roster(path: str, form: Optional[str], decimals: Optional[int], comma: 
                   used, titles, sheet.separator, comma, rounded=costs.rounded, has_bom=sheet.has_bom, is_matrix=is_matrix)
 
 
-def _read_lines(sheet: Sheet, costs: Costs):
+def _read_lines(sheet: Sheet, costs: Costs) -> Read:
     line, title = sheet.title()
     if len(title) != 3:
         fourth = f" ({quoted(title[3])} is a fourth column)" if len(title) > 3 else ""
@@ -442,7 +446,7 @@ def _read_lines(sheet: Sheet, costs: Costs):
     return titles, persons, objects, of_persons, of_objects
 
 
-def _read_matrix(sheet: Sheet, costs: Costs):
+def _read_matrix(sheet: Sheet, costs: Costs) -> Read:
     line, title = sheet.title()
     if looks_like_number(title[0]):
         sheet.refuse(f"names are wanted in the first line and the first column, and {quoted(title[0])} is a number", line, 1)

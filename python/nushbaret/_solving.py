@@ -8,19 +8,21 @@ from typing import Any, Dict, Optional, Sequence, Tuple, Union
 from . import _exact as exact, _library as library, _problem as reading, _proved as proved
 from ._infeasible import infeasible, most_served
 from ._library import FEW, MOST_PERSONS
+from ._problem import Problem
 from ._result import Result, rows_and_columns
 
 Start = Union[Result, Sequence[Any], None]
 Decimals = Union[int, str, None]
+Found = Union[proved.Answer, proved.Short]
 
 
-def solve_served(problem, served):
+def solve_served(problem: Problem, served: int) -> Optional[Result]:
     """The best plan of so many pairs; None where the library proves that there is none."""
     answer = _solved(problem, served=served)
     return None if isinstance(answer, proved.Short) else Result(problem, answer)
 
 
-def _solved(problem, start=None, served=None):
+def _solved(problem: Problem, start: Start = None, served: Optional[int] = None) -> Found:
     """The library's answer to the problem of so many pairs, an Answer or a Short."""
     if served == 0 or not min(problem.n_rows, problem.n_columns):
         return proved.no_pairs(problem)
@@ -31,7 +33,7 @@ def _solved(problem, start=None, served=None):
     return proved.answer(problem, asked, proved.first_prices(problem, prices, served))
 
 
-def _most(problem, start):
+def _most(problem: Problem, start: Start) -> proved.Answer:
     """The best of the fullest plans. That no plan has one pair more is proved by the library as well."""
     served = most_served(problem)
     answer = _solved(problem, start, served)
@@ -40,7 +42,7 @@ def _most(problem, start):
     return answer
 
 
-def _answer(problem, start, partial):
+def _answer(problem: Problem, start: Start, partial: bool) -> proved.Answer:
     answer = _solved(problem, start)
     if not isinstance(answer, proved.Short):
         return answer
@@ -49,7 +51,8 @@ def _answer(problem, start, partial):
     return _most(problem, start)
 
 
-def solve_problem(problem, start=None, partial=False) -> Result:
+def solve_problem(problem: Problem, start: Start = None, partial: bool = False) -> Result:
+    """The result of a problem; Infeasible where it has no plan and none is to be partial."""
     return Result(problem, _answer(problem, start, partial))
 
 
@@ -179,14 +182,14 @@ class _Arrays:
     """SciPy's call on arrays of NumPy's, by a shorter way: around a small problem it's the steps in Python that take the time. What
     is wanted of NumPy stands here, so that it isn't looked up each time."""
 
-    def __init__(self, numpy):
+    def __init__(self, numpy: Any):
         self.numpy, self.array = numpy, numpy.ndarray
         self.int64, self.float64 = numpy.dtype(numpy.int64), numpy.dtype(numpy.float64)
         self.add, self.subtract = numpy.add, numpy.subtract
         # Numbers from 0 on come out of an array that has -1, 0, 1 ..
         self.from_zero = numpy.arange(-1, MOST_PERSONS).take
 
-    def assignment(self, costs, maximize):
+    def assignment(self, costs: Any, maximize: bool) -> Optional[Tuple[Any, Any]]:
         """Rows and columns of a best assignment. None where the costs aren't an array of 64-bit integers or floats, all finite, or
         where the library has no answer to them: then the longer way finds it, or says what is wrong."""
         if type(costs) is not self.array or costs.ndim != 2:
@@ -201,7 +204,7 @@ class _Arrays:
         columns = rows.argsort()
         return rows.take(columns), columns
 
-    def _assignment(self, costs, n, m, maximize):
+    def _assignment(self, costs: Any, n: int, m: int, maximize: bool) -> Optional[Tuple[Any, Any]]:
         if not n or m > MOST_PERSONS or not costs.flags.aligned:
             return None
         rooms = library.rooms_for(n, m)
@@ -225,7 +228,7 @@ class _Arrays:
         rooms.append(room)
         return found
 
-    def _taken(self, costs, room):
+    def _taken(self, costs: Any, room: library.Room) -> Any:
         """Doubles as whole numbers, as `doubles_of_array` has them; None where that must look closer."""
         # In the order in which they lie in memory they are looked at sooner.
         seen = costs if costs.flags.c_contiguous else costs.T
@@ -237,7 +240,7 @@ class _Arrays:
                 return numbers.tobytes() if numbers.size <= FEW else room.held(numbers)
         return self._scaled(costs, room, item(seen.argmax()))
 
-    def _scaled(self, costs, room, most):
+    def _scaled(self, costs: Any, room: library.Room, most: float) -> Any:
         """The costs times the greatest power of two that leaves `most` within range."""
         if not 0 < most < math.inf:
             return None
@@ -251,7 +254,7 @@ class _Arrays:
         self.subtract(room.numbers, adder[1], room.numbers)
         return room.own
 
-    def _adder(self, shift):
+    def _adder(self, shift: int) -> Optional[Tuple[Any, Any]]:
         """A double whose last place is 2**-shift, so that what is added to it is rounded there, and its bits, which are to be taken
         off those of the sum; None where there is no such double."""
         if not -exact.MOST_SHIFT < shift < exact.MOST_SHIFT:
@@ -265,7 +268,7 @@ _arrays: Optional[_Arrays] = None
 _adders: Dict[int, Tuple[Any, Any]] = {}
 
 
-def _load_arrays():
+def _load_arrays() -> Optional[_Arrays]:
     """The shorter way, once NumPy is there."""
     global _arrays
     numpy = sys.modules.get("numpy")
@@ -274,7 +277,7 @@ def _load_arrays():
     return _arrays
 
 
-def solve_without(problem, served, row, column):
+def solve_without(problem: Problem, served: int, row: Any, column: Any) -> Result:
     """Solves anew with one pair forbidden."""
     row, column = operator.index(row), operator.index(column)
     if not (0 <= row < problem.n_rows and 0 <= column < problem.n_columns):
@@ -286,7 +289,7 @@ def solve_without(problem, served, row, column):
     return Result(less, answer)
 
 
-def _leave_out(problem, row, column):
+def _leave_out(problem: Problem, row: int, column: int) -> Problem:
     """The problem with one pair less."""
     problem, numpy = reading.listed(problem), problem.numpy
     if numpy:

@@ -37,6 +37,7 @@ class Refused(unittest.TestCase):
         self.refused(ValueError, "invalid numeric entries", solve, [[Decimal("sNaN")]])
         self.refused(ValueError, "8193 columns: at most 8192", solve, [[0] * 8193])
         self.refused(ValueError, "8193 rows", solve, [[0]] * 8193)
+        self.refused(TypeError, "rows and columns of listed pairs are given together", solve([[1]]).verify, [1], rows=[0])
 
     def test_ranges(self):
         solve = nushbaret.solve
