@@ -34,7 +34,7 @@ def told(plan, n_rows, n_columns):
 
 
 def drawn(draw, turn):
-    n_rows, n_columns = draw.randint(1, 5), draw.randint(1, 5)
+    n_rows, n_columns = draw.choice([(8, 3), (3, 8)]) if turn % 5 == 4 else (draw.randint(1, 5), draw.randint(1, 5))
     costs = matrix(draw, n_rows, n_columns, draw.choice([0, 1, 9, 10**12]), draw.choice([0.3, 0.5, 0.8, 1.0]))
     forms = [costs, [[float("nan") if cost is None else cost for cost in row] for row in costs]]
     if np:
@@ -54,7 +54,7 @@ class Plans(unittest.TestCase):
             self.assertEqual([told(plan, n_rows, n_columns) for plan in found], wanted[:k])
             ties += len({cost for cost, _ in wanted[:k]}) < len(wanted[:k])
             partial += 0 < len(whole.rows) < min(n_rows, n_columns)
-        self.assertGreater(min(ties, partial), 60)
+        self.assertGreater(min(ties, partial), 40)
 
     def test_next_best_and_whether_there_is_one(self):
         draw, unique = drawing(32), 0
@@ -161,7 +161,7 @@ class Bottlenecks(unittest.TestCase):
                 partial += 1
                 with self.assertRaises(nushbaret.Infeasible):
                     nushbaret.bottleneck(form, maximize, missing="forbid")
-        self.assertGreater(partial, 60)
+        self.assertGreater(partial, 40)
 
     def test_refusals(self):
         with self.assertRaisesRegex(ValueError, 'nan at row 0, column 1: None or an infinite cost forbids a pair, and missing="forbid"'):
