@@ -66,7 +66,7 @@ class Wish(NamedTuple):
 
 
 def nodes_beside(roster: Roster, fixed: Sequence[PlanLine]) -> Nodes:
-    """What is left to solve beside the fixed pairs."""
+    """What is left to solve around the fixed pairs."""
     tasks, places = [roster.tasks_of(person) for person in range(len(roster.persons))], [
         roster.places_of(object_) for object_ in range(len(roster.objects))]
     for pair in fixed:

@@ -1,4 +1,4 @@
-"""Plans from elsewhere, held against a problem."""
+"""Plans from elsewhere, checked against a problem."""
 import operator
 from array import array
 from typing import Any, List, NamedTuple, Optional, Sequence, Set, Tuple
@@ -10,16 +10,16 @@ from ._solving import Decimals, solve_problem
 
 
 class Verdict:
-    """What the checker says of a plan with its prices: true as a condition exactly where they prove it best.
+    """What the checker says of a plan with its prices: true as a condition exactly if they prove it best.
 
     Attributes
     ----------
     proved : bool
         Whether the prices prove that no plan of as many pairs is better.
     why : str
-        What is wrong with the first row or column that speaks against it; empty where nothing is.
+        What is wrong with the first row or column that speaks against it; empty if nothing is.
     row, column : int or None
-        Which ones that are, where there are such.
+        Which row and column these are, if any.
     """
 
     def __init__(self, why: str = "", row: Optional[int] = None, column: Optional[int] = None):
@@ -34,7 +34,8 @@ class Verdict:
 
 
 class Comparison(NamedTuple):
-    """A plan made by hand beside the best one: its cost, the best cost, by how much it is worse (0 or more), and the best plan."""
+    """A plan made by hand compared with the best one: its cost, the best cost, by how much it is worse (0 or more), and the best one's
+    result."""
 
     cost: Any
     best: Any
@@ -43,7 +44,7 @@ class Comparison(NamedTuple):
 
 
 def problem_of(costs: Any, rows: Any, columns: Any, sizes: Optional[Tuple[int, int]], manner: exact.Manner) -> Problem:
-    """The problem of a matrix, of a sparse matrix, or of listed pairs; it must be of these sizes, where they are given."""
+    """The problem of a matrix, of a sparse matrix, or of listed pairs. If sizes are given, it must have these."""
     if (rows is None) != (columns is None):
         raise TypeError("rows and columns of listed pairs are given together")
     if rows is not None:
@@ -58,7 +59,7 @@ def problem_of(costs: Any, rows: Any, columns: Any, sizes: Optional[Tuple[int, i
 
 
 def _pairs_of(problem: Problem, columns: Any, rows: Any) -> List[Tuple[int, int]]:
-    """The pairs of a plan, judged: each number is one of the problem, and no row comes twice."""
+    """The pairs of a plan. Each number must be one of the problem, and no row may come twice."""
     columns = [None if column is None else operator.index(column) for column in columns]
     rows = range(len(columns)) if rows is None else [operator.index(row) for row in rows]
     if len(rows) != len(columns):
@@ -77,7 +78,7 @@ def _pairs_of(problem: Problem, columns: Any, rows: Any) -> List[Tuple[int, int]
 
 
 def check_problem(problem: Problem, rows: Sequence[int], columns: Sequence[int], prices: Any) -> Verdict:
-    """The verdict on a plan whose rows and columns are known to be some of the problem's."""
+    """The verdict on a plan whose rows and columns are numbers of the problem, no row twice."""
     pairs = list(zip(rows, columns))
     if not pairs:
         return _verdict_on_none(problem)
@@ -104,8 +105,8 @@ def _verdict_on_none(problem: Problem) -> Verdict:
 def _judged(problem: Problem, pairs: List[Tuple[int, int]], costs: List[int], prices: Any) -> Verdict:
     """The library's verdict, in the caller's numbers.
 
-    Staying out is worth as much as the dearest pair: so none that is served would rather stay out. Where that is less than the
-    cheapest column, it costs less by whole costs, so that no price of a dummy is below all others."""
+    A dummy's price is what the dearest pair pays, so nobody who is matched gains by staying out. If that is below 0, the cost of
+    staying out is lowered instead, so that no price is below 0."""
     n, m, dummies = proved.sizes_of(problem, len(pairs))
     unit, sign = m + 1, -1 if problem.maximize else 1
     prices = proved.scaled(problem, prices, unit)
@@ -124,7 +125,7 @@ def _judged(problem: Problem, pairs: List[Tuple[int, int]], costs: List[int], pr
 
 
 def _objects(problem: Problem, pairs: List[Tuple[int, int]], n: int, most: int) -> Any:
-    """An object for each person, from 1 on: those that stay out have dummies."""
+    """An object for each person, from 1 on; those who stay out have dummies."""
     objects = array("H", bytes(2 * n))
     for row, column in pairs:
         if proved.is_turned(problem):
@@ -164,7 +165,7 @@ def _dear(prices: List[int], unused: int) -> Verdict:
 
 def check(costs: Any, columns: Any, prices: Any, rows: Any = None, maximize: bool = False,
           decimals: Decimals = None) -> Verdict:
-    """Holds a plan of any origin against a problem: whether these prices prove that it is best.
+    """Checks a plan of any origin against a problem: whether these prices prove that it is best.
 
     Parameters
     ----------
@@ -173,25 +174,25 @@ def check(costs: Any, columns: Any, prices: Any, rows: Any = None, maximize: boo
     columns : list of int
         The column of each row, from 0; None for a row that stays out.
     prices : list of numbers
-        One for each column, in the unit of the costs: what is added to the column's costs where they are to be little, and taken
-        off where much is wanted. So these are a solver's column duals, under minimize with their signs turned. They are rounded
-        to the nearest part of the library's unit, so that floats will do.
+        One for each column, in the unit of the costs. A price is added to its column's costs, and subtracted under maximize. So
+        a solver's column duals are prices with reversed signs, and under maximize as they are. They are rounded to the nearest
+        part of the library's unit, so floats will do.
     rows : list of int, optional
-        The row of each of `columns`, where they aren't 0, 1, 2 ...
+        The row of each of `columns`, if they aren't 0, 1, 2 ...
     maximize, decimals
         As in `solve`.
 
     Returns
     -------
     Verdict
-        True as a condition exactly where they prove it: of all plans with as many pairs none is better. A plan may be best
-        though these prices don't prove it; `compare` tells that.
+        True as a condition exactly if they prove that no plan of as many pairs is better. A plan may be best though these
+        prices don't prove it: see `compare`.
 
     Raises
     ------
     ValueError, TypeError
-        As in `solve`, or where a number of the plan is none of the problem's, a row stands twice in it, or there aren't as
-        many prices as columns.
+        As in `solve`, or if a number of the plan is none of the problem's, a row is in it twice, or there aren't as many
+        prices as columns.
     """
     problem = problem_of(costs, None, None, None, exact.manner(maximize, decimals))
     pairs = _pairs_of(problem, columns, rows)
@@ -205,7 +206,7 @@ def compare(costs: Any, columns: Any, rows: Any = None, maximize: bool = False,
     Parameters
     ----------
     costs, columns, rows, maximize, decimals
-        As in `check`. The plan must pair as many rows as can be paired.
+        As in `check`. The plan must have as many pairs as possible.
 
     Returns
     -------
@@ -214,7 +215,7 @@ def compare(costs: Any, columns: Any, rows: Any = None, maximize: bool = False,
     Raises
     ------
     ValueError, TypeError
-        As in `check`, or where the plan uses a forbidden pair or a column twice, or pairs fewer rows than can be paired.
+        As in `check`, or if the plan uses a forbidden pair or a column twice, or has fewer pairs than possible.
     """
     problem = problem_of(costs, None, None, None, exact.manner(maximize, decimals))
     pairs = _pairs_of(problem, columns, rows)

@@ -113,7 +113,7 @@ def main(words: Optional[Sequence[str]] = None) -> int:
     Parameters
     ----------
     words : sequence of str or None
-        The words behind the command's name; None takes them from `sys.argv`.
+        The words after the command's name; None takes them from `sys.argv`.
 
     Returns
     -------
@@ -215,7 +215,7 @@ def _change_cost(text: Optional[str], roster: Roster) -> Optional[int]:
 
 
 def _print(lines: List[str]) -> None:
-    """Prints all, or raises what the stream says; a broken one is left so that the end of the program tells nothing more."""
+    """Prints all, or raises what the stream says. A broken stream is replaced, so that the end of the program prints nothing more."""
     if sys.stdout is None:
         raise OutputFault("standard output is closed")
     try:
@@ -239,8 +239,8 @@ def read_hand(path: str, roster: Roster, fixed: List[PlanLine]) -> OldPlan:
 
 
 def judge_hand(path: str, roster: Roster, hand: OldPlan, plan: Plan) -> None:
-    """Refuses a plan made by hand that has fewer pairs than there can be, unless names are gone: its cost says nothing beside a whole
-    plan's."""
+    """Refuses a plan made by hand that has fewer pairs than possible, unless names are gone: its cost can't be compared with that of a
+    whole plan."""
     if hand.gone or len(hand.known) == len(plan.pairs):
         return
     missing = ""
@@ -343,7 +343,7 @@ def compared(roster: Roster, plan: Plan, hand: OldPlan, path: str, maximize: boo
 
 
 def write_outputs(roster: Roster, answer: Answer, lines: List[str], options: argparse.Namespace) -> List[str]:
-    """Writes the outputs; what a CSV file can't say, where there is no plan, is told instead."""
+    """Writes the outputs. If there is no plan a CSV file isn't written, and a line says so."""
     texts = []
     skipped = []
     for output in options.outputs:
@@ -370,7 +370,7 @@ def as_csv(roster: Roster, plan: Plan) -> str:
     text = io.StringIO()
     text.write("\ufeff" if roster.has_bom else "")
     writer = csv.writer(text, delimiter=roster.separator, lineterminator="\n")
-    # The separator is told from the title line, so that no other may seem to stand there.
+    # Readers take the separator from the title line, so no other may seem to be there.
     csv.writer(text, delimiter=roster.separator, lineterminator="\n", quoting=_title_quoting(roster)).writerow(roster.titles)
     for pair in plan.pairs:
         writer.writerow((roster.persons[pair.person], roster.objects[pair.object], roster.shown(pair.cost)))

@@ -1,5 +1,5 @@
-"""Costs of any kind become whole numbers: each is multiplied by one power of ten, exactly or rounded to the places that are
-asked for; or, for SciPy's call, by one power of two."""
+"""Costs of any kind become whole numbers: all are multiplied by one power of ten, exactly or rounded to the requested decimal places;
+or, for SciPy's call, by one power of two."""
 import decimal
 import math
 import operator
@@ -18,7 +18,7 @@ FIT, DOUBLES = "fit", "doubles"
 FORBID = "forbid"
 # Beyond such powers of two the factor, or what stands in for it, may be no double.
 MOST_SHIFT = 900
-# Digits behind the point that are kept of a fraction before it is rounded.
+# Digits after the point that are kept of a fraction before it is rounded.
 STICKY = 30
 _PLAIN = frozenset((int, float, bool, type(None)))
 
@@ -55,7 +55,7 @@ class Costs(NamedTuple):
 
 
 def numpy_of(value: Any) -> Any:
-    """NumPy's module where the value is one of its arrays, or can become one by itself; else None."""
+    """NumPy's module if the value is one of its arrays, or can become one by itself; else None."""
     numpy = sys.modules.get("numpy")
     if numpy is None:
         return None
@@ -63,7 +63,7 @@ def numpy_of(value: Any) -> Any:
 
 
 def manner(maximize: Any, decimals: Any = None, missing: Any = "refuse") -> Manner:
-    """The words of a call, judged."""
+    """How a call reads costs, from its arguments."""
     if missing not in ("refuse", FORBID):
         raise ValueError(f"missing is {missing!r}: 'refuse' or 'forbid' can be had")
     return Manner(bool(maximize), _judged_decimals(decimals), missing == FORBID)
@@ -111,7 +111,7 @@ class _Decimals:
         self.rounded = False
 
     def of_digits(self, place: int, value: decimal.Decimal) -> Scaled:
-        """A finite decimal as (whole, exponent), with an exponent of at most 0 that is as near 0 as can be."""
+        """A finite decimal as (whole, exponent), with the greatest exponent that is at most 0."""
         sign, digits, exponent = value.as_tuple()
         if not value:
             return 0, 0
@@ -244,7 +244,7 @@ def _packed(rows: Any, length: int) -> Optional[Numbers]:
 
 def _pack(pack: Callable[..., None], numbers: Numbers, place: int, row: Any) -> None:
     """Writes a row of whole numbers, or one of floats that hold such. An `array` would take floats as well, and in Python 3.9
-    cut off what stands behind the point."""
+    cut off what stands after the point."""
     try:
         pack(numbers, place, *row)
     except struct.error:
@@ -448,7 +448,7 @@ def whole_numbers(numpy: Any, flat: Any) -> Any:
 
 def _least_places(numpy: Any, flat: Any, where: Where) -> int:
     """The least power of ten that makes all whole. Two decimals of at most 15 digits are never one float, so that
-    equality after the division tells the decimal that a float prints as."""
+    equality after the division shows the decimal that a float prints as."""
     left = flat
     for places in range(MOST_PLACES + 1):
         power = 10.0**places
@@ -462,7 +462,7 @@ def _least_places(numpy: Any, flat: Any, where: Where) -> int:
 
 
 def _round_halves(numpy: Any, flat: Any, numbers: Any, places: int) -> bool:
-    """Rounds those near a half anew, as decimals; whether any number was changed by rounding."""
+    """Rounds those near a half again, as decimals; returns whether rounding changed any number."""
     power = 10.0**places
     product = flat * power
     half = numpy.abs(numpy.abs(product - numpy.floor(product)) - 0.5) < 0.001

@@ -1,6 +1,5 @@
-"""Problems without an assignment: the error that says so, how many rows can be served at all (a greatest matching, found by
-augmenting paths), and every group that is short: from one fullest matching, all whom somebody unmatched reaches, cut into
-connected parts."""
+"""Problems without an assignment: the error, the greatest number of rows that can be matched (by augmenting paths), and every group
+that is short. From one maximum matching these are all nodes that an unmatched one reaches, in connected parts."""
 from array import array
 from collections import deque
 from typing import Any, Dict, List, NamedTuple, Optional, Sequence, Set, Tuple, Union
@@ -18,15 +17,15 @@ def _shown(numbers: Any) -> str:
 class Infeasible(ValueError):
     """There is no assignment, and each group of rows and columns proves it.
 
-    Where a group has more rows, these rows may have its columns alone. Where it has more columns (in a problem of more rows
-    than columns, whose columns all want a row), these columns may go to its rows alone.
+    If a group has more rows than columns, these rows may have no other columns. If it has more columns (in a problem of more rows
+    than columns, where each column needs a row), these columns may go to no other rows.
 
     Attributes
     ----------
     groups : list of tuple
         Rows and columns of each group that is short, in the order of their first rows (or columns). No two groups share any.
-    rows, columns : list of int, or NumPy arrays where an array came in
-        Those of the first group: numbers of the caller's rows and columns, from 0, rising.
+    rows, columns : list of int, or NumPy arrays if the costs are one
+        Those of the first group: numbers from 0, rising.
     """
 
     def __init__(self, groups: List[Tuple[Any, Any]]):

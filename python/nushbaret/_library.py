@@ -31,18 +31,18 @@ PLACES = (_PACKAGE / NAME, _PACKAGE.parent.parent / "c" / "out" / NAME)
 
 
 class LibraryNotFound(OSError):
-    """The shared library isn't there, or it is of another version; the text says which command makes it."""
+    """The shared library is missing, or it is of another version; the text says which command builds it."""
 
 
 class Told(ctypes.Structure):
-    """What a call tells beside its lists."""
+    """What a call reports in addition to its lists."""
 
     _fields_ = [(name, ctypes.c_int64 if name == "total" else ctypes.c_uint64)
                 for name in ("total", "place", "persons", "objects", "person", "object")]
 
 
 _TOLD = ctypes.sizeof(Told)
-# How many lists each call takes, and whether a sense and what is told stand among its arguments.
+# How many lists each call takes.
 _LISTS = {"dense": 4, "dense_from": 5, "sparse": 6, "sparse_from": 7, "check": 5, "check_hall": 5}
 _loading = threading.Lock()
 _calls: Dict[str, Any] = {}
@@ -75,7 +75,7 @@ def _load() -> None:
         _calls[name] = call
     with contextlib.suppress(MemoryError):
         bytes(_KEPT)
-    # Without types, so that what is made ready isn't looked at once more.
+    # Without types, so that prepared arguments aren't converted again.
     _calls["dense, made ready"] = library["nushbaret_dense"]
 
 
@@ -95,7 +95,7 @@ _SPARE = array("Q", [0])
 # A block of this size, which nobody writes to, makes the C library of GNU keep up to twice as much for later calls once it is freed.
 # Otherwise each call on a large problem takes all its pages from the system again, which takes about as long as to solve it.
 _KEPT = 2**25 - 2**16
-# NumPy tells an array's address slowly: up to so many numbers a copy is had sooner.
+# NumPy returns an array's address slowly: up to so many numbers a copy is faster.
 FEW = 1024
 _FEW_BYTES = 8 * FEW
 
@@ -172,8 +172,7 @@ class Room:
         self.call, self.doubles, self.numbers, self.own = _calls["dense, made ready"], None, None, None
 
     def held(self, numbers: Any) -> Any:
-        """The address of an array of 64-bit numbers, which stays as long as this does. NumPy tells it slowly: a copy of a small
-        array, as bytes, is had sooner."""
+        """The address of an array of 64-bit numbers, which lives as long as this does."""
         self.numbers = numbers
         return ctypes.c_void_p.from_param(numbers.__array_interface__["data"][0])
 
@@ -183,20 +182,20 @@ class Room:
         self.own = self.held(self.doubles.view(numpy.int64))
 
 
-# Rooms of calls that are done, by their sizes; so many sizes are held at most.
+# Rooms of calls that have ended, by their sizes; at most so many sizes.
 _MOST_SIZES = 256
 _rooms: Dict[Tuple[int, int], List[Room]] = {}
 
 
 def rooms_for(n: int, m: int) -> List[Room]:
-    """A list of rooms that no call has: take one of it, and put it back when it is done."""
+    """A list of rooms that no call has: take one of it, and put it back after the call."""
     rooms = _rooms.get((n, m))
     if rooms is None:
         _loaded()
         if len(_rooms) >= _MOST_SIZES:
             _rooms.clear()
         rooms = []
-        # Larger rooms aren't kept: to make one takes little beside such a problem, and it holds much.
+        # Larger rooms aren't kept: making one takes little time compared with the problem, and it holds much memory.
         if n * m <= FEW:
             _rooms[n, m] = rooms
     return rooms

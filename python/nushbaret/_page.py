@@ -52,7 +52,7 @@ tr { break-inside: avoid }
 
 
 class Block(NamedTuple):
-    """Rows and columns of a drawn matrix that are framed, from the first to the one behind the last."""
+    """Rows and columns of a drawn matrix that are framed, from the first to the one after the last."""
 
     top: int
     bottom: int
@@ -94,7 +94,7 @@ def frame_of(roster: Roster, answer: Answer) -> Frame:
 
 
 def _others(roster: Roster, answer: Answer, persons: Set[int], objects: Set[int]) -> Tuple[List[int], List[int]]:
-    """Who and what is drawn beside the short groups."""
+    """Who and what is drawn in addition to the short groups."""
     drawn_persons, drawn_objects = set(range(len(roster.persons))), set(range(len(roster.objects)))
     if len(drawn_persons) * len(drawn_objects) > MOST_WHOLE_CELLS:
         pairs = [] if answer.plan is None else answer.plan.pairs

@@ -268,7 +268,7 @@ class Ranking:
         """Whether there is another plan of the least cost.
 
         All best plans, and no others, have pairs of reduced cost 0 alone and use each row and column that is worth more than to stay
-        out. Of these the library finds one with as few of this plan's pairs as can be."""
+        out. Of these the library finds one with as few of this plan's pairs as possible."""
         rows, columns, out = self.whole.row_duals[:-1], self.whole.column_duals[:-1], -self.whole.column_duals[-1]
         pairs = self.n_rows - self.whole.columns.count(self.n_columns)
         worth_rows = [self.rows_out and dual < out for dual in rows]
@@ -295,7 +295,7 @@ def _plan(result: Result, ranking: Ranking, part: _Part) -> Plan:
 
 
 def next_best(result: Result) -> Optional[Plan]:
-    """The best plan beside a result's."""
+    """The best plan except for a result's own."""
     ranking = Ranking(result)
     ranking.part(ranking.whole, 1)
     part = ranking.take()
@@ -303,7 +303,7 @@ def next_best(result: Result) -> Optional[Plan]:
 
 
 def best_plans(result: Result, count: int) -> Iterator[Plan]:
-    """So many plans in order, from the best on."""
+    """The first plans in order, so many at most."""
     ranking = Ranking(result)
     ranking.wait(ranking.whole)
     for left in range(count, 0, -1):
@@ -317,27 +317,27 @@ def best_plans(result: Result, count: int) -> Iterator[Plan]:
 
 def k_best(costs: Any, k: int, maximize: bool = False, decimals: Decimals = None, partial: bool = False,
            missing: str = "refuse") -> Iterator[Plan]:
-    """The k best plans, one after the other.
+    """The k best plans, from the best on.
 
     Parameters
     ----------
     costs : matrix
         As in `solve`, or a sparse matrix of SciPy's.
     k : int
-        How many are wanted; fewer come where there are no more.
+        How many to yield; fewer if there are no more.
     maximize, decimals, partial, missing
         As in `solve`.
 
     Yields
     ------
     Plan
-        From the best on. Of one cost, the plan comes first that has the lower column in the first row in which two differ; who
-        is unmatched counts as having a column behind all.
+        Of one cost, the plan comes first that has the lower column in the first row in which two differ. An unmatched row
+        counts as having a column after all others.
 
     Raises
     ------
     Infeasible, ValueError, TypeError, MemoryError, LibraryNotFound
-        As in `solve`, or where k is below 0.
+        As in `solve`, or if k is below 0.
 
     Notes
     -----
@@ -353,27 +353,26 @@ def k_best(costs: Any, k: int, maximize: bool = False, decimals: Decimals = None
     return best_plans(solve_problem(problem, None, partial), k)
 
 
-# Plans whose worst pair is as good as can be.
+# Plans whose worst pair is as good as possible.
 
 
 def bottleneck(costs: Any, maximize: bool = False, decimals: Decimals = None, partial: bool = False,
                missing: str = "refuse") -> Result:
-    """A plan whose dearest pair is as cheap as can be, and among those one of the best sum.
+    """A plan whose dearest pair is as cheap as possible, and among these one of the best sum.
 
     Parameters
     ----------
     costs : matrix
         As in `solve`, or a sparse matrix of SciPy's.
     maximize : bool, optional
-        Whether costs are to be great: then the least pair is as great as can be.
+        Whether to find great costs: then the least pair is as great as possible.
     decimals, partial, missing
         As in `solve`.
 
     Returns
     -------
     Result
-        Of the problem that forbids each pair that is worse. That no plan is without a pair as bad as its worst one is shown by
-        the library as well.
+        Of the problem that forbids each worse pair. The library also proves that each plan has a pair as bad as its worst one.
 
     Raises
     ------
@@ -382,7 +381,7 @@ def bottleneck(costs: Any, maximize: bool = False, decimals: Decimals = None, pa
 
     Notes
     -----
-    Solves twice; which pairs can be done without is found by matchings.
+    Solves twice; matchings find which pairs no plan needs.
     """
     problem = problem_of(costs, None, None, None, manner(maximize, decimals, missing))
     least = min(problem.n_rows, problem.n_columns)
@@ -393,10 +392,10 @@ def bottleneck(costs: Any, maximize: bool = False, decimals: Decimals = None, pa
 
 
 def _best_within(pairs: Problem, served: int) -> Result:
-    """The best plan of so many pairs among those whose worst pair is as good as can be."""
+    """The best plan of so many pairs among those whose worst pair is as good as possible."""
     values = _values(pairs)
     lower, upper, fewest = values.index(_unavoidable(pairs, served, values[0])) - 1, len(values) - 1, pairs
-    # What is wanted is mostly near the least that is possible, where few pairs have to be looked at.
+    # The answer is mostly near the lower end, where few pairs have to be looked at.
     width, is_bounded = max(len(values) // 1024, 1), False
     while upper - lower > 1:
         middle = (lower + upper) // 2 if is_bounded else min(lower + width, upper - 1)
@@ -418,7 +417,7 @@ def _values(pairs: Problem) -> List[int]:
 
 
 def _unavoidable(pairs: Problem, served: int, best: int) -> int:
-    """A cost as bad as which some pair of each plan is: where all rows have a pair, the worst of what is best for each; likewise of
+    """A cost that some pair of each plan is at least as bad as: if all rows have a pair, the worst of the rows' best costs; the same of
     columns."""
     worse = min if pairs.maximize else max
     for count, nodes in ((pairs.n_rows, pairs.persons), (pairs.n_columns, pairs.objects)):

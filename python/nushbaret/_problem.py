@@ -9,13 +9,13 @@ from . import _exact as exact
 from ._library import MOST_PERSONS, Lent
 
 
-# Rows, columns, the costs, and NumPy's module where an array came in.
+# How many rows and columns, the costs, and NumPy's module if these are an array.
 Matrix = Tuple[int, int, exact.Costs, Any]
 
 
 class Problem(NamedTuple):
     """Costs are times 10**places. Dense: all costs in order, and `persons` is None. Sparse: row persons[k] - 1 and column
-    objects[k] - 1 are a pair at costs[k]. `numpy` is the module where an array came in, else None; `labels` are those of the
+    objects[k] - 1 are a pair at costs[k]. `numpy` is the module if the costs are an array, else None; `labels` are those of the
     rows and columns of a frame of pandas."""
 
     n_rows: int
@@ -34,7 +34,7 @@ class Problem(NamedTuple):
         return int(self.persons[place]) - 1, int(self.objects[place]) - 1
 
     def numbers(self, values: Sequence[int]) -> Any:
-        """Row or column numbers in the form that the caller wants."""
+        """Row or column numbers, as an array if the costs are one."""
         return values if self.numpy is None else self.numpy.array(values, self.numpy.intp)
 
 
@@ -73,7 +73,7 @@ def _rows_of(costs: Any) -> Tuple[List[Any], int]:
 
 
 def _of_view(view: memoryview, manner: exact.Manner) -> Matrix:
-    """Of a memoryview of two dimensions: lent where it has just the numbers that the library wants."""
+    """Of a memoryview of two dimensions: lent if it has the library's own kind of numbers."""
     if view.ndim != 2:
         raise ValueError(f"expected a matrix (2-D array), got a {view.ndim} array")
     n_rows, n_columns = view.shape
@@ -124,7 +124,7 @@ def is_frame(costs: Any) -> bool:
 
 
 def plain(values: Any) -> Any:
-    """A list of the problem's as one whose items are had one by one."""
+    """A list of the problem's in a form whose items can be indexed one by one."""
     if hasattr(values, "held"):
         return memoryview(values.held).cast("B").cast("q")
     return values.reshape(-1) if hasattr(values, "reshape") else values
@@ -147,7 +147,7 @@ def costs_of_pairs(problem: Problem, pairs: Sequence[Tuple[int, int]]) -> List[A
 
 
 def lists_of(problem: Problem) -> List[Tuple[Sequence[int], Any]]:
-    """The columns of each row, rising, and what they cost where costs are to be little."""
+    """The columns of each row, rising, and their costs, to be minimised."""
     n_rows, n_columns, sign = problem.n_rows, problem.n_columns, -1 if problem.maximize else 1
     if problem.persons is None:
         costs = plain(problem.costs)
@@ -224,7 +224,7 @@ def _pair_costs(costs: Any, manner: exact.Manner, where: exact.Where) -> Tuple[e
 
 
 def _one_form(numpy: Any, values: Any, kind: str) -> Any:
-    """A list in the form of the others: an array of NumPy's where any came as one."""
+    """A list in the form of the others: an array of NumPy's if any of them is one."""
     return numpy.asarray(values, kind) if numpy else values
 
 

@@ -1,8 +1,8 @@
-"""Problems as the library wants them, and what its answers say of the caller's.
+"""Problems as the library takes them, and what its answers say of the caller's problem.
 
-The library gives each of n persons one of m objects, proved for n <= m. The fewer of rows and columns are the persons: where rows are
-more the problem is turned. Where persons may stay out each lists dummy objects beside its own, as many as are to stay out: then at
-least so many pairs are made as are wanted, and no more where there can't be more."""
+The library gives each of n persons one of m objects, proved for n <= m. The fewer of rows and columns are the persons: with more rows
+than columns the problem is turned. If persons may stay out, each also lists dummy objects, as many as persons are to stay out. Then
+at least the requested number of pairs is made, and exactly this number if no plan has more."""
 import decimal
 import math
 import numbers
@@ -17,8 +17,8 @@ from ._problem import Problem, costs_of_pairs, listed, lists_of, plain
 
 
 class Given(NamedTuple):
-    """What is passed to the library: how many persons and objects, and three lists, of which persons and objects are empty where
-    it is dense."""
+    """What is passed to the library: how many persons and objects there are, and three lists; in a dense problem those of persons and
+    objects are empty."""
 
     n: int
     m: int
@@ -74,8 +74,8 @@ def _turned_costs(problem: Problem) -> Any:
 
 
 def given(problem: Problem, served: Optional[int] = None, out: int = 0) -> Given:
-    """The problem in whose assignments `served` pairs are made, all that can be where it isn't given. `out` is what it costs to
-    stay out."""
+    """The problem whose assignments have `served` pairs, or as many as the shorter side has nodes. `out` is the cost of staying
+    out."""
     n, m, dummies = sizes_of(problem, served)
     if problem.persons is None and not dummies:
         return Given(n, m, NONE, NONE, _turned_costs(problem) if is_turned(problem) else problem.costs)
@@ -87,7 +87,7 @@ def given(problem: Problem, served: Optional[int] = None, out: int = 0) -> Given
 
 
 def _dummies(n: int, m: int, dummies: int, out: int) -> Tuple[Any, Any, Any]:
-    """Persons, objects and costs of the pairs that dummies are in."""
+    """Persons, objects and costs of the pairs with dummies."""
     everybody, objects = array("H", range(1, n + 1)), array("H")
     for item in range(m - dummies + 1, m + 1):
         objects.extend(array("H", (item,)) * n)
@@ -99,7 +99,7 @@ def _joined(numpy: Any, own: Any, more: Any) -> Any:
 
 
 def refuse(problem: Problem, asked: Given, code: str, told: library.Told) -> NoReturn:
-    """Raises what a code of the library means that is no answer."""
+    """Raises the fault that a code of the library means."""
     if code == "COST":
         if problem.persons is not None:
             row, column = problem.place(told.place)
@@ -127,13 +127,13 @@ def answer(problem: Problem, asked: Given, first: Optional[Halves] = None) -> Un
 
 
 def no_pairs(problem: Problem) -> Answer:
-    """The answer where there is no pair to make: all stay out, at prices of 0."""
+    """The answer without any pair: all stay out, at prices of 0."""
     n, most = sorted((problem.n_rows, problem.n_columns))
     return Answer(n, most + n, 0, array("H", (most + 1,)) * n, Halves(most + n))
 
 
 def pairs_of(problem: Problem, found: Answer) -> Tuple[List[int], List[int]]:
-    """Rows and columns of the pairs of an answer, rows rising: dummies stand in none."""
+    """Rows and columns of the pairs of an answer, rows rising, without dummies."""
     most = max(problem.n_rows, problem.n_columns)
     own = [item - 1 for item in found.objects]
     persons = list(range(found.n))
@@ -147,7 +147,7 @@ def pairs_of(problem: Problem, found: Answer) -> Tuple[List[int], List[int]]:
 
 
 def prices_of(problem: Problem, found: Answer, rows: List[int], columns: List[int]) -> List[int]:
-    """One price for each column, in the library's unit: its own, or where rows are more those that follow from the rows' prices."""
+    """One price for each column, in the library's unit: the library's, or in a turned problem those that follow from the rows' prices."""
     prices = found.halves.prices()
     if not is_turned(problem):
         return prices[:problem.n_columns]
@@ -165,8 +165,8 @@ def prices_of(problem: Problem, found: Answer, rows: List[int], columns: List[in
 
 
 class Duals(NamedTuple):
-    """Whole duals of a problem whose costs are to be little (under maximize those of the costs with their signs turned): of each
-    row, of each column, and what rows have that stay unmatched."""
+    """Whole duals of a problem whose costs are minimised (under maximize, of the negated costs): of each row, of each column, and that
+    of unmatched rows."""
 
     rows: List[int]
     columns: List[int]
@@ -174,9 +174,8 @@ class Duals(NamedTuple):
 
 
 def duals_of(problem: Problem, found: Answer, rows: List[int], columns: List[int]) -> Duals:
-    """The duals that an answer's prices tell: a row's and a column's are together no more than their pair's cost, and are that cost
-    in the plan. Columns have no dual above 0, and 0 where they are unmatched; where all are matched and rows are left over, this
-    holds for rows instead."""
+    """The duals that follow from an answer's prices. A row's and a column's sum is at most their pair's cost, and equals it in the plan.
+    Columns have no dual above 0, and 0 if they are unmatched; if all are matched and rows are left over, this holds of rows instead."""
     n_rows, n_columns = problem.n_rows, problem.n_columns
     if not rows:
         return Duals([0] * n_rows, [0] * n_columns, 0)
@@ -196,9 +195,9 @@ def duals_of(problem: Problem, found: Answer, rows: List[int], columns: List[int
 def _whole_prices(problem: Problem, found: Answer, served: int) -> List[int]:
     """Prices without any slack, in whole costs, from prices with slackness 1 in the library's unit.
 
-    There are fewer prices than residues by the unit, so that one residue is had by none. Counted from behind it, no price's rest
-    is the unit less 1; so two rests and the slackness differ by less than the unit, and what is left of the slack in whole costs
-    is less than 1, hence none. The least is 0, and an object that nobody has, at most 1 above the least price, is at 0 too."""
+    There are fewer prices than residues modulo the unit, so one residue belongs to no price. Counted from the residue after it, no
+    remainder is the unit less 1. So two remainders and the slackness differ by less than the unit, and the slack in whole costs is
+    less than 1: there is none. The least price is 0. An unowned object's is at most 1 above the least, so it is 0 too."""
     prices, unit = found.halves.prices(), found.m + 1
     rests = {price % unit for price in prices}
     missing = next(rest for rest in range(unit) if rest not in rests)
@@ -215,7 +214,7 @@ def _whole_prices(problem: Problem, found: Answer, served: int) -> List[int]:
 
 
 def rents(duals: Duals) -> List[int]:
-    """What columns cost beside their pairs: the least is 0."""
+    """What columns cost in addition to their pairs; the least is 0."""
     most = max(duals.columns, default=0)
     return [most - dual for dual in duals.columns]
 
@@ -224,7 +223,7 @@ def rents(duals: Duals) -> List[int]:
 
 
 def _whole(price: Any, scale: int, place: int) -> int:
-    """A price times the scale, to the nearest whole number."""
+    """A price times the scale, rounded to a whole number."""
     if type(price) is int:
         return price * scale
     try:
@@ -238,7 +237,7 @@ def _whole(price: Any, scale: int, place: int) -> int:
 
 
 def scaled(problem: Problem, prices: Any, unit: int) -> List[int]:
-    """Prices become whole ones in the library's unit, the least 0."""
+    """Prices as whole numbers in the library's unit, the least 0."""
     prices = list(prices)
     if len(prices) != problem.n_columns:
         raise ValueError(f"there are {len(prices)} prices, and {problem.n_columns} columns")
@@ -252,7 +251,7 @@ def scaled(problem: Problem, prices: Any, unit: int) -> List[int]:
 
 
 def first_prices(problem: Problem, prices: Any, served: Optional[int]) -> Halves:
-    """First prices for the library; dummies begin at 0."""
+    """First prices for the library; those of dummies are 0."""
     _, m, dummies = sizes_of(problem, served)
     first = scaled(problem, prices, m + 1)
     if is_turned(problem):
@@ -261,7 +260,7 @@ def first_prices(problem: Problem, prices: Any, served: Optional[int]) -> Halves
 
 
 def _of_rows(problem: Problem, prices: List[int], unit: int) -> List[int]:
-    """What rows gain at prices of columns, the least 0: first prices of the turned problem."""
+    """First prices of the turned problem, the least 0: what rows gain at prices of the columns."""
     paid = [min((unit * cost + prices[column] for column, cost in zip(*held)), default=None) for held in lists_of(problem)]
     most = max((price for price in paid if price is not None), default=0)
     return [0 if price is None else min(most - price, GREATEST_FIRST_PRICE) for price in paid]

@@ -20,7 +20,7 @@ def in_unit(number: int, places: int) -> Number:
 
 
 def rows_and_columns(problem: Problem, answer: proved.Answer) -> Tuple[Any, Any]:
-    """The numbers of the pairs of an answer, in the form that the caller wants: dummies stand in none."""
+    """The numbers of the pairs of an answer, without dummies, as arrays if the costs were one."""
     return _arrays_of(problem.numpy, problem, answer) if problem.numpy else proved.pairs_of(problem, answer)
 
 
@@ -46,38 +46,38 @@ class Plan(NamedTuple):
 class Result:
     """A best assignment, with prices that prove it.
 
-    Row `rows[k]` has column `columns[k]`; numbers are from 0, and rows rise. They are NumPy arrays where the costs came in
-    as one, and lists elsewhere.
+    Row `rows[k]` has column `columns[k]`; numbers are from 0, and rows rise. They are NumPy arrays if the costs are one, and
+    lists otherwise.
 
     Attributes
     ----------
     rows, columns : list of int, or NumPy array
         The pairs. With unequal numbers there are as many as the fewer of rows and columns.
     cost : int or decimal.Decimal
-        The sum of their costs, exactly; a Decimal where costs have decimal places.
+        The sum of their costs, exactly; a Decimal if costs have decimal places.
     pairs : list of tuple
         The pairs by the labels of a DataFrame, or else by numbers.
     row_duals, column_duals : list of int or of decimal.Decimal
-        The proof, exactly: u[i] + v[j] <= costs[i][j] for each pair that is allowed, with equality in the plan; v[j] <= 0, and 0
-        where a column is unmatched; the sum of all is the cost. Where rows are more and all columns are matched, this holds for
-        u in place of v. Under maximize all of these signs are turned. (In a partial plan that leaves out rows and columns, all
-        unmatched rows have one dual, none is greater, and it is the sum over the matched that is the cost.) Other duals prove
-        the same plan as well.
+        The proof, exactly: u[i] + v[j] <= costs[i][j] for each allowed pair, with equality in the plan; v[j] <= 0, and 0 for an
+        unmatched column; the sum of all is the cost. If there are more rows than columns and all columns are matched, this holds
+        of u instead of v. Under maximize these signs are reversed. In a partial plan that leaves out rows and columns, unmatched
+        rows have one dual, none is greater, and the sum over matched rows and columns is the cost. Other duals may prove the
+        same plan.
     prices : list of int
-        The library's own proof, one price for each column, in the unit of the costs divided by `scale`. Where rows are more the
-        library has prices of the rows, and these follow from them.
+        The library's own proof: one price for each column, `scale` to the unit of the costs. If there are more rows than columns,
+        the library has prices of the rows, and these follow from them.
     unmatched_rows, unmatched_columns : list of int, or NumPy array
-        Who stays without, rising.
+        Those without a pair, rising.
     scale : int
-        What prices are divided by to be in the unit of the costs.
+        Divide prices by it to get them in the unit of the costs.
     decimals : int
-        How many decimal places were counted.
+        How many decimal places the costs have.
     rounded : bool
-        Whether any cost was changed by rounding to `decimals` places: then the plan is best for the rounded costs.
+        Whether rounding to `decimals` places changed any cost: then the plan is best for the rounded costs.
     error_bound : int or decimal.Decimal
-        By how much at most the plan is worse than the best one for the costs before they were rounded; 0 where none was.
+        By how much at most the plan is worse than the best one for the costs before rounding; 0 if none was rounded.
     maximize : bool
-        Whether the greatest sum was wanted.
+        Whether this is the greatest sum, not the least.
     is_unique : bool
         Whether no other plan of as many pairs is as good: of the plans along pairs without reduced cost, the library has none that
         differs. Which pairs these are follows from the proved prices.
@@ -143,13 +143,13 @@ class Result:
         return not Ranking(self).has_other()
 
     def next_best(self) -> Optional[Plan]:
-        """The best plan beside this one, with as many pairs; where this is one of several best plans it is another of these.
+        """The best plan except for this one, with as many pairs. If this is one of several best plans, it is another of these.
 
         Returns
         -------
         Plan or None
-            None where there is no other plan. Of several, the one that comes first in the order of `k_best`, whose notes say what
-            the library checks of it.
+            None if there is no other plan. Of several, the one that comes first in the order of `k_best`, whose notes say what the
+            library checks of it.
         """
         from ._plans import next_best
         return next_best(self)
@@ -160,7 +160,7 @@ class Result:
         Returns
         -------
         pandas.DataFrame
-            With columns row, column and cost: labels where the costs had such, numbers elsewhere.
+            With columns row, column and cost: by labels if the costs were a DataFrame, else by numbers.
         """
         import pandas  # type: ignore
         costs = self._in_unit(costs_of_pairs(self._problem, list(zip(*self._pairs))))
@@ -168,19 +168,19 @@ class Result:
         return pandas.DataFrame({"row": list(rows), "column": list(columns), "cost": costs})
 
     def verify(self, costs: Any = None, rows: Any = None, columns: Any = None) -> "Verdict":
-        """Holds the plan and its duals against a problem, by the library's proved checker.
+        """Checks the plan and its duals against a problem, by the library's proved checker.
 
         Parameters
         ----------
         costs : matrix or sparse matrix, optional
-            The problem, of as many rows and columns; the one that was solved where it isn't given.
+            The problem, of as many rows and columns; if it isn't given, the one that was solved.
         rows, columns : lists of int, optional
-            Where they are given, `costs` is a list too, and these are its pairs, as in `solve_sparse`.
+            If they are given, `costs` is a list too, and these are its pairs, as in `solve_sparse`.
 
         Returns
         -------
         Verdict
-            True as a condition exactly where the duals prove that no plan of as many pairs is better.
+            True as a condition exactly if the duals prove that no plan of as many pairs is better.
         """
         from ._checking import check_problem, problem_of
         problem = self._problem
@@ -191,9 +191,9 @@ class Result:
         return check_problem(problem, rows, columns, self._rents)
 
     def without(self, row: int, column: int) -> "Result":
-        """The best plan where this pair is forbidden; what it costs more is what the pair is worth.
+        """The best plan with this pair forbidden. The pair is worth what that plan costs more.
 
-        Solves again, and looks at the costs again: leave an array that was solved as it was until then.
+        Solves again and reads the costs again, so don't change an array before.
 
         Parameters
         ----------
@@ -208,9 +208,9 @@ class Result:
         Raises
         ------
         Infeasible
-            Where there is none without the pair.
+            If there is none without the pair.
         IndexError
-            Where the row or the column isn't one of the problem.
+            If the row or the column isn't one of the problem.
         """
         from ._solving import solve_without
         return solve_without(self._problem, len(self._pairs[0]), row, column)

@@ -164,7 +164,7 @@ class Sheet:
         self.refuse("an empty file")
 
     def body(self, width: int) -> Iterator[Tuple[int, List[str]]]:
-        """The records behind the title, each of `width` cells."""
+        """The records after the title, each of `width` cells."""
         records = self.records()
         next(records)
         for line, cells in records:
@@ -233,7 +233,7 @@ class Costs:
         self._most = MOST_PLACES if decimals is None else decimals
         self.rounded = False
         point = "," if comma else r"\."
-        # Sign, whole part without zeros ahead, decimal places without zeros behind; a digit stands somewhere.
+        # Sign, whole part without leading zeros, decimal places without trailing zeros; at least one digit.
         self._plain = re.compile(rf"([+-]?)(?={point}?[0-9])0*([0-9]*)(?:{point}([0-9]*?)0*)?")
         self._millionths = array("q")
         self._places = 0
@@ -397,7 +397,7 @@ def read_roster(path: str, form: Optional[str], decimals: Optional[int], comma: 
     path : str
         A CSV file with a title line, or a workbook, `.xlsx`.
     form : 'lines', 'matrix' or None
-        None tells the form from the file.
+        None takes the form from the file.
     decimals : int or None
         How many decimal places costs have at most, 0 to 6; None: as many as the file uses, up to 6.
     comma : bool

@@ -17,7 +17,7 @@ Found = Union[proved.Answer, proved.Short]
 
 
 def solve_served(problem: Problem, served: int) -> Optional[Result]:
-    """The best plan of so many pairs; None where the library proves that there is none."""
+    """The best plan of so many pairs; None if the library proves that there is none."""
     answer = _solved(problem, served=served)
     return None if isinstance(answer, proved.Short) else Result(problem, answer)
 
@@ -34,7 +34,7 @@ def _solved(problem: Problem, start: Start = None, served: Optional[int] = None)
 
 
 def _most(problem: Problem, start: Start) -> proved.Answer:
-    """The best of the fullest plans. That no plan has one pair more is proved by the library as well."""
+    """The best of the fullest plans. The library also proves that no plan has one pair more."""
     served = most_served(problem)
     answer = _solved(problem, start, served)
     if isinstance(answer, proved.Short) or not isinstance(_solved(problem, served=served + 1), proved.Short):
@@ -60,7 +60,7 @@ def solve(costs: Any, maximize: bool = False, decimals: Decimals = None, start: 
           partial: bool = False, missing: str = "refuse") -> Result:
     """A best assignment of the rows and columns of a matrix, with prices that prove it.
 
-    Each row gets a column, no column twice; with unequal numbers as many pairs are made as can be, and some rows or columns
+    Each row gets a column, no column twice. With unequal numbers as many pairs as possible are made, and some rows or columns
     stay out.
 
     Parameters
@@ -68,18 +68,18 @@ def solve(costs: Any, maximize: bool = False, decimals: Decimals = None, start: 
     costs : matrix
         A list of rows, a NumPy array, a DataFrame of pandas, or a buffer of two dimensions. Whole numbers, floats, Decimals or
         Fractions; a float is the decimal that it prints as. None or infinity (under maximize -infinity) forbids a pair. At most
-        8192 rows and columns; each cost, times 10**decimals, is at most 10**12 either way.
+        8192 rows and columns; each cost, times 10**decimals, is from -10**12 to 10**12.
     maximize : bool, optional
-        Whether the greatest sum is wanted, not the least.
+        Whether to find the greatest sum, not the least.
     decimals : int or "fit", optional
-        Rounds each cost to so many places first, 0 to 6, halves to even ones; "fit" to as many as fit into the range
-        (`Result.rounded` says whether that changed any, `Result.error_bound` by how much it may matter). Where it isn't given,
-        costs are taken exactly, and there may be up to 6 places.
+        Rounds each cost to so many decimal places first, 0 to 6, halves to even; "fit" rounds to as many as fit into the range.
+        `Result.rounded` says whether that changed any, `Result.error_bound` by how much it may matter. If it isn't given, costs
+        are taken exactly, with up to 6 places.
     start : Result or list of numbers, optional
-        A solved neighbour, or first prices: one for each column, in the unit of the costs, as those of `check`. The sum is the
-        same whatever they are.
+        The result of a similar problem, or first prices: one for each column, in the unit of the costs, as those of `check`.
+        The cost is the same whatever they are.
     partial : bool, optional
-        Where not all can be paired, makes as many pairs as can be, at the best sum among such plans, in place of raising.
+        If not all can be paired, makes as many pairs as possible, at the best sum among these plans, instead of raising.
     missing : {"refuse", "forbid"}, optional
         Whether NaN is refused, or forbids its pair.
 
@@ -90,20 +90,20 @@ def solve(costs: Any, maximize: bool = False, decimals: Decimals = None, start: 
     Raises
     ------
     Infeasible
-        There is no assignment; `rows` and `columns` prove it. A ValueError.
+        If there is no assignment; `rows` and `columns` prove it. A ValueError.
     ValueError
-        No matrix; too large; a cost that is out of range, NaN, or has too many places. The text says where.
+        If the costs are no matrix or too many, or one is out of range, NaN, or has too many places. The text says where.
     TypeError
-        A cost that is no number.
+        If a cost is no number.
     MemoryError
-        Memory was refused.
+        If memory is refused.
     LibraryNotFound
-        The shared library isn't there. An OSError.
+        If the shared library is missing. An OSError.
 
     Notes
     -----
-    Takes time that grows as the cube of the size at worst, and 24 bytes a pair beside the costs. Runs without the interpreter's
-    lock, and can't be interrupted while it does.
+    The time grows as the cube of the size at worst. A pair takes 24 bytes in addition to its cost. The interpreter's lock is free
+    while the library works, and the call can't be interrupted.
     """
     return solve_problem(reading.of_matrix(costs, exact.manner(maximize, decimals, missing)), start, partial)
 
@@ -116,7 +116,7 @@ def solve_sparse(n_rows: Any, n_columns: Optional[int] = None, rows: Any = None,
     Parameters
     ----------
     n_rows, n_columns : int
-        How many rows and columns there are, 0 to 8192 each. Or one sparse matrix of SciPy's in place of these and of the three
+        How many rows and columns there are, 0 to 8192 each. Or one sparse matrix of SciPy's instead of these and of the three
         lists; its stored entries are the pairs, also those that are 0.
     rows, columns, costs : lists or NumPy arrays of one length
         Row rows[k] may have column columns[k] at costs[k]; numbers from 0. A pair that is given several times counts once, at its
@@ -153,22 +153,23 @@ def linear_sum_assignment(cost_matrix: Any, maximize: bool = False) -> Tuple[Any
     cost_matrix : matrix
         Any that SciPy takes, and None to forbid a pair, as infinity does (under maximize -infinity).
     maximize : bool, optional
-        Whether the greatest sum is wanted.
+        Whether to find the greatest sum.
 
     Returns
     -------
-    row_ind, col_ind : NumPy arrays where one came in, else lists
+    row_ind, col_ind : NumPy arrays for an array, lists otherwise
         Row row_ind[k] has column col_ind[k]; rows rise.
 
     Raises
     ------
     ValueError, TypeError
-        As in `solve`, in SciPy's words where it has such an error.
+        As in `solve`, in SciPy's words for SciPy's errors.
 
     Notes
     -----
-    Floats are multiplied by the greatest power of two that leaves all within 10**12, and rounded. Where that makes all whole
-    the answer is best for these very doubles; else it costs at most n times that unit more, some 12 digits below the greatest.
+    Floats are multiplied by the greatest power of two that leaves all within 10**12, and rounded. If all are whole then, the
+    answer is optimal for these doubles. Otherwise it costs at most n times that unit more than the optimum, which is some 12
+    digits below the greatest cost.
     """
     arrays = _arrays or _load_arrays()
     found = arrays and arrays.assignment(cost_matrix, maximize)
@@ -179,8 +180,8 @@ def linear_sum_assignment(cost_matrix: Any, maximize: bool = False) -> Tuple[Any
 
 
 class _Arrays:
-    """SciPy's call on arrays of NumPy's, by a shorter way: around a small problem it's the steps in Python that take the time. What
-    is wanted of NumPy stands here, so that it isn't looked up each time."""
+    """SciPy's call on NumPy's arrays, by a shorter way: for a small problem most time goes to the steps in Python. What is needed of
+    NumPy is kept here, so that it isn't looked up each time."""
 
     def __init__(self, numpy: Any):
         self.numpy, self.array = numpy, numpy.ndarray
@@ -190,8 +191,8 @@ class _Arrays:
         self.from_zero = numpy.arange(-1, MOST_PERSONS).take
 
     def assignment(self, costs: Any, maximize: bool) -> Optional[Tuple[Any, Any]]:
-        """Rows and columns of a best assignment. None where the costs aren't an array of 64-bit integers or floats, all finite, or
-        where the library has no answer to them: then the longer way finds it, or says what is wrong."""
+        """Rows and columns of a best assignment. None if the costs aren't an array of 64-bit integers or floats, all finite, or if the
+        library has no answer to them: then the longer way finds one, or says what is wrong."""
         if type(costs) is not self.array or costs.ndim != 2:
             return None
         n, m = costs.shape
@@ -220,7 +221,7 @@ class _Arrays:
             return None
         sense = room.maximized if maximize else room.minimized
         if lent is None or room.call(sense, *room.sizes, lent, *room.rest):
-            # Costs below 0 may be too far out for a power of two that the greatest cost told.
+            # Costs below 0 may be out of range for the power of two of the greatest cost.
             lent = self._scaled(costs, room, -costs.min()) if costs.dtype is self.float64 else None
             if lent is None or room.call(sense, *room.sizes, lent, *room.rest):
                 return None
@@ -229,8 +230,8 @@ class _Arrays:
         return found
 
     def _taken(self, costs: Any, room: library.Room) -> Any:
-        """Doubles as whole numbers, as `doubles_of_array` has them; None where that must look closer."""
-        # In the order in which they lie in memory they are looked at sooner.
+        """Doubles as whole numbers, as `doubles_of_array` makes them; None if that has to look closer."""
+        # Reading them in their order in memory is faster.
         seen = costs if costs.flags.c_contiguous else costs.T
         item = seen.item
         # Where the first isn't whole, no look at the others is needed.
@@ -255,8 +256,8 @@ class _Arrays:
         return room.own
 
     def _adder(self, shift: int) -> Optional[Tuple[Any, Any]]:
-        """A double whose last place is 2**-shift, so that what is added to it is rounded there, and its bits, which are to be taken
-        off those of the sum; None where there is no such double."""
+        """A double whose last place is 2**-shift, so that what is added to it is rounded there, and its bits, to be subtracted from those
+        of the sum; None if there is no such double."""
         if not -exact.MOST_SHIFT < shift < exact.MOST_SHIFT:
             return None
         adder = self.numpy.array(1.5 * 2.0**(52 - shift))
@@ -269,7 +270,7 @@ _adders: Dict[int, Tuple[Any, Any]] = {}
 
 
 def _load_arrays() -> Optional[_Arrays]:
-    """The shorter way, once NumPy is there."""
+    """The shorter way, once NumPy is imported."""
     global _arrays
     numpy = sys.modules.get("numpy")
     if numpy is not None and hasattr(numpy, "ndarray"):
@@ -278,7 +279,7 @@ def _load_arrays() -> Optional[_Arrays]:
 
 
 def solve_without(problem: Problem, served: int, row: Any, column: Any) -> Result:
-    """Solves anew with one pair forbidden."""
+    """Solves again with one pair forbidden."""
     row, column = operator.index(row), operator.index(column)
     if not (0 <= row < problem.n_rows and 0 <= column < problem.n_columns):
         raise IndexError(f"row {row}, column {column}: there are {problem.n_rows} rows and {problem.n_columns} columns")
