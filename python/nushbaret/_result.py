@@ -64,8 +64,8 @@ class Result:
         rows have one dual, none is greater, and the sum over matched rows and columns is the cost. Other duals may prove the
         same plan.
     prices : list of int
-        The library's own proof: one price for each column, `scale` to the unit of the costs. If there are more rows than columns,
-        the library has prices of the rows, and these follow from them.
+        The library's own proof: one price for each column. Divided by `scale` they are in the unit of the costs. If there are
+        more rows than columns, the library has prices of the rows, and these follow from them.
     unmatched_rows, unmatched_columns : list of int, or NumPy array
         Those without a pair, rising.
     scale : int
