@@ -11,11 +11,12 @@ read, dummies where some stay out, and the order of the plans after the best one
 """
 from ._checking import Comparison, Verdict, check, compare
 from ._infeasible import Infeasible
-from ._library import GREATEST_COST, MOST_PERSONS, VERSION as __version__, LibraryNotFound
+from ._library import GREATEST_COST, MOST_PERSONS, VERSION as _VERSION, LibraryNotFound
 from ._plans import bottleneck, k_best
 from ._result import Plan, Result
 from ._solving import linear_sum_assignment, solve, solve_sparse
 
+__version__ = _VERSION
 __all__ = [
     "GREATEST_COST", "MOST_PERSONS", "Comparison", "Infeasible", "LibraryNotFound", "Plan", "Result", "Verdict", "bottleneck",
     "check", "compare", "k_best", "linear_sum_assignment", "solve", "solve_sparse",
