@@ -93,9 +93,9 @@ pub record Takes (t : LastSession) (b : BookData) (after : View) : Type 0 where
   pub free : IsFree b
   pub told : IsCurrent b t
 
--- a book that may be put back after a change by one worker: it is free, extends the book taken by
--- this worker's changes alone, is stopped if that was, and fits what the desk knows: its table, the
--- table's version, and a stop that it asked for
+-- a book that may be put back after a change by one worker. It is free, extends the book taken by
+-- this worker's changes alone, and is stopped if that was. It fits what the desk knows: its table,
+-- the table's version, and a stop that it asked for
 pub record MayFollow (k : Known) (taken b : BookData) : Type 0 where
   pub free : IsFree b
   pub extends : ExtendsBy k.number taken b

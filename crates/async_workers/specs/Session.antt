@@ -51,10 +51,10 @@ pub record EndsWell (refresh since : ℕ) (k : Known) (offer : Option Offer) (to
   pub book : new ≡ book_left caught submitted k.number
   pub known : left ≡ with_table caught submitted k
 
--- the book that a refused growth leaves, before catching up, which a refused offer leaves out: with
--- the accepted bid; or with the refused bid's person in the queue; or, after a search, with the
--- claim given up; or, without an offer, unchanged. The note is that the bid was accepted, that it
--- was refused memory, or nothing
+-- the book that a refused growth leaves, before catching up, which a refused offer leaves out. A
+-- bid was accepted, or its person waits again. After a search the claim is given up. Without an
+-- offer the book is unchanged. The note is that the bid was accepted, that it was refused memory,
+-- or nothing
 abbrev pub IsCutShort : ℕ → ℕ → ℕ → Option Offer → Note → BookData → BookData → Bool → Type 0
 IsCutShort refresh since worker None told b new caught = (new ≡ b) × (told ≡ note.Nothing) × (caught ≡ caught_in refresh since told)
 IsCutShort refresh since worker (Some (made.Bid bid)) told b new caught =

@@ -7,8 +7,8 @@ use Rattle.bidder.specs.declared.offers.Ask.{Ask}
 use Rattle.price_log.specs.History.{History, last_version, today}
 
 -- the problem; what the phase asks of a bid; the prices and the version at the phase's start; the
--- owner of each object; the queue; and for each worker the claimed person, the number of accepted
--- bids and the version last taken
+-- owners; the queue; and for each worker its claimed person, its count of accepted bids and its
+-- last version
 pub record BookData : Type 0 where
   pub base : ScaledProblem
   pub ask : Ask

@@ -58,9 +58,9 @@ abbrev pub Run : CoreData → List Event → CoreData → Type 0
 Run core [] new = new ≡ core
 Run core (e ∷ events) new = (mid : CoreData) × Happens core e mid × Run mid events new
 
--- what holds of each worker: no price of its table is above the book's, the table is the log's as
--- far back as the log reaches, its reported acceptances are the book's, and its prepared offer is
--- that of the person that it claimed
+-- what holds of each worker: no price of its table is above the book's, and the table is the log's
+-- as far back as the log reaches. Its reported acceptances are the book's, and its prepared offer
+-- is that of the person that it claimed
 pub record IsWorkerState (b : BookData) (worker : ℕ) (state : WorkerState) : Type 0 where
   pub long : IsBelow state.table (prices_of b)
   pub earlier : IsEarlier b.log state.table state.version
