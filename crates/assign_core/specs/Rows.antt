@@ -39,6 +39,7 @@ pub record IsCost (c : ℤ) : Type 0 where
   pub least : neg_ℤ GREATEST_COST ≤ℤ c
   pub greatest : c ≤ℤ GREATEST_COST
 
+-- each cost of a row is at most the greatest cost in absolute value
 abbrev pub HasCosts : Listing → Type 0
 HasCosts row = All (λ e. IsCost e.1) row
 

@@ -16,6 +16,7 @@ use Rattle.auction_book.specs.declared.answers.Note.TheVariants as note
 use Rattle.async_workers.specs.declared.rule.Known.{Known}
 use Rattle.async_workers.specs.Desk.{DeskData}
 
+-- the note on a bid that was too low
 abbrev pub is_too_low : Note → Bool
 is_too_low (note.Refused (TooLow price)) = true
 is_too_low told = false

@@ -23,12 +23,15 @@ pub record BookData : Type 0 where
   pub refuted : Option HallLists
   pub stopped : Bool
 
+-- the number of persons
 abbrev pub persons_of : BookData → ℕ
 persons_of b = length b.base.problem
 
+-- the current prices
 abbrev pub prices_of : BookData → List ℤ
 prices_of b = today b.log
 
+-- the current version of the prices
 abbrev pub version_of : BookData → ℕ
 version_of b = last_version b.log
 

@@ -18,6 +18,7 @@ pub record CoreData : Type 0 where
   pub book : BookData
   pub states : List WorkerState
 
+-- a worker with these prices as version 0, no offer and no acceptances
 abbrev pub state_of_prices : List ℤ → WorkerState
 state_of_prices prices = record { table = prices; version = 0; offer = None; accepted = 0 }
 
@@ -34,6 +35,7 @@ state_next e b state = record {
   accepted = numbered b.counts e.worker 0;
 }
 
+-- the core after the rest of an event, from the book after the submission
 abbrev pub core_next : CoreData → Event → WorkerState → BookData → CoreData
 core_next core e state b = record {
   book = book_left e.catch_up b e.worker;
@@ -44,6 +46,7 @@ core_next core e state b = record {
 abbrev pub is_worker : CoreData → ℕ → Bool
 is_worker core worker = nat_le 1 worker && nat_le worker (length core.states)
 
+-- the state of a worker
 abbrev pub state_at : CoreData → ℕ → WorkerState
 state_at core worker = numbered core.states worker (state_of_prices [])
 

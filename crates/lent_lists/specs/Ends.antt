@@ -50,6 +50,7 @@ pub record Buffers : Type 0 where
   pub prices : List SplitPrice
   pub told : Told
 
+-- the caller's buffers with these lists and this record
 abbrev pub buffers : List ℕ → List ℕ → List SplitPrice → Told → Buffers
 buffers objects persons prices told =
     record { objects = objects; persons = persons; prices = prices; told = told }

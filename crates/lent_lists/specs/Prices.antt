@@ -12,5 +12,6 @@ pub record IsFirstPrice (p : ℤ) : Type 0 where
   pub least : pos 0 ≤ℤ p
   pub greatest : p ≤ℤ GREATEST_FIRST_PRICE
 
+-- a run may begin at the price with these halves
 abbrev pub IsSplitFirstPrice : SplitPrice → Type 0
 IsSplitFirstPrice h = IsFirstPrice (price_in h)

@@ -38,6 +38,7 @@ abbrev pub judged_open : Wanted → ℕ → InputFault
 judged_open wanted.Nothing place = faults.Extra place
 judged_open w place = faults.TooLong
 
+-- the next step on a value; a fault stays
 abbrev pub and_then : {X Y : Type 0} → Result X InputFault → (X → Result Y InputFault) → Result Y InputFault
 and_then (Ok x) f = f x
 and_then (Err e) f = Err e
@@ -49,6 +50,7 @@ numbers_from layout found (whole t ∷ pieces) = and_then (judged (wanted_in lay
 numbers_from layout found (open_at place ∷ pieces) = Err (judged_open (wanted_in layout found) place)
 numbers_from layout found (beyond ∷ pieces) = Err faults.TooLong
 
+-- the numbers of a text, or its first fault
 abbrev pub numbers_in : Layout → List ℕ → Result (List ℤ) InputFault
 numbers_in layout bytes = numbers_from layout [] (pieces_of bytes)
 
@@ -88,6 +90,7 @@ abbrev pub Gives : {X Y : Type 0} → (X → Y) → Result X InputFault → Resu
 Gives view (Ok x) reading = reading ≡ Ok (view x)
 Gives view (Err e) reading = Fails e reading
 
+-- the result is the expected one, in the same terms
 abbrev pub Answers : {X : Type 0} → Result X InputFault → Result X InputFault → Type 0
 Answers result reading = Gives (λ x. x) result reading
 

@@ -18,6 +18,7 @@ pub data Draft : Type 0 where
   -- a whole Hall set
   with_objects : Option Sense → List ℕ → List ℕ → Draft
 
+-- a cost, and no row yet, if the cost is in range
 abbrev pub with_cost : Option Sense → ℤ → Option Draft
 with_cost sense c = if is_total sense c then Some (with_rows sense c []) else None
 
@@ -64,6 +65,7 @@ finish (with_prices sense cost rows prices) =
 finish (with_objects sense persons objects) = Some (hall sense persons objects)
 finish draft = None
 
+-- the draft with one more line, if there is a draft
 abbrev pub and_follow : Option Draft → Line → Option Draft
 and_follow None line = None
 and_follow (Some draft) line = follow draft line

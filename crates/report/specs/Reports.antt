@@ -26,9 +26,11 @@ abbrev pub price_end : Option Sense → ℕ
 price_end None = nat_abs FIRST_PRICE_END
 price_end (Some sense) = nat_abs PRICE_END
 
+-- a cost that a pair may have
 abbrev pub is_cost : Option Sense → ℤ → Bool
 is_cost sense c = nat_le (nat_abs c) (cost_limit sense)
 
+-- a cost that all pairs together may have
 abbrev pub is_total : Option Sense → ℤ → Bool
 is_total sense c = nat_le (nat_abs c) (total_limit sense)
 
