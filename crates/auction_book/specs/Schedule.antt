@@ -22,7 +22,7 @@ pub record CoreData : Type 0 where
 abbrev pub state_of_prices : List ℤ → WorkerState
 state_of_prices prices = record { table = prices; version = 0; offer = None; accepted = 0 }
 
--- before the first event
+-- the core before the first event
 abbrev pub core_opened : ScaledProblem → List ℤ → ℕ → CoreData
 core_opened s prices workers = record { book = opened s prices workers; states = replicate workers (state_of_prices prices) }
 
@@ -50,13 +50,13 @@ is_worker core worker = nat_le 1 worker && nat_le worker (length core.states)
 abbrev pub state_at : CoreData → ℕ → WorkerState
 state_at core worker = numbered core.states worker (state_of_prices [])
 
--- an event for a number without a worker changes nothing
+-- the core after one event; an event for a number without a worker changes nothing
 abbrev pub Happens : CoreData → Event → CoreData → Type 0
 Happens core e new = MatchBool (is_worker core e.worker)
     ((b : BookData) × Submits core.book e.worker (state_at core e.worker).offer b × (new ≡ core_next core e (state_at core e.worker) b))
     (new ≡ core)
 
--- one event after another
+-- the core after these events, one after another
 abbrev pub Run : CoreData → List Event → CoreData → Type 0
 Run core [] new = new ≡ core
 Run core (e ∷ events) new = (mid : CoreData) × Happens core e mid × Run mid events new

@@ -39,7 +39,7 @@ digits_value (b ∷ bytes) = digits_from 0 (b ∷ bytes)
 abbrev pub signed : Bool → ℕ → ℤ
 signed negative v = if negative then neg_ℤ (pos v) else pos v
 
--- a number is an optional sign and then one or more digits, of any length
+-- the number of a token: an optional sign, and then one or more digits, however many
 abbrev pub number_of : List ℕ → Option ℤ
 number_of bytes = option_map (signed (is_negative bytes)) (digits_value (unsigned bytes))
 

@@ -54,7 +54,7 @@ numbers_from layout found (beyond ∷ pieces) = Err faults.TooLong
 abbrev pub numbers_in : Layout → List ℕ → Result (List ℤ) InputFault
 numbers_in layout bytes = numbers_from layout [] (pieces_of bytes)
 
--- n, and then the costs
+-- the rows of the numbers n and then the costs
 abbrev pub dense_problem : List ℤ → List Listing
 dense_problem [] = []
 dense_problem (n ∷ costs) = dense_rows (nat_abs n) costs
@@ -63,14 +63,14 @@ dense_problem (n ∷ costs) = dense_rows (nat_abs n) costs
 abbrev pub dense_reading : List ℕ → Result (List Listing) InputFault
 dense_reading bytes = and_then (numbers_in layouts.Dense bytes) (λ numbers. Ok (dense_problem numbers))
 
--- each triple is a person, an object and a cost
+-- the triples of these numbers: a person, an object and a cost each
 abbrev pub triples_of : List ℤ → List Triple
 triples_of [] = []
 triples_of (i ∷ []) = []
 triples_of (i ∷ j ∷ []) = []
 triples_of (i ∷ j ∷ c ∷ numbers) = (nat_abs i, nat_abs j, c) ∷ triples_of numbers
 
--- n, and then triples
+-- n and the triples, of the numbers of a sparse text
 abbrev pub sparse_list : List ℤ → ℕ × List Triple
 sparse_list [] = (0, [])
 sparse_list (n ∷ numbers) = (nat_abs n, triples_of numbers)

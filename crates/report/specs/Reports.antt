@@ -39,11 +39,11 @@ abbrev pub is_price : Option Sense → ℤ → Bool
 is_price sense (pos p) = nat_lt p (price_end sense)
 is_price sense (negsuc p) = false
 
--- a person's object, and the cost of the pair
+-- an object and a cost that a pair may have
 abbrev pub is_entry : Option Sense → ℕ × ℤ → Bool
 is_entry sense e = nat_lt 0 e.0 && nat_le e.0 MOST_PERSONS && is_cost sense e.1
 
--- no prices, or one for each of n objects
+-- no prices, or one for each of n objects, in range
 abbrev pub ArePrices : Option Sense → ℕ → Option (List ℤ) → Type 0
 ArePrices sense n None = Unit {0}
 ArePrices sense n (Some prices) =

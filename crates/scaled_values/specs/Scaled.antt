@@ -13,7 +13,7 @@ pub record ScaledProblem : Type 0 where
   pub problem : List Listing
   pub sense : Sense
 
--- what the persons list, with benefits in place of costs
+-- the rows of the persons, with benefits in place of costs
 abbrev pub benefits_of : ScaledProblem → List Listing
 benefits_of s = benefit_rows s.sense s.problem
 
