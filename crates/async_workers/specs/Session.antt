@@ -21,7 +21,7 @@ abbrev pub is_too_low : Note → Bool
 is_too_low (note.Refused (TooLow price)) = true
 is_too_low told = false
 
--- one more, up to the greatest number that is counted
+-- the next number, up to the greatest that is counted
 abbrev pub one_more : ℕ → ℕ
 one_more n = min (n + 1) (2 ^ 64 - 1)
 
@@ -30,7 +30,7 @@ one_more n = min (n + 1) (2 ^ 64 - 1)
 abbrev pub catches_up : ℕ → Bool → ℕ → Bool
 catches_up refresh too_low since = too_low || (nat_lt 0 refresh && nat_le refresh (one_more since))
 
--- after one more session
+-- the desk after one more session
 abbrev pub counted : Bool → DeskData → DeskData
 counted caught d = record d { sessions = one_more d.sessions; since = cond caught 0 (one_more d.since) }
 
