@@ -40,7 +40,7 @@ price_more sense cost rows prices j p =
     if (j == length prices + 1) && nat_lt (length prices) (length rows) && is_price sense p
     then Some (with_prices sense cost rows (prices ++ p ∷ [])) else None
 
--- the draft with one more line, if the line may stand there
+-- the draft with one more line, if the line is allowed there
 abbrev pub follow : Draft → Line → Option Draft
 follow nothing (sense_line sense) = Some (with_sense sense)
 follow nothing (cost_line c) = with_cost None c
