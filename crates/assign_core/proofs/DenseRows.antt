@@ -110,7 +110,7 @@ IsAmong-dense_among n m costs objects long h =
 pub rows_cut-step : (w n k : ℕ) (costs : List ℤ) → k < n → rows_cut w (n - k) costs ≡ row_from 1 (take w costs) ∷ rows_cut w (n - (k + 1)) (drop w costs)
 rows_cut-step w n k costs lt = let e : n - k ≡ suc (n - (k + 1)) = omega arith in ap (λ m. rows_cut w m costs) e
 
--- a row goes from those to come to those that stand
+-- a row moves from those to come to those that stand
 pub rows_moved : {V : Type 0} (f : V → Listing) (vs : List V) (v : V) (row : Listing) (rest : List Listing) → f v ≡ row → map f (vs ++ v ∷ []) ++ rest ≡ map f vs ++ (row ∷ rest)
 rows_moved f vs v row rest e =
     ap (λ l. l ++ rest) (map-append f vs (v ∷ []))

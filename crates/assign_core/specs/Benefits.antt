@@ -18,6 +18,7 @@ benefit sense n cost = factor sense n *ℤ cost
 abbrev pub benefit_row : Sense → ℕ → Listing → Listing
 benefit_row sense n row = map (λ e. (e.0, benefit sense n e.1)) row
 
+-- the rows of a problem with benefits in place of costs
 abbrev pub benefit_rows : Sense → List Listing → List Listing
 benefit_rows sense rows = map (benefit_row sense (length rows)) rows
 

@@ -3,7 +3,7 @@ use Rattle.std.specs.Prelude.{◌≡◌, ℕ, List, Option, None, Some, length}
 use Rattle.assign_core.specs.Numbered.{numbered}
 use Rattle.assign_core.specs.Rows.{Listing, IsListed}
 
--- who owns object j
+-- the owner of object j, if there is one
 abbrev pub owner_of : List (Option ℕ) → ℕ → Option ℕ
 owner_of owners j = numbered owners j None
 

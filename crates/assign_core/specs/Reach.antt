@@ -11,7 +11,7 @@ Walks rows owners i [] x = i ≡ x
 Walks rows owners i (j ∷ js) x =
     IsListed rows i j × (v : ℕ) × (owner_of owners j ≡ Some v) × Walks rows owners v js x
 
--- person x is reached from person i
+-- an alternating walk leads from person i to person x
 abbrev pub IsReached : List Listing → List (Option ℕ) → ℕ → ℕ → Type 0
 IsReached rows owners i x = (js : List ℕ) × Walks rows owners i js x
 
@@ -20,8 +20,8 @@ abbrev pub IsBlocked : List Listing → List (Option ℕ) → ℕ → Type 0
 IsBlocked rows owners i =
     (x j : ℕ) → IsReached rows owners i x → IsListed rows x j → IsSome (owner_of owners j)
 
--- the first object is listed by person i, each next one by the owner of the one before, and the
--- last is unowned
+-- an alternating walk from person i: it lists the first object, the owner of each object lists the
+-- next one, and the last is unowned
 abbrev pub Alternates : List Listing → List (Option ℕ) → ℕ → List ℕ → Type 0
 Alternates rows owners i [] = ⊥
 Alternates rows owners i (j ∷ []) = IsListed rows i j × (owner_of owners j ≡ None)

@@ -3,7 +3,7 @@ use Rattle.std.specs.Prelude.{ℕ, ℤ, pos, neg_ℤ, ◌≤ℤ◌, ◌<◌, ◌
 use Rattle.assign_core.specs.declared.numbers.TheConstants.{MOST_PERSONS, GREATEST_COST}
 use Rattle.assign_core.specs.Numbered.{IsNumber, numbered}
 
--- what a person lists: objects, each with its cost (or its benefit)
+-- a person's row: the objects that the person lists, each with its cost (or its benefit)
 abbrev pub Listing : Type 0
 Listing = List (ℕ × ℤ)
 
@@ -16,7 +16,7 @@ listed_in (e ∷ row) j = if e.0 == j then Some e.1 else listed_in row j
 abbrev pub listed_or_zero : Listing → ℕ → ℤ
 listed_or_zero row j = unwrap_or (listed_in row j) (pos 0)
 
--- what person i lists
+-- the row of person i
 abbrev pub row_of : List Listing → ℕ → Listing
 row_of rows i = numbered rows i []
 
@@ -39,6 +39,7 @@ pub record IsCost (c : ℤ) : Type 0 where
   pub least : neg_ℤ GREATEST_COST ≤ℤ c
   pub greatest : c ≤ℤ GREATEST_COST
 
+-- each cost of a row is at most the greatest cost in absolute value
 abbrev pub HasCosts : Listing → Type 0
 HasCosts row = All (λ e. IsCost e.1) row
 
@@ -53,7 +54,7 @@ pub record IsSize (n : ℕ) : Type 0 where
   pub some : 0 < n
   pub few : n ≤ MOST_PERSONS
 
--- a row for each person, among as many objects
+-- a row for each person, among as many objects as persons
 pub record IsProblem (rows : List Listing) : Type 0 where
   pub size : IsSize (length rows)
   pub each : All (IsRow (length rows)) rows

@@ -17,7 +17,7 @@ pub enum Outcome {
 pub enum SolveFault {
     /// Memory was refused.
     Memory,
-    /// A person that can't be assigned, with an alternating path to an unowned object.
+    /// A person below the floor, with an alternating path to an unowned object.
     Stuck(Person, Vec<Object>),
 }
 

@@ -79,6 +79,7 @@ pub record IsRunning (items : List BookData) (views : List View) : Type 0 where
 abbrev pub IsUnopened : List BookData → List View → Type 0
 IsUnopened items views = (items ≡ []) × (views ≡ Fresh ∷ [])
 
+-- an unopened place, or one that runs
 abbrev pub Rule : List BookData → List View → Type 0
 Rule items views = IsUnopened items views ⊎ IsRunning items views
 
@@ -93,9 +94,9 @@ pub record Takes (t : LastSession) (b : BookData) (after : View) : Type 0 where
   pub free : IsFree b
   pub told : IsCurrent b t
 
--- a book that may be put back after a change by one worker: it is free, extends the book taken by
--- this worker's changes alone, is stopped if that was, and fits what the desk knows: its table, the
--- table's version, and a stop that it asked for
+-- a book that may be put back after a change by one worker. It is free, extends the book taken by
+-- this worker's changes alone, and is stopped if that was. It fits what the desk knows: its table,
+-- the table's version, and a stop that it asked for
 pub record MayFollow (k : Known) (taken b : BookData) : Type 0 where
   pub free : IsFree b
   pub extends : ExtendsBy k.number taken b
@@ -104,6 +105,7 @@ pub record MayFollow (k : Known) (taken b : BookData) : Type 0 where
   pub earlier : IsEarlier b.log k.table k.version
   pub stopped : k.stop ≡ true → b.stopped ≡ true
 
+-- what a desk learns when it takes the book
 abbrev pub Took : View → BookData → View → Type 0
 Took before b after = (t : LastSession) → before ≡ Away t → Takes t b after
 

@@ -16,11 +16,12 @@ use Rattle.auction_book.specs.declared.answers.Note.TheVariants as note
 use Rattle.async_workers.specs.declared.rule.Known.{Known}
 use Rattle.async_workers.specs.Desk.{DeskData}
 
+-- the note on a bid that was too low
 abbrev pub is_too_low : Note → Bool
 is_too_low (note.Refused (TooLow price)) = true
 is_too_low told = false
 
--- one more, up to the greatest number that is counted
+-- the next number, up to the greatest that is counted
 abbrev pub one_more : ℕ → ℕ
 one_more n = min (n + 1) (2 ^ 64 - 1)
 
@@ -29,7 +30,7 @@ one_more n = min (n + 1) (2 ^ 64 - 1)
 abbrev pub catches_up : ℕ → Bool → ℕ → Bool
 catches_up refresh too_low since = too_low || (nat_lt 0 refresh && nat_le refresh (one_more since))
 
--- after one more session
+-- the desk after one more session
 abbrev pub counted : Bool → DeskData → DeskData
 counted caught d = record d { sessions = one_more d.sessions; since = cond caught 0 (one_more d.since) }
 
@@ -51,10 +52,10 @@ pub record EndsWell (refresh since : ℕ) (k : Known) (offer : Option Offer) (to
   pub book : new ≡ book_left caught submitted k.number
   pub known : left ≡ with_table caught submitted k
 
--- the book that a refused growth leaves, before catching up, which a refused offer leaves out: with
--- the accepted bid; or with the refused bid's person in the queue; or, after a search, with the
--- claim given up; or, without an offer, unchanged. The note is that the bid was accepted, that it
--- was refused memory, or nothing
+-- the book that a refused growth leaves, before catching up, which a refused offer leaves out. A
+-- bid was accepted, or its person waits again. After a search the claim is given up. Without an
+-- offer the book is unchanged. The note is that the bid was accepted, that it was refused memory,
+-- or nothing
 abbrev pub IsCutShort : ℕ → ℕ → ℕ → Option Offer → Note → BookData → BookData → Bool → Type 0
 IsCutShort refresh since worker None told b new caught = (new ≡ b) × (told ≡ note.Nothing) × (caught ≡ caught_in refresh since told)
 IsCutShort refresh since worker (Some (made.Bid bid)) told b new caught =

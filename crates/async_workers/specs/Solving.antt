@@ -18,6 +18,7 @@ abbrev pub IsAnsweredBy : BookData → Outcome → Type 0
 IsAnsweredBy b (Best c) = (is_done b ≡ true) × IsAnswer b c
 IsAnsweredBy b (Hall h) = (b.refuted ≡ Some h) × IsHallSet b.base.problem h.persons h.objects
 
+-- the tally of a worker
 abbrev pub tally_of : BookData → ℕ → Tally
 tally_of b worker = record { worker = worker; accepted = numbered b.counts worker 0 }
 

@@ -38,9 +38,11 @@ pub record CanTurn (place : TableId) (d : DeskData) : Type 0 where
 abbrev pub state_of : DeskData → WorkerState
 state_of d = record { table = d.known.table; version = d.known.version; offer = d.offer; accepted = d.known.accepted }
 
+-- a session of the desk as an event of the core
 abbrev pub event_of : DeskData → Bool → Event
 event_of d caught = record { worker = d.known.number; catch_up = caught }
 
+-- the answer of a turn, by the answer to its claim
 abbrev pub turn_of : Claim → Turn
 turn_of claim.Refuted = turn.Refuted
 turn_of claim.Done = turn.Done
@@ -104,6 +106,7 @@ pub record WorksOn (d after : DeskData) : Type 0 where
   pub number : after.known.number ≡ d.known.number
   pub extends : (taken put : BookData) → IsAway d taken put → (taken_next : BookData) × (put_next : BookData) × IsAway after taken_next put_next × Extends put put_next
 
+-- the book, stopped if `stopping` is true
 abbrev pub stopped_if : Bool → BookData → BookData
 stopped_if stopping b = cond stopping (record b { stopped = true }) b
 

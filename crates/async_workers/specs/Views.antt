@@ -9,6 +9,7 @@ use Rattle.async_workers.specs.declared.rule.LastSession.{LastSession}
 use Rattle.async_workers.specs.declared.rule.View.{View}
 use Rattle.async_workers.specs.declared.rule.View.TheVariants.{Fresh, Opening, Away, Holding, Meeting, Spent}
 
+-- a claimed person, if there is one, with what the phase asks of its bid
 abbrev pub claim_with : Option ℕ → Ask → Option Claimed
 claim_with None ask = None
 claim_with (Some person) ask = Some (record { person = person; ask = ask })

@@ -70,7 +70,7 @@ fn step_alone(alloc: Global, book: &mut Book) -> Result<(), AllocError>
 /// answer.
 ///
 /// # Errors
-/// `AllocError` if memory is refused. The book can then be gone on with.
+/// `AllocError` if memory is refused. The run can then go on with the book.
 pub fn go_alone<R: Wait>(rt: &R, alloc: Global, book: &mut Book) -> Result<Outcome, AllocError>
     requires { 0 < length book.old.claims }
     ensures goes_on { GoesOn book.old book.new }

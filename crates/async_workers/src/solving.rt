@@ -100,7 +100,7 @@ fn answer<R: Wait>(
 ///
 /// The outcome is that of the book: an optimal assignment with prices that prove it, or a Hall set.
 /// It comes with the number of accepted bids of each worker, from worker 1 on. If several outcomes
-/// exist, the result depends on how the threads run (Bertsekas and Castanon, Parallel synchronous
+/// exist, the result may depend on how the threads run (Bertsekas and Castanon, Parallel synchronous
 /// and asynchronous implementations of the auction algorithm, 1991).
 ///
 /// It may wait for its threads. A thread that can't be started is no fault: other threads do its

@@ -128,7 +128,7 @@ certified b objects free complete long own = record {
       (free.owners_slack (suc k) (get_or objects k 0) (own (suc k) (record { first = omega arith; last = omega arith }))));
 }
 
--- what a read of an owner's place gives
+-- the result of a read of an owner's place
 pub read_owner : (owners : List (Option ℕ)) (place : ℕ) (d o : Option ℕ) → place < length owners → get_or owners place d ≡ o → owner_of owners (place + 1) ≡ o
 read_owner owners place d o lt e =
     let one : place + 1 ≡ suc place = omega arith in

@@ -37,7 +37,7 @@ trimmed_to-cases P l v trim keep = elim (leb_tells l.first_kept v) [
   | inr t ↦ rw (cond-false (nat_le l.first_kept v) (trimmed l v) l t.0) keep
 ]
 
--- what a trim keeps
+-- the facts that a trim keeps
 pub record IsTrimmed (old new : History) : Type 0 where
   pub is : IsHistory new
   pub prices : today new ≡ today old

@@ -86,7 +86,7 @@ price_greatest p (suc k) h = at p k h (greatest_bounds p) where
     within (x ∷ xs) zero g h all = all 0 x (omega arith)
     within (x ∷ xs) (suc k) g h all = within xs k g h (λ i d lt. all (suc i) d (omega arith))
 
--- and the greatest is at most what bounds them all
+-- the greatest is at most each bound of all
 pub greatest_most : (p : List ℤ) (top : ℤ) → pos 0 ≤ℤ top → ((k : ℕ) → price_of p k ≤ℤ top) → greatest_of p ≤ℤ top
 greatest_most p top h all = greatest_holds (λ x. x ≤ℤ top) p h (each p top (λ k. all (suc k))) where
   each : (p : List ℤ) (top : ℤ) → ((k : ℕ) → get_or p k (pos 0) ≤ℤ top) → All (λ x. x ≤ℤ top) p

@@ -166,7 +166,7 @@ step_next w b free = cond_both (is_over b) (phased b) b (IsStep w b) (λ h. reco
 next_same : (b : BookData) → ((next_if_over b).claims ≡ b.claims) × ((next_if_over b).counts ≡ b.counts)
 next_same b = cond_both (is_over b) (phased b) b (λ (n : BookData). (n.claims ≡ b.claims) × (n.counts ≡ b.counts)) (λ h. (refl, refl)) (λ h. (refl, refl))
 
--- what a claim leaves
+-- the state after a claim
 record IsClaimed (w : ℕ) (b : BookData) (table : List ℤ) (version : ℕ) (answer : Claim) : Type 0 where
   pub step : IsStep w b (after_claim b w answer)
   pub prepared : IsPrepared (after_claim b w answer) w table version (prepared b.base table version answer)
@@ -366,7 +366,7 @@ pub same_states : (t u : List ℤ) (v w : ℕ) (o p : Option Offer) (m n : ℕ) 
     let first : WorkerState = record { table = t; version = v; offer = o; accepted = m } in let second : WorkerState = record { table = u; version = w; offer = p; accepted = n } in first ≡ second
 same_states t u v w o p m n e f g h = rw (e, f, g, h) refl
 
--- the offer that is prepared
+-- the prepared offer
 pub same_offers : (s r : ScaledProblem) (t u : List ℤ) (v w : ℕ) (x y : Claim) → s ≡ r → t ≡ u → v ≡ w → x ≡ y → prepared s t v x ≡ prepared r u w y
 same_offers s r t u v w x y e f g h =
     ap (λ z. prepared z t v x) e ∙ ap (λ z. prepared r z v x) f ∙ ap (λ z. prepared r u z x) g ∙ ap (prepared r u w) h

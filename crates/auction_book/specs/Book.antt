@@ -7,8 +7,8 @@ use Rattle.bidder.specs.declared.offers.Ask.{Ask}
 use Rattle.price_log.specs.History.{History, last_version, today}
 
 -- the problem; what the phase asks of a bid; the prices and the version at the phase's start; the
--- owner of each object; the queue; and for each worker the claimed person, the number of accepted
--- bids and the version last taken
+-- owners; the queue; and for each worker its claimed person, its count of accepted bids and its
+-- last version
 pub record BookData : Type 0 where
   pub base : ScaledProblem
   pub ask : Ask
@@ -23,12 +23,15 @@ pub record BookData : Type 0 where
   pub refuted : Option HallLists
   pub stopped : Bool
 
+-- the number of persons
 abbrev pub persons_of : BookData → ℕ
 persons_of b = length b.base.problem
 
+-- the current prices
 abbrev pub prices_of : BookData → List ℤ
 prices_of b = today b.log
 
+-- the current version of the prices
 abbrev pub version_of : BookData → ℕ
 version_of b = last_version b.log
 

@@ -10,7 +10,7 @@ use Rattle.price_log.specs.Changes.{after_raise, trimmed}
 use Rattle.auction_book.specs.Book.{BookData, persons_of, prices_of, version_of}
 use Rattle.auction_book.specs.Phases.{persons}
 
--- after the front of the queue is claimed
+-- the book after the front of the queue is claimed
 abbrev pub claimed : BookData → ℕ → BookData
 claimed b worker = record b {
   queue = drop 1 b.queue;
@@ -22,8 +22,8 @@ abbrev pub requeued : List ℕ → Option ℕ → List ℕ
 requeued queue None = queue
 requeued queue (Some i) = queue ++ i ∷ []
 
--- after a bid is accepted: the bidder owns the object at its level, the claim is over, and the
--- previous owner waits
+-- the book after a bid is accepted: the bidder owns the object at its level, the claim is over, and
+-- the previous owner waits
 abbrev pub accepted : BookData → ℕ → Bid → BookData
 accepted b worker bid = record b {
   owners = renumbered b.owners bid.object (Some bid.person);
@@ -33,14 +33,14 @@ accepted b worker bid = record b {
   log = after_raise b.log bid.object bid.level;
 }
 
--- after the claim of a person ends: the person waits again
+-- the book after the claim of a person ends: the person waits again
 abbrev pub released : BookData → ℕ → ℕ → BookData
 released b worker person = record b {
   queue = b.queue ++ person ∷ [];
   claims = renumbered b.claims worker None;
 }
 
--- after the claim of a worker ends, if it has one
+-- the book after the claim of a worker ends, if it has one
 abbrev pub given_up : BookData → ℕ → Option ℕ → BookData
 given_up b worker None = b
 given_up b worker (Some person) = released b worker person
@@ -49,7 +49,7 @@ given_up b worker (Some person) = released b worker person
 abbrev pub with_set : BookData → HallLists → BookData
 with_set b lists = record b { refuted = Some lists }
 
--- after a Hall set is recorded and the claim ends
+-- the book after a Hall set is recorded and the claim ends
 abbrev pub recorded : BookData → ℕ → ℕ → HallLists → BookData
 recorded b worker person lists = with_set (released b worker person) lists
 
@@ -61,14 +61,15 @@ least_taken taken now = fold min now taken
 abbrev pub trimmed_to : History → ℕ → History
 trimmed_to log version = cond (nat_le log.first_kept version) (trimmed log version) log
 
--- after the worker has taken the current prices, and the log has forgotten what no worker needs
+-- the book after the worker has taken the current prices, and the log has forgotten what no worker
+-- needs
 abbrev pub caught_up : BookData → ℕ → BookData
 caught_up b worker = record b {
   taken = renumbered b.taken worker (version_of b);
   log = trimmed_to b.log (least_taken (renumbered b.taken worker (version_of b)) (version_of b));
 }
 
--- the next phase: nobody is assigned, all persons wait, and each price stays
+-- the book in its next phase: nobody is assigned, all persons wait, and each price stays
 abbrev pub phased : BookData → BookData
 phased b = record b {
   ask = record {

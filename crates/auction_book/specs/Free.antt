@@ -40,10 +40,10 @@ pub record IsProgress (eps : ℤ) (start prices : List ℤ) (first now : ℕ) (o
   pub owned : count_by is_some owners ≤ now - first
   pub risen : (sum_of start +ℤ (pos (now - first) *ℤ eps)) ≤ℤ sum_of prices
 
--- owners are a matching with slackness at the book's prices; each person owns an object, waits or
--- is claimed; the log ascends; prices are between those at the phase's start and its top; phase,
--- slackness and floor belong together; the workers' counts add up to the version; and a recorded
--- set is a Hall set
+-- owners are a matching with slackness at the book's prices. Each person owns an object, waits or
+-- is claimed. The log ascends, and prices are between those at the phase's start and its top.
+-- Phase, slackness and floor belong together. The workers' counts add up to the version, and a
+-- recorded set is a Hall set
 pub record IsFree (b : BookData) : Type 0 where
   pub problem : IsProblem b.base.problem
   pub sizes : HasSizes (persons_of b) (prices_of b) b.start b.claims b.counts b.taken

@@ -18,10 +18,11 @@ pub record CoreData : Type 0 where
   pub book : BookData
   pub states : List WorkerState
 
+-- a worker with these prices as version 0, no offer and no acceptances
 abbrev pub state_of_prices : List ℤ → WorkerState
 state_of_prices prices = record { table = prices; version = 0; offer = None; accepted = 0 }
 
--- before the first event
+-- the core before the first event
 abbrev pub core_opened : ScaledProblem → List ℤ → ℕ → CoreData
 core_opened s prices workers = record { book = opened s prices workers; states = replicate workers (state_of_prices prices) }
 
@@ -34,6 +35,7 @@ state_next e b state = record {
   accepted = numbered b.counts e.worker 0;
 }
 
+-- the core after the rest of an event, from the book after the submission
 abbrev pub core_next : CoreData → Event → WorkerState → BookData → CoreData
 core_next core e state b = record {
   book = book_left e.catch_up b e.worker;
@@ -44,23 +46,24 @@ core_next core e state b = record {
 abbrev pub is_worker : CoreData → ℕ → Bool
 is_worker core worker = nat_le 1 worker && nat_le worker (length core.states)
 
+-- the state of a worker
 abbrev pub state_at : CoreData → ℕ → WorkerState
 state_at core worker = numbered core.states worker (state_of_prices [])
 
--- an event for a number without a worker changes nothing
+-- the core after one event; an event for a number without a worker changes nothing
 abbrev pub Happens : CoreData → Event → CoreData → Type 0
 Happens core e new = MatchBool (is_worker core e.worker)
     ((b : BookData) × Submits core.book e.worker (state_at core e.worker).offer b × (new ≡ core_next core e (state_at core e.worker) b))
     (new ≡ core)
 
--- one event after another
+-- the core after these events, one after another
 abbrev pub Run : CoreData → List Event → CoreData → Type 0
 Run core [] new = new ≡ core
 Run core (e ∷ events) new = (mid : CoreData) × Happens core e mid × Run mid events new
 
--- what holds of each worker: no price of its table is above the book's, the table is the log's as
--- far back as the log reaches, its reported acceptances are the book's, and its prepared offer is
--- that of the person that it claimed
+-- what holds of each worker: no price of its table is above the book's, and the table is the log's
+-- as far back as the log reaches. Its reported acceptances are the book's, and its prepared offer
+-- is that of the person that it claimed
 pub record IsWorkerState (b : BookData) (worker : ℕ) (state : WorkerState) : Type 0 where
   pub long : IsBelow state.table (prices_of b)
   pub earlier : IsEarlier b.log state.table state.version

@@ -47,6 +47,7 @@ IsUndone b worker None new told = ⊥
 IsUndone b worker (Some (made.Bid bid)) new told = IsSubmitted b worker bid (Err Memory) new × (told ≡ note.Refused Memory)
 IsUndone b worker (Some (made.Below below)) new told = Holds b worker below.person × (new ≡ released b worker below.person) × (told ≡ note.Nothing)
 
+-- the note on an offer, with or without a refused growth
 abbrev pub IsHandedIn : {E : Type 0} → BookData → ℕ → Option Offer → BookData → Note → Result (Unit {0}) E → Type 0
 IsHandedIn b worker offer new told outcome = MatchResult outcome (λ done. IsNoted b worker offer new told) (λ refused. IsUndone b worker offer new told)
 
@@ -64,12 +65,15 @@ Submits b worker offer new = (told : Note) × IsNoted b worker offer new told
 abbrev pub book_kept_up : Bool → BookData → ℕ → BookData
 book_kept_up catch_up b worker = cond catch_up (caught_up b worker) b
 
+-- the worker's table after it has caught up, if it does
 abbrev pub table_kept_up : Bool → BookData → List ℤ → List ℤ
 table_kept_up catch_up b table = cond catch_up (prices_of b) table
 
+-- the version of this table
 abbrev pub version_kept_up : Bool → BookData → ℕ → ℕ
 version_kept_up catch_up b version = cond catch_up (version_of b) version
 
+-- the book after the next phase has begun, if this one is over
 abbrev pub next_if_over : BookData → BookData
 next_if_over b = cond (is_over b) (phased b) b
 

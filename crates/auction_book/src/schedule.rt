@@ -50,9 +50,9 @@ pub struct World {
     pub states: Vec<WorkerState>,
 }
 
-/// For every list of events: the book is free; each table is below its prices and, as far back as
-/// the log reaches, the log's at its version; each prepared offer is that of the worker's claimed
-/// person in this phase; and each reported count is the book's.
+/// For every list of events the book is free. Each table is below its prices and, as far back as
+/// the log reaches, the log's at its version. Each prepared offer is that of the worker's claimed
+/// person in this phase, and each reported count is the book's.
 pub fn runs_are_fit()
     ensures { (s : ScaledProblem) (prices : List ℤ) (workers : ℕ) (events : List Event) (core : CoreData)
         → IsProblem s.problem → IsTable prices → length prices ≡ length s.problem

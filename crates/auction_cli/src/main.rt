@@ -13,8 +13,9 @@ use std::process::ExitCode;
 use std::time::Clock;
 use std::{env, fs, io};
 
-// Opens a file, and leaves standard input's number free. Where standard input is closed the file would get that
-// number, and a report be read as the problem; so it is moved, and reading the problem from standard input fails.
+// Opens a file, and leaves standard input's number free. If standard input is closed, the file
+// would get its number, and a report would be read as the problem. So the file is moved, and
+// reading the problem from standard input fails.
 fn opened_beside_input(rt: &HostRuntime, name: &str) -> io::Result<File> {
     let file = fs::open(rt, name)?;
     if file.as_raw_fd() == rt.stdin().as_raw_fd() {
@@ -63,7 +64,7 @@ impl Console for Machine<'_> {
     }
 }
 
-// The words of the command line, the program's own name first.
+// The words of the command line, the first of which is the program's own name.
 fn given_words(rt: &HostRuntime) -> Result<Vec<String>, NoWords> {
     match env::args(rt) {
         Ok(words) => words.collect(rt.alloc()).map_err(|_| NoWords::Memory),

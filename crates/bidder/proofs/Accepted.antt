@@ -1,4 +1,4 @@
--- A sound bid: whose it is and for what, and the slackness that it gives once it is accepted.
+-- A sound bid: its person and its object, and the slackness that it gives once it is accepted.
 use Rattle.std.proofs.Common.{◌≡◌, ◌≢◌, ℕ, ℤ, pos, ◌+ℤ◌, ◌≤ℤ◌, List, Some, unwrap_or, length, get_or, ap, arith, sym, subst, ◌∙◌, inl, inr}
 use Rattle.std.specs.List.{All}
 use Rattle.std.proofs.lemmas.Int.{ints}
@@ -36,7 +36,8 @@ own_entry eps b x p level r h e f g = omega (arith, ints)
 other_entry : (eps b x p level r : ℤ) → p ≡ level → (x +ℤ level) ≤ℤ (b +ℤ eps +ℤ r) → (x +ℤ p) ≤ℤ (b +ℤ r +ℤ eps)
 other_entry eps b x p level r e h = omega (arith, ints)
 
--- an object that is worth the bid's level, less eps at most, has slackness once its price is the level
+-- an object has slackness once its price is this level, if at this level no other object has a
+-- value over eps above its own
 pub slack_raised : (eps : ℤ) (p : List ℤ) (row : Listing) (j : ℕ) (level : ℤ) → pos 0 ≤ℤ eps → IsRising row → IsNumber (length p) j →
     All (λ e. e.0 ≢ j → (e.1 +ℤ level) ≤ℤ (listed_or_zero row j +ℤ eps +ℤ price_of p e.0)) row → HasSlack eps (renumbered p j level) row j
 slack_raised eps p row j level least up number near = λ k d lt.

@@ -1,4 +1,4 @@
--- How low a phase's floor can be, and what a full row's benefits are.
+-- How low a phase's floor can be, and the benefits of a full row.
 use Rattle.std.proofs.Common.{ℤ, pos, ◌+ℤ◌, ◌≤ℤ◌, ◌-◌, List, length, arith}
 use Rattle.std.specs.List.{All}
 use Rattle.std.proofs.lemmas.Int.{ints}

@@ -1,4 +1,4 @@
--- Lanes of benefits less narrow prices, held against a limit.
+-- Lanes of benefits less narrow prices, compared with a limit.
 use Rattle.std.proofs.Common.{◌≡◌, ℕ, ℤ, pos, ◌-ℤ◌, ◌≤ℤ◌, ◌+◌, ◌-◌, ◌≤◌, ◌<◌, ◌%◌, ◌^◌, Bool, true, false, not, cond, eqb, List, length, map, replicate, get_or, to_z, of_z, w64, refl, sym, ap, ap₂, ◌∙◌, arith, inl, inr, ◌⊎◌, SFits}
 use Rattle.std.specs.List.{All}
 use Rattle.std.specs.Int.Signed.{lt_z}

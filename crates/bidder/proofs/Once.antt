@@ -1,4 +1,4 @@
--- A row has one best two, and the recursion gives it.
+-- A row has only one best two, and the recursion gives it.
 use Rattle.std.proofs.Common.{◌≡◌, ◌≢◌, ℕ, ℤ, ◌+ℤ◌, ◌-ℤ◌, ◌≤ℤ◌, ◌<ℤ◌, ◌<◌, ◌≤◌, suc, List, [], ◌∷◌, Option, None, Some, MatchOption, refl, ap, sym, ◌∙◌, subst, arith}
 use Rattle.std.specs.List.{All}
 use Rattle.std.specs.Int.{int_max}
@@ -16,7 +16,7 @@ use Rattle.bidder.proofs.Scans.{alone, greater_is}
 same_value : (v w p : ℤ) → (w +ℤ p) ≤ℤ (v +ℤ p) → w ≤ℤ v
 same_value v w p le = omega (arith, ints)
 
--- there is one second value
+-- there is only one second value
 second_once : (row : Listing) (q : List ℤ) (j : ℕ) (s t : Option ℤ) → IsSecond row q j s → IsSecond row q j t → s ≡ t
 second_once row q j None None a b = refl
 second_once row q j None (Some w) a b = absurd (b.2 (entry_found (λ e. e.0 ≡ j) row b.1 _ a b.3))
@@ -32,7 +32,7 @@ same_two a b e f g =
     ∙ ap (λ v. let x : BestTwo = record { object = b.object; best = v; second = a.second } in x) f
     ∙ ap (λ s. let x : BestTwo = record { object = b.object; best = b.best; second = s } in x) g
 
--- there is one best two
+-- there is only one best two
 pub best_two_once : (row : Listing) (q : List ℤ) (a b : BestTwo) → IsBestTwo row q a → IsBestTwo row q b → a ≡ b
 best_two_once row q a b x y =
     let up = same_value a.best b.best (price_of q b.object) (entry_found (λ e. e.1 ≤ℤ (a.best +ℤ price_of q e.0)) row b.object _ x.greatest y.listed) in
@@ -59,7 +59,7 @@ first_best e row q b up is le =
       others = (All-cons (λ f. f.0 ≢ e.0 → f.1 ≤ℤ (b.best +ℤ price_of q f.0)) e row (λ ne. absurd (ne refl)) (λ k d lt _. is.greatest k d lt), b.object, (λ same. absurd (omega arith)), listed_later e row b.object (ne_eqb e.0 b.object (λ same. absurd (omega arith))) ∙ is.listed);
     }
 
--- the second value with one object more before the others, which is worth v and isn't the best
+-- the second value with one more object before the others, which has value v and isn't the best
 second_before : (e : ℕ × ℤ) (row : Listing) (q : List ℤ) (best : ℕ) (s : Option ℤ) (v : ℤ) → IsSecond row q best s → e.0 ≢ best → All (λ f. e.0 < f.0) row → e.1 ≡ v +ℤ price_of q e.0 → IsSecond (e ∷ row) q best (Some (greater_of v s))
 second_before e row q best None v is other up worth = (All-cons (λ f. f.0 ≢ best → f.1 ≤ℤ (v +ℤ price_of q f.0)) e row (λ _. omega (arith, ints)) (λ k d lt ne. absurd (ne (is k d lt))), e.0, other, listed_first e row ∙ ap Some worth)
 second_before e row q best (Some w) v is other up worth =
@@ -94,7 +94,7 @@ pub best_two_is : (row : Listing) (q : List ℤ) → IsRising row → MatchOptio
 best_two_is [] q up = refl
 best_two_is (e ∷ row) q up = joined_is e row q (best_two row q) up (best_two_is row q (λ i k d a b. up (suc i) (suc k) d (omega arith) (omega arith)))
 
--- whatever meets the inequalities is what the recursion gives
+-- a best two that meets the inequalities is what the recursion gives
 pub best_two_same : (row : Listing) (q : List ℤ) (b : BestTwo) → IsRising row → IsBestTwo row q b → Some b ≡ best_two row q
 best_two_same [] q b up is = let h = is.listed in absurd cc
 best_two_same (e ∷ row) q b up is = ap Some (best_two_once (e ∷ row) q b _ is (best_two_is (e ∷ row) q up))

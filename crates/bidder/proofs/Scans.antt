@@ -1,4 +1,4 @@
--- Rows read from the left, one object more at a time.
+-- Rows read from the left, one more object at a time.
 use Rattle.std.proofs.Common.{◌≡◌, ◌≢◌, ℕ, ℤ, pos, suc, ◌+ℤ◌, ◌≤ℤ◌, ◌<ℤ◌, ◌+◌, ◌<◌, ◌≤◌, List, [], ◌∷◌, ◌++◌, length, take, get_or, refl, ap, arith, sym, ◌∙◌, subst, inl, inr, Option, None, Some, length-take-le, get_or-take}
 use Rattle.std.specs.List.{All}
 use Rattle.std.specs.Int.{int_max}
@@ -30,7 +30,7 @@ listed_last (e ∷ row) j a up =
     let first = up 0 e (omega arith) in
     listed_later e (row ++ (j, a) ∷ []) j (ne_eqb e.0 j (λ same. absurd (omega arith))) ∙ listed_last row j a (λ k d lt. up (suc k) d (omega arith))
 
--- one object alone
+-- a single object
 pub alone : (j : ℕ) (v : ℤ) (q : List ℤ) (a : ℤ) → v +ℤ price_of q j ≡ a → IsBestTwo ((j, a) ∷ []) q record { object = j; best = v; second = None }
 alone j v q a worth = record {
   listed = listed_first (j, a) [] ∙ ap Some (sym worth);
@@ -39,7 +39,7 @@ alone j v q a worth = record {
   others = All-cons (λ e. e.0 ≡ j) (j, a) [] refl (All-nil (λ e. e.0 ≡ j));
 }
 
--- the object that follows is worth more than all before it
+-- the object that follows has a value above all before it
 pub new_best : (row : Listing) (q : List ℤ) (b : BestTwo) (j : ℕ) (v a : ℤ) → IsBestTwo row q b → All (λ e. e.0 < j) row → v +ℤ price_of q j ≡ a → b.best <ℤ v → IsBestTwo (row ++ (j, a) ∷ []) q record { object = j; best = v; second = Some b.best }
 new_best row q b j v a is up worth more =
     let below = entry_found (λ e. e.0 < j) row b.object _ up is.listed in
@@ -54,7 +54,7 @@ new_best row q b j v a is up worth more =
 pub greater_is : (v w : ℤ) → v ≤ℤ w → w ≡ int_max v w
 greater_is v w le = omega (arith, ints, clamps)
 
--- the second value with one object more, which is worth v and isn't the best
+-- the second value with one more object, which has value v and isn't the best
 second_more : (row : Listing) (q : List ℤ) (best : ℕ) (s : Option ℤ) (j : ℕ) (v a : ℤ) → IsSecond row q best s → j ≢ best → All (λ e. e.0 < j) row → v +ℤ price_of q j ≡ a → IsSecond (row ++ (j, a) ∷ []) q best (Some (greater_of v s))
 second_more row q best None j v a is other up worth = (All-push (λ e. e.0 ≢ best → e.1 ≤ℤ (v +ℤ price_of q e.0)) row (j, a) (λ k d lt ne. absurd (ne (is k d lt))) (λ _. omega (arith, ints)), j, other, listed_last row j a up ∙ ap Some (sym worth))
 second_more row q best (Some w) j v a is other up worth =
@@ -66,7 +66,7 @@ second_more row q best (Some w) j v a is other up worth =
       taken : (v w a p : ℤ) → v +ℤ p ≡ a → w <ℤ v → a ≡ int_max v w +ℤ p
       taken v w a p worth lt = omega (arith, ints, clamps)
 
--- it is worth less than the best, or as much
+-- its value is at most the best
 pub new_second : (row : Listing) (q : List ℤ) (b : BestTwo) (j : ℕ) (v a : ℤ) → IsBestTwo row q b → All (λ e. e.0 < j) row → v +ℤ price_of q j ≡ a → v ≤ℤ b.best → IsBestTwo (row ++ (j, a) ∷ []) q record { object = b.object; best = b.best; second = Some (greater_of v b.second) }
 new_second row q b j v a is up worth no_more =
     let below = entry_found (λ e. e.0 < j) row b.object _ up is.listed in
@@ -77,7 +77,7 @@ new_second row q b j v a is up worth no_more =
       others = second_more row q b.object b.second j v a is.others (λ same. absurd (omega arith)) up worth;
     }
 
--- it is worth the second value at most
+-- its value is at most the second
 pub no_better : (row : Listing) (q : List ℤ) (b : BestTwo) (w : ℤ) (j : ℕ) (v a : ℤ) → IsBestTwo row q b → b.second ≡ Some w → All (λ e. e.0 < j) row → v +ℤ price_of q j ≡ a → v ≤ℤ w → IsBestTwo (row ++ (j, a) ∷ []) q b
 no_better row q b w j v a is second up worth no_more =
     let next = subst (IsSecond row q b.object) second is.others in
@@ -99,7 +99,7 @@ taken_below row i d up lt = λ k f below.
     let same : get_or (take i row) k f ≡ get_or row k d = get_or-take i row k f before ∙ get_or_default row k f d last in
     rw same (up k i d before lt)
 
--- one entry more is read, its object and its benefit each for itself
+-- one more entry is read, its object and its benefit separately
 pub read_on : (row : Listing) (q : List ℤ) (b : BestTwo) (i : ℕ) (d e : ℕ × ℤ) → i < length row → IsBestTwo (take i row ++ ((get_or row i d).0, (get_or row i e).1) ∷ []) q b → IsBestTwo (take (i + 1) row) q b
 read_on row q b i d e lt is =
     let same = get_or_default row i e d lt in
@@ -113,7 +113,7 @@ full_below benefits i le = λ k d lt.
     let at = row_from-index 1 k (take i benefits) d (pos 0) (omega arith) in
     rw at (omega arith)
 
--- one benefit more is read
+-- one more benefit is read
 pub full_on : (benefits q : List ℤ) (b : BestTwo) (i : ℕ) (d : ℤ) → i < length benefits → IsBestTwo (row_from 1 (take i benefits) ++ (i + 1, get_or benefits i d) ∷ []) q b → IsBestTwo (row_from 1 (take (i + 1) benefits)) q b
 full_on benefits q b i d lt is =
     let taken = length-take-le i benefits (omega arith) in

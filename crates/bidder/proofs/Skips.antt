@@ -11,7 +11,7 @@ use Rattle.bidder.specs.BestTwo.{IsBestTwo}
 use Rattle.bidder.specs.inside.Limits.{IsLimit}
 use Rattle.bidder.proofs.Scans.{no_better, full_on, full_below}
 
--- a benefit less a narrow price takes 64 bits
+-- a benefit less a narrow price fits in 64 bits
 pub difference_fits : (a n : ℤ) → IsBenefit a → IsNarrow n → SFits w64 (a -ℤ n)
 difference_fits a n benefit narrow =
     let least = benefit.least in
@@ -20,7 +20,7 @@ difference_fits a n benefit narrow =
     let high = narrow.greatest in
     record { sfits = grind (arith, ints) }
 
--- an object that is not above the limit by a price that is no higher than its own
+-- an object that isn't above the limit at a price that is at most its own
 pub bounded : (row : Listing) (q : List ℤ) (b : BestTwo) (limit : ℤ) (j : ℕ) (a n : ℤ) → IsLimit b.second limit → IsBenefit a → IsNarrow n → n ≤ℤ price_of q j → (a -ℤ n) ≤ℤ limit
     → IsBestTwo row q b → All (λ e. e.0 < j) row → IsBestTwo (row ++ (j, a) ∷ []) q b
 bounded row q b limit j a n bound benefit narrow below le is up =

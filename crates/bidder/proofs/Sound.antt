@@ -1,4 +1,4 @@
--- Offers are sound for their tables, and there is one.
+-- Offers are sound for their tables, and each person has only one.
 use Rattle.std.proofs.Common.{◌≡◌, ◌≢◌, ℕ, ℤ, pos, suc, zero, ◌+ℤ◌, ◌-ℤ◌, ◌*ℤ◌, ◌≤ℤ◌, ◌<ℤ◌, ◌<◌, ◌-◌, List, [], length, get_or, Option, None, Some, IsSome, MatchOption, unwrap_or, refl, ap, sym, ◌∙◌, subst, arith}
 use Rattle.std.specs.List.{All}
 use Rattle.std.proofs.lemmas.Int.{ints, clamps, by_lt_z}
@@ -31,7 +31,7 @@ worth row q b j same is = ap (listed_in row) same ∙ is.listed
 amount : (row : Listing) (q : List ℤ) (b : BestTwo) (j : ℕ) → j ≡ b.object → IsBestTwo row q b → listed_or_zero row j ≡ b.best +ℤ price_of q b.object
 amount row q b j same is = ap (λ o. unwrap_or o (pos 0)) (worth row q b j same is)
 
--- the other objects are worth the bar at most
+-- the values of the other objects are at most the bar
 under_bar : (row : Listing) (q : List ℤ) (floor : ℤ) (j : ℕ) (s : Option ℤ) → IsSecond row q j s → All (λ e. e.0 ≢ j → e.1 ≤ℤ (bar floor s +ℤ price_of q e.0)) row
 under_bar row q floor j None is = λ k d lt ne. absurd (ne (is k d lt))
 under_bar row q floor j (Some w) is = λ k d lt ne. let h = is.0 k d lt ne in omega (arith, ints, clamps)
@@ -40,14 +40,14 @@ pub floor_under : (floor : ℤ) (s : Option ℤ) → floor ≤ℤ bar floor s
 floor_under floor None = omega (arith, ints)
 floor_under floor (Some w) = omega (arith, ints, clamps)
 
--- the second value is the best at most
+-- the second value is at most the best
 pub second_under : (row : Listing) (q : List ℤ) (b : BestTwo) (w : ℤ) → IsBestTwo row q b → b.second ≡ Some w → w ≤ℤ b.best
 second_under row q b w is second =
     let next = subst (IsSecond row q b.object) second is.others in
     let le = entry_found (λ e. e.1 ≤ℤ (b.best +ℤ price_of q e.0)) row next.1 _ is.greatest next.3 in
     omega (arith, ints)
 
--- and so is the bar, where the best is worth the floor
+-- the bar is at most the best value, if this is at least the floor
 pub bar_under : (floor best : ℤ) (s : Option ℤ) → ((w : ℤ) → s ≡ Some w → w ≤ℤ best) → floor ≤ℤ best → bar floor s ≤ℤ best
 bar_under floor best None h le = le
 bar_under floor best (Some w) h le = let m = h w refl in omega (arith, ints, clamps)
@@ -130,7 +130,7 @@ bid_once s q ask a b person phase version x y =
       level : (v w bar_v bar_w c d eps : ℤ) → (v +ℤ bar_v) ≡ (c +ℤ eps) → (w +ℤ bar_w) ≡ (d +ℤ eps) → bar_v ≡ bar_w → c ≡ d → v ≡ w
       level v w bar_v bar_w c d eps e f g h = omega (arith, ints)
 
--- a person has one offer
+-- a person has only one offer
 pub offer_once : (s : ScaledProblem) (q : List ℤ) (version : ℕ) (ask : Ask) (i : ℕ) (a b : Offer) → IsOffer s q version ask i a → IsOffer s q version ask i b → a ≡ b
 offer_once s q version ask i (made.Bid a) (made.Bid b) x y = ap made.Bid (bid_once s q ask a b (x.0 ∙ sym y.0) (x.1 ∙ sym y.1) (x.2 ∙ sym y.2) x.3 y.3)
 offer_once s q version ask i (made.Bid a) (made.Below b) x y = absurd (exclusive s q ask a x.3 (subst (λ k. IsUnder (benefits_at s k) q ask.floor) (sym x.0) y.2))
@@ -140,7 +140,7 @@ offer_once s q version ask i (made.Below a) (made.Below b) x y = ap made.Below (
 under_all : (row : Listing) (q : List ℤ) (floor : ℤ) (b : BestTwo) → IsBestTwo row q b → b.best <ℤ floor → IsUnder row q floor
 under_all row q floor b is lt = λ k d in_row. let le = is.greatest k d in_row in omega (arith, ints)
 
--- the bid at the level that leaves the bar less eps
+-- the bid at the level at which the object's value is the bar less eps
 pub made_is : (s : ScaledProblem) (q : List ℤ) (version : ℕ) (ask : Ask) (i : ℕ) (b : BestTwo) (level : ℤ) → IsBestTwo (benefits_at s i) q b → ask.floor ≤ℤ b.best → level ≡ ((b.best +ℤ price_of q b.object) -ℤ bar ask.floor b.second) +ℤ ask.eps →
     IsBid s q ask (record { person = i; object = b.object; level = level; phase = ask.phase; version = version })
 made_is s q version ask i b level is enough h =
@@ -153,6 +153,6 @@ from_best s q version ask i (Some b) is = by_lt_z {P = IsOffer s q version ask i
     (λ lt. rw (less b.best ask.floor lt) (refl, refl, under_all (benefits_at s i) q ask.floor b is lt))
     (λ le. rw (not_less b.best ask.floor le) (refl, refl, refl, made_is s q version ask i b _ is le refl))
 
--- the offer that is computed is the person's
+-- the computed offer is the person's
 pub offer_is : (s : ScaledProblem) (q : List ℤ) (version : ℕ) (ask : Ask) (i : ℕ) → IsRising (benefits_at s i) → IsOffer s q version ask i (offer_of s q version ask i)
 offer_is s q version ask i up = from_best s q version ask i (best_two (benefits_at s i) q) (best_two_is (benefits_at s i) q up)

@@ -12,14 +12,14 @@ use Rattle.bidder.specs.declared.offers.Offer.{Offer}
 use Rattle.bidder.specs.declared.offers.Offer.TheVariants as made
 use Rattle.bidder.specs.BestTwo.{IsBestTwo, best_two}
 
--- slackness and floor of some phase
+-- the slackness and the floor of some phase
 pub record IsAsk (s : ScaledProblem) (ask : Ask) : Type 0 where
   pub slackness : IsEps s ask.eps
   pub start : ℤ
   pub price : IsPrice start
   pub floor : ask.floor ≡ floor_of s start ask.eps
 
--- what person i lists, with benefits
+-- the row of person i, with benefits
 abbrev pub benefits_at : ScaledProblem → ℕ → Listing
 benefits_at s i = row_of (benefits_of s) i
 

@@ -113,7 +113,7 @@ fn level_of(best: BestTwo, prices: &Prices, ask: Ask) -> Price
 }
 
 /// The offer of a person under a table of prices, with this phase's slackness and floor: a bid for
-/// its best object, or `Below` if no listed object has a value of at least the floor. The offer
+/// its best object. It is `Below` if no listed object has a value of at least the floor. The offer
 /// carries the given phase and version.
 ///
 /// The bid of the auction algorithm (Bertsekas, Network Optimization, 1998, section 7.1); the floor

@@ -1,4 +1,4 @@
--- Objects that nobody has, by their counts.
+-- Unowned objects, by their counts.
 use Rattle.std.proofs.Common.{◌≡◌, ℕ, ℤ, pos, ◌+ℤ◌, ◌≤ℤ◌, ◌<ℤ◌, ◌<◌, ◌+◌, List, [], ◌∷◌, length, ◌⊎◌, inl, inr, arith, sym, ◌∙◌, subst}
 use Rattle.std.proofs.lemmas.Int.{ints, by_lt_z}
 use Rattle.std.specs.List.{Contains}
@@ -36,7 +36,7 @@ not_unused count price most other = elim (cases_lt 0 count) [
   | inr none ↦ inr (by_lt_z {P = price ≤ℤ most} most price (λ lt. absurd (other (omega (arith, none), lt))) (λ le. le))
 ]
 
--- object j costs over 1 more than another, and its count is 0
+-- object j has a price over 1 above another's, and its count is 0
 abbrev pub IsUnused : List ℕ → List ℤ → ℕ → Type 0
 IsUnused counts prices j =
     (numbered counts j 0 ≡ 0) × ((k : ℕ) × IsNumber (length prices) k × ((price_of prices k +ℤ pos 1) <ℤ price_of prices j))

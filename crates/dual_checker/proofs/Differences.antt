@@ -87,7 +87,7 @@ faults_differ s m r x p Yes (PriceRange j) a b = absurd (not_out p _ j a.priced 
 faults_differ s m r x p Yes (Slack j k) a b = absurd (not_short s m r x p j a.slack b.3)
 faults_differ s m r x p Yes Yes a b = refl
 
--- a verdict is the first fault, and the other way round
+-- a verdict is the first fault, and the first fault is the verdict
 pub fault_of : (sense : Sense) (rows : List Listing) (xs : List ℕ) (prices : List ℤ) (v : Verdict) → IsVerdict sense rows xs prices v →
     IsFault sense (length rows) rows xs prices v
 fault_of s r x p Length h = h

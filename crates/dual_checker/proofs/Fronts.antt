@@ -13,7 +13,7 @@ use Rattle.dual_checker.specs.Verdicts.{IsFault, IsVerdict}
 use Rattle.dual_checker.proofs.Differences.{verdict_of}
 use Rattle.dual_checker.proofs.Worths.{own_listed}
 
--- who is among the first lists what it lists among all
+-- a person among the first lists what it lists among all
 pub listed_front : (n : ℕ) (rows : List Listing) (i j : ℕ) → i ≤ n → IsListed rows i j → IsListed (take n rows) i j
 listed_front n rows i j le h = subst (λ row. IsSome (listed_in row j)) (sym (row_of-take n rows i le)) h
 
@@ -27,7 +27,7 @@ own_listed_whole rows xs i x few listed lt is =
     let long = length-take-le (length xs) rows few in
     listed_whole (length xs) rows (i + 1) x (omega arith) (own_listed (take (length xs) rows) xs i x listed (sym long) lt is)
 
--- a row of the first ones, as it was read
+-- one of the first rows, as it was read
 pub row_front : (m : ℕ) (rows : List Listing) (n i : ℕ) (row : Listing) → n ≤ length rows → All (IsRow m) (take n rows) → i < n → row ≡ row_of rows (i + 1) → IsRow m row
 row_front m rows n i row few each lt read =
     let long = length-take-le n rows few in
@@ -42,7 +42,7 @@ own_within m rows xs i x few each listed lt is =
     let row = IsRow-row_of m (take (length xs) rows) (i + 1) each (omega arith) (omega (arith, long)) in
     object_within m (row_of (take (length xs) rows) (i + 1)) x row.within (own_listed (take (length xs) rows) xs i x listed (sym long) lt is)
 
--- all that are given are of m
+-- all given objects are among m
 pub given_within : (m : ℕ) (rows : List Listing) (xs : List ℕ) → All (IsRow m) rows → AreListed rows xs → All (IsNumber m) xs
 given_within m rows xs each listed =
     All-from_recursion (IsNumber m) xs (objects_within m rows xs (All-weaker (IsRow m) (IsWithin m) (λ r h. h.within) rows each) listed)

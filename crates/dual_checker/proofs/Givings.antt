@@ -38,7 +38,7 @@ none_of (x ∷ xs) j h = elim (eqb_tells x j) [
   | inr t ↦ count-same x xs j t.0 ∙ none_of xs j h.1
 ]
 
--- a number that stands in a list once or not at all, each by each
+-- a number that is in a list once or not at all, element by element
 pub distinct_from : (xs : List ℕ) → ((j : ℕ) → count_of xs j ≤ 1) → IsDistinct nat_eq xs
 unfolding IsDistinct
 distinct_from [] h = tt
@@ -60,7 +60,7 @@ once_at_most (x ∷ xs) j h = elim (eqb_tells x j) [
   | inr t ↦ let m = count-same x xs j t.0 in let k = once_at_most xs j (IsDistinct-tail nat_eq x xs h) in omega arith
 ]
 
--- a number that no element is
+-- a number that isn't an element
 pub nowhere : (xs : List ℕ) (j : ℕ) → All (λ x. x ≢ j) xs → count_of xs j ≡ 0
 nowhere [] j h = refl
 nowhere (x ∷ xs) j h = elim (eqb_tells x j) [

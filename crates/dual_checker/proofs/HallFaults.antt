@@ -12,7 +12,8 @@ use Rattle.dual_checker.specs.HallVerdicts.{AreNeighbours, HasNeighbours, IsExtr
 use Rattle.dual_checker.proofs.HallFirsts.{first_same}
 use Rattle.dual_checker.proofs.HallMarking.{just_added}
 
--- where what the persons at the first places list is marked, and there are no more, all their neighbours are
+-- if the objects that the first persons of a list list are marked, and these are all its persons,
+-- all their neighbours are marked
 pub neighbours_marked : (rows : List Listing) (persons : List ℕ) (i : ℕ) (marks : List Bool) → length persons ≤ i → ((k j : ℕ) → k < i → IsListed rows (get_or persons k 0) j → IsMarked marks j) →
     HasNeighbours rows persons (IsMarked marks)
 neighbours_marked rows persons i marks end before j h =

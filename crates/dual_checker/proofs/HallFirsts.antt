@@ -40,7 +40,7 @@ first_named F xs n i x rise within lt is before here =
           ];
     }
 
--- an object is listed just where an entry of the row has it
+-- an object is listed exactly where an entry of the row has it
 pub row_places : (row : Listing) (i j : ℕ) → IsRising row → i ≡ length row → Earlier (λ k x. (get_or row k (0, pos 0)).0 ≡ x) i j ↔ IsSome (listed_in row j)
 row_places row i j rising end =
     let P : ℕ × ℤ → Type 0 = λ e. Earlier (λ k x. (get_or row k (0, pos 0)).0 ≡ x) i e.0 in
@@ -76,7 +76,7 @@ first_unmarked_entry rows person n i marks row entry this r lt is before not =
       none_below = λ k some below g. g.1 (all_listed P row k each (subst (λ q. IsSome (listed_in q k)) (sym this) g.0) below);
     }
 
--- where each entry's object is marked, each listed object is
+-- if each entry's object is marked, each listed object is
 pub all_marked : (rows : List Listing) (person i : ℕ) (marks : List Bool) (row : Listing) → row ≡ row_of rows person → length row ≤ i → ((k : ℕ) (e : ℕ × ℤ) → k < i → IsMarked marks (get_or row k e).0) →
     (j : ℕ) → IsListed rows person j → IsMarked marks j
 all_marked rows person i marks row this end before j s =

@@ -6,7 +6,7 @@ use Rattle.assign_core.specs.Numbered.{IsNumber, numbered, renumbered, IsMarked}
 use Rattle.assign_core.proofs.NumberedLemmas.{numbered-same, numbered-other, numbered-replicate, renumber-set}
 use Rattle.dual_checker.specs.HallMarks.{AddsMarks}
 
--- j stands in relation R to one of the first i places
+-- j is related by R to one of the first i places
 abbrev pub Earlier : (ℕ → ℕ → Type 0) → ℕ → ℕ → Type 0
 Earlier R i j = (k : ℕ) × (k < i) × R k j
 
@@ -34,7 +34,7 @@ adds_more R i start marks after h more j = (
   ]),
 )
 
--- what marking one number does
+-- the effect of marking one number
 pub adds_one : (marks : List Bool) (x : ℕ) → IsNumber (length marks) x → AddsMarks marks (λ j. x ≡ j) (renumbered marks x true)
 adds_one marks x within j = (
   (λ m. elim (eqb_tells x j) [
@@ -47,7 +47,7 @@ adds_one marks x within j = (
   ]),
 )
 
--- one number more
+-- one more number
 pub adds_item : (f : ℕ → ℕ) (i x k : ℕ) (start marks : List Bool) → x ≡ f i → IsNumber (length marks) x → k ≡ x - 1 → AddsMarks start (Earlier (λ k j. f k ≡ j) i) marks →
     AddsMarks start (Earlier (λ k j. f k ≡ j) (i + 1)) (set marks k true)
 adds_item f i x k start marks at within place h =

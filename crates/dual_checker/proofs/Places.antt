@@ -1,4 +1,4 @@
--- What stands at a number's place.
+-- The element at a number's place.
 use Rattle.std.proofs.Common.{sym, subst, ap, ◌∙◌, ◌≡◌, ℕ, ◌<◌, ◌-◌, List, length, get_or}
 use Rattle.std.specs.List.{All}
 use Rattle.assign_core.specs.Numbered.{IsNumber, numbered}

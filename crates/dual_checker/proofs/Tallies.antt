@@ -1,4 +1,4 @@
--- Tables of counts, one more at a time.
+-- Tables of counts, which grow by one at a time.
 use Rattle.std.proofs.Common.{◌≡◌, ℕ, ◌<◌, ◌≤◌, ◌+◌, ◌-◌, List, [], length, take, set, replicate, nat_eq, true, false, get_or, arith, inl, inr, sym, ◌∙◌, ap, subst, ◌==◌, ◌≢◌, All, Option, None, Some, MatchOption}
 use Rattle.std.specs.List.{IsDistinct}
 use Rattle.std.proofs.lemmas.List.{length-take-le}

@@ -1,4 +1,4 @@
--- Rows of benefits, and what breaks slackness in them.
+-- Rows of benefits, and objects that break slackness in them.
 use Rattle.std.proofs.Common.{◌≡◌, ℕ, ℤ, pos, ◌+ℤ◌, ◌-ℤ◌, ◌≤ℤ◌, ◌<ℤ◌, ◌<◌, List, [], length, map, Some, IsSome, arith, inl, inr, refl, ap, ◌∙◌, sym, unwrap_or, get_or, ◌+◌, subst}
 use Rattle.std.specs.List.{All}
 use Rattle.std.proofs.lemmas.Int.{ints}
@@ -31,7 +31,7 @@ own_listed rows xs i x listed long lt is =
     let own : x ≡ numbered xs (i + 1) 0 = is ∙ get_or_default xs i x 0 lt ∙ sym (numbered-next xs i 0) in
     rw own (pair_number (λ row j. IsSome (listed_in row j)) rows xs (i + 1) [] 0 listed (omega arith) (omega arith))
 
--- entry e, with its cost, is worth at most 1 more than own
+-- the value of entry e, with its cost, is at most 1 above that of the own object
 abbrev pub IsUnder : Sense → ℕ → List ℤ → ℤ → ℕ × ℤ → Type 0
 IsUnder sense n prices own e = (benefit sense n e.1 -ℤ price_of prices e.0) ≤ℤ (own +ℤ pos 1)
 
@@ -42,7 +42,7 @@ slack_from sense n prices row j own e h =
     All-map (IsWorth (pos 1) prices (benefit_row sense n row) j) (λ f. (f.0, benefit sense n f.1)) row
     (λ k d lt. let under = h k d lt in omega (arith, ints))
 
--- no listed object below the one at place i breaks slackness, if none of the entries before it does
+-- no listed object below the one at place i breaks slackness, if no entry before it does
 none_under : (sense : Sense) (n : ℕ) (prices : List ℤ) (row : Listing) (j i : ℕ) (own : ℤ) (d : ℕ × ℤ) → IsRising row → i < length row →
     own ≡ benefit sense n (listed_or_zero row j) -ℤ price_of prices j → ((k : ℕ) (f : ℕ × ℤ) → k < i → IsUnder sense n prices own (get_or row k f)) →
     (k : ℕ) → k < (get_or row i d).0 → BreaksSlack (pos 1) prices (benefit_row sense n row) j k → ⊥
@@ -77,7 +77,7 @@ first_break sense n prices row j i own entry r lt is e before over =
       none_below = λ k some below. none_under sense n prices row j i own entry r.rising lt e before k (omega arith);
     }
 
--- what holds of a row as it was read and of an object as it was read holds of them by the person's number
+-- what holds of a row and of an object as they were read holds of them by the person's number
 pub by_number : (Q : Listing → ℕ → Type 0) (sense : Sense) (m : ℕ) (rows : List Listing) (xs : List ℕ) (row : Listing) (i j : ℕ) → row ≡ row_of rows i → j ≡ own_object xs i →
     Q (benefit_row sense m row) j → Q (row_of (map (benefit_row sense m) rows) i) (own_object xs i)
 by_number Q sense m rows xs row i j read object h =

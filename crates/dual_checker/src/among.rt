@@ -100,8 +100,8 @@ fn first_fault_among(
 }
 
 /// Whether the objects of persons 1 to `n` and the prices of objects 1 to `m` are a certificate
-/// under this sense; if not, the first fault: those of `check` in their order, and after them the
-/// lowest unowned object whose price is too high.
+/// under this sense. If not, the answer is the first fault: one of `check`, in their order, and
+/// after those the lowest unowned object whose price is too high.
 ///
 /// Only the first `n` of the problem's persons count; if there are more objects, the other persons
 /// list nothing (`Problem::dense_among`). `Yes` proves the assignment optimal: slackness 1 at

@@ -1,4 +1,4 @@
--- The path from the first person of a search to an object, read back from its end.
+-- The path from the first person of a search to an object, traced back from its end.
 use Rattle.std.proofs.Common.{◌≡◌, ℕ, ◌<◌, List, [], ◌∷◌, ◌++◌, Option, None, Some, Bool, false, length, get_or, nat_eq, ap, append_assoc, append-nil, arith, refl, sym, subst, ◌∙◌, inl, inr, ◌⊎◌, reverse}
 use Rattle.std.specs.List.{AllByRecursion, IsDistinct}
 use Rattle.std.proofs.lemmas.Bool.Decides.{eqb_tells}
@@ -30,7 +30,7 @@ all_on_the_way found last j t objects path at e whole =
     let w = whole [] at in
     (w.0, w.1, e ∙ ap reverse (sym (append-nil objects) ∙ w.2))
 
--- the object is free, or somebody found after place t was reached through it
+-- the object is unowned, or a person found after place t was reached through it
 IsBeyond : List (Option ℕ) → List Found → ℕ → ℕ → Type 0
 IsBeyond owners found t k = (owner_of owners k ≡ None) ⊎ ((s : ℕ) × (t < s) × (s < length found) × (object_at found s ≡ Some k))
 
@@ -52,7 +52,7 @@ all_beyond_more : (owners : List (Option ℕ)) (found : List Found) (p t : ℕ) 
 all_beyond_more owners found p t [] lt b = tt
 all_beyond_more owners found p t (k ∷ ks) lt b = (beyond_more owners found p t k lt b.0, all_beyond_more owners found p t ks lt b.1)
 
--- the object through which the person at place t was reached is none of those beyond
+-- the object through which the person at place t was reached isn't among those after it
 differs : (rows : List Listing) (owners : List (Option ℕ)) (found : List Found) (met : List Bool) (t j x k : ℕ) → IsReach rows owners found met → owner_of owners j ≡ Some x → object_at found t ≡ Some j → IsBeyond owners found t k → nat_eq j k ≡ false
 unfolding IsBeyond
 differs rows owners found met t j x k r o at b = elim (eqb_tells j k) [

@@ -1,4 +1,4 @@
--- A person has one refutation.
+-- A person has only one refutation.
 use Rattle.std.proofs.Common.{◌≡◌, ℕ, ◌<◌, ◌↔◌, List, [], ◌∷◌, Option, Less, ap, arith, refl, sym, subst, ◌∙◌, inl, inr}
 use Rattle.std.specs.List.{Contains}
 use Rattle.std.specs.List.Sorted.{IsStrictlyIncreasing, IsStrictlySortedBy}
@@ -59,7 +59,7 @@ same_lists a b e f =
     ap (λ xs. let l : HallLists = record { persons = xs; objects = a.objects } in l) e
     ∙ ap (λ xs. let l : HallLists = record { persons = b.persons; objects = xs } in l) f
 
--- a person has one refutation
+-- a person has only one refutation
 pub refuted_once : (rows : List Listing) (owners : List (Option ℕ)) (i : ℕ) (a b : HallLists) → IsRefuted rows owners i a → IsRefuted rows owners i b → a ≡ b
 refuted_once rows owners i a b x y =
     let persons : a.persons ≡ b.persons = increasing_same a.persons b.persons x.hall.persons_rise y.hall.persons_rise (λ z. through _ _ _ (x.reached z) (y.reached z)) in

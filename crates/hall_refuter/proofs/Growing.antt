@@ -27,7 +27,7 @@ arrived_later rows owners found e t x None lt h = h ∙ sym (old_person found e 
 arrived_later rows owners found e t x (Some a) lt h =
     (h.0, subst (λ y. IsListed rows y a.object) (sym (old_person found e a.parent (omega (arith, h.0)))) h.1, h.2)
 
--- what the person at a place of the longer list is: an old one or the new one
+-- the person at a place of the longer list: an old one or the new one
 old_or_new : (found : List Found) (e : Found) (t : ℕ) → t < length (found ++ e ∷ []) → (t < length found) ⊎ (t ≡ length found)
 old_or_new found e t lt = let l = length-append found (e ∷ []) in grind arith
 
@@ -103,7 +103,7 @@ grows_through f g h a b c first second = record {
   kept = λ j m. second.kept j (first.kept j m);
 }
 
--- an object that wasn't met, and whose owner is found through it
+-- an object that wasn't met, and through which its owner is found
 pub met_found : (rows : List Listing) (owners : List (Option ℕ)) (found : List Found) (met : List Bool) (later : List Found) (marks : List Bool) (x j p i : ℕ) (mark : Bool) (d : Option ℕ) →
     later ≡ found ++ owner_through x j p ∷ [] → marks ≡ renumbered met j true → i ≡ j - 1 → IsNumber (length owners) j → length met ≡ length owners → p < length found →
     mark ≡ get_or met i mark → mark ≡ false → get_or owners i d ≡ Some x → IsReach rows owners found met → IsListed rows (person_at found p) j →
@@ -123,7 +123,7 @@ pub listed_item : (rows : List Listing) (x y : ℕ) (row : Listing) (k : ℕ) (e
 listed_item rows x y row k e r same lt at =
     rw same (subst (λ f. IsSome (listed_in (row_of rows y) f.0)) (sym at) (subst (λ w. IsSome (listed_in w (get_or row k e).0)) r (entry_listed row k e lt)))
 
--- where all entries of the row are met, so is each listed object
+-- if all entries of the row are met, so is each listed object
 pub all_met : (rows : List Listing) (x y : ℕ) (row : Listing) (marks : List Bool) (h : ℕ) → row ≡ row_of rows y → x ≡ y → length row ≤ h → ((k : ℕ) (d : ℕ × ℤ) → k < h → IsMarked marks (get_or row k d).0) →
     (j : ℕ) → IsListed rows x j → IsMarked marks j
 all_met rows x y row marks h r same few m j l =

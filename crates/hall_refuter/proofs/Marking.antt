@@ -1,4 +1,4 @@
--- Marks of the persons found, and lists of what is marked.
+-- Marks of the persons found, and lists of the marked numbers.
 use Rattle.std.proofs.Common.{◌≡◌, ℕ, ◌+◌, ◌-◌, ◌<◌, ◌↔◌, zero, suc, List, [], ◌∷◌, Bool, true, false, Less, length, get_or, set, ap, arith, refl, sym, subst, ◌∙◌, inl, inr}
 use Rattle.std.specs.List.{All, AllByRecursion, Contains}
 use Rattle.std.specs.List.Sorted.{IsStrictlyIncreasing, IsStrictlySortedBy}
@@ -38,7 +38,7 @@ marked_more found marks n h i f e lt at within long before x =
     let w : IsNumber n f.person = subst (λ g. IsNumber n g.person) (sym at) (within h f lt) in
     rw (set_is marks i f.person e w.first) (one_marked found marks h f.person x (person_read found h f lt at) (subst (λ m. IsNumber m f.person) (sym long) w) (before x))
 
--- a marked number stands in the list
+-- a marked number is in the list
 listed_mark : (j : ℕ) (marks : List Bool) (i x : ℕ) → j + i ≡ x → get_or marks i false ≡ true → Contains (marked_from j marks) x
 listed_mark j [] i x e m = absurd cc
 listed_mark j (true ∷ marks) zero x e m = let at : j ≡ x = omega arith in (0, omega arith, at)
@@ -53,7 +53,7 @@ mark_listed j (true ∷ marks) zero x lt at = (0, omega arith, refl)
 mark_listed j (true ∷ marks) (suc k) x lt at = let r = mark_listed (j + 1) marks k x (omega arith) at in (suc r.0, (let e = r.1 in omega arith), r.2)
 mark_listed j (false ∷ marks) k x lt at = let r = mark_listed (j + 1) marks k x lt at in (suc r.0, (let e = r.1 in omega arith), r.2)
 
--- just the marked numbers stand in the list
+-- just the marked numbers are in the list
 pub marked_contains : (marks : List Bool) (x : ℕ) → Contains (marked_from 1 marks) x ↔ IsMarked marks x
 marked_contains marks x = (to x, from x) where
   to : (y : ℕ) → Contains (marked_from 1 marks) y → IsMarked marks y
@@ -80,7 +80,7 @@ sorted_marks j (false ∷ marks) = sorted_marks (j + 1) marks
 pub marked_rise : (marks : List Bool) → IsStrictlyIncreasing (marked_from 1 marks)
 marked_rise marks = IsStrictlyIncreasing-from_sorted (marked_from 1 marks) (sorted_marks 1 marks)
 
--- the list of the marked numbers has just those that the marks say
+-- the list of the marked numbers has just the numbers that the marks say
 pub listed_as : (P : ℕ → Type 0) (xs : List ℕ) (marks given : List Bool) → xs ≡ marked_from 1 given → given ≡ marks → ((x : ℕ) → IsMarked marks x ↔ P x) → (x : ℕ) → Contains xs x ↔ P x
 listed_as P xs marks given e same h x =
     let at : xs ≡ marked_from 1 marks = e ∙ ap (marked_from 1) same in

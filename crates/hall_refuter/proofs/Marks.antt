@@ -1,4 +1,4 @@
--- A mark more.
+-- One more mark.
 use Rattle.std.proofs.Common.{◌≡◌, ℕ, ◌+◌, List, Bool, true, false, cond, length, ap, arith, sym, subst, ◌∙◌, inl, inr}
 use Rattle.std.specs.List.{count_by}
 use Rattle.std.proofs.lemmas.Bool.{cases_eq}

@@ -1,4 +1,4 @@
--- Where each listed object is met, what was found and met is a Hall set.
+-- If each listed object is met, the persons found and the objects met are a Hall set.
 use Rattle.std.proofs.Common.{◌≡◌, ℕ, ◌<◌, ◌↔◌, zero, suc, List, ◌∷◌, Option, None, Some, IsSome, Bool, false, length, get_or, map, nat_eq, unwrap_or, ap, arith, refl, rules, sym, subst, ◌∙◌, inl, inr}
 use Rattle.std.specs.List.{All, Contains, IsDistinct}
 use Rattle.std.specs.List.Sorted.{IsStrictlyIncreasing}
@@ -32,7 +32,7 @@ owner_at rows owners found met t j r lt at =
     let h = arrived_as rows owners found met t (Some a.0) r lt a.1 in
     (a.0.parent, h.0, subst (IsListed rows (person_at found a.0.parent)) a.2 h.1, subst (λ i. owner_of owners i ≡ Some (person_at found t)) a.2 h.2)
 
--- a met object: who lists it, and who owns it
+-- a met object: a person that lists it, and its owner
 pub met_object : (rows : List Listing) (owners : List (Option ℕ)) (found : List Found) (met : List Bool) (j : ℕ) → IsReach rows owners found met → IsMarked met j →
     (p : ℕ) × (t : ℕ) × (p < length found) × (t < length found) × IsListed rows (person_at found p) j × (owner_of owners j ≡ Some (person_at found t))
 met_object rows owners found met j r m =
@@ -111,7 +111,7 @@ pub record AreLists (found : List Found) (met : List Bool) (persons objects : Li
   pub each_person : (x : ℕ) → Contains persons x ↔ IsAmongFirst found x (length found)
   pub each_object : (j : ℕ) → Contains objects j ↔ IsMarked met j
 
--- who owns an object of the list
+-- the owner of an object of the list
 owned_at : (rows : List Listing) (owners : List (Option ℕ)) (found : List Found) (met : List Bool) (persons objects : List ℕ) (k : ℕ) → IsOver rows owners found met → AreLists found met persons objects → k < length objects →
     (t : ℕ) × (t < length found) × (owner_of owners (get_or objects k 0) ≡ Some (person_at found t))
 owned_at rows owners found met persons objects k o l lt =

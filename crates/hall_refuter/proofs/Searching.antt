@@ -86,7 +86,7 @@ path_answer rows owners found later met marks x h j path r g e lt v w =
     let p = path_found rows owners later marks h j w.0 path r (omega arith) (subst (λ y. IsListed rows y j) (sym (g.same h lt)) v.0) v.1 w.1 w.2 in
     subst (λ y. IsPath rows owners y path) (g.same 0 (omega arith) ∙ e) p
 
--- it is a Hall set exactly where each listed object is owned
+-- the answer is a Hall set exactly where each listed object is owned
 pub hall_where_blocked : (rows : List Listing) (owners : List (Option ℕ)) (x : ℕ) (search : Search) → IsFound rows owners x search → IsHall search ↔ IsBlocked rows owners x
 hall_where_blocked rows owners x (Hall lists) h = ((λ _. h.blocked), (λ _. tt))
 hall_where_blocked rows owners x (Path path) p = ((λ h. absurd h), (λ b. path_open rows owners x path.items p b))

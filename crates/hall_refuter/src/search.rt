@@ -65,10 +65,10 @@ fn search_from(
     Ok(Search::Hall(hall_set(alloc, &reach)?))
 }
 
-/// For a person without an object, under a matching along listed pairs: either the Hall set of all
-/// persons that alternating walks reach and all objects that they list, or an alternating path to
-/// an unowned object. It is the Hall set exactly where each object that a reached person lists is
-/// owned, and then no assignment exists.
+/// For a person without an object, under a matching along listed pairs: a Hall set or an
+/// alternating path to an unowned object. The Hall set has all persons that alternating walks
+/// reach, and all objects that they list. The answer is the Hall set exactly where each object that
+/// a reached person lists is owned, and then no assignment exists.
 ///
 /// Breadth-first search for an augmenting path over the listed pairs, in time linear in the pairs
 /// of the reached persons and in `n` (Burkard, Dell'Amico and Martello, Assignment Problems, 2009,

@@ -50,6 +50,7 @@ pub record Buffers : Type 0 where
   pub prices : List SplitPrice
   pub told : Told
 
+-- the caller's buffers with these lists and this record
 abbrev pub buffers : List ℕ → List ℕ → List SplitPrice → Told → Buffers
 buffers objects persons prices told =
     record { objects = objects; persons = persons; prices = prices; told = told }
@@ -90,7 +91,7 @@ abbrev pub IsSolved : GivenLists → Buffers → Buffers → Result End Fault �
 IsSolved g before after (Ok end) = IsAnswered g before after end
 IsSolved g before after (Err f) = HasFault g f × (after ≡ with_place f before)
 
--- the end with this code
+-- an end of the call that has this code
 pub record IsReported (g : GivenLists) (before after : Buffers) (code : ℤ) : Type 0 where
   pub end : Result End Fault
   pub is : code ≡ end_code end

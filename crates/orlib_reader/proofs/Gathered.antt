@@ -51,7 +51,7 @@ sparse_wants n ts begun.Nothing = cond-false _ wanted.Cost (wanted.Index n) (ap 
 sparse_wants n ts (begun.Person i) = cond-false _ wanted.Cost (wanted.Index n) (ap (λ m. nat_eq m 2) (behind ts (begun.Person i) 1 refl (omega arith)))
 sparse_wants n ts (begun.Pair i j) = cond-true _ wanted.Cost (wanted.Index n) (ap (λ m. nat_eq m 2) (behind ts (begun.Pair i j) 2 refl (omega arith)))
 
--- the same of the numbers as they are shown
+-- the same for the numbers as a contract sees them
 pub sparse_wanted : (n : ℕ) (ts : List Triple) (b known : Begun) (numbers : List ℤ) → b ≡ known → sparse_numbers n ts b ≡ numbers → wanted_in Sparse numbers ≡ wanted_behind n known
 sparse_wanted n ts b known numbers is shown = ap (wanted_in Sparse) (sym shown) ∙ sparse_wants n ts b ∙ ap (wanted_behind n) is
 

@@ -1,4 +1,4 @@
--- The bytes of a text, taken one by one, give what its tokens give.
+-- The bytes of a text, read one by one, give what its tokens give.
 use Rattle.std.proofs.Common.{◌≡◌, ℕ, ◌+◌, ◌*◌, ◌%◌, ◌≤◌, ℤ, pos, negsuc, List, [], ◌∷◌, ◌++◌, Option, Some, None, Ok, Err, Result, IfSome, true, refl, ◌⊎◌, inl, inr, rules, length, sym, ap, ◌∙◌, nat_lt, nat_le, nat_eq, nat_abs}
 use Rattle.std.proofs.lemmas.Bool.{cases_Bool, and_parts, leb-true}
 use Rattle.assign_core.specs.declared.numbers.TheConstants.{MOST_PERSONS}
@@ -34,7 +34,7 @@ begun_is wanted.Cost at b h = refl
 begun_is (wanted.Index n) at b h = refl
 begun_is wanted.Nothing at b h = absurd (h refl)
 
--- where no token may stand, none is judged otherwise
+-- where no token may stand, each has the same fault
 extra_is : (place : ℕ) (o : Option ℤ) → judged_number wanted.Nothing place o ≡ Err (faults.Extra place)
 extra_is place None = refl
 extra_is place (Some v) = refl
@@ -75,7 +75,7 @@ sized_more : (layout : Layout) (found : List ℤ) (place : ℕ) (o : Option ℤ)
 sized_more layout [] place o v h e = size_small place o v (rw (size_is layout) at e)
 sized_more layout (n ∷ others) place o v h e = h
 
--- what is kept of the token that has begun
+-- the state that is kept of the token that has begun
 abbrev IsBegun : Layout → List ℤ → Option Token → Option OpenToken → Type 0
 IsBegun layout found None None = Unit {0}
 IsBegun layout found None (Some p) = ⊥
@@ -118,7 +118,7 @@ closed_last : (layout : Layout) (found : List ℤ) (b : Option Token) →
 closed_last layout found None = refl
 closed_last layout found (Some t) = assoc (judged (wanted_in layout found) t) (λ v. found ++ v ∷ []) (λ new. ended layout new)
 
--- where no token may stand, one that has begun is the fault, whatever its bytes
+-- where no token may stand, a token that has begun is the fault, whatever its bytes
 extra_stays : (layout : Layout) (found : List ℤ) (at : ℕ) (t : Token) (bytes : List ℕ) → wanted_in layout found ≡ wanted.Nothing →
     numbers_from layout found (cut at (Some t) bytes) ≡ Err (faults.Extra t.place)
 extra_stays layout found at t [] h = simp (h, extra_is) refl
@@ -163,7 +163,7 @@ space_is bytes s b z h then =
           ∙ sym (ap (λ r. and_then r (λ found. numbers_from s.layout found (cut (s.at + 1) None bytes))) (sym given ∙ e)) ∙ other
     ] refl
 
--- a byte that is no white space, with no token open
+-- a byte other than white space, with no token open
 first_is : (x : ℕ) (bytes : List ℕ) (s : State) →
     (IsOpen (wanted_in s.layout s.found) → finished (after (Ok (held s (begun s.at x))) bytes) ≡ numbers_from s.layout s.found (cut (s.at + 1) (Some (grown s.at None x)) bytes)) →
     finished (after (and_then (begun_where (wanted_in s.layout s.found) s.at x) (λ p. Ok (held s p))) bytes) ≡ numbers_from s.layout s.found (cut (s.at + 1) (Some (grown s.at None x)) bytes)
@@ -172,7 +172,7 @@ first_is x bytes s then = elim (nothing_or (wanted_in s.layout s.found)) [
   | inr some ↦ ap (λ r. finished (after (and_then r (λ p. Ok (held s p))) bytes)) (begun_is (wanted_in s.layout s.found) s.at x some) ∙ then some
 ]
 
--- a byte that is no white space
+-- a byte other than white space
 token_is : (x : ℕ) (bytes : List ℕ) (s : State) (o : Option OpenToken) (b : Option Token) → IsBegun s.layout s.found b o →
     (IsOpen (wanted_in s.layout s.found) → finished (after (Ok (held s (begun s.at x))) bytes) ≡ numbers_from s.layout s.found (cut (s.at + 1) (Some (grown s.at None x)) bytes)) →
     ((t : Token) (p : OpenToken) → IsBegun s.layout s.found (Some (grown s.at (Some t) x)) (Some (continued p x)) →
@@ -196,7 +196,7 @@ reads (x ∷ bytes) s b z h = elim (cases_Bool (nat_le TEXT_LIMIT s.at)) [
   ]
 ]
 
--- a text, taken byte by byte, gives the numbers of its tokens
+-- a text, read byte by byte, gives the numbers of its tokens
 pub reads_whole : (layout : Layout) (bytes : List ℕ) → finished (after (Ok (start layout)) bytes) ≡ numbers_in layout bytes
 reads_whole layout bytes = reads bytes (start layout) None tt tt
 

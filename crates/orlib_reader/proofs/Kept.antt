@@ -34,7 +34,7 @@ pub costs_moved : (rows : List Listing) (row : Listing) → kept_costs (rows ++ 
 costs_moved rows row =
     append-nil (flat_map costs_of (rows ++ row ∷ [])) ∙ flat_map-append costs_of rows (row ∷ []) ∙ ap (λ cs. flat_map costs_of rows ++ cs) (append-nil (costs_of row))
 
--- one cost more
+-- one more cost
 pub kept_more : (n : ℕ) (rows : List Listing) (row : Listing) (c : ℤ) → IsKept n rows row → length rows < n → IsCost c → length row + 1 < n → IsKept n rows (row ++ (length row + 1, c) ∷ [])
 kept_more n rows row c h room cost lt = record {
   size = h.size;
@@ -103,7 +103,7 @@ rows_are_cut n (r ∷ rows) h =
     ap (λ m. drop m (costs_of r ++ flat_map costs_of rows)) (sym long) ∙ drop-append_seam (costs_of r) (flat_map costs_of rows) in
     rw (front, back, ← full.no_gap) (ap (λ rs. r ∷ rs) (rows_are_cut n rows (All-tail (IsFull n) r rows h)))
 
--- the same of rows as they are kept
+-- the same for rows as they are kept
 pub kept_moved : {V : Type 0} (f : V → Listing) (n : ℕ) (vs : List V) (v : V) (row : Listing) (k : ℕ) (c : ℤ) → IsKept n (map f vs) row → length vs < n → IsCost c → k ≡ length row →
     f v ≡ row ++ (k + 1, c) ∷ [] → length (f v) ≡ n → IsKept n (map f (vs ++ v ∷ [])) []
 kept_moved f n vs v row k c h room cost at e whole =
@@ -122,7 +122,7 @@ kept_grown n rows row new k c h room cost at e other =
     let there : new ≡ row ++ (length row + 1, c) ∷ [] = e ∙ ap (λ m. row ++ (m + 1, c) ∷ []) at in
     rw there (kept_more n rows row c h room cost (omega arith))
 
--- a row is missing exactly where costs are
+-- a row is missing exactly where costs are missing
 room_left : (n m k : ℕ) → m < n → k < n → m * n + k < n * n
 room_left n m k lt short = let e : n ≡ (n - (m + 1)) + (m + 1) = omega arith in let more : (m + 1) * n ≤ n * n = rw e (omega arith) in omega arith
 
@@ -150,7 +150,7 @@ dense_wants n rows row numbers h shown = ap (wanted_in Dense) (sym shown) ∙ el
   | inr open_yet ↦ dense_wants_cost n rows row h (leb-false _ _ open_yet) ∙ sym (cond-false (nat_le n (length rows)) wanted.Nothing wanted.Cost open_yet)
 ]
 
--- where a cost is wanted, a row is missing
+-- where a cost is expected, a row is missing
 pub dense_room : (n : ℕ) (rows : List Listing) (row : Listing) (numbers : List ℤ) → IsKept n rows row → kept_numbers n rows row ≡ numbers → wanted_in Dense numbers ≡ wanted.Cost → length rows < n
 dense_room n rows row numbers h shown w = elim (cases_Bool (nat_lt (length rows) n)) [
   | inl lt ↦ ltb-true _ _ lt

@@ -1,4 +1,4 @@
--- A token that is taken byte by byte is the number that its bytes are.
+-- A token that is read byte by byte is the number of its bytes.
 use Rattle.std.proofs.Common.{◌≡◌, ℕ, zero, suc, ◌+◌, ◌-◌, ◌*◌, ◌≤◌, ◌<◌, List, [], ◌∷◌, ◌++◌, Option, Some, None, Bool, true, false, cond, refl, inl, inr, arith, length, length-append, sym, ap, ◌∙◌, nat_abs, nat_le, nat_eq, option_map}
 use Rattle.std.proofs.lemmas.Bool.{cases_Bool, cond-true, cond-false, lt-leb, le-ltb, leb-true, leb-false, ne_eqb, and_right, and_parts, or_from}
 use Rattle.assign_core.specs.declared.numbers.TheConstants.{MOST_PERSONS, GREATEST_COST}
@@ -13,7 +13,7 @@ abbrev pub is_some_list : List ℕ → Bool
 is_some_list [] = false
 is_some_list (b ∷ bytes) = true
 
--- what is kept of a token's bytes
+-- the state that is kept of a token's bytes
 pub record IsRead (bytes : List ℕ) (p : OpenToken) : Type 0 where
   pub begun : 0 < length bytes
   pub negative : p.is_negative ≡ is_negative bytes
@@ -67,7 +67,7 @@ read_begun at b = elim (cases_Bool (is_digit b)) [
   ]
 ]
 
--- the value of digits with one byte more, saturated
+-- the value of digits with one more byte, saturated
 digit_next : (o : Option ℕ) (p : OpenToken) (b : ℕ) → is_digit b ≡ true → option_map saturated o ≡ cond p.is_bad None (Some p.value) →
     option_map saturated (then_digit o b) ≡ cond p.is_bad None (Some (saturated (p.value * 10 + (b - 48))))
 digit_next None p b d h = elim (cases_Bool p.is_bad) [
@@ -102,7 +102,7 @@ read_on bytes p b h = elim (cases_Bool (is_digit b)) [
   }
 ]
 
--- an index may not be as great as what is kept of a great value
+-- no index may be as great as a saturated value
 abbrev pub IsBounded : Wanted → Type 0
 IsBounded (wanted.Index n) = n ≤ MOST_PERSONS
 IsBounded w = Unit {0}
@@ -123,7 +123,7 @@ range_great wanted.Cost place negative v bound h = simp (cost_great negative v h
 range_great (wanted.Index n) place negative v bound h = simp (among_great n negative v bound h, among_great n negative (VALUE_LIMIT) bound (omega arith)) refl
 range_great wanted.Nothing place negative v bound h = refl
 
--- what is kept of a great value is out of range where the value is
+-- a saturated value is out of range if the value is
 range_saturated : (w : Wanted) (place : ℕ) (negative : Bool) (v : ℕ) → IsBounded w → in_range w place (signed negative (saturated v)) ≡ in_range w place (signed negative v)
 range_saturated w place negative v bound = elim (cases_Bool (nat_le (VALUE_LIMIT) v)) [
   | inl g ↦ let great : VALUE_LIMIT ≤ v = leb-true (VALUE_LIMIT) v g in
@@ -151,7 +151,7 @@ some_value : (o : Option ℕ) (k : ℕ) → option_map saturated o ≡ Some k �
 some_value None k h = absurd cc
 some_value (Some v) k h = (v, refl, cc)
 
--- what is kept of a token is judged as the token is
+-- the kept state of a token is judged like the token
 pub judged_same : (w : Wanted) (place : ℕ) (bytes : List ℕ) (p : OpenToken) → IsBounded w → IsRead bytes p → judged_number w place (token_number p) ≡ judged_number w place (number_of bytes)
 judged_same w place bytes p bound h = elim (cases_Bool p.is_bad) [
   | inl t ↦

@@ -19,13 +19,13 @@ after-append (Ok s) (x ∷ xs) ys = after-append (step s x) xs ys
 after-append (Err e) [] ys = refl
 after-append (Err e) (x ∷ xs) ys = sym (after_err e ys)
 
--- a fault that is passed on stays the one that was to come
+-- a fault that is passed on stays the expected one
 pub fails_along : {X Y : Type 0} (f : Result X InputFault → Result Y InputFault) (same : (e : InputFault) → f (Err e) ≡ Err e) (e : InputFault) (w : Result X InputFault) → Fails e w → Fails e (f w)
 fails_along f same faults.Memory w h = tt
 fails_along f same faults.Read w h = tt
 fails_along f same fault w h = ap f h ∙ same fault
 
--- a fault stays, whatever comes after it
+-- a fault stays, whatever follows it
 pub err_more : (e : InputFault) (w : Result State InputFault) (ys : List ℕ) → Fails e w → Fails e (after w ys)
 err_more e w ys h = fails_along (λ r. after r ys) (λ f. after_err f ys) e w h
 
@@ -41,7 +41,7 @@ Follows layout (Some all) (Some left) s = after (Ok s) left ≡ after (Ok (start
 whole : (layout : Layout) (all left bs ys : List ℕ) (s : State) → after (Ok s) left ≡ after (Ok (start layout)) all → left ≡ bs ++ ys → after (after (Ok s) bs) ys ≡ after (Ok (start layout)) all
 whole layout all left bs ys s h e = sym (after-append (Ok s) bs ys) ∙ ap (after (Ok s)) (sym e) ∙ h
 
--- a piece is taken
+-- a piece is read
 pub follows_more : (layout : Layout) (old left new : Option (List ℕ)) (s s' : State) (bs : List ℕ) → Follows layout old left s → Consumes left new bs → after (Ok s) bs ≡ Ok s' → Follows layout old new s'
 follows_more layout None left new s s' bs f k h = tt
 follows_more layout (Some all) None new s s' bs f k h = absurd f

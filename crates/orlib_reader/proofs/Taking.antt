@@ -1,4 +1,4 @@
--- Tokens that end, taken as what is wanted.
+-- Tokens that have ended, as what is expected.
 use Rattle.std.proofs.Common.{◌≡◌, ℤ, List, [], ◌∷◌, ◌++◌, Some, Ok, Err, Result, sym, ap, ◌∙◌}
 use Rattle.orlib_reader.specs.Wanted.{Wanted}
 use Rattle.orlib_reader.specs.Numbers.{judged_number}
@@ -14,7 +14,7 @@ fails_itself faults.Memory r h = tt
 fails_itself faults.Read r h = tt
 fails_itself fault r h = h
 
--- what a token that ends gives, where this is wanted
+-- what an ended token gives where this is expected
 ends : (layout : Layout) (found : List ℤ) (token : OpenToken) (w : Wanted) (number : Result ℤ InputFault) → wanted_in layout found ≡ w → judged_number w token.place (token_number token) ≡ number →
     with_token layout (Some token) found ≡ and_then number (λ v. Ok (found ++ v ∷ []))
 ends layout found token w number is judged =

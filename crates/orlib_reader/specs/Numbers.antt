@@ -7,6 +7,7 @@ use Rattle.orlib_reader.specs.declared.fault.InputFault.TheVariants as faults
 use Rattle.orlib_reader.specs.Wanted.{Wanted}
 use Rattle.orlib_reader.specs.Wanted as wanted
 
+-- a byte from 0 to 9 in ASCII
 abbrev pub is_digit : ℕ → Bool
 is_digit b = nat_le 48 b && nat_le b 57
 
@@ -34,10 +35,11 @@ abbrev pub digits_value : List ℕ → Option ℕ
 digits_value [] = None
 digits_value (b ∷ bytes) = digits_from 0 (b ∷ bytes)
 
+-- this value, or its negation
 abbrev pub signed : Bool → ℕ → ℤ
 signed negative v = if negative then neg_ℤ (pos v) else pos v
 
--- a number is an optional sign and then one or more digits, of any length
+-- the number of a token: an optional sign, and then one or more digits, however many
 abbrev pub number_of : List ℕ → Option ℤ
 number_of bytes = option_map (signed (is_negative bytes)) (digits_value (unsigned bytes))
 
@@ -63,6 +65,7 @@ abbrev pub no_number : Wanted → ℕ → InputFault
 no_number wanted.Nothing place = faults.Extra place
 no_number w place = faults.BadToken place
 
+-- the number, if it is one in range, or the fault at this place
 abbrev pub judged_number : Wanted → ℕ → Option ℤ → Result ℤ InputFault
 judged_number w place None = Err (no_number w place)
 judged_number w place (Some v) = in_range w place v

@@ -38,6 +38,7 @@ abbrev pub judged_open : Wanted → ℕ → InputFault
 judged_open wanted.Nothing place = faults.Extra place
 judged_open w place = faults.TooLong
 
+-- the next step on a value; a fault stays
 abbrev pub and_then : {X Y : Type 0} → Result X InputFault → (X → Result Y InputFault) → Result Y InputFault
 and_then (Ok x) f = f x
 and_then (Err e) f = Err e
@@ -49,10 +50,11 @@ numbers_from layout found (whole t ∷ pieces) = and_then (judged (wanted_in lay
 numbers_from layout found (open_at place ∷ pieces) = Err (judged_open (wanted_in layout found) place)
 numbers_from layout found (beyond ∷ pieces) = Err faults.TooLong
 
+-- the numbers of a text, or its first fault
 abbrev pub numbers_in : Layout → List ℕ → Result (List ℤ) InputFault
 numbers_in layout bytes = numbers_from layout [] (pieces_of bytes)
 
--- n, and then the costs
+-- the rows of the numbers n and then the costs
 abbrev pub dense_problem : List ℤ → List Listing
 dense_problem [] = []
 dense_problem (n ∷ costs) = dense_rows (nat_abs n) costs
@@ -61,14 +63,14 @@ dense_problem (n ∷ costs) = dense_rows (nat_abs n) costs
 abbrev pub dense_reading : List ℕ → Result (List Listing) InputFault
 dense_reading bytes = and_then (numbers_in layouts.Dense bytes) (λ numbers. Ok (dense_problem numbers))
 
--- each triple is a person, an object and a cost
+-- the triples of these numbers: a person, an object and a cost each
 abbrev pub triples_of : List ℤ → List Triple
 triples_of [] = []
 triples_of (i ∷ []) = []
 triples_of (i ∷ j ∷ []) = []
 triples_of (i ∷ j ∷ c ∷ numbers) = (nat_abs i, nat_abs j, c) ∷ triples_of numbers
 
--- n, and then triples
+-- n and the triples, of the numbers of a sparse text
 abbrev pub sparse_list : List ℤ → ℕ × List Triple
 sparse_list [] = (0, [])
 sparse_list (n ∷ numbers) = (nat_abs n, triples_of numbers)
@@ -88,6 +90,7 @@ abbrev pub Gives : {X Y : Type 0} → (X → Y) → Result X InputFault → Resu
 Gives view (Ok x) reading = reading ≡ Ok (view x)
 Gives view (Err e) reading = Fails e reading
 
+-- the result is the expected one, in the same terms
 abbrev pub Answers : {X : Type 0} → Result X InputFault → Result X InputFault → Type 0
 Answers result reading = Gives (λ x. x) result reading
 

@@ -25,10 +25,12 @@ abbrev pub grown : ℕ → Option Token → ℕ → Token
 grown at None b = record { place = at; bytes = b ∷ [] }
 grown at (Some t) b = record { place = t.place; bytes = t.bytes ++ b ∷ [] }
 
+-- the piece of a token that has ended, if there is one
 abbrev pub closed : Option Token → List Piece
 closed None = []
 closed (Some t) = whole t ∷ []
 
+-- the piece of a token that is open at the limit, if there is one
 abbrev pub left_open : Option Token → List Piece
 left_open None = []
 left_open (Some t) = open_at t.place ∷ []

@@ -36,7 +36,7 @@ impl Pairs {
         })
     }
 
-    // Whether the text is complete, so that no further token may stand.
+    // Whether the text is complete, so that no further token is allowed.
     pub fn are_complete(&self) -> bool
         ensures { IsTrue result
             ↔ wanted_in (layout_in self.now) (found_in self.now) ≡ Wanted.Nothing }
@@ -47,7 +47,7 @@ impl Pairs {
         }
     }
 
-    // Whether the size has come, and another token may stand.
+    // Whether the size has come, and another token is allowed.
     pub fn are_open(&self) -> bool
         ensures { IsTrue result
             → wanted_in (layout_in self.now) (found_in self.now) ≢ Wanted.Nothing }

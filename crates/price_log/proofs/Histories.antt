@@ -85,7 +85,7 @@ sum_bound (x ∷ p) h =
     let e : length (x ∷ p) * 10 ^ 22 ≡ length p * 10 ^ 22 + 10 ^ 22 = omega arith in
     rw e (omega (arith, ints))
 
--- the version of a log is at most the sum of its prices, and so has 128 bits
+-- the version of a log is at most the sum of its prices, and so fits in 128 bits
 pub version_early : (log : History) → IsHistory log → pos (last_version log) ≤ℤ sum_of (today log)
 version_early log is = let s = sum_raised log.base log.raises is.rises in let e = is.early in omega (arith, ints)
 
@@ -100,7 +100,7 @@ version_few log is =
 pub version_fits : (log : History) → IsHistory log → last_version log < 2 ^ 128
 version_fits log is = let f = version_few log is in omega arith
 
--- what a log was
+-- the current prices are a table
 pub today_is_table : (log : History) → IsHistory log → IsTable (today log)
 today_is_table log is = raised_table log.base log.raises is.rises is.base
 
@@ -192,7 +192,7 @@ with_room_is l is = with_room-cases IsHistory l (λ e. trimmed_is l (last_versio
 pub with_room_has : (l : History) → IsHistory l → HasRoom (with_room l)
 with_room_has l is = with_room-cases HasRoom l (λ e. let d : length (drop (last_version l - l.first_kept) l.raises) ≡ length l.raises - (last_version l - l.first_kept) = length-drop (last_version l - l.first_kept) l.raises in omega arith) (λ e. let s = is.short in omega arith)
 
--- one raise more
+-- one more raise
 pub today-with_raise : (l : History) (j : ℕ) (level : ℤ) → today (with_raise l j level) ≡ renumbered (today l) j level
 today-with_raise l j level = let r : Raise = record { object = j; level = level } in raised-append l.base l.raises (r ∷ [])
 
@@ -224,11 +224,11 @@ table_rises l u v is le =
 pub today-at : (l : History) → table_at l (last_version l) ≡ today l
 today-at l = let e : last_version l - l.first_kept ≡ length l.raises = omega arith in ap (λ m. raised l.base (take m l.raises)) e ∙ ap (raised l.base) (take_all (length l.raises) l.raises (omega arith))
 
--- the raise that comes next
+-- the next raise
 pub next_raise : (t : List ℤ) (xs : List Raise) (i : ℕ) (r : Raise) (rest : List Raise) → Rises t xs → drop i xs ≡ r ∷ rest → IsRaise (raised t (take i xs)) r
 next_raise t xs i r rest f e = let c = cut t i xs f in (subst (Rises (raised t (take i xs))) e c.1).0
 
--- and the table after it
+-- the table after the next raise
 pub moved_on : (t : List ℤ) (xs : List Raise) (i : ℕ) (r : Raise) (rest : List Raise) → drop i xs ≡ r ∷ rest → (rest ≡ drop (i + 1) xs) × (renumbered (raised t (take i xs)) r.object r.level ≡ raised t (take (i + 1) xs))
 moved_on t xs i r rest e =
     let long : length (drop i xs) ≡ length xs - i = length-drop i xs in
@@ -261,7 +261,7 @@ full_trim l e =
     let d : (l.first_kept + MOST_KEPT) - l.first_kept ≡ MOST_KEPT = omega arith in
     ap (trimmed l) v ∙ ap (λ m. let h : History = record { first_kept = l.first_kept + MOST_KEPT; base = raised l.base (take m l.raises); raises = drop m l.raises } in h) d
 
--- what a raise of an open log keeps
+-- the facts that a raise of an open log keeps
 pub raised_is : (l : History) (j : ℕ) (level : ℤ) (prices new : List ℤ) → prices ≡ today l → new ≡ renumbered prices j level → IsHistory l → HasRoom l → IsNumber (length (today l)) j → price_of (today l) j <ℤ level → IsPrice level →
     (new ≡ today (with_raise l j level)) × IsHistory (with_raise l j level)
 raised_is l j level prices new e f is room h above price = (f ∙ ap (λ t. renumbered t j level) e ∙ sym (today-with_raise l j level), with_raise_is l j level is room h above price)
@@ -282,7 +282,7 @@ afresh_is l j level prices new e f is full h above price =
     (raised_is (trimmed l (last_version l)) j level prices new (e ∙ t) f (trimmed_is l (last_version l) is (omega arith) (omega arith)) (omega arith)
     (subst (λ u. IsNumber (length u) j) t h) (subst (λ u. price_of u j <ℤ level) t above) price)
 
--- the prices, the version and the invariant after one raise more
+-- the prices, the version and the invariant after one more raise
 pub today-after_raise : (l : History) (j : ℕ) (level : ℤ) → today (after_raise l j level) ≡ renumbered (today l) j level
 today-after_raise l j level = today-with_raise (with_room l) j level ∙ ap (λ t. renumbered t j level) (today-with_room l)
 
@@ -294,7 +294,7 @@ after_raise_is l j level is h above price =
     let t = sym (today-with_room l) in
     with_raise_is (with_room l) j level (with_room_is l is) (with_room_has l is) (subst (λ u. IsNumber (length u) j) t h) (subst (λ u. price_of u j <ℤ level) t above) price
 
--- a table that can catch up still can once the log went on
+-- a table that can catch up still can after the log went on
 pub earlier_stays : (old new : History) (table : List ℤ) (v : ℕ) → IsHistory old → Continues old new → IsBelow (today old) (today new) → IsEarlier old table v → IsEarlier new table v
 earlier_stays old new table v is goes below early =
     let reached = early.reached in
@@ -313,13 +313,13 @@ earlier_stays old new table v is goes below early =
             | inr l ↦ early.below l.1
           ]
 
--- a raise lets no price fall
+-- no price falls in a raise
 pub after_raise_up : (l : History) (j : ℕ) (level : ℤ) → IsNumber (length (today l)) j → price_of (today l) j <ℤ level → IsPrice level → IsBelow (today l) (today (after_raise l j level))
 after_raise_up l j level number above price =
     let r : Raise = record { object = j; level = level } in
     subst (IsBelow (today l)) (sym (today-after_raise l j level)) (raise_up (today l) r (record { object = number; above = above; price = price }))
 
--- what a log that goes on keeps of an earlier one
+-- the facts that a log keeps of an earlier one
 pub record GoesOn (old new : History) : Type 0 where
   pub continues : Continues old new
   pub below : IsBelow (today old) (today new)
@@ -340,7 +340,7 @@ pub on_ok : {A E : Type 0} {P Q : Type 0} (r : Result A E) → OnOk r P → (P �
 on_ok (Ok x) p f = f p
 on_ok (Err e) p f = tt
 
--- a copy of today's table can catch up once the log went on
+-- a copy of the current table can catch up after the log went on
 pub copy_stays : (old new : History) (table : List ℤ) (v : ℕ) → table ≡ today old → v ≡ last_version old → IsHistory old → Continues old new → IsBelow (today old) (today new) → IsEarlier new table v
 copy_stays old new table v e f is goes below = earlier_stays old new table v is goes below (record {
   reached = omega arith;

@@ -34,6 +34,7 @@ pub record IsRaise (table : List ℤ) (r : Raise) : Type 0 where
   pub above : price_of table r.object <ℤ r.level
   pub price : IsPrice r.level
 
+-- each raise goes above the price before it, one after the other
 abbrev pub Rises : List ℤ → List Raise → Type 0
 Rises table [] = Unit {0}
 Rises table (r ∷ raises) = IsRaise table r × Rises (renumbered table r.object r.level) raises

@@ -10,7 +10,7 @@ use Rattle.assign_core.specs.Hall.{IsHallSet}
 use Rattle.assign_core.proofs.Members.{contains_first, contains_later}
 use Rattle.assign_core.proofs.RowLemmas.{row_of-take}
 
--- the first n of two lists that go pair by pair do so
+-- the first n elements of two related lists are related
 pub zip_take : {A B : Type 0} (R : A → B → Type 0) (n : ℕ) (xs : List A) (ys : List B) → AllZip R xs ys → AllZip R (take n xs) (take n ys)
 zip_take R zero xs ys h = tt
 zip_take R (suc n) [] [] h = tt
@@ -26,7 +26,7 @@ distinct_take n xs d = IsDistinct-from_apart nat_eq (take n xs) (λ i k z lt las
     let second = get_or-take n xs k z (omega arith) in
     rw (first, second) (apart_from_distinct nat_eq xs i k z d lt (omega arith)))
 
--- a number stands in a list, or is none of its elements
+-- a number is in a list, or isn't one of its elements
 pub contains_or_apart : (j : ℕ) (xs : List ℕ) → Contains xs j ⊎ AllByRecursion (λ y. nat_eq j y ≡ false) xs
 contains_or_apart j [] = inr tt
 contains_or_apart j (x ∷ xs) = elim (eqb_tells j x) [
@@ -37,21 +37,21 @@ contains_or_apart j (x ∷ xs) = elim (eqb_tells j x) [
   ]
 ]
 
--- numbers that rise are different
+-- rising numbers are different
 pub rising_distinct : (xs : List ℕ) → IsStrictlyIncreasing xs → IsDistinct nat_eq xs
 rising_distinct xs rise = IsDistinct-from_apart nat_eq xs (λ i k z lt last. elim (eqb_tells (get_or xs i z) (get_or xs k z)) [
   | inl e ↦ let below = below_from_sorted xs i k z (sorted_from_strictly_increasing xs rise) lt last in let same = e.1 in absurd (omega arith)
   | inr e ↦ e.0
 ])
 
--- who is among the first n lists what it lists among all
+-- a person among the first n lists what it lists among all
 pub listed_front : (n : ℕ) (rows : List Listing) (i j : ℕ) → i ≤ n → IsListed rows i j → IsListed (take n rows) i j
 listed_front n rows i j le h = subst (λ row. IsSome (listed_in row j)) (sym (row_of-take n rows i le)) h
 
 pub listed_whole : (n : ℕ) (rows : List Listing) (i j : ℕ) → i ≤ n → IsListed (take n rows) i j → IsListed rows i j
 listed_whole n rows i j le h = subst (λ row. IsSome (listed_in row j)) (row_of-take n rows i le) h
 
--- a contained number has what all elements have
+-- what holds of all elements holds of a contained number
 pub held : (P : ℕ → Type 0) (xs : List ℕ) (x : ℕ) → All P xs → Contains xs x → P x
 held P xs x h c = subst P c.2 (h c.0 x c.1)
 

@@ -29,7 +29,7 @@ use Rattle.assign_core.proofs.Zips.{zip_at}
 use Rattle.rectangles.specs.Filled.{dummy_row, filled_up, of_first}
 use Rattle.rectangles.proofs.Fronts.{contains_or_apart, distinct_take, hall_front, held, rising_distinct, zip_take}
 
--- what a dummy lists is worth nothing
+-- the benefits of a dummy are 0
 zero_benefits : (sense : Sense) (m j k : ℕ) → benefit_row sense m (row_from j (replicate k (pos 0))) ≡ row_from j (replicate k (pos 0))
 zero_benefits sense m j zero = refl
 zero_benefits sense m j (suc k) =
@@ -75,7 +75,7 @@ dummy_low m prices j (suc k) n h =
     let same : price_of prices (1 + k) ≡ price_of prices (suc k) = ap (price_of prices) num in
     omega (arith, ints)
 
--- as many different numbers from 1 to m as m are all of them
+-- m different numbers from 1 to m are all of them
 has_each : (m j : ℕ) (xs : List ℕ) → IsDistinct nat_eq xs → InRange m xs → length xs ≡ m → IsNumber m j → Contains xs j
 has_each m j xs d r long n = elim (contains_or_apart j xs) [
   | inl c ↦ c
@@ -114,7 +114,8 @@ back_listed : (n i j : ℕ) (rows : List Listing) → n ≤ length rows → n < 
 back_listed n zero j rows le past last nj = absurd (omega arith)
 back_listed n (suc i) j rows le past last nj = subst (λ row. IsSome (listed_in row j)) (sym (back_of_filled n i rows le (omega arith) (omega arith))) (dummy_lists (length rows) j nj)
 
--- the persons of a Hall set of the square are no dummies: a dummy lists as many objects as there may be persons
+-- no person of a Hall set of the square is a dummy: a dummy lists as many objects as there may be
+-- persons
 no_dummy : (n : ℕ) (rows : List Listing) (persons objects : List ℕ) → n ≤ length rows → IsHallSet (filled_up n rows) persons objects → (i : ℕ) → Contains persons i → n < i → ⊥
 no_dummy n rows persons objects le h i c past =
     let long = length-filled n rows le in

@@ -23,9 +23,9 @@ use Rattle.report.proofs.StepLemmas.{at_state, byte_in_line, inside_line, feed, 
 use Rattle.report.proofs.TextLengths.{lines-append, text_short}
 use Rattle.report.proofs.Streams.{after-append, after_err}
 
--- ---- what is read is so
+-- ---- what is read is an allowed answer
 
--- the state that bytes lead to
+-- the state that these bytes lead to
 record Reached (bytes : List ℕ) (at k : ℕ) (draft : Draft) (line : List ℕ) : Type 0 where
   lines : List Line
   begins : Begins bytes lines draft line
@@ -93,7 +93,7 @@ too_long done rest at k d line b r l =
     let long : length done ≡ TEXT_LIMIT = omega (arith, l, r.far, r.near) in
     (r.lines, d, line, record { parts = take_at done (b ∷ rest) TEXT_LIMIT long ∙ r.begins.parts; order = r.begins.order }, r.inside, omega (arith, long, length-append done (b ∷ rest)))
 
--- what a state leads to
+-- the result that a state leads to
 abbrev Leads : List ℕ → List ℕ → State → Type 0
 Leads done rest s = Answers (done ++ rest) (finished (after (Ok s) rest))
 
@@ -147,7 +147,7 @@ pub reading_answers : (bytes : List ℕ) → Answers bytes (reading bytes)
 unfolding reading
 reading_answers bytes = leads [] bytes 0 0 nothing [] (record { lines = []; begins = record { parts = refl; order = refl }; count = refl; inside = tt; far = refl; near = omega arith })
 
--- ---- and nothing else is
+-- ---- no other answer is allowed
 
 pub reading_again : (r : Report) → IsReport r → reading (report_text r) ≡ Ok r
 unfolding reading
@@ -188,7 +188,7 @@ bad_again bytes k (lines, d, line, rest, begins, count, inside, near, none) =
 length_parts : (bytes line : List ℕ) (lines : List Line) → bytes ≡ lines_text lines ++ line → length bytes ≡ length (lines_text lines) + length line
 length_parts bytes line lines e = ap length e ∙ length-append (lines_text lines) line
 
--- bytes that begin so lead to this state
+-- bytes with this beginning lead to this state
 begins_at : (bytes line : List ℕ) (lines : List Line) (d : Draft) → Begins bytes lines d line → IsWithinLine line → length bytes ≤ TEXT_LIMIT → after (Ok start) bytes ≡ Ok (at_state (length bytes) (length lines) d line)
 begins_at bytes line lines d b h l =
     let long = length_parts bytes line lines b.parts in
@@ -248,7 +248,7 @@ one_text_lem a b h k e = cc (reading_again a h, reading_again b k, ap reading e)
 pub short_text_lem : (r : Report) → IsReport r → length (report_text r) ≤ TEXT_LIMIT
 short_text_lem r h = let said = report_said r h in text_short r h (said_all nothing (report_lines r) said.0 tt said.1).2
 
--- the reading speaks of the text alone
+-- the reading depends only on the text
 finished_verdict : (k : ℕ) (d : Draft) (line : List ℕ) → SpeaksOfText (finished_state k d line)
 finished_verdict k d [] = end_verdict k (finish d)
   where
@@ -280,19 +280,19 @@ pub reading_verdict : (bytes : List ℕ) → SpeaksOfText (reading bytes)
 unfolding reading
 reading_verdict bytes = after_verdict (Ok start) bytes tt
 
--- what came is an answer
+-- the result is an answer
 pub answers_seen : (bytes : List ℕ) (result : Result values.Report ReportFault) → Reads result (reading bytes) → Answers bytes (seen_result result)
 answers_seen bytes (Ok r) h = subst (Answers bytes) h (reading_answers bytes)
 answers_seen bytes (Err faults.Read) h = tt
 answers_seen bytes (Err faults.Memory) h = tt
 answers_seen bytes (Err fault) h = subst (Answers bytes) h (reading_answers bytes)
 
--- what is read of bytes that lead to this state is a report
+-- the reading of bytes that lead to this state is a report
 allowed_after : (bytes : List ℕ) (s : State) (report : Report) → after (Ok start) bytes ≡ Ok s → finished (Ok s) ≡ Ok report → IsReport report
 unfolding reading
 allowed_after bytes s report h e = (subst (Answers bytes) (ap finished h ∙ e) (reading_answers bytes)).allowed
 
--- what came is a report, also where the bytes are unknown
+-- the result is a report, also if the bytes are unknown
 pub report_allowed : (s : State) (result : Result values.Report ReportFault) → ((bytes : List ℕ) × (after (Ok start) bytes ≡ Ok s)) → Reads result (finished (Ok s)) → IfOk result (λ report. IsReport (seen_report report))
 report_allowed s (Ok report) h e = allowed_after h.0 s (seen_report report) h.1 e
 report_allowed s (Err fault) h e = search rules

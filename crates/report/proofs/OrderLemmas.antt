@@ -1,4 +1,4 @@
--- Drafts and the lines that they stand for.
+-- Drafts and their lines.
 use Rattle.std.proofs.Common.{◌≡◌, ℕ, ℤ, pos, negsuc, nat_abs, suc, ◌<◌, ◌≤◌, ◌+◌, List, [], ◌∷◌, ◌++◌, true, eqb, leb, ltb, ◌&&◌, Option, Some, None, length, refl, sym, ap, subst, ◌∙◌, arith, append_assoc}
 use Rattle.std.specs.List.{AllByRecursion}
 use Rattle.std.proofs.lemmas.Bool.{eqb-true, lt-ltb, ltb-true, leb-true, and_parts}
@@ -34,7 +34,7 @@ price_in_range None j (pos p) l e = (l, omega (arith, ltb-true p (price_end None
 price_in_range (Some s) j (pos p) l e = (l, omega (arith, ltb-true p (price_end (Some s)) e))
 price_in_range s j (negsuc p) l e = absurd cc
 
--- ---- what a draft stands for
+-- ---- the lines of a draft
 
 abbrev pub draft_lines : Draft → List Line
 draft_lines nothing = []

@@ -63,7 +63,7 @@ lines_next at k d last line lines rest (Some next) h f e l again =
     ∙ again next a.1 e
     ∙ ap (λ s. after (Ok s) rest) (same_state (at + length (line_text line) + 1 + length (lines_text lines)) (at + length (lines_text (line ∷ lines))) (k + 1 + length lines) (k + suc (length lines)) last [] [] (omega arith) (omega arith) refl)
 
--- lines that may stand there
+-- lines that are allowed there
 pub lines_read : (at k : ℕ) (d last : Draft) (lines : List Line) (rest : List ℕ) → IsDraft d → follow_all (Some d) lines ≡ Some last → at + length (lines_text lines) ≤ TEXT_LIMIT → Reads at k d lines last rest
 lines_read at k d last [] rest h e l =
     let is : d ≡ last = cc in

@@ -12,7 +12,7 @@ use Rattle.report.specs.Order.{Draft, follow, finish, said_by}
 abbrev pub IsWithinLine : List ℕ → Type 0
 IsWithinLine bytes = AllByRecursion (λ b. b ≢ 10) bytes
 
--- the bytes begin with lines that may stand there, and go on with the rest
+-- the bytes begin with lines that are allowed there, and go on with the rest
 pub record Begins (bytes : List ℕ) (lines : List Line) (draft : Draft) (rest : List ℕ) : Type 0 where
   pub parts : bytes ≡ lines_text lines ++ rest
   pub order : said_by lines ≡ Some draft
@@ -27,7 +27,7 @@ abbrev pub IsNoLine : Draft → List ℕ → Type 0
 IsNoLine draft bytes =
     (line : Line) (next : Draft) → line_text line ≡ bytes → follow draft line ≡ Some next → ⊥
 
--- line number k ends within the limit, and may not stand there
+-- line number k ends within the limit, and isn't allowed there
 abbrev pub HasBadLine : List ℕ → ℕ → Type 0
 HasBadLine bytes k = (lines : List Line) × (draft : Draft) × (line rest : List ℕ)
     × Begins bytes lines draft (line ++ 10 ∷ rest) × (k ≡ length lines + 1) × IsWithinLine line

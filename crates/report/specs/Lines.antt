@@ -6,6 +6,7 @@ use Rattle.assign_core.specs.declared.sense.Sense.TheVariants.{Min, Max}
 use Rattle.report.specs.Words.{joined}
 use Rattle.report.specs.Reports.{Report, best, hall}
 
+-- a line of a report
 pub data Line : Type 0 where
   sense_line : Sense → Line
   cost_line : ℤ → Line
@@ -17,6 +18,7 @@ pub data Line : Type 0 where
   persons_line : List ℕ → Line
   objects_line : List ℕ → Line
 
+-- the word of a sense
 abbrev pub sense_word : Sense → List ℕ
 sense_word Min = codes "min"
 sense_word Max = codes "max"
@@ -40,6 +42,7 @@ abbrev pub lines_text : List Line → List ℕ
 lines_text [] = []
 lines_text (line ∷ lines) = line_text line ++ 10 ∷ lines_text lines
 
+-- the line of the sense, if there is one
 abbrev pub sense_lines : Option Sense → List Line
 sense_lines None = []
 sense_lines (Some sense) = sense_line sense ∷ []
@@ -54,10 +57,12 @@ abbrev pub price_lines : ℕ → List ℤ → List Line
 price_lines j [] = []
 price_lines j (p ∷ prices) = price_line j p ∷ price_lines (j + 1) prices
 
+-- the lines of the prices, if there are any
 abbrev pub lines_of_prices : Option (List ℤ) → List Line
 lines_of_prices None = []
 lines_of_prices (Some prices) = price_lines 1 prices
 
+-- the lines of a report
 abbrev pub report_lines : Report → List Line
 report_lines (best sense cost rows prices) =
     sense_lines sense ++ cost_line cost ∷ (assign_lines 1 rows ++ lines_of_prices prices)

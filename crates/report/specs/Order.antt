@@ -18,6 +18,7 @@ pub data Draft : Type 0 where
   -- a whole Hall set
   with_objects : Option Sense → List ℕ → List ℕ → Draft
 
+-- a cost, and no row yet, if the cost is in range
 abbrev pub with_cost : Option Sense → ℤ → Option Draft
 with_cost sense c = if is_total sense c then Some (with_rows sense c []) else None
 
@@ -39,7 +40,7 @@ price_more sense cost rows prices j p =
     if (j == length prices + 1) && nat_lt (length prices) (length rows) && is_price sense p
     then Some (with_prices sense cost rows (prices ++ p ∷ [])) else None
 
--- the draft with one more line, if the line may stand there
+-- the draft with one more line, if the line is allowed there
 abbrev pub follow : Draft → Line → Option Draft
 follow nothing (sense_line sense) = Some (with_sense sense)
 follow nothing (cost_line c) = with_cost None c
@@ -64,6 +65,7 @@ finish (with_prices sense cost rows prices) =
 finish (with_objects sense persons objects) = Some (hall sense persons objects)
 finish draft = None
 
+-- the draft with one more line, if there is a draft
 abbrev pub and_follow : Option Draft → Line → Option Draft
 and_follow None line = None
 and_follow (Some draft) line = follow draft line

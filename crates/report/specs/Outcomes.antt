@@ -15,6 +15,7 @@ pairs_of [] xs = []
 pairs_of (row ∷ rows) [] = []
 pairs_of (row ∷ rows) (j ∷ xs) = (j, listed_or_zero row j) ∷ pairs_of rows xs
 
+-- the prices if they are requested
 abbrev pub chosen_prices : Bool → List ℤ → Option (List ℤ)
 chosen_prices true prices = Some prices
 chosen_prices false prices = None

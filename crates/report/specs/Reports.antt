@@ -26,9 +26,11 @@ abbrev pub price_end : Option Sense → ℕ
 price_end None = nat_abs FIRST_PRICE_END
 price_end (Some sense) = nat_abs PRICE_END
 
+-- a cost that a pair may have
 abbrev pub is_cost : Option Sense → ℤ → Bool
 is_cost sense c = nat_le (nat_abs c) (cost_limit sense)
 
+-- a cost that all pairs together may have
 abbrev pub is_total : Option Sense → ℤ → Bool
 is_total sense c = nat_le (nat_abs c) (total_limit sense)
 
@@ -37,11 +39,11 @@ abbrev pub is_price : Option Sense → ℤ → Bool
 is_price sense (pos p) = nat_lt p (price_end sense)
 is_price sense (negsuc p) = false
 
--- a person's object, and the cost of the pair
+-- an object and a cost that a pair may have
 abbrev pub is_entry : Option Sense → ℕ × ℤ → Bool
 is_entry sense e = nat_lt 0 e.0 && nat_le e.0 MOST_PERSONS && is_cost sense e.1
 
--- no prices, or one for each of n objects
+-- no prices, or one for each of n objects, in range
 abbrev pub ArePrices : Option Sense → ℕ → Option (List ℤ) → Type 0
 ArePrices sense n None = Unit {0}
 ArePrices sense n (Some prices) =

@@ -7,6 +7,7 @@ use Rattle.report.specs.declared.value.Report.TheVariants.{Best, Hall}
 use Rattle.report.specs.Reports as reports
 use Rattle.report.specs.Reports.{best, hall}
 
+-- a report of the program as plain data
 abbrev pub seen_report : Report → reports.Report
 seen_report (Best sense cost rows prices) =
     best sense cost rows.items (option_map (λ v. v.items) prices)

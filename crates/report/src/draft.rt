@@ -144,7 +144,7 @@ fn hall_objects(sense: Option<Sense>, persons: Vec<Person>, line: Line) -> Optio
 }
 
 impl Draft {
-    /// The draft with one more line; `None` if the line may not stand there.
+    /// The draft with one more line; `None` if the line isn't allowed there.
     pub fn follow(self, alloc: Global, line: Line) -> Result<Option<Draft>, AllocError>
         requires { IsInRange (seen_line line) }
         ensures { IfOk result
@@ -163,7 +163,7 @@ impl Draft {
         }
     }
 
-    /// The report; `None` if the text may not end here.
+    /// The report; `None` if the text can't end here.
     pub fn finish(self) -> Option<Report>
         ensures { option_map seen_report result ≡ Order.finish (seen_draft self) }
     {

@@ -92,7 +92,7 @@ IsBenefit-least s h = least_holds IsBenefit (values_in (benefits_of s)) zero_in_
 pub IsBenefit-greatest : (s : ScaledProblem) → IsProblem s.problem → IsBenefit (greatest_benefit s)
 IsBenefit-greatest s h = greatest_holds IsBenefit (values_in (benefits_of s)) zero_in_range (all_in_range s h)
 
--- what a spread can be
+-- the bound of a spread
 pub record IsSpread (d : ℤ) : Type 0 where
   pub least : pos 0 ≤ℤ d
   pub greatest : d ≤ℤ most_spread
@@ -104,7 +104,7 @@ IsSpread-spread s h =
     let order = least-le-greatest (values_in (benefits_of s)) in
     record { least = omega (arith, ints); greatest = omega (arith, ints) }
 
--- what is kept is in range
+-- the stored range is in range
 pub record IsKept (low high : ℤ) : Type 0 where
   pub least : IsBenefit low
   pub greatest : IsBenefit high

@@ -14,7 +14,7 @@ use Rattle.scaled_values.proofs.BenefitRange.{IsSpread, IsSpread-spread}
 pub fifth-least : (z : ℤ) → pos 1 ≤ℤ fifth z
 fifth-least z = omega (arith, ints, clamps)
 
--- a greater number has no lesser fifth
+-- fifths keep the order of numbers
 fifth-le-fifth : (y z : ℤ) → y ≤ℤ z → fifth y ≤ℤ fifth z
 fifth-le-fifth (pos a) (pos b) h = omega (arith, ints, clamps)
 fifth-le-fifth (pos a) (negsuc b) h = omega (arith, ints, clamps)
@@ -29,7 +29,7 @@ some_of : (t : Bool) (z eps : ℤ) → cond t None (Some z) ≡ Some eps → z �
 some_of true z eps h = cc
 some_of false z eps h = cc
 
--- what stands before an eps
+-- a slackness and the one before it
 record IsAfter (before : Option ℤ) (eps : ℤ) : Type 0 where
   pub last : ℤ
   pub was : before ≡ Some last

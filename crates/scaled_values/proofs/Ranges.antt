@@ -1,4 +1,4 @@
--- The range of benefits, a value or a row at a time.
+-- The range of benefits, one value or one row at a time.
 use Rattle.std.proofs.Common.{◌≡◌, ℕ, ℤ, pos, neg_ℤ, ◌≤ℤ◌, ◌<ℤ◌, ◌<◌, ◌+◌, ◌-◌, List, [], ◌∷◌, length, drop, get_or, map, refl, arith, sym, ◌∙◌, ap}
 use Rattle.std.specs.List.{All, fold}
 use Rattle.std.specs.Int.{int_min, int_max}
@@ -33,7 +33,7 @@ pub values_next : (sense : Sense) (n : ℕ) (row : Listing) (i : ℕ) (e : ℕ �
 values_next sense n row i e lt at =
     ap (λ l. map (λ f. f.1) (benefit_row sense n l)) (drop_more row i e lt ∙ ap (λ f. f ∷ drop (i + 1) row) (sym at))
 
--- the range of what was passed, a pair further
+-- the range of what was passed, with one more pair
 pub range_next : (sense : Sense) (n : ℕ) (row : Listing) (i : ℕ) (e : ℕ × ℤ) (range wider : Range) (b : ℤ) → i < length row → e ≡ get_or row i e → b ≡ benefit sense n e.1 → wider ≡ widened range b →
     range_with wider (map (λ f. f.1) (benefit_row sense n (drop (i + 1) row))) ≡ range_with range (map (λ f. f.1) (benefit_row sense n (drop i row)))
 range_next sense n row i e range wider b lt at value h =
@@ -41,7 +41,7 @@ range_next sense n row i e range wider b lt at value h =
     ap (λ r. range_with r rest) (h ∙ ap (widened range) value)
     ∙ sym (ap (range_with range) (values_next sense n row i e lt at))
 
--- the same, a row further
+-- the range of what was passed, with one more row
 pub range_row : (sense : Sense) (n : ℕ) (rows : List Listing) (i : ℕ) (range wider : Range) → i < length rows → wider ≡ range_with range (map (λ e. e.1) (benefit_row sense n (row_of rows (i + 1)))) →
     range_with wider (values_in (drop (i + 1) (map (benefit_row sense n) rows))) ≡ range_with range (values_in (drop i (map (benefit_row sense n) rows)))
 range_row sense n rows i range wider lt h =
@@ -71,7 +71,7 @@ pub record IsRangeOf (xs : List ℤ) (r : Range) : Type 0 where
   pub least : r.least ≡ least_of xs
   pub greatest : r.greatest ≡ greatest_of xs
 
--- what a range of benefits gives, or 0 and 0 where there are none
+-- the result of a range of benefits, or 0 and 0 if there are none
 pub range_is : (xs : List ℤ) (found r : Range) → All IsBenefit xs → found ≡ range_with no_range xs →
     (found.least ≤ℤ found.greatest → r ≡ found) → (found.greatest <ℤ found.least → r ≡ record { least = pos 0; greatest = pos 0 }) → IsRangeOf xs r
 range_is [] found r h e some none =

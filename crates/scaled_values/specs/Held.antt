@@ -5,12 +5,12 @@ use Rattle.assign_core.specs.Dense.{row_from}
 use Rattle.scaled_values.specs.declared.row.Row.{Row}
 use Rattle.scaled_values.specs.declared.row.Row.TheVariants as held
 
--- objects with their benefits
+-- the objects of a row with their benefits
 abbrev pub entries_of : Row → Entries
 entries_of (held.Full benefits) = row_from 1 benefits.now
 entries_of (held.Pairs pairs) = pairs.now
 
--- full exactly where all n objects are listed
+-- the row is full exactly if it lists all n objects
 abbrev pub HasForm : ℕ → Row → Type 0
 HasForm n (held.Full benefits) = length benefits.now ≡ n
 HasForm n (held.Pairs pairs) = length pairs.now < n

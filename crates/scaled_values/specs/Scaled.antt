@@ -8,11 +8,12 @@ use Rattle.assign_core.specs.Rows.{Listing, IsRising, IsWithin}
 use Rattle.assign_core.specs.Benefits.{benefit_rows, IsBenefit}
 use Rattle.scaled_values.specs.declared.phases.TheConstants.{EPS_DIVISOR}
 
+-- a problem and a sense
 pub record ScaledProblem : Type 0 where
   pub problem : List Listing
   pub sense : Sense
 
--- what the persons list, with benefits in place of costs
+-- the rows of the persons, with benefits in place of costs
 abbrev pub benefits_of : ScaledProblem → List Listing
 benefits_of s = benefit_rows s.sense s.problem
 
@@ -31,12 +32,15 @@ abbrev pub greatest_of : List ℤ → ℤ
 greatest_of [] = pos 0
 greatest_of (x ∷ xs) = fold int_max x xs
 
+-- the least benefit of a listed pair, or 0 if nothing is listed
 abbrev pub least_benefit : ScaledProblem → ℤ
 least_benefit s = least_of (values_in (benefits_of s))
 
+-- the greatest benefit of a listed pair, or 0 if nothing is listed
 abbrev pub greatest_benefit : ScaledProblem → ℤ
 greatest_benefit s = greatest_of (values_in (benefits_of s))
 
+-- the greatest benefit less the least
 abbrev pub spread : ScaledProblem → ℤ
 spread s = greatest_benefit s -ℤ least_benefit s
 

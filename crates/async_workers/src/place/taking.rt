@@ -76,9 +76,9 @@ impl Desk {
     /// Takes the book, as soon as it is in the place, with the offer that the desk has prepared. It
     /// may wait for other workers, and takes no memory.
     ///
-    /// The book is free, and all that the desk last learnt is true of it: no price is below the
-    /// desk's table or below the book that the desk last put back, whose log it continues; and the
-    /// worker's claim and acceptances are as they were.
+    /// The book is free, and all that the desk last learnt is true of it. No price is below the
+    /// desk's table or below the book that the desk last put back. The log continues the log of
+    /// that book, and the worker's claim and acceptances are as they were.
     pub fn take<R: Wait>(&mut self, rt: &R, place: &BookPlace) -> Held
         requires place { self.old.place ≡ place.now }
         requires away { (taken put : BookData) × IsAway self.old taken put }

@@ -55,7 +55,7 @@ fn bad_first_lines(rt: HostRuntime) -> Result<(), Fail> {
     Ok(())
 }
 
-// The second line of each may not stand there.
+// The second line of each isn't allowed there.
 const BAD_SECOND_LINES: [&[u8]; 13] = [
     b"sense min\nsense min\n",
     b"cost 5\nsense min\n",

@@ -2,7 +2,7 @@ use Rattle.std.proofs.Common.{◌≡◌, ◌≤◌, ◌+◌, ◌-◌, length}
 use Rattle.hall_refuter.specs.inside.Found.{person_at, IsReach, IsWalked}
 use Rattle.hall_refuter.proofs.search.search_from.Given as goal
 
--- what the persons before the next one list is met
+-- the objects that the persons before the next one list are met
 abbrev pub invariant-loop-next : goal.invariant-loop-next
 invariant-loop-next l = record {
   reach : IsReach l.problem l.owners l.reach.found.items l.reach.met.items;

@@ -7,7 +7,7 @@ use Rattle.assign_core.proofs.RowLemmas.{IsCost-listed, IsRow-row_of, row_of-tak
 use Rattle.assign_core.proofs.Totals.{total-drop}
 use Rattle.rectangles.proofs.total.sum_of.Goals as goal
 
--- what the pair adds
+-- the cost that the pair adds
 cost_is : (c : goal.After-unwrap_or-cost) → c.unwrap_or-cost.result ≡ listed_or_zero (row_of c.args.problem.now (c.loop-i.i + 1)) c.index-objects-i.result
 cost_is c = c.unwrap_or-cost.ensures ∙ ap (λ o. unwrap_or o (pos 0)) c.cost_of.ensures
 

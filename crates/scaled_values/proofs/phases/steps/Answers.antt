@@ -6,7 +6,7 @@ use Rattle.assign_core.proofs.Products.{steps_below}
 use Rattle.scaled_values.specs.Limits.{most_step}
 use Rattle.scaled_values.proofs.phases.steps.Goals as goal
 
--- so many steps are in range
+-- this many steps are in range
 record InRange (product : ℤ) : Type 0 where
   pub least : pos 0 ≤ℤ product
   pub greatest : product ≤ℤ (pos MOST_PERSONS *ℤ most_step)

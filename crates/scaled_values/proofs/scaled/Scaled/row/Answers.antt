@@ -8,7 +8,7 @@ use Rattle.scaled_values.specs.inside.Stored.{stored_entries, HasStoredForm}
 use Rattle.scaled_values.proofs.RowFacts.{benefit_row_is, benefits_between}
 use Rattle.scaled_values.proofs.scaled.Scaled.row.Goals as goal
 
--- what is kept, as callers see it
+-- the stored row, as callers see it
 shown : (c : goal.After-as_row) → map stored_entries c.self.inside.rows.items ≡ benefits_of c.args.self.now
 shown c = c.self.invariant.entries ∙ ap benefits_of c.self.view_is
 
