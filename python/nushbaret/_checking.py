@@ -1,7 +1,7 @@
 """Plans from elsewhere, checked against a problem."""
 import operator
 from array import array
-from typing import Any, List, NamedTuple, Optional, Sequence, Set, Tuple
+from typing import Any, List, NamedTuple, Optional, Sequence, Tuple
 
 from . import _exact as exact, _library as library, _problem as reading, _proved as proved
 from ._problem import Problem, costs_of_pairs
@@ -47,13 +47,13 @@ def problem_of(costs: Any, rows: Any, columns: Any, sizes: Optional[Tuple[int, i
     """The problem of a matrix, of a sparse matrix, or of listed pairs. If sizes are given, it must have these."""
     if (rows is None) != (columns is None):
         raise TypeError("rows and columns of listed pairs are given together")
-    if rows is not None:
+    if rows is not None and sizes is not None:
         found = reading.of_pairs(*sizes, rows, columns, costs, manner)
     elif hasattr(costs, "tocsr"):
         found = reading.of_sparse_matrix(costs, manner)
     else:
         found = reading.of_matrix(costs, manner)
-    if sizes not in (None, (found.n_rows, found.n_columns)):
+    if sizes is not None and sizes != (found.n_rows, found.n_columns):
         raise ValueError(f"the costs have {found.n_rows} rows and {found.n_columns} columns, the plan was made for {sizes[0]} and {sizes[1]}")
     return found
 

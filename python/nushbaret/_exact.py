@@ -8,7 +8,7 @@ import sys
 from array import array
 from fractions import Fraction
 from itertools import chain
-from typing import Any, Callable, List, NamedTuple, NoReturn, Optional, Sequence, Tuple, Union
+from typing import Any, Callable, List, NamedTuple, NoReturn, Optional, Sequence, Tuple
 
 from ._library import FEW, GREATEST_COST, Numbers
 
@@ -31,7 +31,7 @@ class Manner(NamedTuple):
     """How costs are read: `decimals` is None for exactly, a number of places, FIT or DOUBLES; `forbid_nan` takes NaN as forbidden."""
 
     maximize: bool
-    decimals: Union[None, int, str] = None
+    decimals: Any = None
     forbid_nan: bool = False
 
     @property
@@ -48,8 +48,8 @@ class Manner(NamedTuple):
 class Costs(NamedTuple):
     """Costs times 10**places, in their order; `forbidden` has the places of those that forbid their pair, where a 0 stands."""
 
-    numbers: object
-    forbidden: object
+    numbers: Any
+    forbidden: Any
     places: int
     rounded: bool
 
@@ -69,7 +69,7 @@ def manner(maximize: Any, decimals: Any = None, missing: Any = "refuse") -> Mann
     return Manner(bool(maximize), _judged_decimals(decimals), missing == FORBID)
 
 
-def _judged_decimals(decimals: Any) -> Union[None, int, str]:
+def _judged_decimals(decimals: Any) -> Any:
     if decimals is None or isinstance(decimals, str) and decimals == FIT:
         return decimals
     if isinstance(decimals, str):
@@ -112,12 +112,12 @@ class _Decimals:
 
     def of_digits(self, place: int, value: decimal.Decimal) -> Scaled:
         """A finite decimal as (whole, exponent), with the greatest exponent that is at most 0."""
-        sign, digits, exponent = value.as_tuple()
+        sign, digits, power = value.as_tuple()
         if not value:
             return 0, 0
         if value.adjusted() > 13:
             refuse_range(self.where(place), 0 if self.manner.whole else self.decimals)
-        whole = int("".join(map(str, digits))) * (-1 if sign else 1)
+        whole, exponent = int("".join(map(str, digits))) * (-1 if sign else 1), int(power)
         if exponent >= 0:
             return whole * 10**exponent, 0
         while exponent < 0 and whole % 10 == 0:
@@ -197,13 +197,13 @@ class _Decimals:
     def scaled(self, place: int, pair: Scaled) -> int:
         """The number times 10**places, rounded to the nearest, halves to even ones."""
         whole, exponent = pair
-        shift = self.places + exponent
-        if shift >= 0:
-            number = whole * 10**shift
+        power: int = 10**abs(self.places + exponent)
+        if self.places + exponent >= 0:
+            number = whole * power
         else:
-            number, rest = divmod(whole, 10**-shift)
+            number, rest = divmod(whole, power)
             self.rounded = self.rounded or rest != 0
-            number += 2 * rest > 10**-shift or 2 * rest == 10**-shift and number % 2
+            number += 2 * rest > power or 2 * rest == power and number % 2
         if not -GREATEST_COST <= number <= GREATEST_COST:
             refuse_range(self.where(place), self.places)
         return number
@@ -218,11 +218,15 @@ def of_rows(rows: Any, length: int, manner: Manner, where: Where) -> Costs:
     if length * len(rows) <= FEW:
         rows, length = [list(chain.from_iterable(rows))], length * len(rows)
     numbers = _packed(rows, length) if manner.whole else None
-    if numbers is not None and (manner.decimals != DOUBLES or not numbers
-                                or max(map(max, rows)) <= GREATEST_COST and min(map(min, rows)) >= -GREATEST_COST):
+    if numbers is not None and (manner.decimals != DOUBLES or not numbers or _in_range(rows)):
         return Costs(numbers, (), 0, False)
     values = list(chain.from_iterable(rows))
     return doubles_of_list(values, manner, where) if manner.decimals == DOUBLES else _of_numbers(values, manner, where)
+
+
+def _in_range(rows: Any) -> bool:
+    """Whether the whole numbers of some rows, none of them empty, are within the library's range."""
+    return all(max(row) <= GREATEST_COST and min(row) >= -GREATEST_COST for row in rows)
 
 
 def of_list(values: List[Any], manner: Manner, where: Where) -> Costs:
@@ -264,7 +268,7 @@ def _of_plain(values: List[Any], manner: Manner) -> Optional[Costs]:
         numbers, places = _scaled_plain(values)
     except (OverflowError, ValueError):
         return None
-    if max(map(abs, numbers), default=0) > GREATEST_COST:
+    if numbers and not _in_range([numbers]):
         return None
     return Costs(numbers, forbidden, places, False)
 
@@ -424,7 +428,7 @@ def _places_of(numpy: Any, flat: Any, manner: Manner, where: Where) -> int:
     if manner.decimals is None:
         return _least_places(numpy, flat, where)
     if manner.decimals != FIT:
-        return manner.decimals
+        return int(manner.decimals)
     try:
         places = _least_places(numpy, flat, where)
     except ValueError:

@@ -63,17 +63,19 @@ def lists_of_nodes(count: int, nodes: Any, others: Any) -> Lists:
 def _augment(columns: Lists, owner: List[Optional[int]], start: int, seen: Set[int]) -> bool:
     """Gives the row `start` a column, and others another one where need be; whether that could be done. `seen` are columns
     from which no free one can be reached: those of a search that fails stay in it, since no later one would find more."""
-    reached, waiting, last = {}, deque([start]), None
+    reached: Dict[int, int] = {}
+    waiting, last = deque([start]), None
     while waiting and last is None:
         row = waiting.popleft()
         for column in columns[row]:
             if column in seen or column in reached:
                 continue
             reached[column] = row
-            if owner[column] is None:
+            holder = owner[column]
+            if holder is None:
                 last = column
                 break
-            waiting.append(owner[column])
+            waiting.append(holder)
     if last is None:
         seen.update(reached)
         return False
@@ -86,8 +88,8 @@ def _augment(columns: Lists, owner: List[Optional[int]], start: int, seen: Set[i
 
 def fullest(columns: Lists, n_columns: int) -> List[Optional[int]]:
     """The row that has each column in a fullest matching, None where it is free; `columns` are those that each row may have."""
-    owner = [None] * n_columns
-    seen = set()
+    owner: List[Optional[int]] = [None] * n_columns
+    seen: Set[int] = set()
     for row in range(len(columns)):
         _augment(columns, owner, row, seen)
     return owner
@@ -131,9 +133,10 @@ def groups_of(lists: Lists, other: int) -> List[Group]:
     reached = set(waiting)
     while waiting:
         for item in lists[waiting.pop()]:
-            if mates[item] not in reached:
-                reached.add(mates[item])
-                waiting.append(mates[item])
+            mate = mates[item]
+            if mate is not None and mate not in reached:
+                reached.add(mate)
+                waiting.append(mate)
     groups = _parts(sorted(reached), lists)
     for group in groups:
         prove_short(group, lists)

@@ -146,7 +146,7 @@ def _loaded() -> Dict[str, Any]:
 def call(name: str, sense: Optional[bool], n: int, m: int, *lists: Any) -> Tuple[str, Told]:
     """The name of the code, and what is told. `sense` is None for `check_hall`; MemoryError where memory is refused."""
     told = Told()
-    words = [n, m] if sense is None else [1 if sense else 0, n, m]
+    words: List[Any] = [n, m] if sense is None else [1 if sense else 0, n, m]
     for values in lists:
         words += _lend(values)
     code = CODES[_loaded()[name](*words, ctypes.addressof(told))]
@@ -169,7 +169,10 @@ class Room:
         many, few = count(m), count(n)
         self.minimized, self.maximized, self.sizes = sense(0), sense(1), (few, many)
         self.rest = count(n * m), address(objects), few, address(persons), few, address(prices), many, address(told)
-        self.call, self.doubles, self.numbers, self.own = _calls["dense, made ready"], None, None, None
+        self.call = _calls["dense, made ready"]
+        self.doubles: Any = None
+        self.numbers: Any = None
+        self.own: Any = None
 
     def held(self, numbers: Any) -> Any:
         """The address of an array of 64-bit numbers, which lives as long as this does."""

@@ -87,6 +87,7 @@ class Ranking:
     def take(self) -> Optional[_Part]:
         """The next part in order, with its plan checked; None where there is none."""
         while self.waiting:
+            part: _Part
             _, _, stage, _, part = heapq.heappop(self.waiting)
             if stage:
                 self.costs.pop(0)

@@ -76,7 +76,7 @@ def _of_view(view: memoryview, manner: exact.Manner) -> Matrix:
     """Of a memoryview of two dimensions: lent if it has the library's own kind of numbers."""
     if view.ndim != 2:
         raise ValueError(f"expected a matrix (2-D array), got a {view.ndim} array")
-    n_rows, n_columns = view.shape
+    n_rows, n_columns = view.shape or (0, 0)
     _judge_size(n_rows, n_columns)
     own = view.format in ("q", "l") and view.itemsize == 8 and view.c_contiguous and not view.readonly
     if own and manner.whole and manner.decimals != exact.DOUBLES and view.nbytes:
@@ -140,7 +140,7 @@ def costs_of_pairs(problem: Problem, pairs: Sequence[Tuple[int, int]]) -> List[A
         own[row + 1] = column + 1
     persons = problem.persons.tolist()
     wanted = map(operator.eq, map(own.__getitem__, persons), problem.objects.tolist())
-    least = {}
+    least: Dict[int, int] = {}
     for person, cost in compress(zip(persons, problem.costs.tolist()), wanted):
         least[person] = min(cost, least.get(person, cost))
     return [least.get(row + 1) for row, _ in pairs]
@@ -155,7 +155,7 @@ def lists_of(problem: Problem) -> List[Tuple[Sequence[int], Any]]:
             costs = -costs if problem.numpy else array("q", map(operator.neg, costs))
         view, columns = memoryview(costs), range(n_columns)
         return [(columns, view[row * n_columns:(row + 1) * n_columns]) for row in range(n_rows)]
-    held = [{} for _ in range(n_rows)]
+    held: List[Dict[int, int]] = [{} for _ in range(n_rows)]
     for person, item, cost in zip(problem.persons.tolist(), problem.objects.tolist(), problem.costs.tolist()):
         row = held[person - 1]
         row[item - 1] = min(cost, row.get(item - 1, cost))
@@ -257,4 +257,5 @@ def of_sparse_matrix(matrix: Any, manner: exact.Manner) -> Problem:
     entries = matrix.tocoo(copy=not once)
     if not once:
         entries.sum_duplicates()
-    return of_pairs(*matrix.shape, entries.row, entries.col, entries.data, manner)
+    n_rows, n_columns = matrix.shape
+    return of_pairs(n_rows, n_columns, entries.row, entries.col, entries.data, manner)

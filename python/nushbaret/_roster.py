@@ -66,7 +66,7 @@ class WorkbookFault(Exception):
 def _workbook_rows(path: str, comma: bool) -> List[List[str]]:
     """The rows of a workbook's first sheet, all of one length, as a CSV file would have them; with `comma` numbers have a decimal comma."""
     try:
-        import openpyxl
+        import openpyxl  # type: ignore
     except ImportError:
         raise WorkbookFault(f"an Excel workbook is read where openpyxl is installed; elsewhere {SAVE}") from None
     try:
@@ -301,7 +301,7 @@ class Costs:
 
 
 # Titles, persons, objects, and the person and the object of each cost.
-Read = Tuple[Tuple[str, ...], Names, Names, Numbers, Numbers]
+Read = Tuple[Tuple[str, str, str], Names, Names, Numbers, Numbers]
 
 
 class Roster(NamedTuple):
@@ -429,21 +429,21 @@ def _read_lines(sheet: Sheet, costs: Costs) -> Read:
         sheet.refuse(f"{len(title)} titles, where a person, an object and a cost are wanted{fourth}", line)
     if looks_like_number(title[2]):
         sheet.refuse(f"a title line is wanted first, and {quoted(title[2])} is a number", line, 3)
-    titles = tuple(sheet.name(cell, line, column) if cell else TITLES[column - 1] for column, cell in enumerate(title, 1))
+    first, second, third = (sheet.name(cell, line, column) if cell else TITLES[column - 1] for column, cell in enumerate(title, 1))
     persons, objects = Names(sheet, "persons"), Names(sheet, "objects")
     of_persons, of_objects = array("q"), array("q")
     lines: Dict[Tuple[int, int], int] = {}
     for line, (person_name, object_name, cost) in sheet.body(3):
         person, object_ = persons.number(person_name, line, 1), objects.number(object_name, line, 2)
-        first = lines.setdefault((person, object_), line)
-        if first != line:
-            sheet.refuse(f"the pair {person_name}, {object_name} a second time, after line {first}", line)
+        before = lines.setdefault((person, object_), line)
+        if before != line:
+            sheet.refuse(f"the pair {person_name}, {object_name} a second time, after line {before}", line)
         costs.take(cost, line, 3)
         of_persons.append(person)
         of_objects.append(object_)
     if not lines:
         sheet.refuse("no line behind the title", line)
-    return titles, persons, objects, of_persons, of_objects
+    return (first, second, third), persons, objects, of_persons, of_objects
 
 
 def _read_matrix(sheet: Sheet, costs: Costs) -> Read:
