@@ -60,39 +60,47 @@ def lists_of_nodes(count: int, nodes: Any, others: Any) -> Lists:
     return lists
 
 
-def _augment(columns: Lists, owner: List[Optional[int]], start: int, seen: Set[int]) -> bool:
-    """Gives the row `start` a column, and others another one where need be; whether that could be done. `seen` are columns
-    from which no free one can be reached: those of a search that fails stay in it, since no later one would find more."""
-    reached: Dict[int, int] = {}
-    waiting, last = deque([start]), None
-    while waiting and last is None:
-        row = waiting.popleft()
-        for column in columns[row]:
-            if column in seen or column in reached:
-                continue
-            reached[column] = row
-            holder = owner[column]
-            if holder is None:
-                last = column
-                break
-            waiting.append(holder)
-    if last is None:
-        seen.update(reached)
-        return False
-    held = {row: column for column, row in enumerate(owner) if row is not None} if reached[last] != start else {}
-    while last is not None:
-        row = reached[last]
-        owner[last], last = row, held.get(row) if row != start else None
-    return True
+class _Matching:
+    """A matching of rows with columns: the row of each column, None if it is free, and the column of each matched row."""
+
+    def __init__(self, n_columns: int):
+        self.owner: List[Optional[int]] = [None] * n_columns
+        self.held: Dict[int, int] = {}
+        # Columns from which no free one can be reached: those of a search that fails, since no later one would find more.
+        self.seen: Set[int] = set()
+
+    def add(self, columns: Lists, start: int) -> None:
+        """Gives a row a column, and others another one where needed, if that is possible."""
+        reached: Dict[int, int] = {}
+        waiting = deque([start])
+        while waiting:
+            row = waiting.popleft()
+            for column in columns[row]:
+                if column in self.seen or column in reached:
+                    continue
+                reached[column] = row
+                holder = self.owner[column]
+                if holder is None:
+                    self._change(reached, column)
+                    return
+                waiting.append(holder)
+        self.seen.update(reached)
+
+    def _change(self, reached: Dict[int, int], free: int) -> None:
+        """Makes the changes of a path that ends at a free column."""
+        column: Optional[int] = free
+        while column is not None:
+            row = reached[column]
+            self.owner[column] = row
+            self.held[row], column = column, self.held.get(row)
 
 
 def fullest(columns: Lists, n_columns: int) -> List[Optional[int]]:
-    """The row that has each column in a fullest matching, None where it is free; `columns` are those that each row may have."""
-    owner: List[Optional[int]] = [None] * n_columns
-    seen: Set[int] = set()
+    """The row of each column in a maximum matching, None if it is free; `columns` are those that each row may have."""
+    matching = _Matching(n_columns)
     for row in range(len(columns)):
-        _augment(columns, owner, row, seen)
-    return owner
+        matching.add(columns, row)
+    return matching.owner
 
 
 def most_served(problem: Problem) -> int:
