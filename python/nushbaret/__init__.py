@@ -9,10 +9,11 @@ on, and `bottleneck` makes the worst pair as good as possible. `check` and `comp
 from Nushbaret's proved library, which also checks the plans after it. What this package adds is tested, not proved: how costs are
 read, dummies where some stay out, and the order of the plans after the best one.
 """
+from ._bottleneck import bottleneck
 from ._checking import Comparison, Verdict, check, compare
 from ._infeasible import Infeasible
 from ._library import GREATEST_COST, MOST_PERSONS, VERSION as _VERSION, LibraryNotFound
-from ._plans import bottleneck, k_best
+from ._plans import k_best
 from ._result import Plan, Result
 from ._solving import linear_sum_assignment, solve, solve_sparse
 

@@ -15,8 +15,8 @@ from typing import Any, Dict, FrozenSet, Iterable, Iterator, List, NamedTuple, O
 
 from ._checking import check_problem, problem_of
 from ._exact import manner
-from ._infeasible import Group, most_served, prove_short
-from ._problem import Problem, listed, lists_of
+from ._infeasible import Group, prove_short
+from ._problem import Problem, lists_of
 from ._result import Plan, Result, in_unit
 from ._solving import Decimals, solve_problem, solve_served
 
@@ -97,7 +97,7 @@ class Ranking:
             self._put(part, 1, part.columns)
         return None
 
-    def part(self, part: _Part, wanted: int) -> None:
+    def split(self, part: _Part, wanted: int) -> None:
         """Puts in line the parts of all plans of a part but its best one, as far as they can be among so many that are wanted. Where
         the row that differs stays out in the best plan, there is a part for each column that it may have."""
         holder, closed = self._holder(part), self._closed(part)
@@ -108,7 +108,7 @@ class Ranking:
             if own < self.n_columns:
                 found = self._search(part, holder, closed, row, choices, most)
                 if found.length is not None:
-                    self.wait(self._behind(part, found, row, row, banned | {own}))
+                    self.wait(self._after(part, found, row, row, banned | {own}))
                 elif most == INFINITE:
                     self._prove_empty(part, row, choices, found)
                 closed.append(own)
@@ -117,7 +117,7 @@ class Ranking:
                 if cost - part.row_duals[row] - part.column_duals[column] <= most:
                     found = self._search(part, holder, closed, row, [(column, cost)], self._most(part, wanted))
                     if found.length is not None:
-                        self.wait(self._behind(part, found, row, row + 1, NOBODY))
+                        self.wait(self._after(part, found, row, row + 1, NOBODY))
 
     def _most(self, part: _Part, wanted: int) -> float:
         """How long a path may be, so that what it leads to can be among so many that are wanted."""
@@ -185,8 +185,8 @@ class Ranking:
                 return columns
             column = found.reached[taking]
 
-    def _behind(self, part: _Part, found: _Search, row: int, first: int, banned: FrozenSet[int]) -> _Part:
-        """The part whose best plan a row's path leads to. Columns that are nearer than the path is long get cheaper by the rest of
+    def _after(self, part: _Part, found: _Search, row: int, first: int, banned: FrozenSet[int]) -> _Part:
+        """The part whose best plan is the one after a row's path. Columns that are nearer than the path is long get cheaper by the rest of
         it, and whoever holds them gains as much."""
         rows, columns, whole = part.row_duals, part.column_duals, found.length or 0
         if whole:
@@ -298,7 +298,7 @@ def _plan(result: Result, ranking: Ranking, part: _Part) -> Plan:
 def next_best(result: Result) -> Optional[Plan]:
     """The best plan except for a result's own."""
     ranking = Ranking(result)
-    ranking.part(ranking.whole, 1)
+    ranking.split(ranking.whole, 1)
     part = ranking.take()
     return None if part is None else _plan(result, ranking, part)
 
@@ -313,7 +313,7 @@ def best_plans(result: Result, count: int) -> Iterator[Plan]:
             return
         yield _plan(result, ranking, part)
         if left > 1:
-            ranking.part(part, left - 1)
+            ranking.split(part, left - 1)
 
 
 def k_best(costs: Any, k: int, maximize: bool = False, decimals: Decimals = None, partial: bool = False,
@@ -352,101 +352,3 @@ def k_best(costs: Any, k: int, maximize: bool = False, decimals: Decimals = None
         raise ValueError(f"k is {k}: it must be 0 or more")
     problem = problem_of(costs, None, None, None, manner(maximize, decimals, missing))
     return best_plans(solve_problem(problem, None, partial), k)
-
-
-# Plans whose worst pair is as good as possible.
-
-
-def bottleneck(costs: Any, maximize: bool = False, decimals: Decimals = None, partial: bool = False,
-               missing: str = "refuse") -> Result:
-    """A plan whose dearest pair is as cheap as possible, and among these one of the best sum.
-
-    Parameters
-    ----------
-    costs : matrix
-        As in `solve`, or a sparse matrix of SciPy's.
-    maximize : bool, optional
-        Whether to find great costs: then the least pair is as great as possible.
-    decimals, partial, missing
-        As in `solve`.
-
-    Returns
-    -------
-    Result
-        Of the problem that forbids each worse pair. The library also proves that each plan has a pair as bad as its worst one.
-
-    Raises
-    ------
-    Infeasible, ValueError, TypeError, MemoryError, LibraryNotFound
-        As in `solve`.
-
-    Notes
-    -----
-    Solves twice; matchings find which pairs no plan needs.
-    """
-    problem = problem_of(costs, None, None, None, manner(maximize, decimals, missing))
-    least = min(problem.n_rows, problem.n_columns)
-    served = least if problem.persons is None else most_served(problem)
-    if not served or served < least and not partial:
-        return solve_problem(problem, None, partial)
-    return _best_within(listed(problem), served)
-
-
-def _best_within(pairs: Problem, served: int) -> Result:
-    """The best plan of so many pairs among those whose worst pair is as good as possible."""
-    values = _values(pairs)
-    lower, upper, fewest = values.index(_unavoidable(pairs, served, values[0])) - 1, len(values) - 1, pairs
-    # The answer is mostly near the lower end, where few pairs have to be looked at.
-    width, is_bounded = max(len(values) // 1024, 1), False
-    while upper - lower > 1:
-        middle = (lower + upper) // 2 if is_bounded else min(lower + width, upper - 1)
-        tried = _within(fewest, values[middle])
-        if most_served(tried) == served:
-            upper, fewest, is_bounded = middle, tried, True
-        else:
-            lower, width = middle, 2 * width
-    result = solve_served(_within(fewest, values[upper]), served)
-    if result is None or lower >= 0 and solve_served(_within(pairs, values[lower]), served) is not None:
-        raise RuntimeError(f"{values[upper]} was found to be the worst cost that is needed, and the library says otherwise")
-    return result
-
-
-def _values(pairs: Problem) -> List[int]:
-    """The different costs, the best first."""
-    values: List[int] = pairs.numpy.unique(pairs.costs).tolist() if pairs.numpy else sorted(set(pairs.costs))
-    return values[::-1] if pairs.maximize else values
-
-
-def _unavoidable(pairs: Problem, served: int, best: int) -> int:
-    """A cost that some pair of each plan is at least as bad as: if all rows have a pair, the worst of the rows' best costs; the same of
-    columns."""
-    worse = min if pairs.maximize else max
-    for count, nodes in ((pairs.n_rows, pairs.persons), (pairs.n_columns, pairs.objects)):
-        if count == served:
-            best = worse(best, *_best_of_each(pairs, nodes))
-    return best
-
-
-def _best_of_each(pairs: Problem, nodes: Any) -> List[int]:
-    """The best cost of each row, or of each column."""
-    if pairs.numpy:
-        order = nodes.argsort(kind="stable")
-        starts = pairs.numpy.flatnonzero(pairs.numpy.diff(nodes[order], prepend=0))
-        better = pairs.numpy.maximum if pairs.maximize else pairs.numpy.minimum
-        costs: List[int] = better.reduceat(pairs.costs[order], starts).tolist()
-        return costs
-    least: Dict[int, int] = {}
-    for node, cost in zip(nodes, pairs.costs):
-        least[node] = (max if pairs.maximize else min)(cost, least.get(node, cost))
-    return list(least.values())
-
-
-def _within(pairs: Problem, worst: int) -> Problem:
-    """The problem without the pairs that are worse than a cost."""
-    if pairs.numpy:
-        kept = pairs.costs >= worst if pairs.maximize else pairs.costs <= worst
-        return pairs._replace(costs=pairs.costs[kept], persons=pairs.persons[kept], objects=pairs.objects[kept])
-    places = [place for place, cost in enumerate(pairs.costs) if (cost >= worst if pairs.maximize else cost <= worst)]
-    costs, persons, objects = (array(held.typecode, [held[place] for place in places])
-                               for held in (pairs.costs, pairs.persons, pairs.objects))
-    return pairs._replace(costs=costs, persons=persons, objects=objects)

@@ -37,9 +37,16 @@ def _most(problem: Problem, start: Start) -> proved.Answer:
     """The best of the fullest plans. The library also proves that no plan has one pair more."""
     served = most_served(problem)
     answer = _solved(problem, start, served)
-    if isinstance(answer, proved.Short) or not isinstance(_solved(problem, served=served + 1), proved.Short):
-        raise RuntimeError(f"{served} rows were found to be the most that can be served, and the library says otherwise")
+    if isinstance(answer, proved.Short):
+        raise RuntimeError(f"{served} pairs were found to be possible, and the library says otherwise")
+    prove_most(problem, served)
     return answer
+
+
+def prove_most(problem: Problem, served: int) -> None:
+    """Lets the library say that no plan has more pairs."""
+    if not isinstance(_solved(problem, served=served + 1), proved.Short):
+        raise RuntimeError(f"{served} pairs were found to be the most, and the library says otherwise")
 
 
 def _answer(problem: Problem, start: Start, partial: bool) -> proved.Answer:

@@ -123,11 +123,11 @@ class Checked(unittest.TestCase):
         self.refused("_first_of_its_cost", cheaper, "found to cost 4, and its pairs cost 5")
 
     def test_wrong_duals(self):
-        behind = Ranking._behind
+        behind = Ranking._after
 
         def same(ranking, part, *words):
             return behind(ranking, part, *words)._replace(column_duals=part.column_duals)
-        self.refused("_behind", same, "the library says otherwise", matrix(drawing(36), 9, 9, 9))
+        self.refused("_after", same, "the library says otherwise", matrix(drawing(36), 9, 9, 9))
 
     def test_a_part_taken_for_empty(self):
         def none(ranking, part, *words):
@@ -169,6 +169,12 @@ class Bottlenecks(unittest.TestCase):
         with self.assertRaisesRegex(ValueError, "missing is 'drop': 'refuse' or 'forbid' can be had"):
             nushbaret.bottleneck([[1]], missing="drop")
         self.assertEqual(nushbaret.bottleneck([]).cost, 0)
+
+    def test_too_few_pairs(self):
+        for module, call in (("_bottleneck", nushbaret.bottleneck), ("_solving", nushbaret.solve)):
+            with mock.patch(f"nushbaret.{module}.most_served", return_value=1):
+                with self.assertRaisesRegex(RuntimeError, "1 pairs were found to be the most, and the library says otherwise"):
+                    call([[1, None, None], [2, 3, None], [4, None, None]], partial=True)
 
 
 if __name__ == "__main__":
