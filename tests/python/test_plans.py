@@ -1,4 +1,5 @@
 """The k best plans, the next best one, whether a plan is the only one, and bottlenecks, beside all plans."""
+import heapq
 import itertools
 import unittest
 from decimal import Decimal
@@ -33,6 +34,31 @@ def told(plan, n_rows, n_columns):
     return plan.cost, [own.get(row, n_columns) for row in range(n_rows)]
 
 
+def kept(costs, keeps):
+    """The costs of the pairs that are kept, and None elsewhere."""
+    return [[cost if keeps(row, column) else None for column, cost in enumerate(line)] for row, line in enumerate(costs)]
+
+
+def split_by_pairs(costs, maximize, k):
+    """The costs of the k best plans: Murty's split by the pairs of a plan, each subproblem solved by the library."""
+    served, numbers = len(nushbaret.solve(costs, maximize, partial=True).rows), itertools.count()
+    found, waiting = [], []
+
+    def put(left, fixed):
+        result = nushbaret.solve(left, maximize, partial=True)
+        if len(result.rows) == served:
+            heapq.heappush(waiting, (-result.cost if maximize else result.cost, next(numbers), left, fixed, result))
+
+    put(costs, frozenset())
+    while waiting and len(found) < k:
+        _, _, left, fixed, result = heapq.heappop(waiting)
+        found.append(result.cost)
+        for pair in set(result.pairs) - fixed:
+            put(kept(left, lambda row, column: (row, column) != pair), fixed)
+            left, fixed = kept(left, lambda row, column: (row == pair[0]) == (column == pair[1])), fixed | {pair}
+    return found
+
+
 def drawn(draw, turn):
     n_rows, n_columns = draw.choice([(8, 3), (3, 8)]) if turn % 5 == 4 else (draw.randint(1, 5), draw.randint(1, 5))
     costs = matrix(draw, n_rows, n_columns, draw.choice([0, 1, 9, 10**12]), draw.choice([0.3, 0.5, 0.8, 1.0]))
@@ -55,6 +81,19 @@ class Plans(unittest.TestCase):
             ties += len({cost for cost, _ in wanted[:k]}) < len(wanted[:k])
             partial += 0 < len(whole.rows) < min(n_rows, n_columns)
         self.assertGreater(min(ties, partial), 40)
+
+    def test_k_best_beside_the_library(self):
+        """Larger problems, whose subproblems the library solves."""
+        draw, partial = drawing(37), 0
+        for turn in range(40):
+            n_rows, n_columns = draw.choice([(14, 14), (20, 6), (6, 20), (10, 9), (9, 10)])
+            costs = matrix(draw, n_rows, n_columns, draw.choice([3, 1000]), draw.choice([0.2, 0.5, 1.0]))
+            maximize = turn % 2 == 1
+            plans = list(nushbaret.k_best(costs, 12, maximize, partial=True))
+            self.assertEqual([plan.cost for plan in plans], split_by_pairs(costs, maximize, 12))
+            self.assertEqual(len({tuple(told(plan, n_rows, n_columns)[1]) for plan in plans}), len(plans))
+            partial += len(plans[0].rows) < min(n_rows, n_columns)
+        self.assertGreater(partial, 5)
 
     def test_next_best_and_whether_there_is_one(self):
         draw, unique = drawing(32), 0
