@@ -5,7 +5,8 @@ use Rattle.std.proofs.lemmas.List.{length_push, get_or_push, get_or_append_left,
 use Rattle.assign_core.specs.Numbered.{numbered, renumbered}
 use Rattle.auction_book.specs.Book.{BookData, persons_of}
 use Rattle.auction_book.specs.Changes.{claimed}
-use Rattle.rounds.specs.inside.Books.{AreClaimed, IsAtRest, IsClaimed, IsGoing}
+use Rattle.rounds.specs.Rounds.{AreClaimed, IsAtRest, IsGoing}
+use Rattle.rounds.specs.inside.Books.{IsClaimed}
 use Rattle.rounds.proofs.Waiting.{queue_few}
 
 here_or_before : (k i : ℕ) → k < i + 1 → (k ≡ i) ⊎ (k < i)

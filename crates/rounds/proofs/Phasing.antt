@@ -12,7 +12,7 @@ use Rattle.auction_book.specs.Phases.{is_assigned, is_done, is_over, persons}
 use Rattle.auction_book.specs.Session.{next_if_over}
 use Rattle.auction_book.proofs.Opening.{length-persons}
 use Rattle.auction_book.proofs.Answering.{over_is}
-use Rattle.rounds.specs.inside.Books.{IsAtRest, plain_of}
+use Rattle.rounds.specs.Rounds.{IsAtRest, plain_of}
 use Rattle.rounds.specs.Plain.{Plain, begun, ready, ready_by}
 use Rattle.rounds.proofs.Waiting.{assigned_empty, empty_assigned}
 

@@ -9,7 +9,7 @@ use Rattle.assign_core.specs.declared.numbers.TheConstants.{PRICE_END}
 use Rattle.assign_core.specs.Prices.{IsPrice, price_of}
 use Rattle.assign_core.proofs.NumberedLemmas.{length-renumbered, numbered-same}
 use Rattle.auction_book.proofs.Accepting.{price_in}
-use Rattle.rounds.specs.inside.Books.{room}
+use Rattle.rounds.specs.Rounds.{room}
 
 room_less : (p q : ℤ) → IsPrice p → IsPrice q → p <ℤ q → unsigned_abs (PRICE_END -ℤ q) < unsigned_abs (PRICE_END -ℤ p)
 room_less p q f g h = let a = f.least in let b = g.below in omega (arith, ints)

@@ -12,7 +12,7 @@ use Rattle.auction_book.specs.Changes.{phased}
 use Rattle.auction_book.specs.Phases.{is_over, opened}
 use Rattle.auction_book.specs.Session.{next_if_over}
 use Rattle.rounds.specs.declared.rounds.Round.TheVariants as came
-use Rattle.rounds.specs.inside.Books.{IsAtRest, IsRound, plain_of, room}
+use Rattle.rounds.specs.Rounds.{IsAtRest, IsRound, plain_of, room}
 use Rattle.rounds.specs.Outcomes.{IsOfRounds, IsOutcome, IsProof}
 use Rattle.rounds.specs.Plain.{Plain, Goes, Ends, Finished, Halted, next_round, opening, ready, round, round_or_end, run}
 use Rattle.rounds.proofs.Runs.{run-goes, run-zero}

@@ -10,7 +10,7 @@ use Rattle.std.specs.List.{All}
 use Rattle.assign_core.specs.Prices.{IsBelow, IsPrice, price_of}
 use Rattle.assign_core.proofs.NumberedLemmas.{length-renumbered, numbered_in}
 use Rattle.assign_core.proofs.Orders.{not_less, where_not_less}
-use Rattle.assign_core.proofs.Matchings.{below_through}
+use Rattle.assign_core.proofs.Matchings.{below_itself, below_through}
 use Rattle.scaled_values.specs.Scaled.{ScaledProblem}
 use Rattle.scaled_values.proofs.RowFacts.{benefit_row_is}
 use Rattle.bidder.specs.declared.offers.Ask.{Ask}
@@ -22,12 +22,15 @@ use Rattle.bidder.specs.Offers.{IsBid, IsOffer, IsSound, IsUnder, benefits_at, o
 use Rattle.bidder.proofs.Sound.{bid_high, bid_sound, offer_is}
 use Rattle.price_log.proofs.Histories.{today-after_raise, today_is_table}
 use Rattle.auction_book.specs.Book.{BookData, Holds, prices_of}
-use Rattle.auction_book.specs.Changes.{accepted}
+use Rattle.auction_book.specs.Changes.{accepted, released}
+use Rattle.auction_book.specs.Follows.{GoesOn}
+use Rattle.auction_book.proofs.Following.{goes_on_itself, goes_on_through}
 use Rattle.auction_book.specs.Submissions.{IsFitting, IsHigh}
 use Rattle.auction_book.specs.Free.{IsFree}
 use Rattle.auction_book.proofs.Claiming.{ask_is}
-use Rattle.auction_book.proofs.Accepting.{accepted_follows, bid_range, eps_least}
-use Rattle.rounds.specs.inside.Books.{AreClaimed, AreSubmitted, HaveOffered, IsGoing, book_after, book_after_bid, plain_of, room}
+use Rattle.auction_book.proofs.Accepting.{accepted_follows, bid_range, eps_least, released_follows}
+use Rattle.rounds.specs.Rounds.{AreClaimed, IsGoing, book_after, book_after_bid, book_after_offers, plain_of, room}
+use Rattle.rounds.specs.inside.Books.{AreSubmitted, HaveOffered}
 use Rattle.rounds.specs.Offers.{CanOffer}
 use Rattle.rounds.specs.Plain.{after_bid, after_offers}
 use Rattle.rounds.proofs.Claiming.{claimed_less}
@@ -87,8 +90,10 @@ can_offer_as b persons waiting s prices ask going claimed e f g h =
 pub record IsSubmitting (old now : BookData) (persons : List ℕ) (offers : List Offer) (i : ℕ) : Type 0 where
   pub going : IsGoing now
   pub left : after_offers (drop i offers) (plain_of now) ≡ after_offers offers (plain_of old)
+  pub whole : book_after_offers (drop i offers) i now ≡ book_after_offers offers 0 old
   pub claimed : AreClaimed persons i now.claims
   pub base : now.base ≡ old.base
+  pub goes_on : GoesOn old now
   pub asked : now.ask ≡ old.ask
   pub below : IsBelow (prices_of old) (prices_of now)
   pub first : i ≡ 0 → now ≡ old
@@ -99,6 +104,25 @@ pub record IsAtOffer (old now : BookData) (offers : List Offer) (i : ℕ) : Type
   pub persons : List ℕ
   pub offered : HaveOffered old persons offers
   pub submitting : IsSubmitting old now persons offers i
+
+-- at the start none has
+pub no_offer_yet : (b : BookData) (persons : List ℕ) (offers : List Offer) → HaveOffered b persons offers → IsAtOffer b b offers 0
+no_offer_yet b persons offers have = record {
+  persons = persons;
+  offered = have;
+  submitting = record {
+    going = have.going;
+    left = refl;
+    whole = refl;
+    claimed = have.claimed;
+    base = refl;
+    goes_on = goes_on_itself b;
+    asked = refl;
+    below = below_itself (prices_of b);
+    first = λ e. refl;
+    fell = λ lt. absurd (omega arith);
+  };
+}
 
 -- what holds of the bid at place i, when it is submitted by worker i + 1, whose number has 16 bits
 pub record IsNext (old now : BookData) (i : ℕ) (bid : Bid) : Type 0 where
@@ -147,15 +171,18 @@ first_high : (old now : BookData) (i : ℕ) (bid : Bid) → now ≡ old → IsNe
 first_high old now i bid same next = subst (λ b. IsHigh b bid) (sym same) (bid_high old.base (prices_of old) old.ask bid next.made)
 
 submitted_by : (low : Bool) (old now : BookData) (persons : List ℕ) (offers : List Offer) (i : ℕ) (bid : Bid) → lt_z bid.level (price_of (prices_of now) bid.object +ℤ now.ask.eps) ≡ low → IsNext old now i bid → IsFree (book_after low now (suc i) bid) → IsSubmitting old now persons offers i
-    → after_offers (drop (i + 1) offers) (plain_of (book_after low now (suc i) bid)) ≡ after_offers offers (plain_of old) → IsSubmitting old (book_after low now (suc i) bid) persons offers (i + 1)
-submitted_by true old now persons offers i bid t next free is left =
+    → after_offers (drop (i + 1) offers) (plain_of (book_after low now (suc i) bid)) ≡ after_offers offers (plain_of old) → book_after_offers (drop (i + 1) offers) (i + 1) (book_after low now (suc i) bid) ≡ book_after_offers offers 0 old
+    → IsSubmitting old (book_after low now (suc i) bid) persons offers (i + 1)
+submitted_by true old now persons offers i bid t next free is left whole =
     let low = is_less bid.level (price_of (prices_of now) bid.object +ℤ now.ask.eps) t in
     let place = next.worker.last in
     record {
       going = record { free = free; unrefuted = is.going.unrefuted; unstopped = is.going.unstopped; workers = length-renumbered now.claims (suc i) None ∙ is.going.workers };
       left = left;
+      whole = whole;
       claimed = claimed_less persons now.claims i (omega arith) is.claimed;
       base = is.base;
+      goes_on = goes_on_through old now (released now (suc i) bid.person) is.goes_on (released_follows now (suc i) bid.person).goes_on;
       asked = is.asked;
       below = is.below;
       first = λ e. absurd (omega arith);
@@ -164,7 +191,7 @@ submitted_by true old now persons offers i bid t next free is left =
         | inr more ↦ is.fell more
       ];
     }
-submitted_by false old now persons offers i bid t next free is left =
+submitted_by false old now persons offers i bid t next free is left whole =
     let high = where_not_less bid.level (price_of (prices_of now) bid.object +ℤ now.ask.eps) t in
     let place = next.worker.last in
     let fit = next.fitting next.phase in
@@ -182,8 +209,10 @@ submitted_by false old now persons offers i bid t next free is left =
     record {
       going = record { free = free; unrefuted = is.going.unrefuted; unstopped = is.going.unstopped; workers = length-renumbered now.claims (suc i) None ∙ is.going.workers };
       left = left;
+      whole = whole;
       claimed = claimed_less persons now.claims i (omega arith) is.claimed;
       base = is.base;
+      goes_on = goes_on_through old now (accepted now (suc i) bid) is.goes_on follows.goes_on;
       asked = is.asked;
       below = below_through (prices_of old) (prices_of now) (prices_of (accepted now (suc i) bid)) is.below follows.goes_on.below;
       first = λ e. absurd (omega arith);
@@ -204,7 +233,9 @@ offer_more {old} {now} {offers} {i} {bid} new read is within at was e free =
     let after : new ≡ book_after low now (suc i) bid = e ∙ ap (λ k. book_after_bid now k bid) worker in
     let step = at_drop_more (λ l. after_offers l (plain_of now)) offers i (made.Bid bid) within ∙ ap (λ o. after_offers (o ∷ drop (i + 1) offers) (plain_of now)) here in
     let left = ap (after_offers (drop (i + 1) offers)) (plain-after low now (suc i) bid) ∙ sym step ∙ is.submitting.left in
-    let submitted = submitted_by low old now is.persons offers i bid refl next (subst IsFree after free) is.submitting left in
+    let step_book = at_drop_more (λ l. book_after_offers l i now) offers i (made.Bid bid) within ∙ ap (λ o. book_after_offers (o ∷ drop (i + 1) offers) i now) here in
+    let whole = ap (λ k. book_after_offers (drop (i + 1) offers) k (book_after low now (suc i) bid)) worker ∙ sym step_book ∙ is.submitting.whole in
+    let submitted = submitted_by low old now is.persons offers i bid refl next (subst IsFree after free) is.submitting left whole in
     record {
       persons = is.persons;
       offered = is.offered;
@@ -231,6 +262,13 @@ below_offer {old} {now} {offers} {i} {below} read at_offer within at e =
         under = subst (λ floor. IsUnder (benefits_at now.base below.person) (prices_of old) floor) (ap (λ a. a.floor) (sym is.asked)) based;
       },
     )
+
+-- the whole book then
+pub below_whole : {old now : BookData} {offers : List Offer} {i : ℕ} {below : BelowFloor} (read : Offer) → IsAtOffer old now offers i → i < length offers → ((d : Offer) → read ≡ get_or offers i d) → read ≡ made.Below below → now ≡ book_after_offers offers 0 old
+below_whole {old} {now} {offers} {i} {below} read at_offer within at e =
+    let here = read_here offers i read (made.Below below) at e in
+    let step = at_drop_more (λ l. book_after_offers l i now) offers i (made.Below below) within ∙ ap (λ o. book_after_offers (o ∷ drop (i + 1) offers) i now) here in
+    sym step ∙ at_offer.submitting.whole
 
 -- a bid that is high is accepted
 pub high_is_accepted : (b : BookData) (worker : ℕ) (bid : Bid) → IsHigh b bid → accepted b worker bid ≡ book_after_bid b worker bid

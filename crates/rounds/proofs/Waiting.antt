@@ -18,7 +18,7 @@ use Rattle.auction_book.specs.Phases.{is_assigned}
 use Rattle.auction_book.proofs.Claiming.{claim_by}
 use Rattle.auction_book.proofs.Opening.{none_wait}
 use Rattle.auction_book.proofs.Places.{everyone}
-use Rattle.rounds.specs.inside.Books.{IsAtRest, IsGoing}
+use Rattle.rounds.specs.Rounds.{IsAtRest, IsGoing}
 
 -- ---- nobody is claimed
 count_none : (xs : List (Option ℕ)) → ((k : ℕ) → numbered xs (suc k) None ≡ None) → count_by is_some xs ≡ 0

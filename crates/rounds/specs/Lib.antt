@@ -1,4 +1,5 @@
 pub mod Offers
 pub mod Plain
+pub mod Rounds
 pub mod Outcomes
 pub mod inside

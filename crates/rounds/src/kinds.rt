@@ -308,7 +308,7 @@ impl Kinds {
         requires size { IsSize (length scaled.now.problem) }
         requires kinds { AreKinds scaled.now self.old }
         ensures made { OnOk result (offers.new.items ≡ offers_of scaled.now prices.now ask persons.now) }
-        ensures kinds { OnOk result (AreKinds scaled.now self.new) }
+        ensures kinds { AreKinds scaled.now self.new }
     {
         if !self.some || persons.len() < 2 {
             return offering.make(scaled, prices, ask, persons, offers);

@@ -1,12 +1,17 @@
 // What holds of plain rounds.
-ghost use Rattle.std.specs.Prelude.{◌≡◌, ◌≤◌, ℕ, ℤ, List};
+ghost use Rattle.std.specs.Prelude.{◌≡◌, ◌≤◌, ℕ, ℤ, List, length};
 ghost use Rattle.assign_core.specs.declared.outcome.Outcome.{Outcome};
 ghost use Rattle.scaled_values.specs.Scaled.{ScaledProblem};
 ghost use Rattle.bidder.specs.declared.offers.Ask.{Ask};
 ghost use Rattle.bidder.specs.Offers.{benefits_at, offer_of};
+ghost use Rattle.auction_book.specs.Book.{BookData};
+ghost use Rattle.auction_book.specs.Free.{IsFree};
+ghost use Rattle.auction_book.specs.Phases.{opened};
+ghost use Rattle.auction_book.specs.Session.{next_if_over};
 ghost use Rattle.rounds.specs.Offers.{named};
 ghost use Rattle.rounds.specs.Outcomes.{IsOfRounds};
 ghost use Rattle.rounds.specs.Plain.{Plain, End, Ends, run};
+ghost use Rattle.rounds.specs.Rounds.{IsAtRest};
 
 /// Persons who list the same objects with the same benefits have one offer under a table of prices,
 /// but for the name on it.
@@ -14,6 +19,14 @@ pub fn like_persons_share_an_offer()
     ensures { (s : ScaledProblem) (prices : List ℤ) (version : ℕ) (ask : Ask) (i k : ℕ)
         → benefits_at s k ≡ benefits_at s i
         → named i (offer_of s prices version ask k) ≡ offer_of s prices version ask i }
+{}
+
+/// A book with a worker for each person that has just been opened is at rest, and the next phase of a
+/// book at rest begins at rest.
+pub fn books_begin_at_rest()
+    ensures opened { (s : ScaledProblem) (prices : List ℤ) → IsFree (opened s prices (length s.problem))
+        → IsAtRest (opened s prices (length s.problem)) }
+    ensures phase { (b : BookData) → IsAtRest b → IsFree (next_if_over b) → IsAtRest (next_if_over b) }
 {}
 
 /// Plain rounds end once: two ends of a run from the same start are one, and a run that has ended

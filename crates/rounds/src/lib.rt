@@ -6,8 +6,11 @@ mod law;
 mod offers;
 mod rounds;
 
-pub use law::{like_persons_share_an_offer, rounds_end_once, rounds_have_one_outcome};
+pub use law::{
+    books_begin_at_rest, like_persons_share_an_offer, rounds_end_once, rounds_have_one_outcome,
+};
 pub use offers::{Alone, InPieces, LEAST_PAIRS, Offering, make_offers};
 pub use rounds::{
-    solve_rounds, solve_rounds_alone, solve_rounds_alone_from, solve_rounds_by, solve_rounds_from,
+    Round, Rounds, solve_rounds, solve_rounds_alone, solve_rounds_alone_from, solve_rounds_by,
+    solve_rounds_from,
 };

@@ -1,17 +1,20 @@
 // Rounds of offers over a book.
 ghost use Rattle.std.specs.Prelude.{◌≡◌, ◌<◌, ◌≤ℤ◌, pos, false, ℕ, List, [], ◌∷◌, length, replicate, slice_index_or};
-ghost use Rattle.std.specs.Prelude.{None, IfSome, IfNone, IfOk, IfErr, OnOk};
+ghost use Rattle.std.specs.Prelude.{None, IfSome, IfNone, IfOk, IfErr, OnErr, OnOk};
 ghost use Rattle.std.specs.Arc.{arc_value};
 ghost use Rattle.assign_core.specs.Numbered.{IsNumber, numbered};
 ghost use Rattle.scaled_values.specs.Scaled.{greatest_of};
-ghost use Rattle.auction_book.specs.Book.{Holds};
-ghost use Rattle.auction_book.specs.Changes.{claimed};
+ghost use Rattle.auction_book.specs.Book.{Holds, prices_of};
+ghost use Rattle.auction_book.specs.Changes.{claimed, released};
+ghost use Rattle.auction_book.specs.Follows.{GoesOn};
 ghost use Rattle.auction_book.specs.Free.{IsFree};
 ghost use Rattle.auction_book.specs.Phases.{is_over};
 ghost use Rattle.auction_book.specs.Submissions.{IsFitting};
 ghost use Rattle.rounds.specs.Plain.{Finished, Halted};
-ghost use Rattle.rounds.specs.inside.Books.{plain_of, AreSubmitted, HaveOffered, IsAtRest, IsBelowFloor, IsClaimed, IsGoing, IsRound, book_after_bid};
+ghost use Rattle.rounds.specs.Rounds.{plain_of, no_round_yet, IsAfterOffers, IsAtRest, IsBelowFloor, IsGoing, IsRound, book_after_bid, book_after_offers};
+ghost use Rattle.rounds.specs.inside.Books.{AreSubmitted, HaveOffered, IsClaimed};
 ghost use Rattle.rounds.specs.inside.Kinds.{AreKinds};
+ghost use Rattle.rounds.specs.Offers.{offers_of};
 ghost use Rattle.rounds.specs.Outcomes.{IsDecided, IsOfRounds, IsOutcome, IsProof};
 
 use super::kinds::Kinds;
@@ -22,10 +25,11 @@ use bidder::{Bid, Offer};
 use hall_refuter::{Search, refute};
 use scaled_values::Scaled;
 use std::alloc::{AllocError, Global};
+use std::marker::Model;
 use std::sync::Arc;
 use std::thread::Threads;
 
-/// What a round comes to.
+/// What a round came to.
 #[derive(Clone, Copy)]
 pub enum Round {
     /// Nobody waited.
@@ -53,7 +57,9 @@ fn claim_next(book: &mut Book, worker: u16) -> Option<Person>
 // Workers 1, 2, .. claim all who wait.
 fn claim_all(book: &mut Book, persons: &mut Vec<Person>) -> Result<(), AllocError>
     requires { IsAtRest book.old }
-    ensures { OnOk result (IsClaimed book.old persons.new.items book.new) }
+    ensures claimed { OnOk result (IsClaimed book.old persons.new.items book.new) }
+    ensures going { IsGoing book.new }
+    ensures goes_on { GoesOn book.old book.new }
 {
     persons.clear();
     let n = book.scaled().n();
@@ -73,7 +79,8 @@ fn submit_bid(book: &mut Book, worker: u16, bid: Bid) -> Result<(), AllocError>
     requires phase { bid.phase ≡ book.old.ask.phase }
     requires fitting { IsFitting book.old bid }
     ensures book { OnOk result (book.new ≡ book_after_bid book.old worker bid) }
-    ensures free { OnOk result (IsFree book.new) }
+    ensures err { OnErr result (book.new ≡ released book.old worker bid.person) }
+    ensures free { IsFree book.new }
 {
     match book.submit(worker, bid) {
         Ok(_) => Ok(()),
@@ -96,7 +103,9 @@ fn next_offer(offers: &[Offer], place: usize) -> Offer
 fn submit_all(book: &mut Book, offers: &[Offer]) -> Result<Option<Person>, AllocError>
     requires { (persons : List ℕ) × HaveOffered book.old persons offers.now }
     ensures submitted { IfOk result (λ below. AreSubmitted book.old offers.now below book.new) }
-    ensures base { OnOk result (book.new.base ≡ book.old.base) }
+    ensures book { OnOk result (book.new ≡ book_after_offers offers.now 0 book.old) }
+    ensures going { IsGoing book.new }
+    ensures goes_on { GoesOn book.old book.new }
 {
     for i in 0..offers.len() {
         match next_offer(offers, i) {
@@ -120,11 +129,17 @@ fn run_shared_round<O: Offering>(
     requires rest { IsAtRest book.old }
     requires kinds { AreKinds book.old.base kinds.old }
     ensures round { IfOk result (λ came. IsRound book.old came book.new) }
-    ensures base { OnOk result (book.new.base ≡ book.old.base) }
-    ensures kinds { OnOk result (AreKinds book.old.base kinds.new) }
+    ensures persons { OnOk result (persons.new.items ≡ book.old.queue) }
+    ensures offers { OnOk result (offers.new.items
+        ≡ offers_of book.old.base (prices_of book.old) book.old.ask book.old.queue) }
+    ensures book { OnOk result (IsAfterOffers book.old offers.new.items book.new) }
+    ensures going { IsGoing book.new }
+    ensures goes_on { GoesOn book.old book.new }
+    ensures kinds { AreKinds book.old.base kinds.new }
 {
     claim_all(book, persons)?;
     if persons.is_empty() {
+        offers.clear();
         return Ok(Round::Over);
     }
     let ask = book.ask();
@@ -140,6 +155,103 @@ fn run_shared_round<O: Offering>(
     match submit_all(book, offers.as_slice())? {
         Some(person) => Ok(Round::Halted(person)),
         None => Ok(Round::More),
+    }
+}
+
+/// A problem's rounds, one by one: who bids, and what they offer. Persons with the same row share
+/// the scan of it.
+///
+/// Seen as the problem, and who bid in the last round and what they offered.
+#[derive(Drop)]
+pub struct Rounds {
+    scaled: Arc<Scaled>,
+    kinds: Kinds,
+    persons: Vec<Person>,
+    offers: Vec<Offer>,
+}
+
+impl Model for Rounds {
+    ghost use Rattle.std.specs.Arc.{arc_value};
+    ghost use Rattle.rounds.specs.Rounds.{RoundsData};
+
+    ghost Value = { RoundsData };
+
+    ghost use Rattle.rounds.specs.inside.Kinds.{AreKinds};
+
+    ghost view = { λ r. record {
+      base = arc_value r.scaled;
+      persons = r.persons.items;
+      offers = r.offers.items;
+    } };
+
+    ghost invariant = { λ r. AreKinds (arc_value r.scaled) r.kinds };
+}
+
+impl Rounds {
+    /// Rounds of a problem, before the first one. The persons are looked through for equal rows.
+    ///
+    /// # Errors
+    /// Only where memory is refused.
+    pub fn new(alloc: Global, scaled: Arc<Scaled>) -> Result<Rounds, AllocError>
+        ensures { IfOk result (λ rounds. rounds ≡ no_round_yet (arc_value scaled)) }
+    {
+        let kinds = Kinds::find(alloc, &scaled)?;
+        Ok(Rounds {
+            scaled,
+            kinds,
+            persons: Vec::new(alloc),
+            offers: Vec::new(alloc),
+        })
+    }
+
+    /// One round over a book of the problem that is at rest: workers 1, 2, .. claim all who wait, in
+    /// the queue's order; these make their offers from the book's prices, and the offers are
+    /// submitted in that order. A person that finds nothing worth the floor ends the round, and it
+    /// and those after it are still claimed then. After any other round the book is at rest again.
+    /// A new phase doesn't begin here.
+    ///
+    /// # Errors
+    /// Only where memory is refused. How far the round came is not said then: no price is lower and
+    /// the book is going, but some persons may still be claimed. `Book::give_up` for each worker lets
+    /// these wait again.
+    pub fn run_round<O: Offering>(
+        &mut self,
+        offering: &mut O,
+        book: &mut Book,
+    ) -> Result<Round, AllocError>
+        requires ready { O.ready }
+        requires rest { IsAtRest book.old }
+        requires problem { book.old.base ≡ self.old.base }
+        ensures round { IfOk result (λ came. IsRound book.old came book.new) }
+        ensures persons { OnOk result (self.new.persons ≡ book.old.queue) }
+        ensures offers { OnOk result (self.new.offers
+            ≡ offers_of book.old.base (prices_of book.old) book.old.ask book.old.queue) }
+        ensures book { OnOk result (IsAfterOffers book.old self.new.offers book.new) }
+        ensures going { IsGoing book.new }
+        ensures goes_on { GoesOn book.old book.new }
+        ensures problem { self.new.base ≡ self.old.base }
+    {
+        run_shared_round(
+            offering,
+            &mut self.kinds,
+            book,
+            &mut self.persons,
+            &mut self.offers,
+        )
+    }
+
+    /// Who bid in the last round, in their order.
+    pub fn persons(&self) -> &[Person]
+        ensures { result.now ≡ self.now.persons }
+    {
+        self.persons.as_slice()
+    }
+
+    /// What they offered, in the same order.
+    pub fn offers(&self) -> &[Offer]
+        ensures { result.now ≡ self.now.offers }
+    {
+        self.offers.as_slice()
     }
 }
 
@@ -170,14 +282,12 @@ fn halt(alloc: Global, book: &Book, person: Person) -> Result<Outcome, AllocErro
     }
 }
 
-// Rounds from these prices up to their end. Both lists are for its use: they hold who bids in a round, and what.
+// Rounds from these prices up to their end.
 fn run_rounds<O: Offering>(
     offering: &mut O,
     alloc: Global,
     scaled: Arc<Scaled>,
     prices: Prices,
-    persons: &mut Vec<Person>,
-    offers: &mut Vec<Offer>,
 ) -> Result<Outcome, AllocError>
     requires ready { O.ready }
     requires long { length prices ≡ length (arc_value scaled).problem }
@@ -186,11 +296,11 @@ fn run_rounds<O: Offering>(
     ensures proof { IfOk result (IsProof (arc_value scaled)) }
 {
     let n = scaled.n();
-    let mut kinds = Kinds::find(alloc, &scaled)?;
+    let mut rounds = Rounds::new(alloc, scaled.clone()?)?;
     let mut book = Book::open_from(alloc, scaled, prices, n)?;
     'rounds: loop {
         begin_next_if_over(alloc, &mut book)?;
-        match run_shared_round(offering, &mut kinds, &mut book, persons, offers)? {
+        match rounds.run_round(offering, &mut book)? {
             Round::Over => return finish(alloc, &book),
             Round::Halted(person) => return halt(alloc, &book, person),
             Round::More => {}
@@ -217,8 +327,7 @@ pub fn solve_rounds_by<O: Offering>(
     ensures decided { IfOk result (IsDecided (arc_value scaled)) }
     ensures memory { IfErr result (λ fault. fault ≡ SolveFault.Memory) }
 {
-    let (mut persons, mut offers) = (Vec::new(alloc), Vec::new(alloc));
-    Ok(run_rounds(offering, alloc, scaled, prices, &mut persons, &mut offers)?)
+    Ok(run_rounds(offering, alloc, scaled, prices)?)
 }
 
 /// Solves by rounds of offers that begin at these prices, one for each object and each at most

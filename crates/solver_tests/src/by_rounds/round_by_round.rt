@@ -1,18 +1,18 @@
-// Runs round by round: what each phase asks, its table, and the offers with their answers. The
-// plain transcription prints them, and each round of the run must be the plain one.
+// Runs round by round: what each phase asks, its table, and the offers with their answers, all read
+// from the book and from what its rounds offered. Each round must be the plain one.
+ghost use Rattle.std.specs.Prelude.{◌≡◌, true, IfOk};
+ghost use Rattle.rounds.specs.Rounds.{IsAtRest};
+
 use super::beside::alike;
-use super::transcription::{Auction, PlainOffer, Round, auction_of, is_over, next_round};
 use super::*;
+use auction_book::{Book, begin_next_if_over};
+use bidder::{Ask, Offer};
+use rounds::{Round, Rounds};
 use std::test::Fail;
 
 // What a phase asks and its prices, as a line.
-fn phase_line(
-    alloc: Global,
-    phase: u16,
-    eps: i128,
-    floor: i128,
-    prices: &[Price],
-) -> Result<String, AllocError> {
+fn phase_line(alloc: Global, ask: Ask, prices: &[Price]) -> Result<String, AllocError> {
+    let (phase, eps, floor) = (ask.phase, ask.eps, ask.floor);
     let mut line = format!(in alloc; "phase {phase}, eps {eps}, floor {floor}, prices")?;
     for price in prices {
         write!(line, " {price}")?;
@@ -20,73 +20,111 @@ fn phase_line(
     Ok(line)
 }
 
+// How many bids of workers 1, 2, .. were accepted.
+fn accepted_by(alloc: Global, book: &Book) -> Result<Vec<u128>, AllocError> {
+    let mut counts = Vec::new(alloc);
+    for i in 0..book.workers() {
+        counts.push(book.accepted_by(i + 1))?;
+    }
+    Ok(counts)
+}
+
 // An offer with its answer, as a line.
-fn offer_line(alloc: Global, offer: PlainOffer, accepted: bool) -> Result<String, AllocError> {
-    let person = offer.person.wrapping_add(1);
+fn offer_line(alloc: Global, offer: Offer, accepted: bool) -> Result<String, AllocError> {
     let answer = if accepted { "accepted" } else { "refused" };
-    match offer.bid {
-        Some((object, level)) => {
-            let object = object.wrapping_add(1);
-            format!(in alloc; "{person} bids {level} for {object}, {answer}")
+    match offer {
+        Offer::Bid(bid) => {
+            let (person, object) = (bid.person.0, bid.object.0);
+            format!(in alloc; "{person} bids {} for {object}, {answer}", bid.level)
         }
-        None => format!(in alloc; "{person} is below the floor"),
+        Offer::Below(below) => format!(in alloc; "{} is below the floor", below.person.0),
     }
 }
 
-// A round as lines: what its phase asks, its table, and the submitted offers one by one.
-fn tell_round(alloc: Global, round: &Round, lines: &mut Vec<String>) -> Result<(), AllocError> {
-    let prices = round.prices.as_slice();
-    lines.push(phase_line(alloc, round.phase, round.eps, round.floor, prices)?)?;
-    for (offer, accepted) in round.offers.iter().zip(round.answers.iter()) {
-        lines.push(offer_line(alloc, *offer, *accepted)?)?;
+// The offers of a round with their answers, as lines: an accepted bid is counted for its worker.
+fn add_offers(
+    alloc: Global,
+    offers: &[Offer],
+    before: &[u128],
+    after: &[u128],
+    lines: &mut Vec<String>,
+) -> Result<(), AllocError> {
+    for (i, offer) in offers.iter().enumerate() {
+        let accepted = match (before.get(i), after.get(i)) {
+            (Some(before), Some(after)) => before < after,
+            _ => false,
+        };
+        lines.push(offer_line(alloc, *offer, accepted)?)?;
     }
     Ok(())
 }
 
-// The rounds of a plain auction, at most a hundred.
-fn tell_rounds(alloc: Global, auction: &mut Auction) -> Result<Vec<String>, AllocError> {
-    let mut lines = Vec::new(alloc);
-    for _ in 0..100 {
-        if is_over(auction) {
-            break;
-        }
-        let round = next_round(alloc, auction)?;
-        tell_round(alloc, &round, &mut lines)?;
+// A round as lines: what its phase asks, its table, and its offers. Returns whether the run goes on.
+fn show_round(
+    alloc: Global,
+    rounds: &mut Rounds,
+    book: &mut Book,
+    lines: &mut Vec<String>,
+) -> Result<bool, AllocError>
+    requires rest { IsAtRest book.old }
+    requires problem { book.old.base ≡ rounds.old.base }
+    ensures rest { IfOk result (λ more. more ≡ true → IsAtRest book.new) }
+    ensures problem { IfOk result (λ more. book.new.base ≡ rounds.new.base) }
+{
+    begin_next_if_over(alloc, book)?;
+    lines.push(phase_line(alloc, book.ask(), book.prices().as_slice())?)?;
+    let before = accepted_by(alloc, book)?;
+    let came = rounds.run_round(&mut Alone, book)?;
+    let after = accepted_by(alloc, book)?;
+    add_offers(
+        alloc,
+        rounds.offers(),
+        before.as_slice(),
+        after.as_slice(),
+        lines,
+    )?;
+    match came {
+        Round::More => Ok(true),
+        _ => Ok(false),
     }
-    Ok(lines)
 }
 
-// The rounds of the plain transcription, and its final table if everybody has an object.
-fn plainly_told(
+// The rounds of a run, at most a hundred, as lines.
+fn shown(
     alloc: Global,
     n: u16,
     pairs: &[Pair],
     first: &[Price],
 ) -> Result<Vec<String>, AllocError> {
-    let mut auction = auction_of(alloc, n, pairs, Sense::Min, first)?;
-    let mut lines = tell_rounds(alloc, &mut auction)?;
-    if auction.halted.is_none() {
-        let prices = auction.prices.as_slice();
-        lines.push(phase_line(alloc, auction.phase, auction.eps, auction.floor, prices)?)?;
+    let n = size(n);
+    let scaled = scaled_of(alloc, n, pairs, Sense::Min)?;
+    let prices = first_prices(alloc, n, first)?;
+    let mut rounds = Rounds::new(alloc, scaled.clone()?)?;
+    let mut book = Book::open_from(alloc, scaled, prices, n)?;
+    let mut lines = Vec::new(alloc);
+    for _ in 0..100 {
+        if !show_round(alloc, &mut rounds, &mut book, &mut lines)? {
+            break;
+        }
     }
     Ok(lines)
 }
 
 // The place of the first line that differs, and whether each round of the run is the plain one.
-fn told_otherwise(
+fn shown_otherwise(
     alloc: Global,
     n: u16,
     pairs: &[Pair],
     first: &[Price],
     lines: &[&str],
 ) -> Result<(Option<usize>, bool), AllocError> {
-    let told = plainly_told(alloc, n, pairs, first)?;
-    let same = told
+    let shown = shown(alloc, n, pairs, first)?;
+    let same = shown
         .iter()
         .zip(lines.iter())
-        .take_while(|(told, line)| told.as_str() == **line)
+        .take_while(|(shown, line)| shown.as_str() == **line)
         .count();
-    let whole = same == told.len() && same == lines.len();
+    let whole = same == shown.len() && same == lines.len();
     Ok(((!whole).then_some(same), is_run(alloc, n, pairs, first)?))
 }
 
@@ -111,7 +149,7 @@ fn two_persons_from_zeros(rt: HostRuntime) -> Result<(), Fail> {
         "phase 2, eps 1, floor -36, prices 14 12",
     ];
     assert_eq!(rt;
-        told_otherwise(rt.alloc(), 2, &TWO_PERSONS, &[], &lines)?,
+        shown_otherwise(rt.alloc(), 2, &TWO_PERSONS, &[], &lines)?,
         (None, true)
     );
     Ok(())
@@ -133,7 +171,7 @@ fn two_persons_from_first_prices(rt: HostRuntime) -> Result<(), Fail> {
         "phase 2, eps 1, floor -48, prices 26 24",
     ];
     assert_eq!(rt;
-        told_otherwise(rt.alloc(), 2, &TWO_PERSONS, &[14, 12], &lines)?,
+        shown_otherwise(rt.alloc(), 2, &TWO_PERSONS, &[14, 12], &lines)?,
         (None, true)
     );
     Ok(())
@@ -155,7 +193,7 @@ fn three_persons_who_are_alike(rt: HostRuntime) -> Result<(), Fail> {
         "phase 1, eps 1, floor -10, prices 1 1 2",
     ];
     assert_eq!(rt;
-        told_otherwise(rt.alloc(), 3, alike.as_slice(), &[], &lines)?,
+        shown_otherwise(rt.alloc(), 3, alike.as_slice(), &[], &lines)?,
         (None, true)
     );
     Ok(())
@@ -172,21 +210,21 @@ fn three_persons_below_the_floor(rt: HostRuntime) -> Result<(), Fail> {
         "2 is below the floor",
     ];
     assert_eq!(rt;
-        told_otherwise(rt.alloc(), 3, &CONTESTED, &[], &lines)?,
+        shown_otherwise(rt.alloc(), 3, &CONTESTED, &[], &lines)?,
         (None, true)
     );
     Ok(())
 }
 
 // A phase of one round, in which two persons get different objects at equal prices.
-fn tell_phase(
+fn phase_lines(
     alloc: Global,
-    (phase, eps, floor): (u16, i128, i128),
+    ask: Ask,
     price: Price,
     level: Price,
     lines: &mut Vec<String>,
 ) -> Result<(), AllocError> {
-    lines.push(phase_line(alloc, phase, eps, floor, &[price, price])?)?;
+    lines.push(phase_line(alloc, ask, &[price, price])?)?;
     lines.push(format!(in alloc; "1 bids {level} for 2, accepted")?)?;
     lines.push(format!(in alloc; "2 bids {level} for 1, accepted")?)?;
     Ok(())
@@ -208,7 +246,8 @@ fn ten_phases(alloc: Global) -> Result<Vec<String>, AllocError> {
         (9, 3, -58499998, 49499995, 55499998),
         (10, 1, -64499999, 55499998, 61499999),
     ] {
-        tell_phase(alloc, (phase, eps, floor), price, level, &mut lines)?;
+        let ask = Ask { phase, eps, floor };
+        phase_lines(alloc, ask, price, level, &mut lines)?;
     }
     let end = format!(in alloc; "phase 10, eps 1, floor -64499999, prices 61499999 61499999")?;
     lines.push(end)?;
@@ -219,8 +258,7 @@ fn ten_phases(alloc: Global) -> Result<Vec<String>, AllocError> {
 // plain one.
 fn are_ten_phases(alloc: Global) -> Result<(bool, bool), AllocError> {
     let pairs = dense(alloc, 2, &[1_000_000, -1_000_000, -1_000_000, 1_000_000])?;
-    let told = plainly_told(alloc, 2, pairs.as_slice(), &[])?;
-    let same = told == ten_phases(alloc)?;
+    let same = shown(alloc, 2, pairs.as_slice(), &[])? == ten_phases(alloc)?;
     Ok((same, is_run(alloc, 2, pairs.as_slice(), &[])?))
 }
 

@@ -9,8 +9,7 @@ pub(super) struct PlainOffer {
     pub bid: Option<(usize, i128)>,
 }
 
-// A round: what its phase asks, its table, the offers of all who wait, and for each submitted one
-// whether it was accepted.
+// A round: what its phase asks, its table, and the offers of all who wait.
 #[derive(Drop)]
 pub(super) struct Round {
     pub phase: u16,
@@ -18,7 +17,6 @@ pub(super) struct Round {
     pub floor: i128,
     pub prices: Vec<i128>,
     pub offers: Vec<PlainOffer>,
-    pub answers: Vec<bool>,
 }
 
 // An auction of n persons: benefits row by row, `None` for a pair that isn't listed.
@@ -71,17 +69,17 @@ fn bid_of(auction: &Auction, person: usize) -> Option<(usize, i128)> {
     Some((object, level))
 }
 
-// Submits a bid. Returns whether it is accepted.
+// Submits a bid, which is accepted if it is high enough.
 fn submit(
     auction: &mut Auction,
     person: usize,
     object: usize,
     level: i128,
-) -> Result<bool, AllocError> {
+) -> Result<(), AllocError> {
     let price = auction.prices.get(object).copied().unwrap_or(0);
     if level < price.wrapping_add(auction.eps) {
         auction.queue.push(person)?;
-        return Ok(false);
+        return Ok(());
     }
     if let Some(place) = auction.prices.get_mut(object) {
         *place = level;
@@ -92,7 +90,7 @@ fn submit(
             auction.queue.push(evicted)?;
         }
     }
-    Ok(true)
+    Ok(())
 }
 
 // The offers of all who wait; nobody waits after that.
@@ -109,21 +107,15 @@ fn offers_of(alloc: Global, auction: &mut Auction) -> Result<Vec<PlainOffer>, Al
 }
 
 // Submits offers one by one. A person without an object worth the floor ends the run.
-fn submit_all(
-    alloc: Global,
-    auction: &mut Auction,
-    offers: &[PlainOffer],
-) -> Result<Vec<bool>, AllocError> {
-    let mut answers = Vec::new(alloc);
+fn submit_all(auction: &mut Auction, offers: &[PlainOffer]) -> Result<(), AllocError> {
     for offer in offers {
         let Some((object, level)) = offer.bid else {
             auction.halted = Some(offer.person);
-            answers.push(false)?;
-            return Ok(answers);
+            return Ok(());
         };
-        answers.push(submit(auction, offer.person, object, level)?)?;
+        submit(auction, offer.person, object, level)?;
     }
-    Ok(answers)
+    Ok(())
 }
 
 // The greatest of some numbers and 0.
@@ -166,14 +158,13 @@ pub(super) fn next_round(alloc: Global, auction: &mut Auction) -> Result<Round, 
     let (phase, eps, floor) = (auction.phase, auction.eps, auction.floor);
     let prices = auction.prices.as_slice().to_vec(alloc)?;
     let offers = offers_of(alloc, auction)?;
-    let answers = submit_all(alloc, auction, offers.as_slice())?;
+    submit_all(auction, offers.as_slice())?;
     Ok(Round {
         phase,
         eps,
         floor,
         prices,
         offers,
-        answers,
     })
 }
 
