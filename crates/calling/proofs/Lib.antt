@@ -1,3 +1,1 @@
 mod Texts
-mod Given
-mod Reporting
