@@ -7,8 +7,6 @@ mod costs;
 mod problems;
 mod reports;
 mod solving;
-#[cfg(test)]
-mod tests;
 
 pub use checks::{proves_best, proves_infeasible};
 pub use costs::{cost_of_best, least_cost};

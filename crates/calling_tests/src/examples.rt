@@ -1,10 +1,10 @@
 // Each example once, with ample memory. The answers are worked by hand: two persons whose costs are
 // 1, 2 and 3, 5 pay least, 5, with objects 2 and 1, and prices 14 and 12 prove it.
-use super::{
+use assign_core::{Cost, GREATEST_COST, Object, Outcome, Person, Problem, Sense};
+use calling::{
     least_cost, problem_of_pairs, proves_best, proves_infeasible, read_confirmed, solve_alone,
     solve_by_workers, solve_dense, solve_dense_among, solve_in_threads, write_proved,
 };
-use assign_core::{Cost, GREATEST_COST, Object, Outcome, Person, Problem, Sense};
 use orlib_reader::InputFault;
 use report::ReportFault;
 use std::alloc::{AllocError, Global};
