@@ -12,7 +12,7 @@ use std::alloc::Global;
 use std::io::Read;
 
 /// Whether these prices prove these objects of persons 1, 2, .. an optimal assignment of the
-/// problem in a dense text, whoever found them.
+/// problem in a dense text.
 ///
 /// # Errors
 /// Those of `read_dense`.

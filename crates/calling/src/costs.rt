@@ -24,7 +24,7 @@ pub fn cost_of_best(problem: &Problem, best: &Certificate) -> Cost
 /// The least cost of an assignment. `None` exactly where the problem has no assignment.
 ///
 /// # Errors
-/// Only where memory is refused.
+/// `AllocError` if memory is refused.
 pub fn least_cost(alloc: Global, problem: Problem) -> Result<Option<Cost>, AllocError>
     ensures { IfOk result (λ found. MatchOption found
         ((xs : List ℕ) → IsAssignment problem xs → ⊥) (IsLeastCost problem)) }

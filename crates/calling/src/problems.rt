@@ -53,7 +53,7 @@ fn are_in_range(n: u16, triples: &[(Person, Object, Cost)]) -> bool
 /// The problem of pairs of any origin. `None` exactly where `n` or a pair is out of range.
 ///
 /// # Errors
-/// Only where memory is refused.
+/// `AllocError` if memory is refused.
 pub fn problem_of_pairs(
     alloc: Global,
     n: u16,

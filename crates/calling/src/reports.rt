@@ -42,10 +42,10 @@ fn objects_in(alloc: Global, rows: &[(Object, Cost)]) -> Result<Vec<Object>, All
 }
 
 /// The outcome that a report names, where its lists prove it under this sense. `None` exactly
-/// where they don't, whoever wrote the report.
+/// where they don't.
 ///
 /// # Errors
-/// Only where memory is refused.
+/// `AllocError` if memory is refused.
 pub fn confirmed(
     alloc: Global,
     problem: &Problem,

@@ -18,7 +18,7 @@ use std::thread::Threads;
 /// Solves the problem of `n` persons and `n` objects at these costs, row by row.
 ///
 /// # Errors
-/// Only where memory is refused.
+/// `AllocError` if memory is refused.
 pub fn solve_dense(alloc: Global, n: u16, costs: &[Cost]) -> Result<Outcome, AllocError>
     requires size { IsSize n }
     requires count { length costs.now ≡ n * n }
@@ -35,7 +35,7 @@ pub fn solve_dense(alloc: Global, n: u16, costs: &[Cost]) -> Result<Outcome, All
 /// row.
 ///
 /// # Errors
-/// Only where memory is refused.
+/// `AllocError` if memory is refused.
 pub fn solve_dense_among(
     alloc: Global,
     n: u16,
@@ -59,7 +59,7 @@ pub fn solve_dense_among(
 /// Solves by rounds in the calling thread.
 ///
 /// # Errors
-/// Only where memory is refused.
+/// `AllocError` if memory is refused.
 pub fn solve_alone(alloc: Global, problem: Problem, sense: Sense) -> Result<Outcome, AllocError>
     ensures rounds { IfOk result
         (IsOfRounds (problem_under sense problem) (replicate (length problem) (pos 0))) }
@@ -77,7 +77,7 @@ pub fn solve_alone(alloc: Global, problem: Problem, sense: Sense) -> Result<Outc
 /// `rounds_have_one_outcome` says so.
 ///
 /// # Errors
-/// Only where memory is refused.
+/// `AllocError` if memory is refused.
 pub fn solve_in_threads(
     rt: &(impl Threads + Sync),
     alloc: Global,
@@ -98,7 +98,7 @@ pub fn solve_in_threads(
 /// Solves by workers in threads of their own, and may wait for them.
 ///
 /// # Errors
-/// Only where memory is refused.
+/// `AllocError` if memory is refused.
 pub fn solve_by_workers<R: Threads + Wait + Sync>(
     rt: &R,
     alloc: Global,
