@@ -9,7 +9,9 @@ virtual environment, they are shown as not run. With --text it runs nothing, and
 Then it looks at the text of all pages: links and names of files that lead nowhere, lines of more than 100 characters,
 sentences of more than 35 words, and words that docs/CONTRIBUTING.md lists to avoid. Tables, code and quoted output are
 exempt. It compares docs/DEFINITIONS.md with what docs/definitions.py makes, whose sentences come from the sources and
-are exempt too. Prints what is wrong, and ends with status 1 then.
+are exempt too. And it looks for each block below `# Example` in the documentation of calls, and for each block that
+docs/CALLING.md shows other crates, among the lines of crates/calling, which the gate proves. Prints what is wrong, and
+ends with status 1 then.
 """
 import glob
 import importlib.util
@@ -25,6 +27,9 @@ RUN = ["README.md", "docs/MODELLING.md", "docs/MODES.md", "docs/SCRIPTS.md"]
 # A command that uses a release, or the environment that it was installed in.
 RELEASED = re.compile(r"\brelease/|\bplanner\b")
 GENERATED = "docs/DEFINITIONS.md"
+# The crate of examples, and the section of a page that shows some of them.
+EXAMPLES = "crates/calling/src"
+SHOWN = ("docs/CALLING.md", "## Another crate in Rattle")
 WIDEST = 100
 LONGEST = 35
 # The page that lists the words to avoid, in a block whose first line begins with `avoid`.
@@ -199,6 +204,51 @@ def look_at_generated(told):
             told.append(f"{GENERATED} is old: run docs/definitions.py")
 
 
+def sources(pattern):
+    """The code of some crates."""
+    return sorted(os.path.relpath(path, TOP) for path in glob.glob(os.path.join(TOP, pattern, "**/*.rt"), recursive=True))
+
+
+def documented(path):
+    """Each block of code below `# Example` in the documentation of a file, with the number of its first line."""
+    number, held, below = 0, None, False
+    for place, line in enumerate(lines_of(path) + [""], 1):
+        comment, text = line.strip().startswith("///"), line.strip()[3:].strip()
+        if held is not None and (not comment or text == "```"):
+            yield number, held
+            held = None
+        elif held is not None:
+            held.append(text)
+        elif not comment or text.startswith("# "):
+            below = comment and text == "# Example"
+        elif below and text == "```":
+            number, held = place + 1, []
+
+
+def shown():
+    """Each block of code of the page's section, with the number of its first line."""
+    page, heading = SHOWN
+    lines = lines_of(page)
+    held = []
+    for place in range(lines.index(heading) + 1, len(lines)):
+        if lines[place].startswith("## "):
+            break
+        if is_code(lines[place]):
+            held.append(lines[place].strip())
+        elif held:
+            yield place + 1 - len(held), held
+            held = []
+
+
+def look_at_examples(told):
+    """Looks for each example that is shown, line for line apart from indentation, in the crate that has them all."""
+    proved = ["\n".join(["", *(line.strip() for line in lines_of(path)), ""]) for path in sources(EXAMPLES)]
+    blocks = [(path, *block) for path in sources("crates/*/src") for block in documented(path)]
+    for path, number, block in blocks + [(SHOWN[0], *block) for block in shown()]:
+        if not any("\n".join(["", *block, ""]) in text for text in proved):
+            told.append(f"{path}:{number}: this example isn't in {EXAMPLES}")
+
+
 def look_at_text(told):
     words_to_avoid = avoided()
     for page in pages():
@@ -207,6 +257,7 @@ def look_at_text(told):
         if page != GENERATED:
             look_at_sentences(page, words_to_avoid, told)
     look_at_generated(told)
+    look_at_examples(told)
 
 
 def main():

@@ -26,6 +26,15 @@ pub fn limits()
 
 /// An assignment with slackness 1 at some prices, at benefits scaled by one more than the number of
 /// persons, is optimal: weak duality (Bertsekas, Network Optimization, 1998, section 7.1).
+///
+/// # Example
+/// The body of `calling::cost_of_best`:
+/// ```
+/// // The law's premises are the rule of problems, which `n` gives, and the certificate.
+/// let _persons = problem.n();
+/// slack_means_best();
+/// problem.total(&best.assignment)
+/// ```
 pub fn slack_means_best()
     ensures { (sense : Sense) (rows : List Listing) (xs : List ℕ) (prices : List ℤ)
         → IsProblem rows → IsAssignment rows xs

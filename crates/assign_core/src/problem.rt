@@ -119,6 +119,14 @@ impl Problem {
     ///
     /// # Errors
     /// `AllocError` if memory is refused.
+    ///
+    /// # Example
+    /// The body of `calling::solve_dense`:
+    /// ```
+    /// let problem = Problem::dense(alloc, n, costs)?;
+    /// let scaled = Arc::new(alloc, scale(alloc, problem, Sense::Min)?)?;
+    /// solve_paths(alloc, scaled)
+    /// ```
     pub fn dense(alloc: Global, n: u16, costs: &[Cost]) -> Result<Problem, AllocError>
         requires size { IsSize n }
         requires count { length costs.now ≡ n * n }
@@ -139,6 +147,14 @@ impl Problem {
     ///
     /// # Errors
     /// `AllocError` if memory is refused.
+    ///
+    /// # Example
+    /// The body of `calling::solve_dense_among`:
+    /// ```
+    /// let problem = Problem::dense_among(alloc, n, m, costs)?;
+    /// let scaled = Arc::new(alloc, scale(alloc, problem, Sense::Min)?)?;
+    /// solve_paths_among(alloc, scaled, n)
+    /// ```
     pub fn dense_among(alloc: Global, n: u16, m: u16, costs: &[Cost]) -> Result<Problem, AllocError>
         requires persons { IsSize n }
         requires objects { IsSize m }

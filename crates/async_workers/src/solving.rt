@@ -136,6 +136,16 @@ pub fn solve_workers_from<G: Gate + Sync, R: Threads + Wait + Sync>(
 ///
 /// # Errors
 /// `Memory` if memory is refused.
+///
+/// # Example
+/// The body of `calling::solve_by_workers`:
+/// ```
+/// let scaled = Arc::new(alloc, scale(alloc, problem, sense)?)?;
+/// match solve_workers(rt, alloc, scaled, workers, 0, &OpenGate) {
+///     Ok((outcome, _)) => Ok(outcome),
+///     Err(_) => Err(AllocError),
+/// }
+/// ```
 pub fn solve_workers<G: Gate + Sync, R: Threads + Wait + Sync>(
     rt: &R,
     alloc: Global,

@@ -60,6 +60,14 @@ pub fn first_fault(
 ///
 /// # Errors
 /// `AllocError` if memory is refused, before the lists are read.
+///
+/// # Example
+/// The body of `calling::proves_best`:
+/// ```
+/// let problem = read_dense(alloc, r)?;
+/// let verdict = check(alloc, &problem, Sense::Min, objects, prices)?;
+/// Ok(verdict == Verdict::Yes)
+/// ```
 pub fn check(
     alloc: Global,
     problem: &Problem,

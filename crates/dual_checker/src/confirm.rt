@@ -49,6 +49,15 @@ pub fn confirms(
 ///
 /// # Errors
 /// `AllocError` if memory is refused. The lists are then dropped.
+///
+/// # Example
+/// From `calling::confirmed`, which takes a report:
+/// ```
+/// Some(prices) => {
+///     let objects = objects_in(alloc, rows.as_slice())?;
+///     confirm_best(alloc, problem, sense, objects, prices)
+/// }
+/// ```
 pub fn confirm_best(
     alloc: Global,
     problem: &Problem,
@@ -112,6 +121,16 @@ pub fn confirm_best_among(
 ///
 /// # Errors
 /// `AllocError` if memory is refused. The lists are then dropped.
+///
+/// # Example
+/// From `calling::confirmed`, which takes a report:
+/// ```
+/// Report::Hall {
+///     persons,
+///     objects,
+///     ..
+/// } => confirm_hall(alloc, problem, persons, objects),
+/// ```
 pub fn confirm_hall(
     alloc: Global,
     problem: &Problem,

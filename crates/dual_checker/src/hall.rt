@@ -52,6 +52,14 @@ fn first_hall_fault(
 ///
 /// # Errors
 /// `AllocError` if memory is refused, before the lists are read.
+///
+/// # Example
+/// The body of `calling::proves_infeasible`:
+/// ```
+/// let problem = read_sparse(alloc, r)?;
+/// let verdict = check_hall(alloc, &problem, persons, objects)?;
+/// Ok(verdict == HallVerdict::Yes)
+/// ```
 pub fn check_hall(
     alloc: Global,
     problem: &Problem,

@@ -56,6 +56,14 @@ pub fn text_limit()
 /// # Errors
 /// The first fault in the order of the text's bytes; `Read` if the reader fails or is interrupted;
 /// `Memory` if memory is refused. The reader stays where the reading stopped.
+///
+/// # Example
+/// The body of `calling::proves_best`:
+/// ```
+/// let problem = read_dense(alloc, r)?;
+/// let verdict = check(alloc, &problem, Sense::Min, objects, prices)?;
+/// Ok(verdict == Verdict::Yes)
+/// ```
 pub fn read_dense<R: Read>(alloc: Global, r: &mut R) -> Result<Problem, InputFault>
     ensures { IfSome (R.remaining r.old) (λ bytes. Answers result (dense_reading bytes)) }
 {
@@ -68,6 +76,14 @@ pub fn read_dense<R: Read>(alloc: Global, r: &mut R) -> Result<Problem, InputFau
 ///
 /// # Errors
 /// As for `read_dense`; `Index` if a person or an object isn't from 1 to n.
+///
+/// # Example
+/// The body of `calling::proves_infeasible`:
+/// ```
+/// let problem = read_sparse(alloc, r)?;
+/// let verdict = check_hall(alloc, &problem, persons, objects)?;
+/// Ok(verdict == HallVerdict::Yes)
+/// ```
 pub fn read_sparse<R: Read>(alloc: Global, r: &mut R) -> Result<Problem, InputFault>
     ensures { IfSome (R.remaining r.old) (λ bytes. SparseAnswers result (sparse_reading bytes)) }
 {

@@ -46,6 +46,16 @@ fn read_all<R: Read>(alloc: Global, r: &mut R) -> Result<Report, ReportFault>
 /// # Errors
 /// The first fault of the text; `Read` if the reader fails or is interrupted; `Memory` if memory is
 /// refused. The reader stays where the reading stopped.
+///
+/// # Example
+/// The body of `calling::read_confirmed`:
+/// ```
+/// let report = read_report(alloc, r)?;
+/// match confirmed(alloc, problem, sense, report) {
+///     Ok(found) => Ok(found),
+///     Err(_) => Err(ReportFault::Memory),
+/// }
+/// ```
 pub fn read_report<R: Read>(alloc: Global, r: &mut R) -> Result<Report, ReportFault>
     ensures answer { IfSome (R.remaining r.old) (λ bytes. Answers bytes (seen_result result)) }
     ensures allowed { IfOk result (λ report. IsReport (seen_report report)) }

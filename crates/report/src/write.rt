@@ -137,6 +137,12 @@ fn put_report<W: Write>(
 /// # Errors
 /// `Write` if the writer fails, is interrupted or takes no byte. A beginning of the report is then
 /// written.
+///
+/// # Example
+/// The body of `calling::write_proved`:
+/// ```
+/// write_report(w, problem, sense, outcome, true)
+/// ```
 pub fn write_report<W: Write>(
     w: &mut W,
     problem: &Problem,

@@ -367,6 +367,16 @@ pub fn solve_rounds_from(
 ///
 /// # Errors
 /// Only where memory is refused.
+///
+/// # Example
+/// The body of `calling::solve_in_threads`:
+/// ```
+/// let scaled = Arc::new(alloc, scale(alloc, problem, sense)?)?;
+/// match solve_rounds(rt, alloc, scaled) {
+///     Ok(outcome) => Ok(outcome),
+///     Err(_) => Err(AllocError),
+/// }
+/// ```
 pub fn solve_rounds(
     rt: &(impl Threads + Sync),
     alloc: Global,
@@ -406,6 +416,17 @@ pub fn solve_rounds_alone_from(
 ///
 /// # Errors
 /// Only where memory is refused.
+///
+/// # Example
+/// The body of `calling::solve_alone`:
+/// ```
+/// let scaled = Arc::new(alloc, scale(alloc, problem, sense)?)?;
+/// match solve_rounds_alone(alloc, scaled) {
+///     Ok(outcome) => Ok(outcome),
+///     // The one fault of rounds is that memory was refused.
+///     Err(_) => Err(AllocError),
+/// }
+/// ```
 pub fn solve_rounds_alone(alloc: Global, scaled: Arc<Scaled>) -> Result<Outcome, SolveFault>
     ensures rounds { IfOk result (λ outcome. let s = arc_value scaled in
         IsOfRounds s (replicate (length s.problem) (pos 0)) outcome) }

@@ -65,6 +65,14 @@ fn stored_rows(
 ///
 /// # Errors
 /// `AllocError` if memory is refused.
+///
+/// # Example
+/// The body of `calling::solve_dense`:
+/// ```
+/// let problem = Problem::dense(alloc, n, costs)?;
+/// let scaled = Arc::new(alloc, scale(alloc, problem, Sense::Min)?)?;
+/// solve_paths(alloc, scaled)
+/// ```
 pub fn scale(alloc: Global, problem: Problem, sense: Sense) -> Result<Scaled, AllocError>
     ensures problem { IfOk result (λ s. s.problem ≡ problem) }
     ensures sense { IfOk result (λ s. s.sense ≡ sense) }

@@ -181,6 +181,14 @@ fn solve_among_from(
 ///
 /// # Errors
 /// Only where memory is refused.
+///
+/// # Example
+/// The body of `calling::solve_dense_among`:
+/// ```
+/// let problem = Problem::dense_among(alloc, n, m, costs)?;
+/// let scaled = Arc::new(alloc, scale(alloc, problem, Sense::Min)?)?;
+/// solve_paths_among(alloc, scaled, n)
+/// ```
 pub fn solve_paths_among(alloc: Global, scaled: Arc<Scaled>, n: u16) -> Result<Outcome, AllocError>
     requires { n ≤ length (arc_value scaled).problem }
     ensures proof { IfOk result (IsProofAmong (arc_value scaled) n) }

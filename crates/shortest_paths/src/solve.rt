@@ -321,6 +321,17 @@ fn settled(
 ///
 /// # Errors
 /// Only where memory is refused.
+///
+/// # Example
+/// The body of `calling::least_cost`:
+/// ```
+/// let scaled = Arc::new(alloc, scale(alloc, problem, Sense::Min)?)?;
+/// let outcome = solve_paths(alloc, scaled.clone()?)?;
+/// match outcome {
+///     Outcome::Best(best) => Ok(Some(cost_of_best(scaled.problem(), &best))),
+///     Outcome::Hall(_) => Ok(None),
+/// }
+/// ```
 pub fn solve_paths(alloc: Global, scaled: Arc<Scaled>) -> Result<Outcome, AllocError>
     ensures proof { IfOk result (IsProof (arc_value scaled)) }
     ensures decided { IfOk result (IsDecided (arc_value scaled)) }

@@ -1,0 +1,4 @@
+pub mod Texts
+pub mod Solving
+pub mod Costs
+pub mod Reports

@@ -1,0 +1,38 @@
+// What an optimal assignment costs.
+ghost use Rattle.std.specs.Prelude.{ℕ, List, IfOk, MatchOption};
+ghost use Rattle.assign_core.specs.Assignment.{IsAssignment};
+ghost use Rattle.assign_core.specs.Slackness.{IsCertificate};
+ghost use Rattle.calling.specs.Costs.{IsLeastCost};
+
+use assign_core::{Certificate, Cost, Outcome, Problem, Sense, slack_means_best};
+use scaled_values::scale;
+use shortest_paths::solve_paths;
+use std::alloc::{AllocError, Global};
+use std::sync::Arc;
+
+/// What an assignment costs that its prices prove optimal.
+pub fn cost_of_best(problem: &Problem, best: &Certificate) -> Cost
+    requires { IsCertificate Sense.Min problem.now best.now.assignment best.now.prices }
+    ensures { IsLeastCost problem.now result }
+{
+    // The law's premises are the rule of problems, which `n` gives, and the certificate.
+    let _persons = problem.n();
+    slack_means_best();
+    problem.total(&best.assignment)
+}
+
+/// The least cost of an assignment. `None` exactly where the problem has no assignment.
+///
+/// # Errors
+/// `AllocError` if memory is refused.
+pub fn least_cost(alloc: Global, problem: Problem) -> Result<Option<Cost>, AllocError>
+    ensures { IfOk result (λ found. MatchOption found
+        ((xs : List ℕ) → IsAssignment problem xs → ⊥) (IsLeastCost problem)) }
+{
+    let scaled = Arc::new(alloc, scale(alloc, problem, Sense::Min)?)?;
+    let outcome = solve_paths(alloc, scaled.clone()?)?;
+    match outcome {
+        Outcome::Best(best) => Ok(Some(cost_of_best(scaled.problem(), &best))),
+        Outcome::Hall(_) => Ok(None),
+    }
+}
