@@ -9,9 +9,12 @@ use super::answer::{best_among, hall_among};
 use super::market::Market;
 use super::number::Number;
 use super::observer::{Telling, Unobserved};
-use super::plan::plan_among;
+use super::plan::{plan_among, started_plan_among};
+use super::prices::given_prices;
 use super::search::End;
+use super::settling::{base_of, settle};
 use super::solve::{Searched, bid_and_search, solve_paths, solve_paths_from};
+use super::ties::match_ties;
 use assign_core::{Outcome, Prices};
 use rectangles::{dummies_change_nothing, filled_up, of_first};
 use scaled_values::{Scaled, scale};
@@ -47,10 +50,17 @@ fn of_square(
     of_first(alloc, outcome, n)
 }
 
-// The answer by way of the square with dummies.
-fn solve_filled_up(alloc: Global, scaled: &Scaled, n: u16) -> Result<Outcome, AllocError>
+/// Solves the problem of the first `n` persons among all objects by way of a square: dummies who list
+/// all objects at cost 0 take the place of the other persons, and `solve_paths` solves that.
+/// `solve_paths_among`, which asks for this where the checkers refuse what it found, is mostly far
+/// faster.
+///
+/// # Errors
+/// Only where memory is refused.
+pub fn solve_with_dummies(alloc: Global, scaled: &Scaled, n: u16) -> Result<Outcome, AllocError>
     requires { n ≤ length scaled.now.problem }
-    ensures { IfOk result (IsProofAmong scaled.now n) }
+    ensures proof { IfOk result (IsProofAmong scaled.now n) }
+    ensures decided { IfOk result (IsDecidedAmong scaled.now n) }
 {
     let square = square_of(alloc, scaled, n)?;
     let outcome = solve_paths(alloc, square)?;
@@ -129,15 +139,66 @@ fn find_among(alloc: Global, scaled: &Scaled, n: u16) -> Result<Option<Outcome>,
     }
 }
 
-// What is found for the first `n` persons, and where nothing is found the answer by way of the square
+// Paths of the first `n` persons from first prices, if these fit: most persons are matched with best
+// objects, the searches for the others are short, and so are those that bring what nobody owns down to
+// the least price that is paid.
+fn started_among(
+    alloc: Global,
+    scaled: &Scaled,
+    n: u16,
+    prices: &Prices,
+) -> Result<Option<Outcome>, AllocError>
+    requires persons { n ≤ length scaled.now.problem }
+    requires prices { length prices.now ≡ length scaled.now.problem }
+    ensures { IfOk result (λ found. IfSome found (IsProofAmong scaled.now n)) }
+{
+    let plan = started_plan_among(scaled, n);
+    let prices = given_prices(alloc, scaled, prices)?;
+    let mut market = Market::new(alloc, prices, n as usize)?;
+    let Some(ties) = match_ties(alloc, scaled, &mut market, plan.most_unserved)? else {
+        return Ok(None);
+    };
+    let base = base_of(alloc, scaled, &mut market, &ties)?;
+    let mut telling = Telling::new(&Unobserved);
+    let searched = bid_and_search(alloc, scaled, &mut market, plan, &mut telling)?;
+    if searched.end.is_none() && !settle(alloc, scaled, &mut market, &base)? {
+        return Ok(None);
+    }
+    answer_among(alloc, scaled, n, &market, &searched)
+}
+
+// What is found for the first `n` persons from these prices, and where they don't fit from equal ones.
+fn find_among_from(
+    alloc: Global,
+    scaled: &Scaled,
+    n: u16,
+    prices: &Prices,
+) -> Result<Option<Outcome>, AllocError>
+    requires persons { n ≤ length scaled.now.problem }
+    requires prices { length prices.now ≡ length scaled.now.problem }
+    ensures { IfOk result (λ found. IfSome found (IsProofAmong scaled.now n)) }
+{
+    match started_among(alloc, scaled, n, prices)? {
+        None => find_among(alloc, scaled, n),
+        found => Ok(found),
+    }
+}
+
+// What was found for the first `n` persons, and where nothing was found the answer by way of the square
 // with dummies.
-fn solve_first(alloc: Global, scaled: &Scaled, n: u16) -> Result<Outcome, AllocError>
-    requires { n ≤ length scaled.now.problem }
+fn settled_among(
+    alloc: Global,
+    scaled: &Scaled,
+    n: u16,
+    found: Option<Outcome>,
+) -> Result<Outcome, AllocError>
+    requires persons { n ≤ length scaled.now.problem }
+    requires found { IfSome found (IsProofAmong scaled.now n) }
     ensures { IfOk result (IsProofAmong scaled.now n) }
 {
-    match find_among(alloc, scaled, n)? {
+    match found {
         Some(outcome) => Ok(outcome),
-        None => solve_filled_up(alloc, scaled, n),
+        None => solve_with_dummies(alloc, scaled, n),
     }
 }
 
@@ -149,11 +210,12 @@ fn solve_among(alloc: Global, scaled: &Arc<Scaled>, n: u16) -> Result<Outcome, A
     if n == scaled.n() {
         solve_whole(alloc, scaled, n)
     } else {
-        solve_first(alloc, scaled, n)
+        let found = find_among(alloc, scaled, n)?;
+        settled_among(alloc, scaled, n, found)
     }
 }
 
-// The same from first prices on, where all persons are meant.
+// The same from first prices on.
 fn solve_among_from(
     alloc: Global,
     scaled: &Arc<Scaled>,
@@ -167,7 +229,8 @@ fn solve_among_from(
     if n == scaled.n() {
         solve_whole_from(alloc, scaled, n, prices)
     } else {
-        solve_first(alloc, scaled, n)
+        let found = find_among_from(alloc, scaled, n, &prices)?;
+        settled_among(alloc, scaled, n, found)
     }
 }
 
@@ -176,7 +239,7 @@ fn solve_among_from(
 ///
 /// Paths are looked for from equal prices, and the time is at most that of twice `n` searches over the
 /// pairs of these persons, and mostly far less. Where the checkers refuse what was found, which is not
-/// known to happen, dummies fill the problem up to a square, which `solve_paths` solves. None of this
+/// known to happen, dummies fill the problem up to a square, as in `solve_with_dummies`. None of this
 /// is proved but the answer.
 ///
 /// # Errors
@@ -189,8 +252,8 @@ pub fn solve_paths_among(alloc: Global, scaled: Arc<Scaled>, n: u16) -> Result<O
     solve_among(alloc, &scaled, n)
 }
 
-/// Solves as `solve_paths_among` does, beginning at these prices, one for each object, where all
-/// persons are meant. Where they are fewer the prices are left for equal ones.
+/// Solves as `solve_paths_among` does, beginning at these prices, one for each object. They may be any:
+/// those at which few persons can be matched, or at which objects stay dear that nobody owns, are left.
 ///
 /// # Errors
 /// Only where memory is refused.

@@ -97,3 +97,22 @@ pub fn started_plan(scaled: &Scaled) -> Plan {
         ..plan_of(scaled)
     }
 }
+
+// The plan from first prices for the first `n` persons among more objects, where the other plan takes
+// but a few looks at each pair.
+pub fn started_plan_among(scaled: &Scaled, n: u16) -> Plan
+    requires { n ≤ MOST_PERSONS }
+{
+    let persons = n as usize;
+    Plan {
+        most_unserved: persons / 64 + 1,
+        most_scans: persons / 4 + 1,
+        bids_in_a_row: persons / 16 + 8,
+        ..plan_by(persons, is_sparse(scaled, n))
+    }
+}
+
+// So many looks at pairs bring dear objects down that nobody owns, where persons list so many pairs.
+pub fn most_looks(pairs: usize) -> usize {
+    pairs / 16 + 64
+}
