@@ -12,7 +12,7 @@ use super::observer::{Telling, Unobserved};
 use super::plan::{plan_among, started_plan_among};
 use super::prices::given_prices;
 use super::search::End;
-use super::settling::{base_of, settle};
+use super::settling::{Base, base_of, settle};
 use super::solve::{Searched, bid_and_search, solve_paths, solve_paths_from};
 use super::ties::match_ties;
 use assign_core::{Outcome, Prices};
@@ -51,9 +51,8 @@ fn of_square(
 }
 
 /// Solves the problem of the first `n` persons among all objects by way of a square: dummies who list
-/// all objects at cost 0 take the place of the other persons, and `solve_paths` solves that.
-/// `solve_paths_among`, which asks for this where the checkers refuse what it found, is mostly far
-/// faster.
+/// all objects at cost 0 replace the other persons, and `solve_paths` solves that square.
+/// `solve_paths_among` does this only where the checkers refuse what it found, and is mostly far faster.
 ///
 /// # Errors
 /// Only where memory is refused.
@@ -139,9 +138,26 @@ fn find_among(alloc: Global, scaled: &Scaled, n: u16) -> Result<Option<Outcome>,
     }
 }
 
+// The objects of the first `n` persons with the prices, once no unowned object is dear.
+fn best_settled(
+    alloc: Global,
+    scaled: &Scaled,
+    n: u16,
+    market: &mut Market<i64>,
+    base: &Base,
+) -> Result<Option<Outcome>, AllocError>
+    requires { n ≤ length scaled.now.problem }
+    ensures { IfOk result (λ found. IfSome found (IsProofAmong scaled.now n)) }
+{
+    if settle(alloc, scaled, market, base)? {
+        best_among(alloc, scaled, n, market)
+    } else {
+        Ok(None)
+    }
+}
+
 // Paths of the first `n` persons from first prices, if these fit: most persons are matched with best
-// objects, the searches for the others are short, and so are those that bring what nobody owns down to
-// the least price that is paid.
+// objects, and few looks serve the others and lower the prices of unowned objects.
 fn started_among(
     alloc: Global,
     scaled: &Scaled,
@@ -161,13 +177,13 @@ fn started_among(
     let base = base_of(alloc, scaled, &mut market, &ties)?;
     let mut telling = Telling::new(&Unobserved);
     let searched = bid_and_search(alloc, scaled, &mut market, plan, &mut telling)?;
-    if searched.end.is_none() && !settle(alloc, scaled, &mut market, &base)? {
-        return Ok(None);
+    match searched.end {
+        None => best_settled(alloc, scaled, n, &mut market, &base),
+        _ => answer_among(alloc, scaled, n, &market, &searched),
     }
-    answer_among(alloc, scaled, n, &market, &searched)
 }
 
-// What is found for the first `n` persons from these prices, and where they don't fit from equal ones.
+// What is found for the first `n` persons from these prices, or from equal ones if these don't fit.
 fn find_among_from(
     alloc: Global,
     scaled: &Scaled,
@@ -184,7 +200,7 @@ fn find_among_from(
     }
 }
 
-// What was found for the first `n` persons, and where nothing was found the answer by way of the square
+// What was found for the first `n` persons, or if nothing was found the answer by way of the square
 // with dummies.
 fn settled_among(
     alloc: Global,
@@ -252,8 +268,9 @@ pub fn solve_paths_among(alloc: Global, scaled: Arc<Scaled>, n: u16) -> Result<O
     solve_among(alloc, &scaled, n)
 }
 
-/// Solves as `solve_paths_among` does, beginning at these prices, one for each object. They may be any:
-/// those at which few persons can be matched, or at which objects stay dear that nobody owns, are left.
+/// Solves as `solve_paths_among` does, from these first prices, one for each object. They may be any:
+/// prices that leave too much to search for are left for equal ones, where `n` is below the number of
+/// objects, and for the usual ones of `solve_paths` where it isn't.
 ///
 /// # Errors
 /// Only where memory is refused.

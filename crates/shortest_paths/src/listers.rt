@@ -1,10 +1,10 @@
-// Which persons list an object: the rows seen from the objects.
+// The rows seen from the objects: who lists each object.
 use super::rows::{place_of, row_at};
 use assign_core::{Benefit, Object};
 use scaled_values::{Row, Scaled};
 use std::alloc::{AllocError, Global};
 
-// A pair of a short row, and the place of the pair before it that has the same object.
+// A pair of a short row, and the place of the previous pair of its object.
 #[derive(Clone, Copy)]
 pub struct Listed {
     pub person: usize,
@@ -12,7 +12,7 @@ pub struct Listed {
     pub before: Option<usize>,
 }
 
-// The persons with full rows, all pairs of short ones, and the last of these that each object has.
+// The persons with full rows, the pairs of short rows, and the place of each object's last pair.
 #[derive(Drop)]
 pub struct Listers {
     pub full: Vec<usize>,
@@ -21,7 +21,7 @@ pub struct Listers {
 }
 
 impl Listers {
-    // Those among the first persons, so many.
+    // Of the first `persons` rows.
     pub fn new(alloc: Global, scaled: &Scaled, persons: usize) -> Result<Listers, AllocError> {
         let mut listers = Listers {
             full: Vec::new(alloc),
@@ -54,18 +54,18 @@ impl Listers {
         Ok(())
     }
 
-    // How many pairs they list.
+    // How many pairs are listed.
     pub fn count(&self) -> usize {
         let full = self.full.len().saturating_mul(self.last.len());
         full.saturating_add(self.pairs.len())
     }
 
-    // The last pair of a short row that has this object.
+    // An object's last pair of a short row.
     pub fn last_of(&self, object: usize) -> Option<Listed> {
         self.at(self.last.get(object).copied().flatten())
     }
 
-    // The pair before it.
+    // The previous pair of the same object.
     pub fn previous(&self, one: Listed) -> Option<Listed> {
         self.at(one.before)
     }

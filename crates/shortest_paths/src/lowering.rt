@@ -8,7 +8,7 @@ use assign_core::{Benefit, Object};
 use scaled_values::{Row, Scaled};
 use std::alloc::{AllocError, Global};
 
-// The places of the objects that nobody owns and whose prices stand above this.
+// The places of the unowned objects whose prices stand above the floor.
 pub fn unowned_above(
     alloc: Global,
     market: &Market<i64>,
@@ -65,8 +65,8 @@ fn levels_of(
     Ok(levels)
 }
 
-// Brings the prices of these objects, which nobody owns, down, but not below this floor, where each
-// person's best value is this one.
+// Lowers the prices of these unowned objects, but not below the floor. `values` has each person's best
+// value.
 pub fn lower_unowned(
     alloc: Global,
     scaled: &Scaled,

@@ -39,7 +39,7 @@ fn leave<W: Number>(owners: &mut [Option<usize>], prices: &mut [W]) {
     }
 }
 
-// An object that nobody owns stands at this price or above.
+// Raises the prices of unowned objects to the floor.
 fn raise_unowned<W: Number>(owners: &[Option<usize>], prices: &mut [W], floor: W) {
     for k in 0..owners.len() {
         if owners[k].is_none() && k < prices.len() {
@@ -102,7 +102,7 @@ impl<W: Number> Market<W> {
         }
     }
 
-    // Nobody owns the object any more, whose owner takes another one.
+    // Makes an object unowned. Its owner takes another one.
     pub fn vacate(&mut self, object: usize)
         ensures { length self.new.prices.items ≡ length self.old.prices.items }
     {
@@ -113,12 +113,12 @@ impl<W: Number> Market<W> {
         }
     }
 
-    // Whether nobody owns an object, and its price stands above this.
+    // Whether an object is unowned at a price above the floor.
     pub fn is_unowned_above(&self, object: usize, floor: W) -> bool {
         self.owner(object).is_none() && self.price(object) > floor
     }
 
-    // The least price that is paid, and at most this one.
+    // The least price that is paid, or `most` if that is less.
     pub fn least_paid(&self, most: W) -> W {
         let mut least = most;
         for object in &self.objects {
@@ -129,8 +129,7 @@ impl<W: Number> Market<W> {
         least
     }
 
-    // Raises the prices of objects that nobody owns to this one: to their owners others are as good as
-    // before.
+    // Raises the prices of unowned objects to the floor. No owner would take them for that.
     pub fn raise_unowned(&mut self, floor: W)
         ensures { length self.new.prices.items ≡ length self.old.prices.items }
     {

@@ -98,8 +98,8 @@ pub fn started_plan(scaled: &Scaled) -> Plan {
     }
 }
 
-// The plan from first prices for the first `n` persons among more objects, where the other plan takes
-// but a few looks at each pair.
+// The plan from first prices for the first `n` persons among more objects. Less is tried than in a
+// square, since from equal prices each pair is mostly looked at once or twice.
 pub fn started_plan_among(scaled: &Scaled, n: u16) -> Plan
     requires { n ≤ MOST_PERSONS }
 {
@@ -112,7 +112,7 @@ pub fn started_plan_among(scaled: &Scaled, n: u16) -> Plan
     }
 }
 
-// So many looks at pairs bring dear objects down that nobody owns, where persons list so many pairs.
+// How many looks at pairs bring down the prices of dear unowned objects, where `pairs` are listed.
 pub fn most_looks(pairs: usize) -> usize {
     pairs / 16 + 64
 }

@@ -1,8 +1,8 @@
-// Few persons among many objects, of which first prices left some dear that nobody owns. The price of
-// such an object falls to where it is as good to somebody as the object that this person owns; the
-// price of that one falls from there on as well, and so forth, until one is as cheap as an object may
-// be that nobody owns. It is left to nobody, and persons move up along the way. This is the search for
-// a shortest way, seen from the objects.
+// Few persons among many objects, from first prices. An unowned object may cost no more than the least
+// price that is paid, the base. From each one that costs more a search lowers its price until it is as
+// good to some person as that person's own object. Then the price of that object falls too, and so on,
+// until an object comes down to the base. It stays unowned, and each person on the path takes the
+// object from which it was reached. This is Dijkstra's search, seen from the objects.
 ghost use Rattle.std.specs.Prelude.{◌≡◌, length};
 
 use super::listers::Listers;
@@ -18,8 +18,8 @@ use std::alloc::{AllocError, Global};
 // Nobody is reached at this distance.
 const FAR: i64 = i64::MAX;
 
-// An object that was reached: its price falls once that of the first has fallen by `distance`, and is
-// at the base once that has fallen by `end`.
+// A reached object. Its price begins to fall once the price of the first object has fallen by
+// `distance`, and comes down to the base once that has fallen by `end`.
 #[derive(Clone, Copy)]
 struct Reached {
     object: usize,
@@ -27,23 +27,23 @@ struct Reached {
     end: i64,
 }
 
-// A search, and what is kept from one to the next.
+// The state of the searches.
 #[derive(Drop)]
 struct Settling {
     listers: Listers,
-    // The value to each person of its own object.
+    // The value of each person's own object.
     values: Vec<i64>,
-    // The distance at which each person is reached, and the object from which it is.
+    // The distance of each person, and the object from which it was reached.
     distances: Vec<i64>,
     from: Vec<usize>,
-    // Persons that were reached, and aren't scanned yet; those that were.
+    // Reached persons that aren't scanned yet, and scanned ones.
     waiting: Vec<usize>,
     scanned: Vec<usize>,
-    // So many pairs may be looked at from now on.
+    // How many more pairs may be looked at.
     looks: usize,
 }
 
-// The value to a person of its own object.
+// The value of a person's own object.
 fn value_of(scaled: &Scaled, market: &Market<i64>, person: usize) -> i64 {
     let own = market.object(person).unwrap_or(usize::MAX);
     let benefit = row_at(scaled, person).and_then(|row| benefit_at(row, own));
@@ -63,7 +63,7 @@ fn values_of(
     Ok(values)
 }
 
-// These persons aren't reached.
+// Marks these persons as not reached.
 fn forget(distances: &mut [i64], persons: &[usize]) {
     for person in persons {
         if *person < distances.len() {
@@ -92,7 +92,7 @@ impl Settling {
         self.distances.get(person).copied().unwrap_or(FAR)
     }
 
-    // A person looks at an object whose price falls. One that was scanned is nearer already.
+    // A person may be reached from an object. `level` is the person's distance less its value.
     fn look(&mut self, person: usize, object: usize, level: i64) -> Result<(), AllocError> {
         let distance = self.values.get(person).copied().unwrap_or(0).wrapping_add(level);
         if person < self.distances.len() && distance < self.distances[person] {
@@ -107,7 +107,7 @@ impl Settling {
         Ok(())
     }
 
-    // All persons look at it that list it.
+    // Looks at all persons that list a reached object.
     fn scan(
         &mut self,
         scaled: &Scaled,
@@ -142,7 +142,7 @@ impl Settling {
         Ok(())
     }
 
-    // The nearest person that waits is scanned, if it is nearer than this.
+    // Takes the nearest waiting person, if it is nearer than this.
     fn nearest(&mut self, end: i64) -> Result<Option<usize>, AllocError> {
         let mut least = end;
         let mut place = usize::MAX;
@@ -161,7 +161,7 @@ impl Settling {
         Ok(None)
     }
 
-    // Nobody is reached.
+    // Marks everybody as not reached.
     fn clear(&mut self) {
         forget(self.distances.as_mut_slice(), self.waiting.as_slice());
         forget(self.distances.as_mut_slice(), self.scanned.as_slice());
@@ -169,8 +169,7 @@ impl Settling {
         self.scanned.clear();
     }
 
-    // The search from an object: the one that comes to the base first; `None` where too many pairs were
-    // looked at.
+    // Searches from an object for the one that comes down to the base first. `None` if no look is left.
     fn run(
         &mut self,
         scaled: &Scaled,
@@ -203,7 +202,7 @@ impl Settling {
         Ok(Some(end))
     }
 
-    // The prices fall of the objects that were reached before the end.
+    // Lowers the prices of objects that were reached before the end.
     fn lower(&mut self, market: &mut Market<i64>, end: i64) {
         for person in &self.scanned {
             let distance = self.distances.get(*person).copied().unwrap_or(FAR);
@@ -216,7 +215,7 @@ impl Settling {
         }
     }
 
-    // Each person on the way from the first object takes the one that it was reached from.
+    // Each person on the path takes the object from which it was reached.
     fn move_up(&self, market: &mut Market<i64>, end: usize) {
         let mut next = market.owner(end);
         market.vacate(end);
@@ -230,7 +229,7 @@ impl Settling {
         }
     }
 
-    // Brings an object that nobody owns down to the base, or another one in its place. Whether it did.
+    // Brings an unowned object down to the base, or another one in its place. Whether it did.
     fn bring_down(
         &mut self,
         scaled: &Scaled,
@@ -238,7 +237,7 @@ impl Settling {
         object: usize,
         base: i64,
     ) -> Result<bool, AllocError> {
-        // Unowned, it stands at 1 less.
+        // An unowned object's price stands 1 lower.
         let price = market.price(object).wrapping_add(1);
         market.set_price(object, price);
         let first = Reached {
@@ -256,14 +255,14 @@ impl Settling {
     }
 }
 
-// The least price that is paid, at which objects may stand that nobody owns, and those that stood above.
+// The least price that is paid, and the unowned objects that stood above it.
 #[derive(Drop)]
 pub struct Base {
     price: i64,
     dear: Vec<usize>,
 }
 
-// Those of some objects that nobody owns and whose prices stand above this.
+// Those of these objects that are unowned at a price above the floor.
 fn still_above(
     alloc: Global,
     market: &Market<i64>,
@@ -279,8 +278,8 @@ fn still_above(
     Ok(above)
 }
 
-// The base, and prices of objects that nobody owns brought near it: persons move to such objects along
-// ties, and prices fall as far as they may while all stay where they are, or rise.
+// The base. Unowned objects come near it first: persons take dear ones along ties, the prices of others
+// fall to where somebody would pay them, and cheap ones rise to the base.
 pub fn base_of(
     alloc: Global,
     scaled: &Scaled,
@@ -301,8 +300,7 @@ pub fn base_of(
     Ok(Base { price, dear })
 }
 
-// Brings the price of each object that nobody owns down to the base. Whether that took no more looks
-// than it may.
+// Brings the price of each unowned object down to the base. Whether the looks sufficed.
 pub fn settle(
     alloc: Global,
     scaled: &Scaled,

@@ -163,7 +163,7 @@ fn keep(
 
 // A search along ties: the person from whom each object was reached, and the objects that were reached
 // in their order. What a search reached in vain stays reached, since no later one comes on from there.
-// It ends at an object that nobody owns and whose price stands above the floor.
+// It ends at an unowned object whose price stands above the floor.
 #[derive(Drop)]
 struct Reach {
     from: Vec<Option<usize>>,
@@ -172,7 +172,7 @@ struct Reach {
 }
 
 impl Reach {
-    // Among so many objects, of which none is reached.
+    // Nothing is reached yet.
     fn new(alloc: Global, objects: usize, floor: i64) -> Result<Reach, AllocError> {
         Ok(Reach {
             from: vec![in alloc; None; objects]?,
@@ -294,8 +294,8 @@ pub fn match_ties(
     Ok(Some(ties))
 }
 
-// A person whose object is as cheap as one may be that nobody owns leaves it, where along ties a dear
-// one is reached that nobody owns.
+// A person whose object costs no more than the floor allows leaves it, if ties lead to a dear unowned
+// object.
 fn leave_for_dear(
     scaled: &Scaled,
     market: &mut Market<i64>,
@@ -320,8 +320,7 @@ fn leave_for_dear(
     Ok(())
 }
 
-// Gives dear objects, which nobody owns and whose prices stand above the floor, to persons to whom they
-// are best, in place of objects at the floor.
+// Moves persons along ties from objects at the floor to dear unowned ones.
 pub fn match_dear(
     alloc: Global,
     scaled: &Scaled,
