@@ -106,8 +106,8 @@ pub fn started_plan_among(scaled: &Scaled, n: u16) -> Plan
     let persons = n as usize;
     Plan {
         most_unserved: persons / 64 + 1,
-        most_scans: persons / 4 + 1,
-        bids_in_a_row: persons / 16 + 8,
+        most_scans: persons * 2,
+        bids_in_a_row: persons / 256 + 16,
         ..plan_by(persons, is_sparse(scaled, n))
     }
 }
