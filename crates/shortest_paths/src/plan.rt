@@ -99,7 +99,7 @@ pub fn started_plan(scaled: &Scaled) -> Plan {
 }
 
 // The plan from first prices for the first `n` persons among more objects. Less is tried than in a
-// square, since from equal prices each pair is mostly looked at once or twice.
+// square, since the search from equal prices is mostly short.
 pub fn started_plan_among(scaled: &Scaled, n: u16) -> Plan
     requires { n ≤ MOST_PERSONS }
 {
