@@ -168,6 +168,8 @@ fn started_among(
     requires prices { length prices.now ≡ length scaled.now.problem }
     ensures { IfOk result (λ found. IfSome found (IsProofAmong scaled.now n)) }
 {
+    // That `n` is at most `MOST_PERSONS` follows from this call.
+    let _objects = scaled.n();
     let plan = started_plan_among(scaled, n);
     let prices = given_prices(alloc, scaled, prices)?;
     let mut market = Market::new(alloc, prices, n as usize)?;
