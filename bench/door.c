@@ -11,9 +11,8 @@
      door poor TIMES            a dense problem from standard input: cold, then from first prices that tell nothing of
                                 it: drawn, drawn up to 10^21, one of 10^21, and the prices of it turned round; seconds
      door wide                  three equal objects with first prices 0, 0 and 10^21, and prices 1, 5 and 7: seconds
-     door rectangle N M MOST TIMES   N persons and M objects, costs 1..MOST: cold, then from the prices of the same problem,
-                                of one whose rows were drawn anew, and from drawn prices, under which objects are dear that
-                                nobody wants; seconds */
+     door rectangle N M EACH MOST TIMES   N persons with EACH pairs of M objects, costs 1..MOST: cold, then from the prices of the
+                                same problem and of ones with rows drawn anew, and from prices that tell nothing; seconds */
 #define _POSIX_C_SOURCE 200809L
 #include "../c/nushbaret.h"
 #include <stdio.h>
@@ -177,15 +176,30 @@ static void tell_start(const char *name, struct problem *p, const struct nushbar
     tell(name, warm, cold, check);
 }
 
-/* A problem whose costs are drawn up to so much, its best prices, and then one row in so many drawn anew. */
-static void draw_rows(struct problem *p, int64_t most, size_t every) {
-    size_t i;
-    for (i = 0; every > 0 && i < p->given.n; i += every) draw(p->costs + i * p->given.m, p->given.m, most);
+/* The objects that a person of a sparse problem lists: one of each of `each` equal parts. */
+static void draw_objects(struct problem *p, size_t person, size_t each) {
+    int64_t width = (int64_t)(p->given.m / each), drawn;
+    size_t k;
+    for (k = 0; k < each; k++) {
+        draw(&drawn, 1, width);
+        p->of_persons[person * each + k] = (uint16_t)(person + 1);
+        p->of_objects[person * each + k] = (uint16_t)((int64_t)k * width + drawn);
+    }
 }
 
+/* Draws one row in `every` anew, with costs up to `most`. */
+static void draw_rows(struct problem *p, int64_t most, size_t every) {
+    size_t i, each = p->given.count / p->given.n;
+    for (i = 0; every > 0 && i < p->given.n; i += every) {
+        draw(p->costs + i * each, each, most);
+        if (p->given.persons != NULL) draw_objects(p, i, each);
+    }
+}
+
+/* The best prices of a problem whose rows are drawn, with costs up to `most`. */
 static struct nushbaret_price *drawn_prices(struct problem *p, int64_t most) {
     struct nushbaret_price *first = (struct nushbaret_price *)room(p->given.m * sizeof *first);
-    draw(p->costs, p->given.count, most);
+    draw_rows(p, most, 1);
     proved(p, NULL);
     memcpy(first, p->answer.prices, p->given.m * sizeof *first);
     return first;
@@ -260,15 +274,23 @@ static void wide(void) {
         if (p.answer.prices[k].low % 4 != 0 || p.answer.prices[k].high != 0 || p.total != 6) exit(5);
 }
 
-static void rectangle(size_t n, size_t m, int64_t most, int times) {
-    struct problem p = problem(n, m, n * m, 0);
-    struct nushbaret_price *first = drawn_prices(&p, most);
-    size_t j;
-    tell_start("same", &p, first, times);
-    draw_rows(&p, most, 20);
-    tell_start("5 %", &p, first, times);
-    for (j = 0; j < m; j++) first[j] = poor_price(0, m, first[j], j);
-    tell_start("drawn", &p, first, times);
+static void rectangle(size_t n, size_t m, size_t each, int64_t most, int times) {
+    static const char *names[] = {"drawn", "drawn up to 10^21", "one of 10^21", "turned round"};
+    const size_t every[] = {0, n, 100, 20};
+    static const char *shares[] = {"same", "one row", "1 %", "5 %"};
+    struct problem p = problem(n, m, n * each, each < m);
+    struct nushbaret_price *own = drawn_prices(&p, most);
+    struct nushbaret_price *first = (struct nushbaret_price *)room(m * sizeof *first);
+    size_t j, k;
+    int kind;
+    for (k = 0; k < sizeof every / sizeof *every; k++) {
+        draw_rows(&p, most, every[k]);
+        tell_start(shares[k], &p, own, times);
+    }
+    for (kind = 0; kind < 4; kind++) {
+        for (j = 0; j < m; j++) first[j] = poor_price(kind, m, own[j], j);
+        tell_start(names[kind], &p, first, times);
+    }
 }
 
 int main(int argc, char **argv) {
@@ -307,8 +329,8 @@ int main(int argc, char **argv) {
         poor(atoi(argv[2]));
     } else if (strcmp(what, "wide") == 0) {
         wide();
-    } else if (strcmp(what, "rectangle") == 0 && argc > 5) {
-        rectangle((size_t)atoi(argv[2]), (size_t)atoi(argv[3]), atol(argv[4]), atoi(argv[5]));
+    } else if (strcmp(what, "rectangle") == 0 && argc > 6) {
+        rectangle((size_t)atoi(argv[2]), (size_t)atoi(argv[3]), (size_t)atoi(argv[4]), atol(argv[5]), atoi(argv[6]));
     } else {
         return 2;
     }

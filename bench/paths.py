@@ -23,7 +23,7 @@ DENSE = ("to_10", "to_1000", "to_million", "equal_rows", "all_equal", "like_rows
          "dear_marks", "dummy_rows", "dummy_columns", "few_rows")
 SPARSE = (("pairs=5", 8192), ("pairs=10", 8192), ("pairs=50", 8192), ("contested=50", 1000), ("contested=50", 8192),
           ("contested=1000", 1000), ("contested=1000", 8192))
-RECTANGLES = ((80, 3000), (20, 8000), (1000, 2000), (1000, 1100), (1, 8192))
+RECTANGLES = ((80, 3000, 3000), (20, 8000, 8000), (1000, 2000, 2000), (1000, 1100, 1100), (1, 8192, 8192), (500, 4000, 10))
 ROUNDS = ["--mode", "rounds"]
 WORKER = ["--mode", "workers", "--workers", "1"]
 PATHS = ["--method", "paths"]
@@ -150,10 +150,10 @@ def calls():
 
 
 def rectangles():
-    """Calls on n persons and m objects: cold, and from first prices; what building and checking take is told too."""
-    for n, m in RECTANGLES:
-        for name, (warm, cold, check) in door("rectangle", n, m, 10**6, TIMES):
-            print(f"{n} persons, {m} objects, from first prices, {name}: {warm:.4f} s, {warm / cold:.2f} of {cold:.4f} s cold; a check {check:.4f} s", flush=True)
+    """Calls on n persons, each with so many pairs, and m objects: cold, and from first prices; what building and checking take too."""
+    for n, m, each in RECTANGLES:
+        for name, (warm, cold, check) in door("rectangle", n, m, each, 10**6, TIMES):
+            print(f"{n} persons of {each} pairs, {m} objects, from first prices, {name}: {warm:.4f} s, {warm / cold:.2f} of {cold:.4f} s cold; a check {check:.4f} s", flush=True)
 
 
 def whole():

@@ -135,7 +135,7 @@ int32_t nushbaret_dense(uint32_t sense, size_t n, size_t m,
     struct nushbaret_price *prices, size_t prices_count,
     struct nushbaret_told *told);
 
-/* The same, with m first prices, as those of a similar problem. Where n is m the search begins at them if they fit;
+/* The same, with m first prices, as those of a similar problem. The search begins at them if they fit and n is at most m;
    elsewhere it begins at equal prices. Whatever they are, the answer is optimal. */
 int32_t nushbaret_dense_from(uint32_t sense, size_t n, size_t m,
     const int64_t *costs, size_t costs_count,

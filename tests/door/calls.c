@@ -262,6 +262,19 @@ static void starts(void) {
     }
 }
 
+/* The same with an object that nobody has: it costs 0, and the others stand 1 above. */
+static void rectangle_starts(void) {
+    struct call c = two_of_three(NUSHBARET_MIN);
+    int form;
+    for (form = 0; form < 2; form++) {
+        c.is_from = 0, c.first[1].low = 8;
+        WANT(solve(&c) == NUSHBARET_BEST && c.prices[0].low != 1);
+        c.is_from = 1;
+        WANT(solve(&c) == NUSHBARET_BEST && c.prices[0].low == 1 && c.prices[1].low == 9 && c.prices[2].low == 0);
+        list_pairs(&c);
+    }
+}
+
 /* First prices at which an object is dear that nobody wants: it is cheap in the answer. */
 static void dear_starts(void) {
     struct call c = two_of_three(NUSHBARET_MIN);
@@ -701,6 +714,7 @@ int main(void) {
     rectangles();
     structs();
     starts();
+    rectangle_starts();
     dear_starts();
     sizes();
     lengths();

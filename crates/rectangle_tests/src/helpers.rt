@@ -4,14 +4,16 @@ ghost use Rattle.std.specs.Arc.{arc_value};
 ghost use Rattle.assign_core.specs.Rows.{IsAmong, IsSize};
 ghost use Rattle.rectangles.specs.Sparse.{IsTripleAmong};
 
-use assign_core::{Certificate, Cost, HallSet, Object, Outcome, Person, Prices, Problem, Sense};
+use assign_core::{
+    Certificate, Cost, HallSet, Object, Outcome, Person, Price, Prices, Problem, Sense,
+};
 use dual_checker::{HallVerdict, Verdict, VerdictAmong, check_among, check_hall};
 use rectangles::sparse_among;
 use scaled_values::{Scaled, scale};
-use shortest_paths::{solve_paths_among, solve_paths_among_from};
+use shortest_paths::{solve_paths_among, solve_paths_among_from, solve_with_dummies};
 use std::alloc::{AllocError, Global};
 use std::sync::Arc;
-use test_helpers::{Pair, cost_in_range, number, plain_best, problem_of};
+use test_helpers::{Pair, cost_in_range, first_prices, number, plain_best, problem_of};
 
 // A person of n and an object of m with a cost.
 fn triple_among(n: u16, m: u16, pair: Pair) -> (Person, Object, Cost)
@@ -165,6 +167,67 @@ pub fn solved_from(
     let scaled = scaled_rectangle(alloc, n, m, pairs, sense)?;
     let outcome = solve_paths_among_from(alloc, scaled, n, prices)?;
     came_of(alloc, n, m, pairs, sense, &outcome)
+}
+
+// The kind of the answer by way of the square with dummies.
+pub fn solved_with_dummies(
+    alloc: Global,
+    n: u16,
+    m: u16,
+    pairs: &[Pair],
+    sense: Sense,
+) -> Result<Came, AllocError>
+    requires persons { IsSize n }
+    requires objects { IsSize m }
+{
+    let scaled = scaled_rectangle(alloc, n, m, pairs, sense)?;
+    let outcome = solve_with_dummies(alloc, &scaled, n)?;
+    came_of(alloc, n, m, pairs, sense, &outcome)
+}
+
+// The prices of an outcome; a Hall set has none.
+fn prices_of(alloc: Global, outcome: &Outcome) -> Result<Vec<Price>, AllocError> {
+    match outcome {
+        Outcome::Best(best) => best.prices.as_slice().to_vec(alloc),
+        Outcome::Hall(_) => Ok(Vec::new(alloc)),
+    }
+}
+
+// The prices of the solver's answer from first prices.
+pub fn prices_from(
+    alloc: Global,
+    n: u16,
+    m: u16,
+    pairs: &[Pair],
+    sense: Sense,
+    prices: Prices,
+) -> Result<Vec<Price>, AllocError>
+    requires persons { IsSize n }
+    requires objects { IsSize m }
+    requires prices { length prices ≡ max n m }
+{
+    let scaled = scaled_rectangle(alloc, n, m, pairs, sense)?;
+    let outcome = solve_paths_among_from(alloc, scaled, n, prices)?;
+    prices_of(alloc, &outcome)
+}
+
+// The kind of the solver's answer from the prices of its answer to other pairs.
+pub fn solved_after(
+    alloc: Global,
+    n: u16,
+    m: u16,
+    other: &[Pair],
+    pairs: &[Pair],
+    sense: Sense,
+) -> Result<Came, AllocError>
+    requires persons { IsSize n }
+    requires objects { IsSize m }
+{
+    let scaled = scaled_rectangle(alloc, n, m, other, sense)?;
+    let outcome = solve_paths_among(alloc, scaled, n)?;
+    let given = prices_of(alloc, &outcome)?;
+    let first = first_prices(alloc, n.max(m), given.as_slice())?;
+    solved_from(alloc, n, m, pairs, sense, first)
 }
 
 // The pairs with those of dummies, who list all objects of the square.

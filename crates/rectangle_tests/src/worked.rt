@@ -1,5 +1,7 @@
 // Worked rectangles.
-use super::helpers::{Came, rectangle, solved, solved_from, tried};
+use super::helpers::{
+    Came, prices_from, rectangle, solved, solved_from, solved_with_dummies, tried,
+};
 use assign_core::{Cost, Object, Person, Sense};
 use rectangles::{dummies_change_nothing, filled_up, persons_of_a_hall_set};
 use std::alloc::{AllocError, Global};
@@ -22,6 +24,14 @@ fn two_persons_of_four_objects(rt: HostRuntime) -> Result<(), Fail> {
     assert_eq!(rt; solved(alloc, 2, 4, &FOUR, Sense::Min)?, Came::Best(7));
     assert_eq!(rt; solved(alloc, 2, 4, &FOUR, Sense::Max)?, Came::Best(17));
     assert_eq!(rt; tried(alloc, 2, 4, &FOUR, Sense::Max)?, Came::Best(17));
+    assert_eq!(rt;
+        solved_with_dummies(alloc, 2, 4, &FOUR, Sense::Min)?,
+        Came::Best(7)
+    );
+    assert_eq!(rt;
+        solved_with_dummies(alloc, 2, 4, &FOUR, Sense::Max)?,
+        Came::Best(17)
+    );
     Ok(())
 }
 
@@ -30,6 +40,10 @@ fn two_persons_of_four_objects(rt: HostRuntime) -> Result<(), Fail> {
 fn two_persons_of_one_object(rt: HostRuntime) -> Result<(), Fail> {
     let pairs = [(1, 2, 1), (2, 2, 1), (3, 2, 1), (3, 5, 1)];
     assert_eq!(rt; solved(rt.alloc(), 3, 5, &pairs, Sense::Min)?, Came::Hall);
+    assert_eq!(rt;
+        solved_with_dummies(rt.alloc(), 3, 5, &pairs, Sense::Min)?,
+        Came::Hall
+    );
     Ok(())
 }
 
@@ -64,6 +78,40 @@ fn from_first_prices(rt: HostRuntime) -> Result<(), Fail> {
     Ok(())
 }
 
+// Three persons and five objects. At prices 42, 6, 0, 12, 0 person 1 prefers object 2, and nobody owns
+// object 1 any more. Its price falls to 24, where person 1 would take it, and on to 18 while object 2
+// falls to 0. Nothing else has to change, though objects 3 and 4 might cost far more.
+const FIVE: [Pair; 15] = [
+    (1, 1, 0),
+    (1, 2, 3),
+    (1, 3, 100),
+    (1, 4, 100),
+    (1, 5, 100),
+    (2, 1, 50),
+    (2, 2, 50),
+    (2, 3, 0),
+    (2, 4, 50),
+    (2, 5, 50),
+    (3, 1, 100),
+    (3, 2, 100),
+    (3, 3, 100),
+    (3, 4, 0),
+    (3, 5, 100),
+];
+
+// What is owned stands 1 above.
+#[test]
+fn first_prices_that_fit_are_kept(rt: HostRuntime) -> Result<(), Fail> {
+    let alloc = rt.alloc();
+    let first = first_prices(alloc, 5, &[42, 6, 0, 12, 0])?;
+    let prices = prices_from(alloc, 3, 5, &FIVE, Sense::Min, first)?;
+    assert_eq!(rt; prices.as_slice(), [19, 0, 1, 13, 0].as_slice());
+    let first = first_prices(alloc, 5, &[48, 6, 0, 24, 0])?;
+    let prices = prices_from(alloc, 3, 5, &FIVE, Sense::Min, first)?;
+    assert_eq!(rt; prices.as_slice(), [19, 0, 1, 25, 0].as_slice());
+    Ok(())
+}
+
 // The costs of one person to `m` objects, the last the least.
 fn one_row(alloc: Global, m: u16) -> Result<Vec<Pair>, AllocError> {
     let mut pairs = Vec::with_capacity(alloc, m as usize)?;
@@ -71,6 +119,18 @@ fn one_row(alloc: Global, m: u16) -> Result<Vec<Pair>, AllocError> {
         pairs.push((1, j.saturating_add(1), Cost::from(m) - Cost::from(j)))?;
     }
     Ok(pairs)
+}
+
+#[test]
+fn one_person_from_first_prices(rt: HostRuntime) -> Result<(), Fail> {
+    let alloc = rt.alloc();
+    let pairs = one_row(alloc, 4)?;
+    let dear = first_prices(alloc, 4, &[0, 10, 1_000_000, 1_000_000])?;
+    assert_eq!(rt;
+        solved_from(alloc, 1, 4, pairs.as_slice(), Sense::Min, dear)?,
+        Came::Best(1)
+    );
+    Ok(())
 }
 
 #[test]

@@ -9,9 +9,12 @@ use super::answer::{best_among, hall_among};
 use super::market::Market;
 use super::number::Number;
 use super::observer::{Telling, Unobserved};
-use super::plan::plan_among;
+use super::plan::{plan_among, started_plan_among};
+use super::prices::given_prices;
 use super::search::End;
+use super::settling::{Base, base_of, settle};
 use super::solve::{Searched, bid_and_search, solve_paths, solve_paths_from};
+use super::ties::match_ties;
 use assign_core::{Outcome, Prices};
 use rectangles::{dummies_change_nothing, filled_up, of_first};
 use scaled_values::{Scaled, scale};
@@ -47,10 +50,16 @@ fn of_square(
     of_first(alloc, outcome, n)
 }
 
-// The answer by way of the square with dummies.
-fn solve_filled_up(alloc: Global, scaled: &Scaled, n: u16) -> Result<Outcome, AllocError>
+/// Solves the problem of the first `n` persons among all objects by way of a square: dummies who list
+/// all objects at cost 0 replace the other persons, and `solve_paths` solves that square.
+/// `solve_paths_among` does this only where the checkers refuse what it found, and is mostly far faster.
+///
+/// # Errors
+/// Only where memory is refused.
+pub fn solve_with_dummies(alloc: Global, scaled: &Scaled, n: u16) -> Result<Outcome, AllocError>
     requires { n ≤ length scaled.now.problem }
-    ensures { IfOk result (IsProofAmong scaled.now n) }
+    ensures proof { IfOk result (IsProofAmong scaled.now n) }
+    ensures decided { IfOk result (IsDecidedAmong scaled.now n) }
 {
     let square = square_of(alloc, scaled, n)?;
     let outcome = solve_paths(alloc, square)?;
@@ -129,15 +138,85 @@ fn find_among(alloc: Global, scaled: &Scaled, n: u16) -> Result<Option<Outcome>,
     }
 }
 
-// What is found for the first `n` persons, and where nothing is found the answer by way of the square
-// with dummies.
-fn solve_first(alloc: Global, scaled: &Scaled, n: u16) -> Result<Outcome, AllocError>
+// The objects of the first `n` persons with the prices, once no unowned object is dear.
+fn best_settled(
+    alloc: Global,
+    scaled: &Scaled,
+    n: u16,
+    market: &mut Market<i64>,
+    base: &Base,
+) -> Result<Option<Outcome>, AllocError>
     requires { n ≤ length scaled.now.problem }
+    ensures { IfOk result (λ found. IfSome found (IsProofAmong scaled.now n)) }
+{
+    if settle(alloc, scaled, market, base)? {
+        best_among(alloc, scaled, n, market)
+    } else {
+        Ok(None)
+    }
+}
+
+// Paths of the first `n` persons from first prices, if these fit: most persons are matched with best
+// objects, and few looks serve the others and lower the prices of unowned objects.
+fn started_among(
+    alloc: Global,
+    scaled: &Scaled,
+    n: u16,
+    prices: &Prices,
+) -> Result<Option<Outcome>, AllocError>
+    requires persons { n ≤ length scaled.now.problem }
+    requires prices { length prices.now ≡ length scaled.now.problem }
+    ensures { IfOk result (λ found. IfSome found (IsProofAmong scaled.now n)) }
+{
+    // That `n` is at most `MOST_PERSONS` follows from this call.
+    let _objects = scaled.n();
+    let plan = started_plan_among(scaled, n);
+    let prices = given_prices(alloc, scaled, prices)?;
+    let mut market = Market::new(alloc, prices, n as usize)?;
+    let Some(ties) = match_ties(alloc, scaled, &mut market, plan.most_unserved)? else {
+        return Ok(None);
+    };
+    let base = base_of(alloc, scaled, &mut market, &ties)?;
+    let mut telling = Telling::new(&Unobserved);
+    let searched = bid_and_search(alloc, scaled, &mut market, plan, &mut telling)?;
+    match searched.end {
+        None => best_settled(alloc, scaled, n, &mut market, &base),
+        _ => answer_among(alloc, scaled, n, &market, &searched),
+    }
+}
+
+// What is found for the first `n` persons from these prices, or from equal ones if these don't fit.
+fn find_among_from(
+    alloc: Global,
+    scaled: &Scaled,
+    n: u16,
+    prices: &Prices,
+) -> Result<Option<Outcome>, AllocError>
+    requires persons { n ≤ length scaled.now.problem }
+    requires prices { length prices.now ≡ length scaled.now.problem }
+    ensures { IfOk result (λ found. IfSome found (IsProofAmong scaled.now n)) }
+{
+    match started_among(alloc, scaled, n, prices)? {
+        None => find_among(alloc, scaled, n),
+        found => Ok(found),
+    }
+}
+
+// What was found for the first `n` persons, or if nothing was found the answer by way of the square
+// with dummies.
+fn settled_among(
+    alloc: Global,
+    scaled: &Scaled,
+    n: u16,
+    found: Option<Outcome>,
+) -> Result<Outcome, AllocError>
+    requires persons { n ≤ length scaled.now.problem }
+    requires found { IfSome found (IsProofAmong scaled.now n) }
     ensures { IfOk result (IsProofAmong scaled.now n) }
 {
-    match find_among(alloc, scaled, n)? {
+    match found {
         Some(outcome) => Ok(outcome),
-        None => solve_filled_up(alloc, scaled, n),
+        None => solve_with_dummies(alloc, scaled, n),
     }
 }
 
@@ -149,11 +228,12 @@ fn solve_among(alloc: Global, scaled: &Arc<Scaled>, n: u16) -> Result<Outcome, A
     if n == scaled.n() {
         solve_whole(alloc, scaled, n)
     } else {
-        solve_first(alloc, scaled, n)
+        let found = find_among(alloc, scaled, n)?;
+        settled_among(alloc, scaled, n, found)
     }
 }
 
-// The same from first prices on, where all persons are meant.
+// The same from first prices on.
 fn solve_among_from(
     alloc: Global,
     scaled: &Arc<Scaled>,
@@ -167,7 +247,8 @@ fn solve_among_from(
     if n == scaled.n() {
         solve_whole_from(alloc, scaled, n, prices)
     } else {
-        solve_first(alloc, scaled, n)
+        let found = find_among_from(alloc, scaled, n, &prices)?;
+        settled_among(alloc, scaled, n, found)
     }
 }
 
@@ -176,7 +257,7 @@ fn solve_among_from(
 ///
 /// Paths are looked for from equal prices, and the time is at most that of twice `n` searches over the
 /// pairs of these persons, and mostly far less. Where the checkers refuse what was found, which is not
-/// known to happen, dummies fill the problem up to a square, which `solve_paths` solves. None of this
+/// known to happen, dummies fill the problem up to a square, as in `solve_with_dummies`. None of this
 /// is proved but the answer.
 ///
 /// # Errors
@@ -197,8 +278,9 @@ pub fn solve_paths_among(alloc: Global, scaled: Arc<Scaled>, n: u16) -> Result<O
     solve_among(alloc, &scaled, n)
 }
 
-/// Solves as `solve_paths_among` does, beginning at these prices, one for each object, where all
-/// persons are meant. Where they are fewer the prices are left for equal ones.
+/// Solves as `solve_paths_among` does, from these first prices, one for each object. They may be any:
+/// prices that leave too much to search for are left for equal ones, where `n` is below the number of
+/// objects, and for the usual ones of `solve_paths` where it isn't.
 ///
 /// # Errors
 /// Only where memory is refused.

@@ -5,6 +5,7 @@
 mod among;
 mod answer;
 mod bids;
+mod listers;
 mod lowering;
 mod market;
 mod number;
@@ -15,10 +16,11 @@ mod prices;
 mod reach;
 mod rows;
 mod search;
+mod settling;
 mod solve;
 mod ties;
 
-pub use among::{solve_paths_among, solve_paths_among_from};
+pub use among::{solve_paths_among, solve_paths_among_from, solve_with_dummies};
 pub use observer::{Observer, Unobserved};
 pub use solve::{
     solve_paths, solve_paths_from, solve_paths_from_watched, solve_paths_watched, try_paths,

@@ -8,11 +8,15 @@ use assign_core::{Benefit, Object};
 use scaled_values::{Row, Scaled};
 use std::alloc::{AllocError, Global};
 
-// The places of the objects that nobody owns.
-fn unowned(alloc: Global, market: &Market<i64>) -> Result<Vec<usize>, AllocError> {
+// The places of the unowned objects whose prices stand above the floor.
+pub fn unowned_above(
+    alloc: Global,
+    market: &Market<i64>,
+    floor: i64,
+) -> Result<Vec<usize>, AllocError> {
     let mut places = Vec::with_capacity(alloc, market.unserved())?;
-    for (place, owner) in market.owners.iter().enumerate() {
-        if owner.is_none() {
+    for place in 0..market.owners.len() {
+        if market.is_unowned_above(place, floor) {
             places.push(place)?;
         }
     }
@@ -61,20 +65,25 @@ fn levels_of(
     Ok(levels)
 }
 
-// Brings the prices of objects that nobody owns down, where each person's best value is this one.
+// Lowers the prices of these unowned objects, but not below the floor. `values` has each person's best
+// value.
 pub fn lower_unowned(
     alloc: Global,
     scaled: &Scaled,
     market: &mut Market<i64>,
     values: &[i64],
+    places: &[usize],
+    floor: i64,
 ) -> Result<(), AllocError>
     requires { length market.old.prices.items ≡ length scaled.now.problem }
     ensures { length market.new.prices.items ≡ length scaled.now.problem }
 {
-    let places = unowned(alloc, market)?;
-    let levels = levels_of(alloc, scaled, places.as_slice(), values)?;
-    for place in &places {
-        let level = levels.get(*place).copied().unwrap_or(i64::MIN);
+    if places.is_empty() {
+        return Ok(());
+    }
+    let levels = levels_of(alloc, scaled, places, values)?;
+    for place in places {
+        let level = levels.get(*place).copied().unwrap_or(i64::MIN).max(floor);
         if level != i64::MIN {
             market.set_price(*place, level);
         }

@@ -39,6 +39,15 @@ fn leave<W: Number>(owners: &mut [Option<usize>], prices: &mut [W]) {
     }
 }
 
+// Raises the prices of unowned objects to the floor.
+fn raise_unowned<W: Number>(owners: &[Option<usize>], prices: &mut [W], floor: W) {
+    for k in 0..owners.len() {
+        if owners[k].is_none() && k < prices.len() {
+            prices[k] = prices[k].greater(floor);
+        }
+    }
+}
+
 impl<W: Number> Market<W> {
     // So many persons, of whom nobody owns anything.
     pub fn new(alloc: Global, prices: Vec<W>, persons: usize) -> Result<Market<W>, AllocError>
@@ -91,6 +100,40 @@ impl<W: Number> Market<W> {
         if person < self.objects.len() {
             self.objects[person] = Some(object);
         }
+    }
+
+    // Makes an object unowned. Its owner takes another one.
+    pub fn vacate(&mut self, object: usize)
+        ensures { length self.new.prices.items ≡ length self.old.prices.items }
+    {
+        if self.owner(object).is_some() && object < self.owners.len() {
+            self.owners[object] = None;
+            self.set_price(object, self.price(object).minus(W::of(1)));
+            self.owned = self.owned.saturating_sub(1);
+        }
+    }
+
+    // Whether an object is unowned at a price above the floor.
+    pub fn is_unowned_above(&self, object: usize, floor: W) -> bool {
+        self.owner(object).is_none() && self.price(object) > floor
+    }
+
+    // The least price that is paid, or `most` if that is less.
+    pub fn least_paid(&self, most: W) -> W {
+        let mut least = most;
+        for object in &self.objects {
+            if let Some(object) = *object {
+                least = least.lesser(self.price(object));
+            }
+        }
+        least
+    }
+
+    // Raises the prices of unowned objects to the floor. No owner would take them for that.
+    pub fn raise_unowned(&mut self, floor: W)
+        ensures { length self.new.prices.items ≡ length self.old.prices.items }
+    {
+        raise_unowned(self.owners.as_slice(), self.prices.as_mut_slice(), floor);
     }
 
     // How many persons own nothing.

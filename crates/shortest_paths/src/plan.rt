@@ -97,3 +97,22 @@ pub fn started_plan(scaled: &Scaled) -> Plan {
         ..plan_of(scaled)
     }
 }
+
+// The plan from first prices for the first `n` persons among more objects. Less is tried than in a
+// square, since the search from equal prices is mostly short.
+pub fn started_plan_among(scaled: &Scaled, n: u16) -> Plan
+    requires { n ≤ MOST_PERSONS }
+{
+    let persons = n as usize;
+    Plan {
+        most_unserved: persons / 64 + 1,
+        most_scans: persons * 2,
+        bids_in_a_row: persons / 256 + 16,
+        ..plan_by(persons, is_sparse(scaled, n))
+    }
+}
+
+// How many looks at pairs bring down the prices of dear unowned objects, where `pairs` are listed.
+pub fn most_looks(pairs: usize) -> usize {
+    pairs / 16 + 64
+}

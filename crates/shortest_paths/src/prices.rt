@@ -9,7 +9,7 @@ use scaled_values::{Row, Scaled};
 use std::alloc::{AllocError, Global};
 
 // A first price is cut to this at most, so that a search has room for its sums.
-const PRICE_CUT: i64 = 1 << 58;
+pub const PRICE_CUT: i64 = 1 << 58;
 
 // The greater of each benefit and what stood before.
 fn raise_full(prices: &mut [i64], benefits: &[Benefit])

@@ -5,7 +5,7 @@ ghost use Rattle.rounds.specs.Outcomes.{IsDecided, IsProof};
 
 use super::answer::{best_of, hall_of};
 use super::bids::bid_all;
-use super::lowering::lower_unowned;
+use super::lowering::{lower_unowned, unowned_above};
 use super::market::Market;
 use super::number::Number;
 use super::observer::{Observer, Telling, Unobserved};
@@ -232,10 +232,12 @@ fn started_paths<O: Observer>(
 {
     let plan = started_plan(scaled);
     let mut market = Market::new(alloc, prices, scaled.n() as usize)?;
-    let Some(values) = match_ties(alloc, scaled, &mut market, plan.most_unserved)? else {
+    let Some(ties) = match_ties(alloc, scaled, &mut market, plan.most_unserved)? else {
         return Ok(None);
     };
-    lower_unowned(alloc, scaled, &mut market, values.as_slice())?;
+    let values = ties.values.as_slice();
+    let unowned = unowned_above(alloc, &market, i64::MIN)?;
+    lower_unowned(alloc, scaled, &mut market, values, unowned.as_slice(), i64::MIN)?;
     let mut telling = Telling::new(observer);
     let searched = bid_and_search(alloc, scaled, &mut market, plan, &mut telling)?;
     answer_of(alloc, scaled, &market, &searched)

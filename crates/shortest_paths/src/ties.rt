@@ -18,12 +18,12 @@ const BLOCK: usize = 32;
 
 // Best objects of the persons, those of one person after those of another.
 #[derive(Drop)]
-struct Ties {
+pub struct Ties {
     objects: Vec<usize>,
     // How long the list was before each person, and at the end.
     bounds: Vec<usize>,
     // The value of the best objects of each person.
-    values: Vec<i64>,
+    pub values: Vec<i64>,
 }
 
 impl Ties {
@@ -163,13 +163,24 @@ fn keep(
 
 // A search along ties: the person from whom each object was reached, and the objects that were reached
 // in their order. What a search reached in vain stays reached, since no later one comes on from there.
+// It ends at an unowned object whose price stands above the floor.
 #[derive(Drop)]
 struct Reach {
     from: Vec<Option<usize>>,
     objects: Vec<usize>,
+    floor: i64,
 }
 
 impl Reach {
+    // Nothing is reached yet.
+    fn new(alloc: Global, objects: usize, floor: i64) -> Result<Reach, AllocError> {
+        Ok(Reach {
+            from: vec![in alloc; None; objects]?,
+            objects: Vec::new(alloc),
+            floor,
+        })
+    }
+
     fn reached_from(&self, object: usize) -> Option<usize> {
         self.from.get(object).copied().flatten()
     }
@@ -180,7 +191,7 @@ impl Reach {
         }
     }
 
-    // Reaches the best objects of a person, up to one that nobody owns.
+    // Reaches the best objects of a person, up to an end.
     fn reach(
         &mut self,
         ties: &Ties,
@@ -192,7 +203,7 @@ impl Reach {
             if self.reached_from(object).is_none() {
                 self.mark(object, Some(person));
                 self.objects.push(object)?;
-                if market.owner(object).is_none() {
+                if market.is_unowned_above(object, self.floor) {
                     return Ok(Some(object));
                 }
             }
@@ -200,7 +211,7 @@ impl Reach {
         Ok(None)
     }
 
-    // The search from a person who owns nothing: an object that nobody owns, if one is reached.
+    // The search from a person: an end, if one is reached.
     fn run(
         &mut self,
         ties: &Ties,
@@ -208,16 +219,17 @@ impl Reach {
         first: usize,
     ) -> Result<Option<usize>, AllocError> {
         self.objects.clear();
-        let mut person = first;
+        let mut next = Some(first);
         for turn in 0..market.owners.len() {
-            if let Some(object) = self.reach(ties, market, person)? {
-                return Ok(Some(object));
+            if let Some(person) = next {
+                if let Some(end) = self.reach(ties, market, person)? {
+                    return Ok(Some(end));
+                }
             }
-            let next = self.objects.get(turn).copied();
-            match next.and_then(|object| market.owner(object)) {
-                None => return Ok(None),
-                Some(owner) => person = owner,
-            }
+            let Some(object) = self.objects.get(turn).copied() else {
+                return Ok(None);
+            };
+            next = market.owner(object);
         }
         Ok(None)
     }
@@ -251,26 +263,23 @@ impl Reach {
     }
 }
 
-// Matches persons with best objects, where nobody owns anything yet, and answers the value of these;
-// `None` once more persons than so many can't be matched: no later person changes that for them.
+// Matches persons with best objects, where nobody owns anything yet, and answers these; `None` once more
+// persons than so many can't be matched: no later person changes that for them.
 pub fn match_ties(
     alloc: Global,
     scaled: &Scaled,
     market: &mut Market<i64>,
     most_unserved: usize,
-) -> Result<Option<Vec<i64>>, AllocError>
+) -> Result<Option<Ties>, AllocError>
     requires { length market.old.prices.items ≡ length scaled.now.problem }
     ensures { length market.new.prices.items ≡ length scaled.now.problem }
 {
-    let n = scaled.n() as usize;
+    let persons = market.objects.len();
     let prices = market.prices.as_slice().to_vec(alloc)?;
-    let mut ties = Ties::new(alloc, n)?;
-    let mut reach = Reach {
-        from: vec![in alloc; None; n]?,
-        objects: Vec::new(alloc),
-    };
+    let mut ties = Ties::new(alloc, persons)?;
+    let mut reach = Reach::new(alloc, prices.len(), i64::MIN)?;
     let mut unserved = 0usize;
-    for person in 0..n {
+    for person in 0..persons {
         ties.look(scaled, prices.as_slice(), person)?;
         if let Some(object) = reach.run(&ties, market, person)? {
             reach.walk_back(scaled, market, object);
@@ -282,5 +291,53 @@ pub fn match_ties(
             return Ok(None);
         }
     }
-    Ok(Some(ties.values))
+    Ok(Some(ties))
+}
+
+// A person whose object costs no more than the floor allows leaves it, if ties lead to a dear unowned
+// object.
+fn leave_for_dear(
+    scaled: &Scaled,
+    market: &mut Market<i64>,
+    ties: &Ties,
+    reach: &mut Reach,
+    person: usize,
+) -> Result<(), AllocError>
+    requires { length market.old.prices.items ≡ length scaled.now.problem }
+    ensures { length market.new.prices.items ≡ length scaled.now.problem }
+{
+    let Some(own) = market.object(person) else {
+        return Ok(());
+    };
+    if market.price(own).wrapping_sub(1) <= reach.floor {
+        if let Some(object) = reach.run(ties, market, person)? {
+            market.vacate(own);
+            market.release(person);
+            reach.walk_back(scaled, market, object);
+            reach.forget();
+        }
+    }
+    Ok(())
+}
+
+// Moves persons along ties from objects at the floor to dear unowned ones.
+pub fn match_dear(
+    alloc: Global,
+    scaled: &Scaled,
+    market: &mut Market<i64>,
+    ties: &Ties,
+    dear: &[usize],
+    floor: i64,
+) -> Result<(), AllocError>
+    requires { length market.old.prices.items ≡ length scaled.now.problem }
+    ensures { length market.new.prices.items ≡ length scaled.now.problem }
+{
+    if dear.is_empty() {
+        return Ok(());
+    }
+    let mut reach = Reach::new(alloc, market.prices.len(), floor)?;
+    for person in 0..market.objects.len() {
+        leave_for_dear(scaled, market, ties, &mut reach, person)?;
+    }
+    Ok(())
 }
