@@ -2,8 +2,8 @@
 #![tactic(auto)]
 
 pub use auction_command::{
-    CliFault, Ended, Method, Mode, SolveOpts, Verified, Words, WordsFault, read_words, run_solve,
-    run_solve_by, run_solve_from, run_verify,
+    CliFault, Context, Ended, Method, Mode, SolveOpts, Solver, Verified, Words, WordsFault,
+    read_words, run_solve, run_solve_by, run_solve_from, run_verify,
 };
 use auction_command::{Console, Files, NoFile, NoWords, ProgressLines, run_program};
 use std::fs::File;

@@ -9,7 +9,6 @@ ghost use Rattle.report.specs.SeenReports.{seen_report};
 ghost use Rattle.report.specs.Starts.{IsFirstPrice, IsStart};
 ghost use Rattle.auction_command.specs.Solve.{BeginsAt, IsOutcomeBy, IsOutcomeIn, problem_under};
 ghost use Rattle.auction_command.specs.Solve.{Reads, SolveOutcome, end_of, end_status, solver_of, status};
-ghost use Rattle.auction_command.specs.declared.words.Method.TheVariants.{Auction};
 ghost use Rattle.auction_command.specs.inside.Solve.{FailsToBegin, HasNoStart, Reports};
 
 use crate::progress::{CountedReader, Unwatched, Watch, WatchedGate, WatchedOffers, WatchedSearch};
@@ -244,7 +243,7 @@ fn solve_in_mode<T: Threads + Wait + Sync, G: Gate + Sync, V: Watch + Sync>(
     }
 }
 
-// What the auction comes to from these first prices. A checker takes the outcome.
+// What the auction comes to from these first prices, once a checker has taken it.
 fn solve_by_auction<T: Threads + Wait + Sync, G: Gate + Sync, V: Watch + Sync>(
     context: &Context<'_, T, G, V>,
     scaled: &Arc<Scaled>,
@@ -265,8 +264,8 @@ fn solve_by_auction<T: Threads + Wait + Sync, G: Gate + Sync, V: Watch + Sync>(
     Ok(outcome)
 }
 
-// What shortest paths come to from these first prices, once a checker took it in their own crate.
-// Prices that are all 0 say nothing, so the search then begins at its own.
+// What shortest paths come to from these first prices. What a search finds passes the checkers in
+// its own crate. Prices that are all 0 say nothing, so the search then begins at others.
 fn solve_by_paths<V: Watch>(
     alloc: Global,
     scaled: Arc<Scaled>,
@@ -429,7 +428,7 @@ pub fn run_solve<G: Gate + Sync, T: Threads + Wait + Sync, R: Read, W: Write>(
     gate: &G,
 ) -> Result<Ended, CliFault>
     requires { 0 < options.workers }
-    ensures { SolveOutcome (solver_of Auction options) (R.remaining r.old) None
+    ensures { SolveOutcome (solver_of Method.Auction options) (R.remaining r.old) None
         (W.contents w.old) (W.contents w.new) result }
 {
     let context = Context {
@@ -467,7 +466,7 @@ pub fn run_solve_from<G: Gate + Sync, T: Threads + Wait + Sync, R: Read, Q: Read
     gate: &G,
 ) -> Result<Ended, CliFault>
     requires { 0 < options.workers }
-    ensures { SolveOutcome (solver_of Auction options) (R.remaining r.old)
+    ensures { SolveOutcome (solver_of Method.Auction options) (R.remaining r.old)
         (Some (Q.remaining start.old)) (W.contents w.old) (W.contents w.new) result }
 {
     let context = Context {
