@@ -2,10 +2,10 @@
 #![tactic(auto)]
 
 pub use auction_command::{
-    CliFault, Ended, Method, Mode, SolveOpts, Verified, Words, WordsFault, read_words, run_solve,
-    run_solve_by, run_solve_from, run_verify,
+    CliFault, Context, Ended, Method, Mode, SolveOpts, Solver, Verified, Words, WordsFault,
+    read_words, run_solve, run_solve_by, run_solve_from, run_verify,
 };
-use auction_command::{Console, Files, NoFile, NoWords, Teller, run_program};
+use auction_command::{Console, Files, NoFile, NoWords, ProgressLines, run_program};
 use std::fs::File;
 use std::io::{IsTerminal, Write};
 use std::os::fd::AsRawFd;
@@ -79,7 +79,7 @@ fn main(rt: HostRuntime) -> ExitCode {
     let mut writer = io::writer(&rt);
     let mut errors = rt.stderr();
     let typed = rt.stdin().is_terminal();
-    let teller = Teller::new(Machine { rt: &rt }, errors.is_terminal(), typed);
+    let lines = ProgressLines::new(Machine { rt: &rt }, errors.is_terminal(), typed);
     let end = run_program(
         &rt,
         rt.alloc(),
@@ -88,7 +88,7 @@ fn main(rt: HostRuntime) -> ExitCode {
         &mut reader,
         &mut writer,
         &mut errors,
-        &teller,
+        &lines,
     );
     ExitCode::from(end.status())
 }

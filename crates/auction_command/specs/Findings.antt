@@ -122,7 +122,7 @@ IsSo rows (best sense cost pairs prices) =
 IsSo rows (hall sense persons objects) =
     IsHallSet rows persons objects × ((xs : List ℕ) → IsAssignment rows xs → ⊥)
 
--- what is told of an assignment whose prices don't prove it, without the line feed
+-- the line on an assignment whose prices don't prove it, without the line feed
 abbrev pub unproved_line : Verdict → List ℕ
 unproved_line verdicts.Length = codes "not verified: length"
 unproved_line (verdicts.Unlisted i) = codes "not verified: person " ++ decimal i ++ codes " unlisted"
@@ -132,7 +132,7 @@ unproved_line (verdicts.Slack i k) =
     codes "not verified: slack of person " ++ decimal i ++ codes " at object " ++ decimal k
 unproved_line verdicts.Yes = codes "not verified"
 
--- what is told of the lists of a Hall set
+-- the line on the lists of a Hall set
 abbrev pub hall_line : HallVerdict → List ℕ
 hall_line halls.Range = codes "not verified: number out of range"
 hall_line halls.Order = codes "not verified: order"
@@ -141,7 +141,7 @@ hall_line (halls.Extra j) = codes "not verified: object " ++ decimal j ++ codes 
 hall_line halls.Count = codes "not verified: not fewer"
 hall_line halls.Yes = codes "verified infeasible"
 
--- what is told of a finding
+-- the line on a finding
 abbrev pub finding_line : Finding → List ℕ
 finding_line OtherSense = codes "not verified: sense"
 finding_line NoPrices = codes "not verified: no prices"

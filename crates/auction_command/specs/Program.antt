@@ -8,14 +8,13 @@ use Rattle.std.specs.Option.{IsSomeAnd, option_map}
 use Rattle.std.specs.String.{string_bytes}
 use Rattle.assign_core.specs.declared.sense.Sense.{Sense}
 use Rattle.report.specs.Writing.{IsCutOff}
-use Rattle.auction_command.specs.Solve.{SolveOutcomeBy, end_status, fault_line, status}
+use Rattle.auction_command.specs.Solve.{SolveOutcome, end_status, fault_line, solver_of, status}
 use Rattle.auction_command.specs.Verify.{VerifyOutcome}
 use Rattle.auction_command.specs.Words.{AskFor, AskForNoMode, AskForNoModeAt, AskForNoSense, AskForNoSenseAt, Places, program}
-use Rattle.auction_command.specs.declared.words.Method.{Method}
-use Rattle.auction_command.specs.declared.words.SolveOpts.{SolveOpts}
 use Rattle.auction_command.specs.declared.words.Words.{Words}
 use Rattle.auction_command.specs.declared.words.Words.TheVariants.{Solve, Verify}
 use Rattle.auction_command.specs.declared.verify.Verified.TheVariants.{Yes, No}
+use Rattle.auction_command.specs.declared.run.Solver.{Solver}
 use Rattle.auction_command.specs.declared.run.CliFault.{CliFault}
 use Rattle.auction_command.specs.declared.run.CliFault.TheVariants.{Write, Memory}
 use Rattle.auction_command.specs.declared.program.NoWords.{NoWords}
@@ -24,8 +23,8 @@ use Rattle.auction_command.specs.declared.program.NoFile.{NoFile}
 use Rattle.auction_command.specs.declared.program.NoFile.TheVariants as no_file
 use Rattle.auction_command.specs.declared.program.Named.{Named}
 use Rattle.auction_command.specs.declared.program.Named.TheVariants.{Report, Input}
-use Rattle.auction_command.specs.declared.program.Told.{Told}
-use Rattle.auction_command.specs.declared.program.Told.TheVariants.{Whole, Part}
+use Rattle.auction_command.specs.declared.program.Written.{Written}
+use Rattle.auction_command.specs.declared.program.Written.TheVariants.{Whole, Part}
 use Rattle.auction_command.specs.declared.program.ProgramEnd.{ProgramEnd}
 use Rattle.auction_command.specs.declared.program.ProgramEnd.TheVariants.{Reported, Checked, Helped, Refused, Unopened, Failed}
 
@@ -62,7 +61,7 @@ abbrev pub AreRefused : Given → Type 0
 AreRefused (Ok words) = AreMistaken words ⊎ AskForNoMode words ⊎ AskForNoSense words
 AreRefused (Err none) = none ≡ no_words.NoText
 
--- what opening a file comes to: the bytes that are then left to be read, where the reader tells them, or why it can't be read
+-- what opening a file comes to: the bytes that are then left to be read, where the reader specifies them, or why it can't be read
 abbrev pub Opening : Type 0
 Opening = Result (Option (List ℕ)) NoFile
 
@@ -100,32 +99,32 @@ IsProblemText files (Some name) standard text = files name (Ok text)
 IsProblemText files None standard text = text ≡ standard
 
 -- how a run of `solve` ends the program
-abbrev pub SolveEnd : Method → SolveOpts → Option (List ℕ) → Option (Option (List ℕ)) → Option (List ℕ) →
+abbrev pub SolveEnd : Solver → Option (List ℕ) → Option (Option (List ℕ)) → Option (List ℕ) →
     Option (List ℕ) → ProgramEnd → Type 0
-SolveEnd method options input start old new (Reported ended) = SolveOutcomeBy method options input start old new (Ok ended)
-SolveEnd method options input start old new (Failed fault told) = SolveOutcomeBy method options input start old new (Err fault)
-SolveEnd method options input start old new end = ⊥
+SolveEnd solver input start old new (Reported ended) = SolveOutcome solver input start old new (Ok ended)
+SolveEnd solver input start old new (Failed fault written) = SolveOutcome solver input start old new (Err fault)
+SolveEnd solver input start old new end = ⊥
 
 -- and one of `verify`
 abbrev pub VerifyEnd : Bool → Option Sense → Option (List ℕ) → Option (List ℕ) → Option (List ℕ) → Option (List ℕ) →
     ProgramEnd → Type 0
 VerifyEnd sparse wanted input text old new (Checked verified) = VerifyOutcome sparse wanted input text old new (Ok verified)
-VerifyEnd sparse wanted input text old new (Failed fault told) = VerifyOutcome sparse wanted input text old new (Err fault)
+VerifyEnd sparse wanted input text old new (Failed fault written) = VerifyOutcome sparse wanted input text old new (Err fault)
 VerifyEnd sparse wanted input text old new end = ⊥
 
 -- what is asked for was done, with the files opened that it names, the report first, and the program ended so: nothing went
 -- out where one of them can't be opened or memory is refused
 abbrev pub Does : Words → Option (List ℕ) → Openings → Option (List ℕ) → Option (List ℕ) → ProgramEnd → Type 0
-Does asked standard files old new (Unopened Report told) =
+Does asked standard files old new (Unopened Report written) =
     FailsToOpen files (report_name asked) no_file.Unopened × Keeps old new
-Does asked standard files old new (Unopened Input told) =
+Does asked standard files old new (Unopened Input written) =
     ((text : Option (Option (List ℕ))) × Opens files (report_name asked) text)
     × FailsToOpen files (input_name asked) no_file.Unopened × Keeps old new
-Does asked standard files old new (Failed Memory told) = Keeps old new
+Does asked standard files old new (Failed Memory written) = Keeps old new
 Does (Solve options start asked) standard files old new end =
     (text : Option (Option (List ℕ))) × Opens files (option_map string_bytes start) text
     × (problem : Option (List ℕ)) × IsProblemText files (option_map string_bytes asked.input) standard problem
-    × SolveEnd asked.method options problem text old new end
+    × SolveEnd (solver_of asked.method options) problem text old new end
 Does (Verify sparse sense name input) standard files old new end =
     (text : Option (List ℕ)) × files (string_bytes name) (Ok text)
     × (problem : Option (List ℕ)) × IsProblemText files (option_map string_bytes input) standard problem
@@ -134,9 +133,9 @@ Does (Verify sparse sense name input) standard files old new end =
 -- the words are refused or ask for help, of which a beginning went out where writing fails, or memory is refused
 abbrev pub EndsAtWords : Given → Option (List ℕ) → Option (List ℕ) → ProgramEnd → Type 0
 EndsAtWords given old new Helped = AsksForHelp given × (text : List ℕ) × Appends old new text
-EndsAtWords given old new (Refused told) = AreRefused given × Keeps old new
-EndsAtWords given old new (Failed Write told) = AsksForHelp given × (text : List ℕ) × IsCutOff old new text
-EndsAtWords given old new (Failed Memory told) = Keeps old new
+EndsAtWords given old new (Refused written) = AreRefused given × Keeps old new
+EndsAtWords given old new (Failed Write written) = AsksForHelp given × (text : List ℕ) × IsCutOff old new text
+EndsAtWords given old new (Failed Memory written) = Keeps old new
 EndsAtWords given old new end = ⊥
 
 -- what standard input and the files held, and what went to standard output
@@ -150,8 +149,8 @@ ProgramOutcome given standard files old new end =
 -- it may be
 abbrev pub IsReadWhere : Type 0 → Option (List ℕ) → Option (List ℕ) → ProgramEnd → Type 0
 IsReadWhere may old new Helped = new ≡ old
-IsReadWhere may old new (Refused told) = new ≡ old
-IsReadWhere may old new (Unopened named told) = new ≡ old
+IsReadWhere may old new (Refused written) = new ≡ old
+IsReadWhere may old new (Unopened named written) = new ≡ old
 IsReadWhere may old new end = (new ≡ old) ⊎ may
 
 -- so with standard input, which may be read where the words ask for something that names no input
@@ -160,9 +159,9 @@ InputOutcome given old new end =
     IsReadWhere ((asked : Words) × Asks given asked × (input_name asked ≡ None)) old new end
 
 -- a text went to a stream, or a beginning of it
-abbrev pub Tells : Option (List ℕ) → Option (List ℕ) → List ℕ → Told → Type 0
-Tells old new text Whole = Appends old new text
-Tells old new text Part = IsCutOff old new text
+abbrev pub IsWritten : Option (List ℕ) → Option (List ℕ) → List ℕ → Written → Type 0
+IsWritten old new text Whole = Appends old new text
+IsWritten old new text Part = IsCutOff old new text
 
 -- why the words are refused: which modes or which senses there are, that one of them is no text, or in clap's words, which are open
 abbrev pub IsRefusal : Given → List ℕ → Type 0
@@ -185,10 +184,10 @@ abbrev pub ErrorOutcome : Given → Option (List ℕ) → Option (List ℕ) → 
 ErrorOutcome given old new (Reported ended) = Keeps old new
 ErrorOutcome given old new (Checked verified) = Keeps old new
 ErrorOutcome given old new Helped = Keeps old new
-ErrorOutcome given old new (Refused told) =
-    (text : List ℕ) × IsRefusal given text × Tells old new text told
-ErrorOutcome given old new (Unopened named told) = Tells old new (unopened_line named) told
-ErrorOutcome given old new (Failed fault told) = Tells old new (line_of fault) told
+ErrorOutcome given old new (Refused written) =
+    (text : List ℕ) × IsRefusal given text × IsWritten old new text written
+ErrorOutcome given old new (Unopened named written) = IsWritten old new (unopened_line named) written
+ErrorOutcome given old new (Failed fault written) = IsWritten old new (line_of fault) written
 
 -- 0 for an assignment, for a report that is right and for help, 1 where there is no assignment, 2 for
 -- words that are refused, 4 for a file that can't be opened, 5 for a report that is wrong, and else
@@ -198,6 +197,6 @@ exit_status (Reported ended) = end_status ended
 exit_status (Checked Yes) = 0
 exit_status (Checked No) = 5
 exit_status Helped = 0
-exit_status (Refused told) = 2
-exit_status (Unopened named told) = 4
-exit_status (Failed fault told) = status fault
+exit_status (Refused written) = 2
+exit_status (Unopened named written) = 4
+exit_status (Failed fault written) = status fault

@@ -30,6 +30,7 @@ use Rattle.auction_command.specs.declared.words.Method.TheVariants.{Auction, Pat
 use Rattle.auction_command.specs.declared.words.Mode.{Mode}
 use Rattle.auction_command.specs.declared.words.Mode.TheVariants.{Rounds, Workers}
 use Rattle.auction_command.specs.declared.words.SolveOpts.{SolveOpts}
+use Rattle.auction_command.specs.declared.run.Solver.{Solver}
 use Rattle.auction_command.specs.declared.run.Ended.{Ended}
 use Rattle.auction_command.specs.declared.run.Ended.TheVariants.{Optimal, Infeasible}
 use Rattle.auction_command.specs.declared.run.CliFault.{CliFault}
@@ -44,6 +45,10 @@ Reads false bytes result = Answers result (dense_reading bytes)
 abbrev pub problem_under : Sense → List Listing → ScaledProblem
 problem_under sense rows = record { problem = rows; sense = sense }
 
+-- a method with these options
+abbrev pub solver_of : Method → SolveOpts → Solver
+solver_of method options = record { options = options; method = method }
+
 -- a best assignment, or there is none
 abbrev pub IsSettled : Sense → List Listing → Outcome → Type 0
 IsSettled sense rows (Best c) = IsBest sense rows c.assignment
@@ -52,7 +57,7 @@ IsSettled sense rows (Hall h) = (xs : List ℕ) → IsAssignment rows xs → ⊥
 -- what a mode comes to from these prices: the outcome of plain rounds, or one of so many workers
 abbrev pub IsOutcomeIn : Mode → ℕ → ScaledProblem → List ℤ → Outcome → Type 0
 IsOutcomeIn Rounds workers s prices outcome = IsOfRounds s prices outcome
-IsOutcomeIn Workers workers s prices outcome = (told : List Tally) × IsSolved s prices workers outcome told
+IsOutcomeIn Workers workers s prices outcome = (tallies : List Tally) × IsSolved s prices workers outcome tallies
 
 -- what a method comes to from these prices: the auction to what its mode comes to; shortest paths, from any prices, to an assignment exactly where there is one
 abbrev pub IsOutcomeBy : Method → SolveOpts → ScaledProblem → List ℤ → Outcome → Type 0
@@ -60,21 +65,21 @@ IsOutcomeBy Auction options s prices outcome = IsOutcomeIn options.mode options.
 IsOutcomeBy Paths options s prices outcome = IsDecided s outcome
 
 -- what the method that is asked for comes to from these prices: with prices that prove it best, or a Hall set
-pub record IsSolution (method : Method) (options : SolveOpts) (rows : List Listing) (prices : List ℤ) (outcome : Outcome) : Type 0 where
-  pub reached : IsOutcomeBy method options (problem_under options.sense rows) prices outcome
-  pub proof : IsProof (problem_under options.sense rows) outcome
-  pub settled : IsSettled options.sense rows outcome
+pub record IsSolution (solver : Solver) (rows : List Listing) (prices : List ℤ) (outcome : Outcome) : Type 0 where
+  pub reached : IsOutcomeBy solver.method solver.options (problem_under solver.options.sense rows) prices outcome
+  pub proof : IsProof (problem_under solver.options.sense rows) outcome
+  pub settled : IsSettled solver.options.sense rows outcome
 
 abbrev pub end_of : Outcome → Ended
 end_of (Best c) = Optimal
 end_of (Hall h) = Infeasible
 
 -- the text reports what the method that is asked for comes to from these prices, under the sense that is asked for, with its prices where they are
-pub record IsReportOn (method : Method) (options : SolveOpts) (rows : List Listing) (prices : List ℤ) (ended : Ended) (text : List ℕ) : Type 0 where
+pub record IsReportOn (solver : Solver) (rows : List Listing) (prices : List ℤ) (ended : Ended) (text : List ℕ) : Type 0 where
   pub outcome : Outcome
-  pub solution : IsSolution method options rows prices outcome
+  pub solution : IsSolution solver rows prices outcome
   pub end : ended ≡ end_of outcome
-  pub told : text ≡ report_text (outcome_report rows options.sense outcome options.prices)
+  pub report : text ≡ report_text (outcome_report rows solver.options.sense outcome solver.options.prices)
 
 -- the first prices: all 0 where no report is named, and else those of the report that its bytes are, where they are known
 abbrev pub BeginsAt : Option (Option (List ℕ)) → List Listing → List ℤ → Type 0
@@ -83,10 +88,10 @@ BeginsAt (Some text) rows prices =
     (report : reports.Report) × IfSome text (λ bytes. ReportAnswers bytes (Ok report)) × IsStart report (length rows) prices
 
 -- known bytes are a problem that has this report, from the first prices
-abbrev pub IsAnswer : Method → SolveOpts → Option (List ℕ) → Option (Option (List ℕ)) → Ended → List ℕ → Type 0
-IsAnswer method options input start ended text =
-    (rows : List Listing) × (prices : List ℤ) × IfSome input (λ bytes. Reads options.sparse bytes (Ok rows))
-    × BeginsAt start rows prices × IsReportOn method options rows prices ended text
+abbrev pub IsAnswer : Solver → Option (List ℕ) → Option (Option (List ℕ)) → Ended → List ℕ → Type 0
+IsAnswer solver input start ended text =
+    (rows : List Listing) × (prices : List ℤ) × IfSome input (λ bytes. Reads solver.options.sparse bytes (Ok rows))
+    × BeginsAt start rows prices × IsReportOn solver rows prices ended text
 
 -- known bytes are no problem, and this is their first fault; nothing went out
 pub record IsRefused (sparse : Bool) (input old new : Option (List ℕ)) (fault : InputFault) : Type 0 where
@@ -109,26 +114,21 @@ pub record IsRefusedStart (sparse : Bool) (input text old new : Option (List ℕ
   pub unfit : HasStartFault report (length rows) fault
   pub kept : Keeps old new
 
--- what a run by a method has read, of the problem and of the report that is named, if one is, and written, by how it ended: the report and nothing else, or a beginning of
+-- what a run has read, of the problem and of the report that is named, if one is, and written, by how it ended: the report and nothing else, or a beginning of
 -- it where writing fails, or nothing
-abbrev pub SolveOutcomeBy : Method → SolveOpts → Option (List ℕ) → Option (Option (List ℕ)) → Option (List ℕ) →
+abbrev pub SolveOutcome : Solver → Option (List ℕ) → Option (Option (List ℕ)) → Option (List ℕ) →
     Option (List ℕ) → Result Ended CliFault → Type 0
-SolveOutcomeBy method options input start old new (Ok ended) =
-    (text : List ℕ) × IsAnswer method options input start ended text × Appends old new text
-SolveOutcomeBy method options input start old new (Err Write) =
-    (ended : Ended) × (text : List ℕ) × IsAnswer method options input start ended text × IsCutOff old new text
-SolveOutcomeBy method options input start old new (Err (Input fault)) = IsRefused options.sparse input old new fault
-SolveOutcomeBy method options input start old new (Err (Report fault)) =
-    IsSomeAnd start (λ text. IsRefusedReport options.sparse input text old new fault)
-SolveOutcomeBy method options input start old new (Err (Start fault)) =
-    IsSomeAnd start (λ text. IsRefusedStart options.sparse input text old new fault)
-SolveOutcomeBy method options input start old new (Err Memory) = Keeps old new
-SolveOutcomeBy method options input start old new (Err (Stuck person)) = ⊥
-
--- the same of a run by auction
-abbrev pub SolveOutcome : SolveOpts → Option (List ℕ) → Option (Option (List ℕ)) → Option (List ℕ) →
-    Option (List ℕ) → Result Ended CliFault → Type 0
-SolveOutcome options input start old new result = SolveOutcomeBy Auction options input start old new result
+SolveOutcome solver input start old new (Ok ended) =
+    (text : List ℕ) × IsAnswer solver input start ended text × Appends old new text
+SolveOutcome solver input start old new (Err Write) =
+    (ended : Ended) × (text : List ℕ) × IsAnswer solver input start ended text × IsCutOff old new text
+SolveOutcome solver input start old new (Err (Input fault)) = IsRefused solver.options.sparse input old new fault
+SolveOutcome solver input start old new (Err (Report fault)) =
+    IsSomeAnd start (λ text. IsRefusedReport solver.options.sparse input text old new fault)
+SolveOutcome solver input start old new (Err (Start fault)) =
+    IsSomeAnd start (λ text. IsRefusedStart solver.options.sparse input text old new fault)
+SolveOutcome solver input start old new (Err Memory) = Keeps old new
+SolveOutcome solver input start old new (Err (Stuck person)) = ⊥
 
 -- 4 where the device failed or memory was refused, and 3 for a text that is refused
 abbrev pub input_status : InputFault → ℕ

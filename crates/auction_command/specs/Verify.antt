@@ -15,8 +15,8 @@ use Rattle.auction_command.specs.declared.run.CliFault.{CliFault}
 use Rattle.auction_command.specs.declared.run.CliFault.TheVariants as faults
 
 -- a finding's line, with its line feed
-abbrev pub told_line : Finding → List ℕ
-told_line finding = finding_line finding ++ codes "\n"
+abbrev pub whole_line : Finding → List ℕ
+whole_line finding = finding_line finding ++ codes "\n"
 
 -- known bytes are a problem and a report, in which this is found where this sense is asked for, or
 -- any; where nothing is wrong, what the report says is so
@@ -34,10 +34,10 @@ abbrev pub VerifyOutcome : Bool → Option Sense → Option (List ℕ) → Optio
     Option (List ℕ) → Result Verified CliFault → Type 0
 VerifyOutcome sparse wanted input text old new (Ok verified) =
     (finding : Finding) × IsFinding sparse wanted input text finding × (verified ≡ verdict_of finding)
-    × Appends old new (told_line finding)
+    × Appends old new (whole_line finding)
 VerifyOutcome sparse wanted input text old new (Err faults.Write) =
     (finding : Finding) × IsFinding sparse wanted input text finding
-    × IsCutOff old new (told_line finding)
+    × IsCutOff old new (whole_line finding)
 VerifyOutcome sparse wanted input text old new (Err (faults.Input fault)) =
     IsRefused sparse input old new fault
 VerifyOutcome sparse wanted input text old new (Err (faults.Report fault)) =

@@ -1,4 +1,4 @@
-// What is found in a report, and the line that tells it.
+// What is found in a report, and the line on it.
 ghost use Rattle.std.specs.Prelude.{◌≡◌};
 ghost use Rattle.auction_command.specs.Findings.{HaveOneFinding, verdict_of};
 

@@ -4,19 +4,19 @@
 mod finding;
 mod program;
 mod progress;
+mod progress_lines;
 mod run;
-mod teller;
 mod verify;
 mod words;
 
 pub use finding::Finding;
-pub use program::{Files, Named, NoFile, NoWords, ProgramEnd, Told, run_program};
-pub use progress::{Progress, Unwatched, Watch};
+pub use program::{Files, Named, NoFile, NoWords, ProgramEnd, Written, run_program};
+pub use progress::{News, Progress, Unwatched, Watch};
+pub use progress_lines::{Console, ProgressLines};
 pub use run::{
-    CliFault, Ended, end_status_of, run_solve, run_solve_by, run_solve_from, run_solve_watched,
+    CliFault, Context, Ended, Solver, end_status_of, run_solve, run_solve_by, run_solve_from,
     status_of,
 };
-pub use teller::{Console, Teller};
 pub use verify::{Verified, run_verify, run_verify_under};
 pub use words::{
     Asked, MOST_REFRESH, MOST_WORKERS, Method, Mode, SolveOpts, Words, WordsFault, read_words,

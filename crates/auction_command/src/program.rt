@@ -7,15 +7,15 @@ ghost use Rattle.clap.specs.Words.{Text};
 ghost use Rattle.auction_command.specs.Program.{Does, EndsAtWords, SolveEnd, VerifyEnd};
 ghost use Rattle.auction_command.specs.inside.Program.{EndsAbsent, EndsFailed};
 ghost use Rattle.auction_command.specs.Program.{FailsToOpen, Given, IsReadWhere, Opening, Opens, given_by, input_name, opening_of};
-ghost use Rattle.auction_command.specs.Program.{ErrorOutcome, InputOutcome, ProgramOutcome, Tells, exit_status, unopened_line};
+ghost use Rattle.auction_command.specs.Program.{ErrorOutcome, InputOutcome, IsWritten, ProgramOutcome, exit_status, unopened_line};
 ghost use Rattle.auction_command.specs.Words.{IsInRanges, WordsOutcome};
 ghost use Rattle.auction_command.specs.declared.words.Words.TheVariants.{Solve, Verify};
 ghost use Rattle.auction_command.specs.declared.words.WordsFault.TheVariants.{Clap};
 
 use crate::progress::Watch;
-use crate::run::{CliFault, Ended, end_status_of, run_solve_watched, status_of};
+use crate::run::{CliFault, Context, Ended, Solver, end_status_of, run_solve_by, status_of};
 use crate::verify::{Verified, run_verify_under};
-use crate::words::{Asked, Method, SolveOpts, Words, WordsFault, read_words};
+use crate::words::{Asked, SolveOpts, Words, WordsFault, read_words};
 use arrayvec::ArrayString;
 use assign_core::Sense;
 use async_workers::OpenGate;
@@ -72,7 +72,7 @@ pub enum Named {
 
 /// How much of a line or a text standard error took.
 #[derive(Clone, Copy, PartialEq, Eq)]
-pub enum Told {
+pub enum Written {
     /// All of it.
     Whole,
     /// A beginning of it or nothing: the stream failed, or took no byte.
@@ -88,12 +88,13 @@ pub enum ProgramEnd {
     Checked(Verified),
     /// The help or the version that was asked for stands on standard output.
     Helped,
-    /// The words are refused, and standard error was told why.
-    Refused(Told),
-    /// The file that the words name for this can't be opened, and standard error was told so.
-    Unopened(Named, Told),
-    /// The run failed, and standard error was told how.
-    Failed(CliFault, Told),
+    /// The words are refused, and so much of the reason stands on standard error.
+    Refused(Written),
+    /// The file that the words name for this can't be opened, and so much of the line on it stands on
+    /// standard error.
+    Unopened(Named, Written),
+    /// The run failed, and so much of the fault's line stands on standard error.
+    Failed(CliFault, Written),
 }
 
 impl ProgramEnd {
@@ -115,27 +116,27 @@ impl ProgramEnd {
     }
 }
 
-// Tells standard error a text, as far as it takes it.
-fn tell<E: Write>(e: &mut E, text: &[u8]) -> Told
-    ensures { Tells (E.contents e.old) (E.contents e.new) text.now result }
+// Writes a text to standard error, as far as that takes it.
+fn write_error<E: Write>(e: &mut E, text: &[u8]) -> Written
+    ensures { IsWritten (E.contents e.old) (E.contents e.new) text.now result }
 {
     match write_text(e, text) {
-        Ok(()) => Told::Whole,
-        Err(WriteFault::Write) => Told::Part,
+        Ok(()) => Written::Whole,
+        Err(WriteFault::Write) => Written::Part,
     }
 }
 
-// Tells standard error the line of a fault. It takes no memory, which may be refused already.
+// Writes the line of a fault to standard error. It takes no memory, which may be refused already.
 fn fail<E: Write>(e: &mut E, fault: CliFault) -> ProgramEnd
     ensures { EndsFailed fault (E.contents e.old) (E.contents e.new) result }
 {
     let mut line: ArrayString<64> = ArrayString::new();
     match line.writeln(&fault) {
         Ok(()) => {
-            let told = tell(e, line.as_bytes());
-            ProgramEnd::Failed(fault, told)
+            let written = write_error(e, line.as_bytes());
+            ProgramEnd::Failed(fault, written)
         }
-        Err(_) => ProgramEnd::Failed(fault, Told::Part),
+        Err(_) => ProgramEnd::Failed(fault, Written::Part),
     }
 }
 
@@ -171,7 +172,7 @@ fn refuse<W: Write, E: Write>(alloc: Global, error: Error, w: &mut W, e: &mut E)
         Err(_) => return fail(e, CliFault::Memory),
     };
     if error.use_stderr() {
-        return ProgramEnd::Refused(tell(e, text.as_bytes()));
+        return ProgramEnd::Refused(write_error(e, text.as_bytes()));
     }
     match write_text(w, text.as_bytes()) {
         Ok(()) => ProgramEnd::Helped,
@@ -180,27 +181,24 @@ fn refuse<W: Write, E: Write>(alloc: Global, error: Error, w: &mut W, e: &mut E)
 }
 
 // Solves from one stream to the other, from the prices of a report where there is one.
-fn solve<Q: Read + Drop, R: Read, W: Write, E: Write, V: Watch + Sync>(
-    rt: &(impl Threads + Wait + Sync),
-    alloc: Global,
-    options: SolveOpts,
-    method: Method,
+fn solve<T: Threads + Wait + Sync, V: Watch + Sync, Q: Read + Drop, R: Read, W: Write, E: Write>(
+    context: &Context<'_, T, OpenGate, V>,
+    solver: Solver,
     start: Option<Q>,
     r: &mut R,
     w: &mut W,
     e: &mut E,
-    watch: &V,
 ) -> ProgramEnd
-    requires { 0 < options.workers }
-    ensures output { SolveEnd method options (R.remaining r.old) (option_map Q.remaining start)
+    requires { 0 < solver.options.workers }
+    ensures output { SolveEnd solver (R.remaining r.old) (option_map Q.remaining start)
         (W.contents w.old) (W.contents w.new) result }
     ensures errors { (given : Given)
         → ErrorOutcome given (E.contents e.old) (E.contents e.new) result }
 {
-    match run_solve_watched(rt, alloc, r, start, w, options, method, &OpenGate, watch) {
+    match run_solve_by(context, r, start, w, solver) {
         Ok(ended) => ProgramEnd::Reported(ended),
         Err(fault) => {
-            watch.over();
+            context.watch.over();
             fail(e, fault)
         }
     }
@@ -253,30 +251,28 @@ fn unopened(named: Named) -> &'static [u8]
     }
 }
 
-// Tells why a file can't be read.
-fn tell_absent<E: Write>(named: Named, absent: NoFile, e: &mut E) -> ProgramEnd
+// Reports why a file can't be read.
+fn report_absent<E: Write>(named: Named, absent: NoFile, e: &mut E) -> ProgramEnd
     ensures end { EndsAbsent named absent result }
     ensures errors { (given : Given)
         → ErrorOutcome given (E.contents e.old) (E.contents e.new) result }
 {
     match absent {
-        NoFile::Unopened => ProgramEnd::Unopened(named, tell(e, unopened(named))),
+        NoFile::Unopened => ProgramEnd::Unopened(named, write_error(e, unopened(named))),
         NoFile::Memory => fail(e, CliFault::Memory),
     }
 }
 
 // Solves the problem of the file that is named for it, or else of the stream.
-fn solve_named<F: Files, R: Read, W: Write, E: Write, V: Watch + Sync>(
-    rt: &(impl Threads + Wait + Sync),
-    alloc: Global,
+fn solve_named<T: Threads + Wait + Sync, V: Watch + Sync, F: Files, R: Read, W: Write, E: Write>(
+    context: &Context<'_, T, OpenGate, V>,
+    files: &F,
     options: SolveOpts,
     asked: Asked,
     start: Option<F::File>,
-    files: &F,
     r: &mut R,
     w: &mut W,
     e: &mut E,
-    watch: &V,
 ) -> ProgramEnd
     requires { 0 < options.workers }
     ensures output { (name : Option (String Global))
@@ -293,26 +289,26 @@ fn solve_named<F: Files, R: Read, W: Write, E: Write, V: Watch + Sync>(
         input,
         progress,
     } = asked;
-    watch.begin(progress, input.is_some());
+    let solver = Solver { options, method };
+    context.watch.begin(progress, input.is_some());
     match open_named(files, input) {
-        Ok(None) => solve(rt, alloc, options, method, start, r, w, e, watch),
-        Ok(Some(mut input)) => solve(rt, alloc, options, method, start, &mut input, w, e, watch),
-        Err(absent) => tell_absent(Named::Input, absent, e),
+        Ok(None) => solve(context, solver, start, r, w, e),
+        Ok(Some(mut input)) => solve(context, solver, start, &mut input, w, e),
+        Err(absent) => report_absent(Named::Input, absent, e),
     }
 }
 
 // Checks a report on the problem of the file that is named for it, or else of the stream.
-fn verify_named<F: Files, R: Read, W: Write, E: Write, V: Watch + Sync>(
+fn verify_named<F: Files, R: Read, W: Write, E: Write>(
     alloc: Global,
+    files: &F,
     sparse: bool,
     wanted: Option<Sense>,
     input: Option<String>,
     report: F::File,
-    files: &F,
     r: &mut R,
     w: &mut W,
     e: &mut E,
-    watch: &V,
 ) -> ProgramEnd
     ensures output { (name : String Global)
         → F.may_open files.now (string_bytes name) (Ok (F.File.remaining report))
@@ -323,24 +319,21 @@ fn verify_named<F: Files, R: Read, W: Write, E: Write, V: Watch + Sync>(
     ensures unread { IsReadWhere (option_map string_bytes input ≡ None)
         (R.remaining r.old) (R.remaining r.new) result }
 {
-    watch.begin(false, input.is_some());
     match open_named(files, input) {
         Ok(None) => verify(alloc, sparse, wanted, report, r, w, e),
         Ok(Some(mut input)) => verify(alloc, sparse, wanted, report, &mut input, w, e),
-        Err(absent) => tell_absent(Named::Input, absent, e),
+        Err(absent) => report_absent(Named::Input, absent, e),
     }
 }
 
 // Does what is asked for. The report is opened first that it names.
-fn run_asked<F: Files, R: Read, W: Write, E: Write, V: Watch + Sync>(
-    rt: &(impl Threads + Wait + Sync),
-    alloc: Global,
-    asked: Words,
+fn run_asked<T: Threads + Wait + Sync, V: Watch + Sync, F: Files, R: Read, W: Write, E: Write>(
+    context: &Context<'_, T, OpenGate, V>,
     files: &F,
+    asked: Words,
     r: &mut R,
     w: &mut W,
     e: &mut E,
-    watch: &V,
 ) -> ProgramEnd
     requires { IsInRanges asked }
     ensures output { Does asked (R.remaining r.old) (F.may_open files.now)
@@ -356,8 +349,8 @@ fn run_asked<F: Files, R: Read, W: Write, E: Write, V: Watch + Sync>(
             start,
             asked,
         } => match open_named(files, start) {
-            Ok(start) => solve_named(rt, alloc, options, asked, start, files, r, w, e, watch),
-            Err(absent) => tell_absent(Named::Report, absent, e),
+            Ok(start) => solve_named(context, files, options, asked, start, r, w, e),
+            Err(absent) => report_absent(Named::Report, absent, e),
         },
         Words::Verify {
             sparse,
@@ -366,23 +359,30 @@ fn run_asked<F: Files, R: Read, W: Write, E: Write, V: Watch + Sync>(
             input,
         } => match files.open(report.as_str()) {
             Ok(report) => {
-                verify_named(alloc, sparse, sense, input, report, files, r, w, e, watch)
+                context.watch.begin(false, input.is_some());
+                verify_named(context.alloc, files, sparse, sense, input, report, r, w, e)
             }
-            Err(absent) => tell_absent(Named::Report, absent, e),
+            Err(absent) => report_absent(Named::Report, absent, e),
         },
     }
 }
 
 // Does what the words ask for.
-fn run_words<S: AsStr, F: Files, R: Read, W: Write, E: Write, V: Watch + Sync>(
-    rt: &(impl Threads + Wait + Sync),
-    alloc: Global,
-    words: &[S],
+fn run_words<
+    T: Threads + Wait + Sync,
+    V: Watch + Sync,
+    S: AsStr,
+    F: Files,
+    R: Read,
+    W: Write,
+    E: Write,
+>(
+    context: &Context<'_, T, OpenGate, V>,
     files: &F,
+    words: &[S],
     r: &mut R,
     w: &mut W,
     e: &mut E,
-    watch: &V,
 ) -> ProgramEnd
     ensures output { ProgramOutcome (Ok (map S.text words.entry.now)) (R.remaining r.old)
         (F.may_open files.now) (W.contents w.old) (W.contents w.new) result }
@@ -391,13 +391,15 @@ fn run_words<S: AsStr, F: Files, R: Read, W: Write, E: Write, V: Watch + Sync>(
     ensures unread { InputOutcome (Ok (map S.text words.entry.now))
         (R.remaining r.old) (R.remaining r.new) result }
 {
-    match read_words(alloc, words) {
-        Ok(asked) => run_asked(rt, alloc, asked, files, r, w, e, watch),
+    match read_words(context.alloc, words) {
+        Ok(asked) => run_asked(context, files, asked, r, w, e),
         Err(WordsFault::Mode) => {
-            ProgramEnd::Refused(tell(e, b"usage: mode is rounds or workers\n"))
+            ProgramEnd::Refused(write_error(e, b"usage: mode is rounds or workers\n"))
         }
-        Err(WordsFault::Sense) => { ProgramEnd::Refused(tell(e, b"usage: sense is min or max\n")) }
-        Err(WordsFault::Clap(error)) => refuse(alloc, error, w, e),
+        Err(WordsFault::Sense) => {
+            ProgramEnd::Refused(write_error(e, b"usage: sense is min or max\n"))
+        }
+        Err(WordsFault::Clap(error)) => refuse(context.alloc, error, w, e),
         Err(WordsFault::Memory) => fail(e, CliFault::Memory),
     }
 }
@@ -405,17 +407,25 @@ fn run_words<S: AsStr, F: Files, R: Read, W: Write, E: Write, V: Watch + Sync>(
 /// Does what the words ask for, the program's own name first: opens the report that they name, and
 /// then the file that they name for the problem, both in `files`; reads the problem from this file,
 /// or from `r` where none is named, and then the report; writes the report, what a report was found
-/// to be, or help to `w`; and tells `e` what is wrong.
+/// to be, or help to `w`; and what is wrong to `e`.
 ///
 /// Nothing is written to `e` where the program ends with what was asked for on `w`, and nothing to
 /// `w` where it fails, but for a beginning of what was to be written where `w` itself fails. Nothing
 /// is read from `r` where the words are refused, ask for help, or name a file that can't be opened or
 /// a file for the problem.
 ///
-/// The watch is told how far a run of `solve` is, and what the words say of that. Of what it is told,
+/// The watch is shown how far a run of `solve` is, and what the words say of that. Of what it is shown,
 /// and of what it does, no clause speaks.
-pub fn run_program<S: AsStr + Drop, F: Files, R: Read, W: Write, E: Write, V: Watch + Sync>(
-    rt: &(impl Threads + Wait + Sync),
+pub fn run_program<
+    T: Threads + Wait + Sync,
+    V: Watch + Sync,
+    S: AsStr + Drop,
+    F: Files,
+    R: Read,
+    W: Write,
+    E: Write,
+>(
+    rt: &T,
     alloc: Global,
     words: Result<Vec<S>, NoWords>,
     files: &F,
@@ -431,9 +441,17 @@ pub fn run_program<S: AsStr + Drop, F: Files, R: Read, W: Write, E: Write, V: Wa
     ensures unread { InputOutcome (given_by (λ v. map S.text v.items) words)
         (R.remaining r.old) (R.remaining r.new) result }
 {
+    let context = Context {
+        rt,
+        alloc,
+        gate: &OpenGate,
+        watch,
+    };
     match words {
-        Ok(words) => run_words(rt, alloc, words.as_slice(), files, r, w, e, watch),
-        Err(NoWords::NoText) => { ProgramEnd::Refused(tell(e, b"error: the words are no text\n")) }
+        Ok(words) => run_words(&context, files, words.as_slice(), r, w, e),
+        Err(NoWords::NoText) => {
+            ProgramEnd::Refused(write_error(e, b"error: the words are no text\n"))
+        }
         Err(NoWords::Memory) => fail(e, CliFault::Memory),
     }
 }

@@ -1,4 +1,4 @@
-// How far a run is, told while it runs. Nothing is proved of what is told, and no contract speaks of it: it changes
+// How far a run is, shown while it runs. Nothing is proved of what is shown, and no contract speaks of it: it changes
 // nothing of what a run reads, answers and writes.
 ghost use Rattle.std.specs.Prelude.{◌≡◌};
 
@@ -11,6 +11,7 @@ use shortest_paths::Observer;
 use std::alloc::AllocError;
 use std::io;
 use std::io::Read;
+use std::sync::atomic::{AtomicU64, Ordering};
 use std::thread::Threads;
 
 /// How far an auction is.
@@ -28,46 +29,45 @@ pub struct Progress {
     pub persons: u16,
 }
 
-/// Who is told how far a run is. A method may be called by several threads at once, and often, so it
+/// What is shown of a run.
+#[derive(Clone, Copy, PartialEq, Eq)]
+pub enum News {
+    /// So many bytes of the problem are read by now.
+    Bytes(u64),
+    /// A round begins. Shown at the first one of each phase, and then after some hundred offers.
+    Round(Progress),
+    /// So many sessions of all workers are over by now, and so many of their bids were accepted. Shown
+    /// after every 64 sessions of a worker.
+    Sessions(u64, u128, Progress),
+    /// Shortest paths: so many of so many persons have an object by now. Shown as bids and as
+    /// searches begin, and then after some thousand of their steps. The number falls to 0 alone: where
+    /// first prices are left for others, and where an auction before the searches begins a phase or
+    /// ends.
+    Paths(u16, u16),
+}
+
+/// Who is shown how far a run is. A method may be called by several threads at once, and often, so it
 /// should cost little; it can't stop the run.
 pub trait Watch {
     /// A run begins: whether the words ask for its progress, and whether they name a file for the
-    /// problem. A run of `verify` is told as one that nobody asked to tell more of.
+    /// problem. A run of `verify` begins as one whose progress isn't asked for.
     fn begin(&self, asked: bool, named: bool);
 
-    /// So many bytes of the problem are read by now.
-    fn bytes(&self, bytes: u64);
+    /// The run has come so far.
+    fn show(&self, news: News);
 
-    /// A round begins. Told at the first one of each phase, and then after some hundred offers.
-    fn round(&self, progress: Progress);
-
-    /// So many sessions more of one worker are over; and how many bids of all workers were accepted
-    /// by now.
-    fn sessions(&self, more: u64, accepted: u128, progress: Progress);
-
-    /// Shortest paths: so many of the persons have an object by now. Told as bids and as searches
-    /// begin, and then after some thousand of their steps. The number falls to 0 alone: where first
-    /// prices are left for others, and where an auction before the searches begins a phase or ends.
-    fn paths(&self, assigned: u16, persons: u16);
-
-    /// Nothing more is told of the run, which is about to write its report or has failed. May be
-    /// told twice.
+    /// Nothing more is shown of the run, which is about to write its report or has failed. May be
+    /// called twice.
     fn over(&self);
 }
 
-/// Is told everything, and does nothing.
+/// Is shown everything, and does nothing.
 pub struct Unwatched;
 
 impl Watch for Unwatched {
     fn begin(&self, _asked: bool, _named: bool) {}
 
-    fn bytes(&self, _bytes: u64) {}
-
-    fn round(&self, _progress: Progress) {}
-
-    fn sessions(&self, _more: u64, _accepted: u128, _progress: Progress) {}
-
-    fn paths(&self, _assigned: u16, _persons: u16) {}
+    fn show(&self, _news: News) {}
 
     fn over(&self) {}
 }
@@ -98,7 +98,7 @@ impl<R: Read, V: Watch> Read for CountedReader<'_, R, V> {
     fn read(&mut self, buf: &mut [u8]) -> io::Result<usize> {
         let count = self.reader.read(buf)?;
         self.bytes = self.bytes.saturating_add(count as u64);
-        self.watch.bytes(self.bytes);
+        self.watch.show(News::Bytes(self.bytes));
         Ok(count)
     }
 }
@@ -118,17 +118,51 @@ fn phases_of(scaled: &Scaled) -> u16 {
     MOST_PHASES
 }
 
-// After so many offers the watch is told again.
-const OFFERS_A_LOOK: u64 = 256;
-
-/// Makes the offers of rounds as `InPieces` does, and tells a watch of them.
+/// A watch on how a problem is solved. It is shown how many persons have an object, while shortest
+/// paths are looked for.
 #[derive(Drop)]
-pub struct WatchedOffers<'a, R, V> {
-    rt: &'a R,
+pub struct WatchedSearch<'a, V> {
     watch: &'a V,
     phases: u16,
     persons: u16,
-    // The phase that was told last, and the offers since.
+}
+
+impl<'a, V: Watch> WatchedSearch<'a, V> {
+    pub fn new(scaled: &Scaled, watch: &'a V) -> WatchedSearch<'a, V> {
+        WatchedSearch {
+            watch,
+            phases: phases_of(scaled),
+            persons: scaled.n(),
+        }
+    }
+
+    // How far an auction is in this phase.
+    fn progress(&self, phase: u16, slackness: i64, assigned: u16) -> Progress {
+        Progress {
+            phase,
+            phases: self.phases,
+            slackness,
+            assigned,
+            persons: self.persons,
+        }
+    }
+}
+
+impl<V: Watch> Observer for WatchedSearch<'_, V> {
+    fn assigned(&self, persons: u16) {
+        self.watch.show(News::Paths(persons, self.persons));
+    }
+}
+
+// After so many offers the watch is shown the next round.
+const OFFERS_A_LOOK: u64 = 256;
+
+/// Makes the offers of rounds as `InPieces` does, and shows them to a watch.
+#[derive(Drop)]
+pub struct WatchedOffers<'a, R, V> {
+    rt: &'a R,
+    search: WatchedSearch<'a, V>,
+    // The phase that was shown last, and the offers since.
     phase: u16,
     offers: u64,
 }
@@ -137,31 +171,25 @@ impl<'a, R, V: Watch> WatchedOffers<'a, R, V> {
     pub fn new(rt: &'a R, scaled: &Scaled, watch: &'a V) -> WatchedOffers<'a, R, V> {
         WatchedOffers {
             rt,
-            watch,
-            phases: phases_of(scaled),
-            persons: scaled.n(),
+            search: WatchedSearch::new(scaled, watch),
             phase: 0,
             offers: 0,
         }
     }
 
-    // Whether a round with so many offers is to be told.
+    // Whether a round with so many offers is to be shown.
     fn is_due(&mut self, phase: u16, waiting: usize) -> bool {
         self.offers = self.offers.wrapping_add(waiting as u64);
         self.phase != phase || self.offers >= OFFERS_A_LOOK
     }
 
-    // Tells the watch of a round with so many offers.
-    fn tell(&mut self, ask: Ask, waiting: usize) {
+    // Shows a round with so many offers.
+    fn show(&mut self, ask: Ask, waiting: usize) {
         self.phase = ask.phase;
         self.offers = 0;
-        self.watch.round(Progress {
-            phase: ask.phase,
-            phases: self.phases,
-            slackness: ask.eps,
-            assigned: (self.persons as usize).saturating_sub(waiting) as u16,
-            persons: self.persons,
-        });
+        let assigned = (self.search.persons as usize).saturating_sub(waiting) as u16;
+        let progress = self.search.progress(ask.phase, ask.eps, assigned);
+        self.search.watch.show(News::Round(progress));
     }
 }
 
@@ -172,7 +200,7 @@ impl<R: Threads + Sync, V: Watch> Offering for WatchedOffers<'_, R, V> {
 
     fn begin(&mut self, ask: Ask, waiting: usize) {
         if self.is_due(ask.phase, waiting) {
-            self.tell(ask, waiting);
+            self.show(ask, waiting);
         }
     }
 
@@ -188,25 +216,24 @@ impl<R: Threads + Sync, V: Watch> Offering for WatchedOffers<'_, R, V> {
     }
 }
 
-// After so many sessions of a worker the watch is told again.
+// After so many sessions of a worker the watch is shown how far all are.
 const SESSIONS_A_LOOK: u64 = 64;
 
-/// A gate before which a watch is told of every so many sessions of each worker.
+/// A gate that also shows a watch how far the workers are.
 #[derive(Drop)]
 pub struct WatchedGate<'a, G, V> {
     gate: &'a G,
-    watch: &'a V,
-    phases: u16,
-    persons: u16,
+    search: WatchedSearch<'a, V>,
+    // The sessions of all workers that were shown.
+    sessions: AtomicU64,
 }
 
 impl<'a, G: Gate, V: Watch> WatchedGate<'a, G, V> {
     pub fn new(gate: &'a G, scaled: &Scaled, watch: &'a V) -> WatchedGate<'a, G, V> {
         WatchedGate {
             gate,
-            watch,
-            phases: phases_of(scaled),
-            persons: scaled.n(),
+            search: WatchedSearch::new(scaled, watch),
+            sessions: AtomicU64::new(0),
         }
     }
 }
@@ -227,37 +254,13 @@ impl<G: Gate, V: Watch> Gate for WatchedGate<'_, G, V> {
     fn after_standing(&self, worker: u16, sessions: u64, standing: Standing) {
         self.gate.after_standing(worker, sessions, standing);
         if sessions % SESSIONS_A_LOOK == 0 {
-            let progress = Progress {
-                phase: standing.phase,
-                phases: self.phases,
-                slackness: standing.eps,
-                assigned: standing.assigned,
-                persons: self.persons,
-            };
-            self.watch
-                .sessions(SESSIONS_A_LOOK, standing.accepted, progress);
+            let search = &self.search;
+            let progress = search.progress(standing.phase, standing.eps, standing.assigned);
+            let before = self.sessions.fetch_add(SESSIONS_A_LOOK, Ordering::SeqCst);
+            let sessions = before.wrapping_add(SESSIONS_A_LOOK);
+            search
+                .watch
+                .show(News::Sessions(sessions, standing.accepted, progress));
         }
-    }
-}
-
-/// Tells a watch how many persons have an object, while shortest paths are looked for.
-#[derive(Drop)]
-pub struct WatchedPaths<'a, V> {
-    watch: &'a V,
-    persons: u16,
-}
-
-impl<'a, V: Watch> WatchedPaths<'a, V> {
-    pub fn new(scaled: &Scaled, watch: &'a V) -> WatchedPaths<'a, V> {
-        WatchedPaths {
-            watch,
-            persons: scaled.n(),
-        }
-    }
-}
-
-impl<V: Watch> Observer for WatchedPaths<'_, V> {
-    fn assigned(&self, persons: u16) {
-        self.watch.paths(persons, self.persons);
     }
 }

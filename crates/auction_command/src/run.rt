@@ -7,11 +7,11 @@ ghost use Rattle.rounds.specs.Outcomes.{IsDecided, IsProof};
 ghost use Rattle.report.specs.Reports.{IsReport};
 ghost use Rattle.report.specs.SeenReports.{seen_report};
 ghost use Rattle.report.specs.Starts.{IsFirstPrice, IsStart};
-ghost use Rattle.auction_command.specs.Solve.{BeginsAt, IsOutcomeBy, IsOutcomeIn, IsSolution, problem_under};
-ghost use Rattle.auction_command.specs.Solve.{Reads, SolveOutcome, SolveOutcomeBy, end_of, end_status, status};
+ghost use Rattle.auction_command.specs.Solve.{BeginsAt, IsOutcomeBy, IsOutcomeIn, problem_under};
+ghost use Rattle.auction_command.specs.Solve.{Reads, SolveOutcome, end_of, end_status, solver_of, status};
 ghost use Rattle.auction_command.specs.inside.Solve.{FailsToBegin, HasNoStart, Reports};
 
-use crate::progress::{CountedReader, Unwatched, Watch, WatchedGate, WatchedOffers, WatchedPaths};
+use crate::progress::{CountedReader, Unwatched, Watch, WatchedGate, WatchedOffers, WatchedSearch};
 use crate::words::{Method, Mode, SolveOpts};
 use assign_core::{MOST_PERSONS, Outcome, Person, Prices, Problem, Sense, SolveFault};
 use async_workers::{Gate, solve_workers_from};
@@ -28,6 +28,27 @@ use std::fmt;
 use std::io::{Read, Write};
 use std::sync::{Arc, Wait};
 use std::thread::Threads;
+
+/// How a problem is solved.
+#[derive(Clone, Copy, PartialEq, Eq)]
+pub struct Solver {
+    /// Mode, workers and refresh are the auction's.
+    pub options: SolveOpts,
+    /// The auction or shortest paths.
+    pub method: Method,
+}
+
+/// What a run is given besides its problem and its options.
+#[derive(Drop)]
+pub struct Context<'a, T, G, V> {
+    /// Threads, and leave to wait for them.
+    pub rt: &'a T,
+    pub alloc: Global,
+    /// Hears of the steps of workers.
+    pub gate: &'a G,
+    /// Is shown how far the run is.
+    pub watch: &'a V,
+}
 
 /// How a run ended, where nothing failed.
 #[derive(Clone, Copy, PartialEq, Eq)]
@@ -166,7 +187,7 @@ pub fn read_problem<R: Read>(alloc: Global, r: &mut R, sparse: bool) -> Result<P
     }
 }
 
-// The problem of a text, while a watch is told how much of it is read.
+// The problem of a text, while a watch is shown how much of it is read.
 fn read_watched<R: Read, V: Watch>(
     alloc: Global,
     r: &mut R,
@@ -188,14 +209,11 @@ fn shared(alloc: Global, problem: Problem, sense: Sense) -> Result<Arc<Scaled>, 
 }
 
 // What the mode comes to from these first prices.
-fn solve_in_mode<G: Gate + Sync, T: Threads + Wait + Sync, V: Watch + Sync>(
-    rt: &T,
-    alloc: Global,
+fn solve_in_mode<T: Threads + Wait + Sync, G: Gate + Sync, V: Watch + Sync>(
+    context: &Context<'_, T, G, V>,
     scaled: Arc<Scaled>,
     prices: Prices,
     options: SolveOpts,
-    gate: &G,
-    watch: &V,
 ) -> Result<Outcome, SolveFault>
     requires workers { 0 < options.workers }
     requires long { length prices ≡ length (arc_value scaled).problem }
@@ -205,22 +223,49 @@ fn solve_in_mode<G: Gate + Sync, T: Threads + Wait + Sync, V: Watch + Sync>(
 {
     match options.mode {
         Mode::Rounds => {
-            let mut offering = WatchedOffers::new(rt, &scaled, watch);
-            solve_rounds_by(&mut offering, alloc, scaled, prices)
+            let mut offering = WatchedOffers::new(context.rt, &scaled, context.watch);
+            solve_rounds_by(&mut offering, context.alloc, scaled, prices)
         }
         Mode::Workers => {
             let (workers, refresh) = (options.workers, options.refresh);
-            let gate = WatchedGate::new(gate, &scaled, watch);
+            let gate = WatchedGate::new(context.gate, &scaled, context.watch);
             let (outcome, _) = solve_workers_from(
-                rt, alloc, scaled, prices, workers, refresh, &gate,
+                context.rt,
+                context.alloc,
+                scaled,
+                prices,
+                workers,
+                refresh,
+                &gate,
             )?;
             Ok(outcome)
         }
     }
 }
 
-// What shortest paths come to from these first prices. Prices that are all 0 tell nothing, so the
-// search then begins at its own.
+// What the auction comes to from these first prices, once a checker has taken it.
+fn solve_by_auction<T: Threads + Wait + Sync, G: Gate + Sync, V: Watch + Sync>(
+    context: &Context<'_, T, G, V>,
+    scaled: &Arc<Scaled>,
+    prices: Prices,
+    options: SolveOpts,
+) -> Result<Outcome, SolveFault>
+    requires workers { 0 < options.workers }
+    requires long { length prices ≡ length (arc_value scaled.now).problem }
+    requires low { All IsFirstPrice prices }
+    ensures mode { IfOk result
+        (IsOutcomeIn options.mode options.workers (arc_value scaled.now) prices) }
+    ensures proof { IfOk result (IsProof (arc_value scaled.now)) }
+{
+    let outcome = solve_in_mode(context, scaled.clone()?, prices, options)?;
+    if !confirms(context.alloc, scaled.problem(), scaled.sense(), &outcome)? {
+        unreachable!();
+    }
+    Ok(outcome)
+}
+
+// What shortest paths come to from these first prices. What a search finds passes the checkers in
+// its own crate. Prices that are all 0 say nothing, so the search then begins at others.
 fn solve_by_paths<V: Watch>(
     alloc: Global,
     scaled: Arc<Scaled>,
@@ -231,7 +276,7 @@ fn solve_by_paths<V: Watch>(
     ensures proof { IfOk result (IsProof (arc_value scaled)) }
     ensures decided { IfOk result (IsDecided (arc_value scaled)) }
 {
-    let observer = WatchedPaths::new(&scaled, watch);
+    let observer = WatchedSearch::new(&scaled, watch);
     let found = if prices.as_slice().iter().all(|price| *price == 0) {
         solve_paths_watched(alloc, scaled, &observer)
     } else {
@@ -241,68 +286,23 @@ fn solve_by_paths<V: Watch>(
 }
 
 // What the method comes to from these first prices.
-fn solve_by<G: Gate + Sync, T: Threads + Wait + Sync, V: Watch + Sync>(
-    rt: &T,
-    alloc: Global,
-    scaled: Arc<Scaled>,
+fn solve_by<T: Threads + Wait + Sync, G: Gate + Sync, V: Watch + Sync>(
+    context: &Context<'_, T, G, V>,
+    scaled: &Arc<Scaled>,
     prices: Prices,
-    options: SolveOpts,
-    method: Method,
-    gate: &G,
-    watch: &V,
+    solver: Solver,
 ) -> Result<Outcome, SolveFault>
-    requires workers { 0 < options.workers }
-    requires long { length prices ≡ length (arc_value scaled).problem }
+    requires workers { 0 < solver.options.workers }
+    requires long { length prices ≡ length (arc_value scaled.now).problem }
     requires low { All IsFirstPrice prices }
-    ensures method { IfOk result (IsOutcomeBy method options (arc_value scaled) prices) }
-    ensures proof { IfOk result (IsProof (arc_value scaled)) }
+    ensures method { IfOk result
+        (IsOutcomeBy solver.method solver.options (arc_value scaled.now) prices) }
+    ensures proof { IfOk result (IsProof (arc_value scaled.now)) }
 {
-    match method {
-        Method::Auction => solve_in_mode(rt, alloc, scaled, prices, options, gate, watch),
-        Method::Paths => solve_by_paths(alloc, scaled, prices, watch),
+    match solver.method {
+        Method::Auction => solve_by_auction(context, scaled, prices, solver.options),
+        Method::Paths => solve_by_paths(context.alloc, scaled.clone()?, prices, context.watch),
     }
-}
-
-// A problem, and what its run came to.
-#[derive(Drop)]
-struct Solved {
-    scaled: Arc<Scaled>,
-    outcome: Outcome,
-}
-
-// Solves a problem by a run that begins at these prices, and checks the outcome.
-fn solve_checked<G: Gate + Sync, T: Threads + Wait + Sync, V: Watch + Sync>(
-    rt: &T,
-    alloc: Global,
-    problem: Problem,
-    prices: Prices,
-    options: SolveOpts,
-    method: Method,
-    gate: &G,
-    watch: &V,
-) -> Result<Solved, CliFault>
-    requires workers { 0 < options.workers }
-    requires long { length prices ≡ length problem }
-    requires low { All IsFirstPrice prices }
-    ensures problem { IfOk result (λ solved.
-        arc_value solved.scaled ≡ problem_under options.sense problem) }
-    ensures solution { IfOk result (λ solved.
-        IsSolution method options problem prices solved.outcome) }
-    ensures memory { IfErr result (λ fault. fault ≡ CliFault.Memory) }
-{
-    let scaled = shared(alloc, problem, options.sense)?;
-    let kept = scaled.clone()?;
-    let outcome = match solve_by(rt, alloc, scaled, prices, options, method, gate, watch) {
-        Ok(outcome) => outcome,
-        Err(_) => return Err(CliFault::Memory),
-    };
-    if !confirms(alloc, kept.problem(), options.sense, &outcome)? {
-        unreachable!();
-    }
-    Ok(Solved {
-        scaled: kept,
-        outcome,
-    })
 }
 
 // Which of the two an outcome is.
@@ -316,27 +316,27 @@ fn ended_by(outcome: &Outcome) -> Ended
 }
 
 // Solves a problem by a run that begins at these prices, and writes the report.
-fn report_from<G: Gate + Sync, T: Threads + Wait + Sync, W: Write, V: Watch + Sync>(
-    rt: &T,
-    alloc: Global,
+fn report_from<T: Threads + Wait + Sync, G: Gate + Sync, V: Watch + Sync, W: Write>(
+    context: &Context<'_, T, G, V>,
     problem: Problem,
     prices: Prices,
     w: &mut W,
-    options: SolveOpts,
-    method: Method,
-    gate: &G,
-    watch: &V,
+    solver: Solver,
 ) -> Result<Ended, CliFault>
-    requires workers { 0 < options.workers }
+    requires workers { 0 < solver.options.workers }
     requires long { length prices ≡ length problem }
     requires low { All IsFirstPrice prices }
-    ensures { Reports method options problem prices (W.contents w.old) (W.contents w.new) result }
+    ensures { Reports solver problem prices (W.contents w.old) (W.contents w.new) result }
 {
-    let solved = solve_checked(rt, alloc, problem, prices, options, method, gate, watch)?;
-    watch.over();
-    let problem = solved.scaled.problem();
-    write_report(w, problem, options.sense, &solved.outcome, options.prices)?;
-    Ok(ended_by(&solved.outcome))
+    let options = solver.options;
+    let scaled = shared(context.alloc, problem, options.sense)?;
+    let outcome = match solve_by(context, &scaled, prices, solver) {
+        Ok(outcome) => outcome,
+        Err(_) => return Err(CliFault::Memory),
+    };
+    context.watch.over();
+    write_report(w, scaled.problem(), options.sense, &outcome, options.prices)?;
+    Ok(ended_by(&outcome))
 }
 
 // The prices of a report as the first of a run with `n` objects.
@@ -370,65 +370,41 @@ fn first_prices<Q: Read + Drop>(alloc: Global, start: Option<Q>, n: u16) -> Resu
 }
 
 /// Reads a problem, and a report of either version where there is one for its start, and solves the
-/// problem by a method. The auction is run as `run_solve` does and `run_solve_from` does; mode,
-/// workers and refresh are its options alone.
+/// problem by a method. The auction is run as by `run_solve` and `run_solve_from`; mode, workers and
+/// refresh are its options alone.
 ///
 /// By shortest paths the report that is written is on an outcome that is a proof, best exactly where
 /// there is an assignment, from whatever prices it begins. Which of several best assignments it is,
 /// and at which prices, no clause says; nothing is drawn and no thread is started, so the same bytes
 /// come from the same bytes, as tests show.
 ///
-/// # Errors
-/// As `run_solve_from`; `Report` and `Start` only where there is a report for the start.
-pub fn run_solve_by<G: Gate + Sync, T: Threads + Wait + Sync, R: Read, Q: Read + Drop, W: Write>(
-    rt: &T,
-    alloc: Global,
-    r: &mut R,
-    start: Option<Q>,
-    w: &mut W,
-    options: SolveOpts,
-    method: Method,
-    gate: &G,
-) -> Result<Ended, CliFault>
-    requires { 0 < options.workers }
-    ensures { SolveOutcomeBy method options (R.remaining r.old) (option_map Q.remaining start)
-        (W.contents w.old) (W.contents w.new) result }
-{
-    run_solve_watched(rt, alloc, r, start, w, options, method, gate, &Unwatched)
-}
-
-/// Does what `run_solve_by` does, and tells a watch how far the run is: while it reads, in rounds,
-/// while workers take turns and while shortest paths are looked for. No clause speaks of what the
-/// watch is told. It is told that the run is over before the report goes out; where the run fails,
-/// or nothing is written, it is for the caller to say so.
+/// The watch is shown how far the run is: while it reads, in rounds, while workers take turns and
+/// while shortest paths are looked for. No clause speaks of what it is shown. The run is over for it
+/// before the report goes out; where the run fails before that, the caller has to call `over`.
 ///
 /// # Errors
-/// As `run_solve_by`.
-pub fn run_solve_watched<
-    G: Gate + Sync,
+/// As `run_solve_from`; `Report` and `Start` only where there is a report for the start.
+pub fn run_solve_by<
     T: Threads + Wait + Sync,
+    G: Gate + Sync,
+    V: Watch + Sync,
     R: Read,
     Q: Read + Drop,
     W: Write,
-    V: Watch + Sync,
 >(
-    rt: &T,
-    alloc: Global,
+    context: &Context<'_, T, G, V>,
     r: &mut R,
     start: Option<Q>,
     w: &mut W,
-    options: SolveOpts,
-    method: Method,
-    gate: &G,
-    watch: &V,
+    solver: Solver,
 ) -> Result<Ended, CliFault>
-    requires { 0 < options.workers }
-    ensures { SolveOutcomeBy method options (R.remaining r.old) (option_map Q.remaining start)
+    requires { 0 < solver.options.workers }
+    ensures { SolveOutcome solver (R.remaining r.old) (option_map Q.remaining start)
         (W.contents w.old) (W.contents w.new) result }
 {
-    let problem = read_watched(alloc, r, options.sparse, watch)?;
-    let prices = first_prices(alloc, start, problem.n())?;
-    report_from(rt, alloc, problem, prices, w, options, method, gate, watch)
+    let problem = read_watched(context.alloc, r, solver.options.sparse, context.watch)?;
+    let prices = first_prices(context.alloc, start, problem.n())?;
+    report_from(context, problem, prices, w, solver)
 }
 
 /// Reads a problem, and writes the report on a best assignment, or on persons who list fewer
@@ -436,7 +412,7 @@ pub fn run_solve_watched<
 ///
 /// In rounds mode the report is on the outcome of plain rounds, so the bytes written depend on the
 /// bytes read and on the options alone, and on no number of threads. In workers mode it is on an
-/// outcome of the workers; the call may wait for their threads, and the gate is told of their steps.
+/// outcome of the workers; the call may wait for their threads, and the gate hears of their steps.
 /// The report goes out once a checker has taken the outcome, and no other fault than `Write` leaves
 /// anything written.
 ///
@@ -452,11 +428,21 @@ pub fn run_solve<G: Gate + Sync, T: Threads + Wait + Sync, R: Read, W: Write>(
     gate: &G,
 ) -> Result<Ended, CliFault>
     requires { 0 < options.workers }
-    ensures { SolveOutcome options (R.remaining r.old) None
+    ensures { SolveOutcome (solver_of Method.Auction options) (R.remaining r.old) None
         (W.contents w.old) (W.contents w.new) result }
 {
+    let context = Context {
+        rt,
+        alloc,
+        gate,
+        watch: &Unwatched,
+    };
+    let solver = Solver {
+        options,
+        method: Method::Auction,
+    };
     let start: Option<&[u8]> = None;
-    run_solve_by(rt, alloc, r, start, w, options, Method::Auction, gate)
+    run_solve_by(&context, r, start, w, solver)
 }
 
 /// Reads a problem and then a report, of either version, and solves the problem as `run_solve` does,
@@ -480,9 +466,19 @@ pub fn run_solve_from<G: Gate + Sync, T: Threads + Wait + Sync, R: Read, Q: Read
     gate: &G,
 ) -> Result<Ended, CliFault>
     requires { 0 < options.workers }
-    ensures { SolveOutcome options (R.remaining r.old) (Some (Q.remaining start.old))
-        (W.contents w.old) (W.contents w.new) result }
+    ensures { SolveOutcome (solver_of Method.Auction options) (R.remaining r.old)
+        (Some (Q.remaining start.old)) (W.contents w.old) (W.contents w.new) result }
 {
+    let context = Context {
+        rt,
+        alloc,
+        gate,
+        watch: &Unwatched,
+    };
+    let solver = Solver {
+        options,
+        method: Method::Auction,
+    };
     let start = Some(start);
-    run_solve_by(rt, alloc, r, start, w, options, Method::Auction, gate)
+    run_solve_by(&context, r, start, w, solver)
 }

@@ -109,7 +109,7 @@ fn found_in_priced(
 }
 
 // A report without a sense is on the least cost.
-fn told_sense(sense: Option<Sense>) -> Sense
+fn sense_or_min(sense: Option<Sense>) -> Sense
     ensures { result ≡ sense_of sense }
 {
     sense.unwrap_or(Sense::Min)
@@ -128,7 +128,7 @@ fn found_in(alloc: Global, problem: &Problem, report: &Report) -> Result<Finding
         } => match prices {
             None => Ok(Finding::NoPrices),
             Some(prices) => {
-                let sense = told_sense(*sense);
+                let sense = sense_or_min(*sense);
                 found_in_priced(
                     alloc,
                     problem,
@@ -155,8 +155,8 @@ fn sense_in(report: &Report) -> Sense
     ensures { result ≡ report_sense (seen_report report.now) }
 {
     match report {
-        Report::Best { sense, .. } => told_sense(*sense),
-        Report::Hall { sense, .. } => told_sense(*sense),
+        Report::Best { sense, .. } => sense_or_min(*sense),
+        Report::Hall { sense, .. } => sense_or_min(*sense),
     }
 }
 
@@ -218,7 +218,7 @@ pub fn run_verify<P: Read, Q: Read, W: Write>(
 /// cost.
 ///
 /// # Errors
-/// As `run_verify`. A fault of the problem or of the report is told whatever sense is asked for.
+/// As `run_verify`. A fault of the problem or of the report comes whatever sense is asked for.
 pub fn run_verify_under<P: Read, Q: Read, W: Write>(
     alloc: Global,
     problem: &mut P,

@@ -1,5 +1,5 @@
 // Runs that fail, with their expected lines and statuses.
-use crate::watched::{assert_told, leaves, run_on, run_with, watched_run, whole_devices};
+use crate::watched::{assert_failed, leaves, run_on, run_with, watched_run, whole_devices};
 use assign_core::{Object, Person};
 use auction_command::{CliFault, NoWords, status_of};
 use orlib_reader::InputFault;
@@ -20,7 +20,7 @@ fn assert_refused(
     for (text, fault) in table {
         for most in [1, 65536] {
             let seen = run_with(rt, rt.alloc(), line, text, b"", most)?;
-            assert_told(rt, &seen, 3, fault);
+            assert_failed(rt, &seen, 3, fault);
         }
     }
     Ok(())
@@ -57,7 +57,7 @@ fn input_that_fails(rt: HostRuntime) -> Result<(), Fail> {
         let mut devices = whole_devices(alloc, text, b"", 2);
         devices.text.fails = true;
         let seen = run_on(&rt, alloc, "solve", devices)?;
-        assert_told(&rt, &seen, 4, "device: read failed\n");
+        assert_failed(&rt, &seen, 4, "device: read failed\n");
     }
     Ok(())
 }
@@ -91,7 +91,7 @@ fn reports_that_cannot_be_read(rt: HostRuntime) -> Result<(), Fail> {
         let mut devices = whole_devices(alloc, text, b"cost 5\nass", 2);
         devices.report.fails = true;
         let seen = run_on(&rt, alloc, line, devices)?;
-        assert_told(&rt, &seen, status, told);
+        assert_failed(&rt, &seen, status, told);
     }
     Ok(())
 }
@@ -151,7 +151,7 @@ fn output_that_fails(rt: HostRuntime) -> Result<(), Fail> {
 
 // Whether a run with room for only these bytes on standard error writes just them, and has this
 // status.
-fn is_told_in_part(
+fn is_written_in_part(
     rt: &(impl Threads + Wait + Sync),
     alloc: Global,
     line: &str,
@@ -177,7 +177,7 @@ fn errors_that_fail(rt: HostRuntime) -> Result<(), Fail> {
         for room in [0, 10] {
             let (front, _) = start.split_at(room);
             assert!(rt;
-                is_told_in_part(&rt, rt.alloc(), line, status, front)?,
+                is_written_in_part(&rt, rt.alloc(), line, status, front)?,
                 "{line}"
             );
         }
@@ -195,7 +195,7 @@ fn no_words(rt: HostRuntime) -> Result<(), Fail> {
     for (none, status, line) in table {
         let devices = whole_devices(alloc, b"1 7", b"", 100);
         let seen = watched_run(&rt, alloc, Err(none), devices);
-        assert_told(&rt, &seen, status, line);
+        assert_failed(&rt, &seen, status, line);
     }
     Ok(())
 }

@@ -1,5 +1,5 @@
 // Runs whose problem is in a file that the words name.
-use crate::watched::{Seen, assert_reported, assert_told, run_on, whole_devices};
+use crate::watched::{Seen, assert_failed, assert_reported, run_on, whole_devices};
 use std::alloc::{AllocError, Global};
 use std::process::Abort;
 use std::sync::Wait;
@@ -86,7 +86,7 @@ fn files_that_cannot_be_read(rt: HostRuntime) -> Result<(), Fail> {
     ];
     for (line, status, told) in table {
         let seen = run_on_file(&rt, rt.alloc(), line, true, 2)?;
-        assert_told(&rt, &seen, status, told);
+        assert_failed(&rt, &seen, status, told);
         assert_left_alone(&rt, &seen);
     }
     Ok(())
@@ -106,7 +106,7 @@ fn words_come_first(rt: HostRuntime) -> Result<(), Fail> {
     ];
     for (line, told) in table {
         let seen = run_on_file(&rt, rt.alloc(), line, false, 100)?;
-        assert_told(&rt, &seen, 2, told);
+        assert_failed(&rt, &seen, 2, told);
         assert_left_alone(&rt, &seen);
     }
     Ok(())

@@ -1,6 +1,6 @@
 // Runs by shortest paths.
 use crate::starts::{neighbours_of, report_of};
-use crate::watched::{assert_reported, assert_told, assert_words_refused, run_with};
+use crate::watched::{assert_failed, assert_reported, assert_words_refused, run_with};
 use std::alloc::{AllocError, Global};
 use std::sync::Wait;
 use std::test::Fail;
@@ -84,7 +84,7 @@ fn refused_by_either_method(rt: HostRuntime) -> Result<(), Fail> {
             "solve --start report --method paths",
         ] {
             let seen = run_with(&rt, rt.alloc(), line, text, report, 100)?;
-            assert_told(&rt, &seen, 3, told);
+            assert_failed(&rt, &seen, 3, told);
         }
     }
     Ok(())

@@ -2,7 +2,8 @@
 use assign_core::Sense;
 use async_workers::OpenGate;
 use auction_command::{
-    Console, Ended, Method, Mode, Progress, SolveOpts, Teller, Watch, run_solve_watched,
+    Console, Context, Ended, Method, Mode, News, Progress, ProgressLines, SolveOpts, Solver, Watch,
+    run_solve_by,
 };
 use std::alloc::Global;
 use std::cell::RefCell;
@@ -63,12 +64,8 @@ impl Follower {
             self.wrong.store(true, Ordering::SeqCst);
         }
     }
-}
 
-impl Watch for Follower {
-    fn begin(&self, _asked: bool, _named: bool) {}
-
-    fn bytes(&self, bytes: u64) {
+    fn read(&self, bytes: u64) {
         if self.bytes.swap(bytes, Ordering::SeqCst) > bytes {
             self.wrong.store(true, Ordering::SeqCst);
         }
@@ -82,17 +79,28 @@ impl Watch for Follower {
         self.follow(progress);
     }
 
-    fn sessions(&self, more: u64, _accepted: u128, progress: Progress) {
-        self.sessions.fetch_add(more, Ordering::SeqCst);
-        self.follow(progress);
-    }
-
     fn paths(&self, assigned: u16, persons: u16) {
         self.paths.fetch_add(1, Ordering::SeqCst);
         let before = self.assigned.swap(u64::from(assigned), Ordering::SeqCst);
         let fell = assigned > 0 && before > u64::from(assigned);
         if fell || assigned > persons || seen(&self.overs) > 0 {
             self.wrong.store(true, Ordering::SeqCst);
+        }
+    }
+}
+
+impl Watch for Follower {
+    fn begin(&self, _asked: bool, _named: bool) {}
+
+    fn show(&self, news: News) {
+        match news {
+            News::Bytes(bytes) => self.read(bytes),
+            News::Round(progress) => self.round(progress),
+            News::Sessions(sessions, _, progress) => {
+                self.sessions.fetch_max(sessions, Ordering::SeqCst);
+                self.follow(progress);
+            }
+            News::Paths(assigned, persons) => self.paths(assigned, persons),
         }
     }
 
@@ -128,17 +136,14 @@ fn follows(
     };
     let mut writer = ample_writer(alloc);
     let mut text_left = whole_text(text, 7);
-    let end = run_solve_watched(
+    let context = Context {
         rt,
         alloc,
-        &mut text_left,
-        start,
-        &mut writer,
-        options,
-        method,
-        &OpenGate,
-        follower,
-    );
+        gate: &OpenGate,
+        watch: follower,
+    };
+    let solver = Solver { options, method };
+    let end = run_solve_by(&context, &mut text_left, start, &mut writer, solver);
     matches!(end, Ok(Ended::Optimal))
         && writer.taken.as_slice().starts_with(b"sense min\ncost ")
         && seen(&follower.bytes) == text.len() as u64
@@ -148,7 +153,7 @@ fn follows(
 
 // How often a run reported rounds, sessions and paths; and the last phase, the number of phases and
 // the last slackness; if it passes `follows`.
-fn told_of(
+fn shown_of(
     rt: &(impl Threads + Wait + Sync),
     alloc: Global,
     text: &[u8],
@@ -156,45 +161,45 @@ fn told_of(
     mode: Mode,
     method: Method,
 ) -> Option<([u64; 3], [u64; 3])> {
-    let told = new_follower();
-    if !follows(rt, alloc, text, start, mode, method, &told) {
+    let shown = new_follower();
+    if !follows(rt, alloc, text, start, mode, method, &shown) {
         return None;
     }
-    let counts = [&told.rounds, &told.sessions, &told.paths].map(seen);
+    let counts = [&shown.rounds, &shown.sessions, &shown.paths].map(seen);
     Some((
         counts,
-        [&told.phase, &told.phases, &told.slackness].map(seen),
+        [&shown.phase, &shown.phases, &shown.slackness].map(seen),
     ))
 }
 
 // The spread is 12, three times that of the costs, so the phases have slackness 2 and 1; each is
 // reported once.
 #[test]
-fn each_phase_is_told(rt: HostRuntime) -> Result<(), Fail> {
+fn each_phase_is_shown(rt: HostRuntime) -> Result<(), Fail> {
     let (mode, method) = (Mode::Rounds, Method::Auction);
-    let told = told_of(&rt, rt.alloc(), b"2 1 2 3 5", None, mode, method);
-    assert_eq!(rt; told, Some(([2, 0, 0], [2, 2, 1])));
+    let shown = shown_of(&rt, rt.alloc(), b"2 1 2 3 5", None, mode, method);
+    assert_eq!(rt; shown, Some(([2, 0, 0], [2, 2, 1])));
     Ok(())
 }
 
 // Whether each count is 0 where the least is 0, and at least the least elsewhere.
-fn is_told(counts: [u64; 3], least: [u64; 3]) -> bool {
+fn is_shown(counts: [u64; 3], least: [u64; 3]) -> bool {
     counts.iter().zip(&least).all(|(count, least)| (*count == 0) == (*least == 0) && count >= least)
 }
 
 // Rounds are reported now and then, each session of the workers counts, and paths are reported in
 // place of both.
 #[test]
-fn long_runs_are_told(rt: HostRuntime) -> Result<(), Fail> {
+fn long_runs_are_shown(rt: HostRuntime) -> Result<(), Fail> {
     let table: [(Option<&[u8]>, Mode, Method, [u64; 3]); 3] = [
         (Some(FAR), Mode::Rounds, Method::Auction, [11, 0, 0]),
         (Some(FAR), Mode::Workers, Method::Auction, [0, 1001, 0]),
         (None, Mode::Rounds, Method::Paths, [0, 0, 2]),
     ];
     for (start, mode, method, least) in table {
-        let told = told_of(&rt, rt.alloc(), WAR, start, mode, method);
+        let shown = shown_of(&rt, rt.alloc(), WAR, start, mode, method);
         assert!(rt;
-            told.is_some_and(|(counts, _)| is_told(counts, least)),
+            shown.is_some_and(|(counts, _)| is_shown(counts, least)),
             "{least:?}"
         );
     }
@@ -240,9 +245,9 @@ fn new_screen(written: &RefCell<Vec<u8>>, step: u64, most: u64) -> Screen<'_> {
 }
 
 // What some reports of each kind leave on a screen.
-fn told(alloc: Global, step: u64, most: u64, in_place: bool, asked: bool, ends: bool) -> Vec<u8> {
+fn shown(alloc: Global, step: u64, most: u64, in_place: bool, asked: bool, ends: bool) -> Vec<u8> {
     let written = RefCell::new(Vec::new(alloc));
-    let teller = Teller::new(new_screen(&written, step, most), in_place, false);
+    let lines = ProgressLines::new(new_screen(&written, step, most), in_place, false);
     let progress = Progress {
         phase: 3,
         phases: 8,
@@ -250,17 +255,17 @@ fn told(alloc: Global, step: u64, most: u64, in_place: bool, asked: bool, ends: 
         assigned: 812,
         persons: 1000,
     };
-    teller.begin(asked, false);
-    teller.bytes(12_345_678);
-    teller.round(progress);
-    teller.sessions(64, 50, progress);
-    teller.sessions(64, 99, progress);
-    teller.paths(731, 1000);
+    lines.begin(asked, false);
+    lines.show(News::Bytes(12_345_678));
+    lines.show(News::Round(progress));
+    lines.show(News::Sessions(64, 50, progress));
+    lines.show(News::Sessions(128, 99, progress));
+    lines.show(News::Paths(731, 1000));
     if ends {
-        teller.over();
-        teller.round(progress);
+        lines.over();
+        lines.show(News::Round(progress));
     }
-    drop(teller);
+    drop(lines);
     written.into_inner()
 }
 
@@ -293,7 +298,7 @@ fn lines_on_a_file(rt: HostRuntime) -> Result<(), Fail> {
         (600, 0, true, ""),
         (6000, 9, true, SLOW),
     ] {
-        let lines = told(rt.alloc(), step, most, false, asked, true);
+        let lines = shown(rt.alloc(), step, most, false, asked, true);
         assert_eq!(rt; lines.as_slice(), wanted.as_bytes());
     }
     Ok(())
@@ -312,7 +317,7 @@ const ERASED: &str = "\rphase 3 of 8, 812 of 1000 persons, 128 sessions, 99 bids
 #[test]
 fn lines_on_a_terminal(rt: HostRuntime) -> Result<(), Fail> {
     for (ends, wanted) in [(false, LEFT), (true, ERASED)] {
-        let lines = told(rt.alloc(), 600, 9, true, false, ends);
+        let lines = shown(rt.alloc(), 600, 9, true, false, ends);
         assert_eq!(rt; lines.as_slice(), wanted.as_bytes());
     }
     Ok(())
@@ -321,7 +326,7 @@ fn lines_on_a_terminal(rt: HostRuntime) -> Result<(), Fail> {
 // What a long auction leaves on a screen whose clock moves on by ten seconds at each look.
 fn long_auction(alloc: Global, in_place: bool) -> Vec<u8> {
     let written = RefCell::new(Vec::new(alloc));
-    let teller = Teller::new(new_screen(&written, 10_000, 9), in_place, false);
+    let lines = ProgressLines::new(new_screen(&written, 10_000, 9), in_place, false);
     let progress = Progress {
         phase: 3,
         phases: 8,
@@ -329,11 +334,11 @@ fn long_auction(alloc: Global, in_place: bool) -> Vec<u8> {
         assigned: 812,
         persons: 1000,
     };
-    teller.begin(!in_place, false);
-    teller.round(progress);
-    teller.round(progress);
-    teller.over();
-    drop(teller);
+    lines.begin(!in_place, false);
+    lines.show(News::Round(progress));
+    lines.show(News::Round(progress));
+    lines.over();
+    drop(lines);
     written.into_inner()
 }
 
@@ -347,7 +352,7 @@ const LONG_IN_PLACE: &str = "\rphase 3 of 8, slackness 125, 812 of 1000 persons,
     \r                                                                       \r";
 
 #[test]
-fn a_long_auction_is_told_what_is_faster(rt: HostRuntime) -> Result<(), Fail> {
+fn a_long_auction_says_what_is_faster(rt: HostRuntime) -> Result<(), Fail> {
     for (in_place, wanted) in [(false, LONG), (true, LONG_IN_PLACE)] {
         let lines = long_auction(rt.alloc(), in_place);
         assert_eq!(rt; lines.as_slice(), wanted.as_bytes());
@@ -368,10 +373,10 @@ fn a_typed_problem_is_waited_for(rt: HostRuntime) -> Result<(), Fail> {
         (false, true, false, ""),
     ] {
         let written = RefCell::new(Vec::new(rt.alloc()));
-        let teller = Teller::new(new_screen(&written, 600, 9), in_place, typed);
-        teller.begin(false, named);
-        teller.bytes(12_345_678);
-        drop(teller);
+        let lines = ProgressLines::new(new_screen(&written, 600, 9), in_place, typed);
+        lines.begin(false, named);
+        lines.show(News::Bytes(12_345_678));
+        drop(lines);
         assert_eq!(rt; written.into_inner().as_slice(), wanted.as_bytes());
     }
     Ok(())

@@ -1,5 +1,5 @@
 // Runs that begin at the prices of a report.
-use crate::watched::{assert_reported, assert_told, first_line, run_with};
+use crate::watched::{assert_failed, assert_reported, first_line, run_with};
 use std::alloc::{AllocError, Global};
 use std::sync::Wait;
 use std::test::Fail;
@@ -127,7 +127,7 @@ fn refused_starts(rt: HostRuntime) -> Result<(), Fail> {
     for (text, report, line) in table {
         for most in [1, 65536] {
             let seen = run_with(&rt, rt.alloc(), "solve --start report", text, report, most)?;
-            assert_told(&rt, &seen, 3, line);
+            assert_failed(&rt, &seen, 3, line);
         }
     }
     Ok(())

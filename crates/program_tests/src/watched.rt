@@ -1,5 +1,5 @@
 // Runs of the whole program with watched streams, for tests.
-use auction_command::{Files, NoFile, NoWords, ProgramEnd, Told, Unwatched, run_program};
+use auction_command::{Files, NoFile, NoWords, ProgramEnd, Unwatched, Written, run_program};
 use std::alloc::{AllocError, Global};
 use std::process::Abort;
 use std::sync::Wait;
@@ -71,9 +71,9 @@ pub struct Seen {
 fn is_whole(end: &ProgramEnd) -> bool {
     !matches!(
         end,
-        ProgramEnd::Refused(Told::Part)
-            | ProgramEnd::Unopened(_, Told::Part)
-            | ProgramEnd::Failed(_, Told::Part)
+        ProgramEnd::Refused(Written::Part)
+            | ProgramEnd::Unopened(_, Written::Part)
+            | ProgramEnd::Failed(_, Written::Part)
     )
 }
 
@@ -174,7 +174,7 @@ pub fn assert_reported(rt: &impl Abort, seen: &Seen, status: u8, text: &str) {
 }
 
 /// The run wrote this whole line on standard error, nothing else, and ended with this status.
-pub fn assert_told(rt: &impl Abort, seen: &Seen, status: u8, line: &str) {
+pub fn assert_failed(rt: &impl Abort, seen: &Seen, status: u8, line: &str) {
     assert!(rt;
         leaves(seen, status, b"", line.as_bytes()) && seen.whole,
         "{line}"

@@ -8,21 +8,20 @@ use Rattle.report.specs.Reports as reports
 use Rattle.report.specs.Starts.{HasStartFault}
 use Rattle.report.specs.Writing.{IsCutOff}
 use Rattle.auction_command.specs.Solve.{IsReportOn}
-use Rattle.auction_command.specs.declared.words.Method.{Method}
-use Rattle.auction_command.specs.declared.words.SolveOpts.{SolveOpts}
+use Rattle.auction_command.specs.declared.run.Solver.{Solver}
 use Rattle.auction_command.specs.declared.run.Ended.{Ended}
 use Rattle.auction_command.specs.declared.run.CliFault.{CliFault}
 use Rattle.auction_command.specs.declared.run.CliFault.TheVariants.{Report, Start, Write, Memory}
 
 -- by how a run over a problem and first prices ended: the report went out, or a beginning of it, or nothing
-abbrev pub Reports : Method → SolveOpts → List Listing → List ℤ → Option (List ℕ) → Option (List ℕ) →
+abbrev pub Reports : Solver → List Listing → List ℤ → Option (List ℕ) → Option (List ℕ) →
     Result Ended CliFault → Type 0
-Reports method options rows prices old new (Ok ended) =
-    (text : List ℕ) × IsReportOn method options rows prices ended text × Appends old new text
-Reports method options rows prices old new (Err Write) =
-    (ended : Ended) × (text : List ℕ) × IsReportOn method options rows prices ended text × IsCutOff old new text
-Reports method options rows prices old new (Err Memory) = Keeps old new
-Reports method options rows prices old new (Err fault) = ⊥
+Reports solver rows prices old new (Ok ended) =
+    (text : List ℕ) × IsReportOn solver rows prices ended text × Appends old new text
+Reports solver rows prices old new (Err Write) =
+    (ended : Ended) × (text : List ℕ) × IsReportOn solver rows prices ended text × IsCutOff old new text
+Reports solver rows prices old new (Err Memory) = Keeps old new
+Reports solver rows prices old new (Err fault) = ⊥
 
 -- why no run with n objects begins at the prices of a report
 abbrev pub HasNoStart : reports.Report → ℕ → CliFault → Type 0

@@ -23,7 +23,7 @@ returns-in-Err-Mode-clause-errors g c =
     let none : AskForNoMode words = search rules in (
       codes "usage: mode is rounds or workers\n",
       ((λ m. refl), (λ s. absurd (no_mode_or_sense none.0 words none.1 (s none.0)))),
-      c.tell.ensures,
+      c.write_error.ensures,
     )
 
 pub returns-in-Err-Sense-clause-errors : goal.returns-in-Err-Sense-clause-errors
@@ -32,5 +32,5 @@ returns-in-Err-Sense-clause-errors g c =
     let none : AskForNoSense words = search rules in (
       codes "usage: sense is min or max\n",
       ((λ m. absurd (no_mode_or_sense none.0 words (m none.0) none.1)), (λ s. refl)),
-      c.tell-in-Err-Sense.ensures,
+      c.write_error-in-Err-Sense.ensures,
     )

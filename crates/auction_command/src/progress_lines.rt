@@ -1,5 +1,5 @@
 // Lines on how far a run is, for standard error: now and then, or where it is a terminal one line that is written over.
-use crate::progress::{Progress, Watch};
+use crate::progress::{News, Progress, Watch};
 use arrayvec::ArrayString;
 use std::fmt;
 use std::fmt::Write;
@@ -24,36 +24,21 @@ const SLOW: u64 = 10_000;
 
 const FASTER: &str = "; --method paths may be faster";
 
-// What is told where nothing comes unless it is typed.
+// The line where nothing comes unless it is typed.
 const WAITING: &str =
     "waiting for a problem on standard input; Ctrl-D ends it, --input names a file\n";
 
-// No time: nothing is told any more, or not yet.
+// No time: nothing is shown any more, or not yet.
 const NEVER: u64 = u64::MAX;
 
 // The most columns that a line takes on a terminal.
 const MOST_COLUMNS: usize = 79;
 
-// What a line says.
-#[derive(Clone, Copy)]
-enum News {
-    Bytes(u64),
-    Round(Progress),
-    Sessions(u64, u128, Progress),
-    // What both tell, where a line has no room for more.
-    Auction(Progress),
-    Paths(u16, u16),
-}
-
-impl News {
-    // The same of an auction with fewer figures.
-    fn of_auction(self) -> Option<News> {
-        match self {
-            News::Round(it) | News::Sessions(_, _, it) | News::Auction(it) => {
-                Some(News::Auction(it))
-            }
-            News::Bytes(_) | News::Paths(_, _) => None,
-        }
+// How far an auction is, where the news are of one.
+fn auction_in(news: News) -> Option<Progress> {
+    match news {
+        News::Round(it) | News::Sessions(_, _, it) => Some(it),
+        News::Bytes(_) | News::Paths(_, _) => None,
     }
 }
 
@@ -102,17 +87,26 @@ fn write_paths<W: fmt::Write>(
     write_persons(f, assigned, persons)
 }
 
-impl fmt::Display for News {
+// What a line says of some news. Of an auction it has fewer figures, where there is no room for all.
+#[derive(Clone, Copy)]
+struct Figures {
+    news: News,
+    few: bool,
+}
+
+impl fmt::Display for Figures {
     fn fmt<W: fmt::Write>(&self, f: &mut fmt::Formatter<W>) -> fmt::Result {
-        match self {
-            News::Bytes(bytes) => write_bytes(f, *bytes),
-            News::Round(it) => write_round(f, it),
-            News::Sessions(sessions, accepted, it) => write_sessions(f, *sessions, *accepted, it),
-            News::Auction(it) => {
-                write_phase(f, it)?;
-                write_persons(f, it.assigned, it.persons)
-            }
-            News::Paths(assigned, persons) => write_paths(f, *assigned, *persons),
+        if self.few
+            && let Some(it) = auction_in(self.news)
+        {
+            write_phase(f, &it)?;
+            return write_persons(f, it.assigned, it.persons);
+        }
+        match self.news {
+            News::Bytes(bytes) => write_bytes(f, bytes),
+            News::Round(it) => write_round(f, &it),
+            News::Sessions(sessions, accepted, it) => write_sessions(f, sessions, accepted, &it),
+            News::Paths(assigned, persons) => write_paths(f, assigned, persons),
         }
     }
 }
@@ -120,12 +114,16 @@ impl fmt::Display for News {
 // Room for a line and what is put around it.
 type Line = ArrayString<256>;
 
-// The line of some news after so many milliseconds, between these words. It takes no memory, and is cut where it is too
-// long.
-fn line_of(word: &str, news: News, passed: u64, end: &str) -> Line {
+// A line after so many milliseconds, between these words. It takes no memory, and is cut where it is too long.
+fn line_of(word: &str, figures: Figures, passed: u64, end: &str) -> Line {
     let mut line = Line::new();
     let tenths = passed / 100;
-    let _ = write!(line, "{word}{news}, {}.{} s{end}", tenths / 10, tenths % 10);
+    let _ = write!(
+        line,
+        "{word}{figures}, {}.{} s{end}",
+        tenths / 10,
+        tenths % 10
+    );
     line
 }
 
@@ -136,10 +134,10 @@ fn pad(text: &mut Line, blanks: usize) {
     }
 }
 
-/// Tells a console how far a run is. It takes no memory, and ends silently where the clock or
-/// standard error fails.
+/// Writes lines on how far a run is to a console. It takes no memory, and ends silently where the
+/// clock or standard error fails.
 #[derive(Drop)]
-pub struct Teller<C> {
+pub struct ProgressLines<C> {
     console: C,
     // Standard error is a terminal.
     in_place: bool,
@@ -155,15 +153,14 @@ pub struct Teller<C> {
     busy: AtomicBool,
     // How many columns stand on the terminal.
     columns: AtomicUsize,
-    sessions: AtomicU64,
 }
 
-impl<C: Console> Teller<C> {
+impl<C: Console> ProgressLines<C> {
     /// Begins to count the time. On a terminal one line is written over, and typing isn't disturbed:
     /// where the problem is to be typed, a line says so once.
-    pub fn new(console: C, in_place: bool, typed: bool) -> Teller<C> {
+    pub fn new(console: C, in_place: bool, typed: bool) -> ProgressLines<C> {
         let began = console.now();
-        Teller {
+        ProgressLines {
             console,
             in_place,
             typed,
@@ -173,20 +170,19 @@ impl<C: Console> Teller<C> {
             next: AtomicU64::new(NEVER),
             busy: AtomicBool::new(false),
             columns: AtomicUsize::new(0),
-            sessions: AtomicU64::new(0),
         }
     }
 
     // The time, where there may be news. The first one of an auction is kept.
     fn looked_at(&self, news: News) -> Option<u64> {
         let now = self.console.now()?;
-        if news.of_auction().is_some() && self.auction.load(Ordering::SeqCst) == NEVER {
+        if auction_in(news).is_some() && self.auction.load(Ordering::SeqCst) == NEVER {
             self.auction.store(now, Ordering::SeqCst);
         }
         Some(now)
     }
 
-    // The time, where it is one for a line. Of several threads one is told so.
+    // The time, where it is one for a line. Of several threads one gets it.
     fn due(&self, news: News) -> Option<u64> {
         let next = self.next.load(Ordering::SeqCst);
         if next == NEVER {
@@ -206,14 +202,10 @@ impl<C: Console> Teller<C> {
         }
     }
 
-    // The news with fewer figures, where they are of an auction that has lasted long by this time.
-    fn slow(&self, news: News, now: u64) -> Option<News> {
+    // Whether the news are of an auction that has lasted long by this time.
+    fn is_slow(&self, news: News, now: u64) -> bool {
         let lasted = now.saturating_sub(self.auction.load(Ordering::SeqCst));
-        if lasted < SLOW {
-            None
-        } else {
-            news.of_auction()
-        }
+        lasted >= SLOW && auction_in(news).is_some()
     }
 
     // Writes a text, and nothing more from then on where that fails.
@@ -234,33 +226,34 @@ impl<C: Console> Teller<C> {
     }
 
     // Writes the line of some news, unless another thread is at it.
-    fn tell(&self, news: News, now: u64) {
+    fn write_line(&self, news: News, now: u64) {
         if self.busy.swap(true, Ordering::SeqCst) {
             return;
         }
         let passed = now.saturating_sub(self.began.unwrap_or(now));
-        let slow = self.slow(news, now);
-        let end = if slow.is_some() { FASTER } else { "" };
+        let slow = self.is_slow(news, now);
+        let end = if slow { FASTER } else { "" };
+        let figures = Figures {
+            news,
+            few: slow && self.in_place,
+        };
         if self.in_place {
-            let news = slow.unwrap_or(news);
-            self.put_in_place(line_of("", news, passed, end).as_str());
+            self.put_in_place(line_of("", figures, passed, end).as_str());
         } else {
-            let mut line = line_of("progress: ", news, passed, end);
+            let mut line = line_of("progress: ", figures, passed, end);
             let _ = line.try_push('\n');
             self.put(line.as_str());
         }
         self.busy.store(false, Ordering::SeqCst);
     }
 
-    // Writes the line of some news, where it is time.
-    fn tell_if_due(&self, news: News) {
-        if let Some(now) = self.due(news) {
-            self.tell(news, now);
-        }
+    // Whether the news are of a problem that is being typed, which no line may disturb.
+    fn is_typed(&self, news: News) -> bool {
+        matches!(news, News::Bytes(_)) && self.typed && !self.named.load(Ordering::SeqCst)
     }
 }
 
-impl<C: Console> Watch for Teller<C> {
+impl<C: Console> Watch for ProgressLines<C> {
     fn begin(&self, asked: bool, named: bool) {
         self.named.store(named, Ordering::SeqCst);
         if let Some(began) = self.began
@@ -275,24 +268,12 @@ impl<C: Console> Watch for Teller<C> {
         }
     }
 
-    fn bytes(&self, bytes: u64) {
-        if !self.typed || self.named.load(Ordering::SeqCst) {
-            self.tell_if_due(News::Bytes(bytes));
+    fn show(&self, news: News) {
+        if !self.is_typed(news)
+            && let Some(now) = self.due(news)
+        {
+            self.write_line(news, now);
         }
-    }
-
-    fn round(&self, progress: Progress) {
-        self.tell_if_due(News::Round(progress));
-    }
-
-    fn sessions(&self, more: u64, accepted: u128, progress: Progress) {
-        let before = self.sessions.fetch_add(more, Ordering::SeqCst);
-        let sessions = before.wrapping_add(more);
-        self.tell_if_due(News::Sessions(sessions, accepted, progress));
-    }
-
-    fn paths(&self, assigned: u16, persons: u16) {
-        self.tell_if_due(News::Paths(assigned, persons));
     }
 
     fn over(&self) {
