@@ -50,11 +50,7 @@ fn value_of(scaled: &Scaled, market: &Market<i64>, person: usize) -> i64 {
     benefit.unwrap_or(0).wrapping_sub(market.price(own))
 }
 
-fn values_of(
-    alloc: Global,
-    scaled: &Scaled,
-    market: &Market<i64>,
-) -> Result<Vec<i64>, AllocError> {
+fn values_of(alloc: Global, scaled: &Scaled, market: &Market<i64>) -> Result<Vec<i64>, AllocError> {
     let persons = market.objects.len();
     let mut values = Vec::with_capacity(alloc, persons)?;
     for person in 0..persons {
@@ -94,7 +90,12 @@ impl Settling {
 
     // A person may be reached from an object. `level` is the person's distance less its value.
     fn look(&mut self, person: usize, object: usize, level: i64) -> Result<(), AllocError> {
-        let distance = self.values.get(person).copied().unwrap_or(0).wrapping_add(level);
+        let distance = self
+            .values
+            .get(person)
+            .copied()
+            .unwrap_or(0)
+            .wrapping_add(level);
         if person < self.distances.len() && distance < self.distances[person] {
             if self.distances[person] == FAR {
                 self.waiting.push(person)?;
@@ -193,7 +194,9 @@ impl Settling {
             one = Reached {
                 object,
                 distance,
-                end: distance.wrapping_add(market.price(object)).wrapping_sub(base),
+                end: distance
+                    .wrapping_add(market.price(object))
+                    .wrapping_sub(base),
             };
             if one.end < end.end {
                 end = one;
@@ -295,7 +298,14 @@ pub fn base_of(
     let price = market.least_paid(PRICE_CUT);
     let floor = price.wrapping_sub(1);
     let dear = still_above(alloc, market, dear.as_slice(), floor)?;
-    lower_unowned(alloc, scaled, market, ties.values.as_slice(), dear.as_slice(), floor)?;
+    lower_unowned(
+        alloc,
+        scaled,
+        market,
+        ties.values.as_slice(),
+        dear.as_slice(),
+        floor,
+    )?;
     market.raise_unowned(floor);
     Ok(Base { price, dear })
 }

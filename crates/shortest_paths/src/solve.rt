@@ -237,7 +237,14 @@ fn started_paths<O: Observer>(
     };
     let values = ties.values.as_slice();
     let unowned = unowned_above(alloc, &market, i64::MIN)?;
-    lower_unowned(alloc, scaled, &mut market, values, unowned.as_slice(), i64::MIN)?;
+    lower_unowned(
+        alloc,
+        scaled,
+        &mut market,
+        values,
+        unowned.as_slice(),
+        i64::MIN,
+    )?;
     let mut telling = Telling::new(observer);
     let searched = bid_and_search(alloc, scaled, &mut market, plan, &mut telling)?;
     answer_of(alloc, scaled, &market, &searched)
