@@ -37,7 +37,7 @@ pub mode_untold : (rows : List Row) (name : Text) (o : Option Mode) (r : Result 
 mode_untold rows name None r f n e = rw e (refl, λ mode is. n refl mode (same_Some _ _ (f ∙ is)))
 mode_untold rows name (Some mode) r f n e = rw e tt
 
--- the sense that is named, where one is
+-- the named sense, if there is one
 pub sense_told : (rows : List Row) (name : Text) (sense : Sense) → Some name ≡ first_of (codes "sense") rows → name ≡ sense_name sense → NamesSense rows (Some sense)
 sense_told rows name sense f s = sym f ∙ ap Some s
 
@@ -54,7 +54,7 @@ method_told rows name method f is = ((λ p. sym f ∙ ap Some (is.0 p)), (λ p. 
 pub method_untold : (rows : List Row) → None ≡ first_of (codes "method") rows → NamesMethod rows Auction
 method_untold rows f = ((λ p. cc), (λ p. absurd (none_is_some _ (f ∙ p))))
 
--- what words without a fault of clap's come to
+-- the result of words without a fault of clap's
 pub chosen_outcome : (at : Places) (words : List Text) (found : Option (Text × List Row)) (r : Result Words WordsFault) → fault_of (program at) words ≡ [] → found ≡ subcommand_of (program at) words → IfOk r (Chooses found) → IfErr r (IsChoiceFault found) →
     WordsOutcome words r
 chosen_outcome at words found (Ok asked) none is ok err = (at, none, subst (λ f. Chooses f asked) is ok)
@@ -63,7 +63,7 @@ chosen_outcome at words found (Err wrong.Sense) none is ok err = (at, (none, sub
 chosen_outcome at words found (Err Memory) none is ok err = tt
 chosen_outcome at words found (Err (Clap error)) none is ok err = absurd err
 
--- a line of `solve`, by what its options are told by
+-- a line of `solve`, by the values of its options
 pub solve_taken : (found : Option (Text × List Row)) (r : Result Words WordsFault) (method : Method) (wanted : SolveOpts) (workers refresh : Text) (start input : Option Text) → flags_of found ≡ Some (solve_flags method wanted workers refresh start input) →
     wanted.workers ≡ digits_value 10 (without_leading_plus workers) → wanted.refresh ≡ digits_value 10 (without_leading_plus refresh) →
     IfOk r (Chooses found) → IfErr r (IsChoiceFault found) → IsTaken (SolvesFrom input method wanted start) r
@@ -73,7 +73,7 @@ solve_taken found (Err wrong.Sense) method wanted workers refresh start input e 
 solve_taken found (Err Memory) method wanted workers refresh start input e w h ok err = refl
 solve_taken found (Err (Clap error)) method wanted workers refresh start input e w h ok err = absurd err
 
--- and one of `verify`
+-- a line of `verify`, by the values of its options
 pub verify_taken : (found : Option (Text × List Row)) (r : Result Words WordsFault) (s : Bool) (wanted : Option Sense) (name : Text) (problem : Option Text) → file_of found ≡ Some (verify_file s wanted name problem) → IfOk r (Chooses found) →
     IfErr r (IsChoiceFault found) → IsTaken (VerifiesFrom problem s wanted name) r
 verify_taken found (Ok asked) s wanted name problem e ok err = verifies found asked s wanted name problem e ok

@@ -1,4 +1,4 @@
--- What clap finds in words, and command lines that are written out.
+-- What clap finds in words, and given command lines.
 use Rattle.std.proofs.Common.{arith, ◌≡◌, ◌≢◌, ◌∙◌, ◌≤◌, ℕ, refl, sym, ap, ap₂, subst, inl, inr, codes, map, Bool, true, false, List, [], ◌∷◌, Option, Some, None, option_map, unwrap_or}
 use Rattle.std.specs.Borrow.{Bor}
 use Rattle.std.specs.Prelude.{Err, IfOk, Ok, Result}
@@ -25,7 +25,7 @@ use Rattle.auction_command.specs.declared.words.Words.TheVariants.{Solve, Verify
 use Rattle.auction_command.specs.declared.words.WordsFault.{WordsFault}
 use Rattle.auction_command.specs.declared.words.WordsFault.TheVariants.{Clap, Memory}
 
--- the words of each written line behind the program's name
+-- the words of each given line after the program's name
 abbrev pub plain_line : List Text
 plain_line = codes "solve" ∷ []
 
@@ -75,7 +75,7 @@ free_program : (at : Places) → is_simple_and_free (program at) ≡ true
 unfolding clap_on_literals
 free_program at = refl
 
--- what the options of `solve` are told by, and its files
+-- the values of the options of `solve`, and its files
 pub record Flags : Type 0 where
   pub name : Text
   pub sparse : Option Text
@@ -88,7 +88,7 @@ pub record Flags : Type 0 where
   pub refresh : Option Text
   pub input : Option Text
 
--- a subcommand, and what its options of `solve` are told by
+-- a subcommand, and the values of its options of `solve`
 abbrev pub flags_of : Option (Text × List Row) → Option Flags
 flags_of = option_map (λ f. record {
   name = f.0;
@@ -103,7 +103,7 @@ flags_of = option_map (λ f. record {
   input = first_of (codes "input") f.1;
 })
 
--- what the options and the files of `verify` are told by
+-- the values of the options and the files of `verify`
 pub record File : Type 0 where
   pub name : Text
   pub sparse : Option Text
@@ -111,7 +111,7 @@ pub record File : Type 0 where
   pub report : Option Text
   pub input : Option Text
 
--- a subcommand, and what they are told by
+-- a subcommand, and the values of its options of `verify`
 abbrev pub file_of : Option (Text × List Row) → Option File
 file_of = option_map (λ f. record {
   name = f.0;
@@ -129,7 +129,7 @@ abbrev pub method_word : Method → Text
 method_word Auction = codes "auction"
 method_word Paths = codes "paths"
 
--- what the options are told by, with the digits of both numbers
+-- the values of the options, with the digits of both numbers
 abbrev pub solve_flags : Method → SolveOpts → Text → Text → Option Text → Option Text → Flags
 solve_flags method o workers refresh start input = record {
   name = codes "solve";
@@ -188,7 +188,7 @@ flag_is text flag false f e = f.unset e
 pub other_command : codes "verify" ≡ codes "solve" → ⊥
 other_command e = cc
 
--- the number of a text that is known
+-- the number of a known text
 number_is : (text : Option Text) (least most : ℕ) {number : ℕ} (digits : Text) → IsNumberFor text least most number → text ≡ Some digits → number ≡ digits_value 10 (without_leading_plus digits)
 number_is text least most digits h e = h.value ∙ ap (λ (d : Text). digits_value 10 (without_leading_plus d)) (same_Some _ _ (sym h.told ∙ e))
 
@@ -240,7 +240,7 @@ in_ranges found (Ok (Solve options start asked)) h = record {
 in_ranges found (Ok (Verify sparse sense report input)) h = tt
 in_ranges found (Err fault) h = tt
 
--- the options that a line is told by
+-- the options that belong to the values of a line
 pub options_are : (rows : List Row) (method : Method) (o wanted : SolveOpts) (workers refresh : Text) (start input : Option Text) → flags_of (Some (codes "solve", rows)) ≡ Some (solve_flags method wanted workers refresh start input) → ChoosesSolving rows o → wanted.workers ≡ digits_value 10 (without_leading_plus workers) → wanted.refresh ≡ digits_value 10 (without_leading_plus refresh) → o ≡ wanted
 options_are rows method o wanted workers refresh start input e h w r =
     let all = same_Some _ _ e in
@@ -301,11 +301,11 @@ no_file_mode found s wanted name problem e h = other_command (sym (ap (λ (q : F
 pub sense_is_named : (found : Option (Text × List Row)) (s : Bool) (wanted : Option Sense) (name : Text) (problem : Option Text) → file_of found ≡ Some (verify_file s wanted name problem) → NamesNoSense found → ⊥
 sense_is_named found s wanted name problem e h = h.2 wanted (ap (λ (q : File). q.sense) (same_Some _ _ (ap file_of (sym h.1) ∙ e)))
 
--- words that name no mode are others than those that name no sense
+-- words that name no mode are different from those that name no sense
 pub no_mode_or_sense : (at : Places) (words : List Text) → AskForNoModeAt at words → AskForNoSenseAt at words → ⊥
 no_mode_or_sense at words m s = other_command (ap (λ (q : Text × List Row). q.0) (same_Some _ _ (sym s.1.1 ∙ m.1.1)))
 
--- words that are taken have no fault, and the subcommand of the matches
+-- accepted words have no fault, and the subcommand of the matches
 pub taken_words : (at : Places) (app : App) (words : List Text) (m : ArgMatches) → app ≡ program at → (is_simple_and_free app ≡ true → fault_of app words ≡ []) → HasMatchesOf app words m →
     (fault_of (program at) words ≡ []) × (subcommand_rows_of m ≡ subcommand_of (program at) words)
 taken_words at app words m a none h = (
@@ -313,7 +313,7 @@ taken_words at app words m a none h = (
   (h (ap is_simple a ∙ simple_program at)).1 ∙ ap (λ x. subcommand_of x words) a,
 )
 
--- what is told of words in which clap finds a fault
+-- the result of words in which clap finds a fault
 pub told_outcome : (at : Places) (app : App) (words : List Text) (error : Error) (fault : WordsFault) → app ≡ program at → (is_simple_and_free app ≡ true → HasKind (fault_of app words) error) → IsFaultOf error fault →
     WordsOutcome words (Err fault)
 told_outcome at app words error Memory a kinds f = tt
@@ -332,7 +332,7 @@ flag_told m name flag absent set unset =
     let same = one_text-rows (found_of m) name in
     record { set = λ e. set (same ∙ e); unset = λ e. unset (same ∙ e); absent = λ e. absent (same ∙ e) }
 
--- two texts that lie somewhere are the names of the methods
+-- two texts in memory are the names of the methods
 pub names_are : (names : Bor (List (Bor Text))) → map (λ s. s.now) names.now ≡ codes "auction" ∷ codes "paths" ∷ [] → (at : Places) × (names ≡ method_names at)
 names_are names e = go names.now refl e
   where
@@ -375,7 +375,7 @@ version_told at app words name error (Clap told) a e h f = go (subst (λ k. HasK
     go (inr (inl kind)) = ap kind_of f.0 ∙ kind
     go (inr (inr none)) = absurd none
 
--- the text behind a reference, or none
+-- the text of a reference, or none
 pub text_or_none : (o : Option (Bor Text)) (d : Bor Text) (found : Option Text) → option_map (λ s. s.now) o ≡ found → d.now ≡ [] → (unwrap_or o d).now ≡ unwrap_or found []
 text_or_none None d found e n = n ∙ ap (λ (x : Option Text). unwrap_or x []) e
 text_or_none (Some s) d found e n = ap (λ (x : Option Text). unwrap_or x []) e

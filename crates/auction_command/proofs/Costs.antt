@@ -1,4 +1,4 @@
--- The costs that a report gives, one person more at a time.
+-- The costs that a report gives, one person at a time.
 use Rattle.std.proofs.Common.{◌≡◌, ℕ, ℤ, pos, zero, suc, ◌+◌, ◌<◌, ◌≤◌, ◌+ℤ◌, List, [], ◌∷◌, IsSome, length, drop, get_or, unwrap_or, arith, sym, ap, ◌∙◌, subst, refl, add-one}
 use Rattle.std.proofs.lemmas.List.{length-map}
 use Rattle.assign_core.specs.Rows.{Listing, IsCost, IsProblem, listed_in}
@@ -38,7 +38,7 @@ total_past (row ∷ rows) xs zero past = absurd (omega arith)
 total_past (row ∷ rows) [] (suc i) past = no_objects (drop i rows)
 total_past (row ∷ rows) (x ∷ xs) (suc i) past = total_past rows xs i (omega arith)
 
--- where the objects of pairs are an assignment there are as many pairs as persons
+-- if the objects of pairs are an assignment, there are as many pairs as persons
 pub as_many : (rows : List Listing) (pairs : List (ℕ × ℤ)) (xs : List ℕ) → xs ≡ objects_of pairs → AreListed rows xs → length pairs ≡ length rows
 as_many rows pairs xs is listed =
     sym (ap length is ∙ length-map pairs (λ e. e.0)) ∙ sym (length_zip (λ row j. IsSome (listed_in row j)) rows xs listed)

@@ -1,4 +1,4 @@
--- A report has one finding.
+-- A report has only one finding.
 use Rattle.std.proofs.Common.{◌≡◌, ℕ, ℤ, pos, List, [], length, sym, ap, ◌∙◌, subst, refl, inl, inr, None, Some, Option}
 use Rattle.assign_core.specs.declared.sense.Sense.{Sense}
 use Rattle.assign_core.specs.Rows.{Listing, IsProblem}
@@ -25,7 +25,7 @@ use Rattle.auction_command.specs.Findings.{HaveOneFinding, Follows, HasCost, Has
 no_is_yes : No ≡ Yes → ⊥
 no_is_yes e = cc
 
--- where each pair has its cost, no person's has another
+-- if each pair has its cost, no person's has another
 no_other : (rows : List Listing) (pairs : List (ℕ × ℤ)) (i : ℕ) → HaveCosts rows pairs → IsFirst (HasOtherCost rows pairs) (length rows) i → ⊥
 no_other rows pairs i h f = f.here (pair_number HasCost rows pairs i [] (0, pos 0) h f.number.first f.number.last)
 
@@ -41,7 +41,7 @@ costs_differ sense rows cost pairs first second (inr (inr a)) (inl b) = absurd (
 costs_differ sense rows cost pairs first second (inr (inr a)) (inr (inl b)) = absurd (b.1 a.1)
 costs_differ sense rows cost pairs first second (inr (inr a)) (inr (inr b)) = a.2 ∙ sym b.2
 
--- what follows of one verdict is one finding, where what is found beyond is one
+-- a verdict has only one finding, if there is only one further finding
 one_follows : (IsBeyond : Finding → Type 0) (v : Verdict) (first second : Finding) → ((f s : Finding) → IsBeyond f → IsBeyond s → f ≡ s) →
     Follows IsBeyond v first → Follows IsBeyond v second → first ≡ second
 one_follows IsBeyond verdicts.Yes first second one a b = one first second a b
@@ -61,14 +61,14 @@ findings_differ wanted rows report first second problem (inl a) (inr b) = absurd
 findings_differ wanted rows report first second problem (inr a) (inl b) = absurd (a.0 b.0)
 findings_differ wanted rows report first second problem (inr a) (inr b) = reports_differ rows report first second problem a.1 b.1
 
--- an assignment with prices that prove it best, and its costs with their sum
+-- an assignment with prices that prove it optimal, and its costs with their sum
 costs_are_so : (sense : Sense) (rows : List Listing) (cost : ℤ) (pairs : List (ℕ × ℤ)) (finding : Finding) → IsFoundInCosts sense rows cost pairs finding → verdict_of finding ≡ Yes →
     HaveCosts rows pairs × (cost ≡ total rows (objects_of pairs))
 costs_are_so sense rows cost pairs finding (inl a) y = absurd (no_is_yes (sym (ap verdict_of a.2) ∙ y))
 costs_are_so sense rows cost pairs finding (inr (inl a)) y = absurd (no_is_yes (sym (ap verdict_of a.2) ∙ y))
 costs_are_so sense rows cost pairs finding (inr (inr a)) y = (a.0, a.1)
 
--- a fault of the checker isn't that nothing is wrong
+-- a fault of the checker isn't its Yes
 follows_yes : (IsBeyond : Finding → Type 0) (v : Verdict) (finding : Finding) → Follows IsBeyond v finding → verdict_of finding ≡ Yes → (v ≡ verdicts.Yes) × IsBeyond finding
 follows_yes IsBeyond verdicts.Yes finding f y = (refl, f)
 follows_yes IsBeyond fault finding f y = absurd (no_is_yes (sym (ap verdict_of f) ∙ y))
@@ -77,7 +77,7 @@ hall_yes : (v : HallVerdict) → verdict_of (Hall v) ≡ Yes → v ≡ halls.Yes
 hall_yes halls.Yes y = refl
 hall_yes fault y = absurd (no_is_yes y)
 
--- where nothing is wrong, what the report says is so
+-- if there is no fault, the report is right
 found_in_is_so : (rows : List Listing) (report : Report) (finding : Finding) → IsProblem rows → IsFoundInReport rows report finding → verdict_of finding ≡ Yes → IsSo rows report
 found_in_is_so rows (best sense cost pairs None) finding problem found y = absurd (no_is_yes (sym (ap verdict_of found) ∙ y))
 found_in_is_so rows (best sense cost pairs (Some prices)) finding problem found y =

@@ -43,7 +43,7 @@ module _ (name usual : Text) (low high : ℕ) where
   AllRead [] = ⊤
   AllRead (r ∷ rs) = (bytes_eq r.id name ≡ true → IsRead r) × AllRead rs
 
-  -- rows that are read, row by row
+  -- rows as they are read, row by row
   joined : (xs ys : List Row) → AllRead xs → AllRead ys → AllRead (xs ++ ys)
   joined [] ys a b = b
   joined (x ∷ xs) ys a b = (a.0, joined xs ys a.1 b)
@@ -67,7 +67,7 @@ module _ (name usual : Text) (low high : ℕ) where
       changed name (more_values s (v ∷ vs)) _ rows
       (λ r e f. ((λ n. let g = f n in (g.0, g.1 ++ v ∷ vs, ap (λ l. l ++ v ∷ vs) g.2, g.3, g.4)), tt)) ((λ n. (v, vs, refl, t, refl)), tt) h
 
-  -- and of another option's
+  -- values of another option
   no_other : {A : Type 0} (id x : Text) → bytes_eq id name ≡ false → bytes_eq x id ≡ true → bytes_eq x name ≡ true → A
   no_other id x n e t =
       let same : x ≡ id = (bytes_eq-Decides x id).0 e in
@@ -107,7 +107,7 @@ module _ (name usual : Text) (low high : ℕ) where
   used_own again (v ∷ vs) rows e h =
       own_values CommandLine v vs _ (in_range v vs (then_none (repeat_fault again name rows) _ (then_none (range_kinds 1 1 (length (v ∷ vs))) _ e))) (gone name rows h)
 
-  -- the rule is the option's where it has its name
+  -- a rule with the option's name is the option's
   abbrev IsKnown : Rule → Type 0
   IsKnown a = bytes_eq a.id name ≡ true → a ≡ own
 
@@ -119,7 +119,7 @@ module _ (name usual : Text) (low high : ℕ) where
   IsKnownIfAny None = ⊤
   IsKnownIfAny (Some a) = IsKnown a
 
-  -- what a search among known rules finds is known
+  -- a rule found among known rules is known
   found_known : (p : Rule → Bool) (bs : List Rule) → AllKnown bs → IsKnownIfAny (find p bs)
   found_known p [] k = tt
   found_known p (b ∷ bs) k = go (p b) (found_known p bs k.1)
@@ -146,7 +146,7 @@ module _ (name usual : Text) (low high : ℕ) where
     used_if_any None values rows k e h = h
     used_if_any (Some a) values rows k e h = used_read s.args_override_self a values rows k e h
 
-    -- what was pending is used
+    -- the pending option is used
     settled_read : (h : Held) → settle_fault s.rules s.args_override_self h ≡ [] → AllRead h.rows → AllRead (settled s.rules h).rows
     settled_read h e f = go h.pending e
       where
@@ -158,7 +158,7 @@ module _ (name usual : Text) (low high : ℕ) where
     reacted_read : (a : Rule) (values : List Text) (h : Held) → IsKnown a → react_fault s.rules s.args_override_self a values h ≡ [] → AllRead h.rows → AllRead (reacted s.rules a values h).rows
     reacted_read a values h k e f = used_read s.args_override_self a values (settled s.rules h).rows k (then_none _ _ e) (settled_read h (first_none _ _ e) f)
 
-    -- an option of a word, with what is attached to it
+    -- an option in a word, with its attached value
     option_read : (a : Rule) (v : Option Text) (h : Held) → IsKnown a → option_fault s.rules s.args_override_self a v h ≡ [] → AllRead h.rows → AllRead (option_met s.rules a v h).0.rows
     option_read a None h k e f = settled_read h e f
     option_read a (Some v) h k e f = reacted_read a (v ∷ []) h k e f
@@ -199,7 +199,7 @@ module _ (name usual : Text) (low high : ℕ) where
         go (Some x) zero more e = short_read (arg_by_short s.rules x) _ h _ _ (more _ 0 done) (found_known _ s.rules known) e f
         go (Some x) (suc skip) more e = more _ skip so_far h e f
 
-    -- a word that is no flag
+    -- a word that isn't a flag
     plain_read : (waiting : Waiting) (word : Text) (h : Held) → AllRead h.rows → AllRead (plain_word s.rules waiting word h).0.rows
     plain_read idle word h f = f
     plain_read positional word h f = f
@@ -301,7 +301,7 @@ module _ (name usual : Text) (low high : ℕ) where
 
   -- ---- the option has a row
 
-  -- it stays, whatever row is changed or added
+  -- the row stays, whatever row is changed or added
   row_stays : (id : Text) (s : ValueSource) (values : List Text) (missing rows : List Row) → has_row name rows ≡ true → has_row name (at_row id (more_values s values) missing rows) ≡ true
   row_stays id s values missing [] e = absurd (true≢false (sym e))
   row_stays id s values missing (r ∷ rs) e = go (bytes_eq r.id id) (row_stays id s values missing rs)
@@ -341,7 +341,7 @@ module _ (name usual : Text) (low high : ℕ) where
   abbrev pub is_among : List Rule → Bool
   is_among = list_any (λ b. bytes_eq b.id name)
 
-  -- so the defaults leave one, where the option is among the rules
+  -- the defaults leave a row, if the option is among the rules
   row_there : (bs : List Rule) (rows : List Row) → AllKnown bs → (has_row name rows || is_among bs) ≡ true → has_row name (fold with_default rows bs) ≡ true
   row_there [] rows k e = or_false _ e
   row_there (b ∷ bs) rows k e = row_there bs (with_default rows b) k.1 (go (has_row name rows) (bytes_eq b.id name) refl refl e)
@@ -351,7 +351,7 @@ module _ (name usual : Text) (low high : ℕ) where
       go false true is t e = or_left _ _ (subst (λ (x : Rule). has_row name (with_default rows x) ≡ true) (sym (k.0 t)) (default_made rows))
       go false false is t e = or_right _ _ e
 
-  -- and the text of its first row is a number in range
+  -- the text of the option's first row is a number in range
   number_read : (rows : List Row) → has_row name rows ≡ true → AllRead rows → IsNumberIn (one_of name rows) low high
   number_read [] e h = absurd (true≢false (sym e))
   number_read (r ∷ rs) e h = go (bytes_eq r.id name) refl e (λ x. number_read rs x h.1)
@@ -364,7 +364,7 @@ module _ (name usual : Text) (low high : ℕ) where
           (_, record { digits = g.0; told = told; in_range = accepts-Accepts false (Unsigned low high) g.0 g.3; value = refl })
       go false t e rest = rest e
 
-  -- words behind a subcommand that has the option
+  -- words after a subcommand that has the option
   pub number_there : (s : Shape) (words : List Text) → AllKnown s.rules → is_among s.rules ≡ true → level_fault s [] nothing_held words false [] ≡ [] → IsNumberIn (one_of name (rows_after s.rules [] words)) low high
   number_there s words known among e =
       let end = (walk s.rules [] nothing_held words).held in

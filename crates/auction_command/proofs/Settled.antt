@@ -1,4 +1,4 @@
--- What a proof settles.
+-- What a proof decides.
 use Rattle.assign_core.proofs.Duality.{best_by_slack}
 use Rattle.assign_core.proofs.HallSets.{no_assignment}
 use Rattle.assign_core.specs.declared.outcome.Outcome.{Outcome}
@@ -14,7 +14,7 @@ use Rattle.auction_command.specs.declared.run.Solver.{Solver}
 use Rattle.auction_command.specs.Solve.{IsOutcomeBy, IsReportOn, IsSettled, IsSolution, end_of, problem_under}
 use Rattle.std.proofs.Common.{◌≡◌, ℤ, List, refl, subst, sym}
 
--- a certificate's assignment is best, and beside a Hall set there is none
+-- a certificate's assignment is optimal, and with a Hall set none exists
 pub settled : (sense : Sense) (rows : List Listing) (outcome : Outcome) → IsProblem rows → core.IsProof sense rows outcome → IsSettled sense rows outcome
 settled sense rows (Best c) problem proof = best_by_slack sense rows c.assignment c.prices problem proof.assigned proof.slack
 settled sense rows (Hall h) problem proof = λ xs a. no_assignment rows h.persons h.objects xs proof a

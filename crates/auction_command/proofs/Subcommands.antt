@@ -1,4 +1,4 @@
--- Words that have no fault name one of a command's own subcommands, and not `help`.
+-- Words without a fault name one of a command's own subcommands, and not `help`.
 use Rattle.std.proofs.Common.{◌≡◌, ap, sym, refl, subst, inl, inr, codes, ℕ, Bool, true, false, not, is_some, List, [], ◌∷◌, Option, None, Some}
 use Rattle.std.specs.Prelude.{⊤, ◌||◌, ◌&&◌, find, fold, option_map, if◌then◌else◌}
 use Rattle.std.specs.Str.{bytes_eq}
@@ -24,7 +24,7 @@ abbrev IsElsewhere : Option (Text × List Text) → Type 0
 IsElsewhere None = ⊤
 IsElsewhere (Some p) = bytes_eq p.0 (codes "help") ≡ false
 
--- a word is no call of `help`
+-- a word isn't a call of `help`
 abbrev GoesElsewhere : Step → Type 0
 GoesElsewhere (subcommand name) = bytes_eq name (codes "help") ≡ false
 GoesElsewhere (next w) = ⊤
@@ -100,7 +100,7 @@ walk_elsewhere s names w [] d n e = n
 walk_elsewhere s names w (word ∷ rest) d n e =
     walk_elsewhere s names (walked s.rules names w word) rest d (turn_elsewhere s names w word d n (first_none _ _ e)) (then_none _ _ e)
 
--- where a subcommand is wanted and nothing is wrong, there is one
+-- if a subcommand is required and nothing is wrong, there is one
 entered_some : (s : Shape) (rows : List Row) (has : Bool) → s.arg_required_else_help ≡ false → s.subcommand_required ≡ true → check_fault s rows has ≡ [] → has ≡ true
 entered_some s rows true a r e = refl
 entered_some s rows false a r e =

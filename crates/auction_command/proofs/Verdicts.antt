@@ -1,4 +1,4 @@
--- What a run of `verify` finds.
+-- The findings of a run of `verify`.
 use Rattle.std.proofs.Common.{ℕ, Bool, List, Option, Ok}
 use Rattle.std.specs.Prelude.{IfSome}
 use Rattle.assign_core.specs.declared.sense.Sense.{Sense}

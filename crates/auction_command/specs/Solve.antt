@@ -36,7 +36,7 @@ use Rattle.auction_command.specs.declared.run.Ended.TheVariants.{Optimal, Infeas
 use Rattle.auction_command.specs.declared.run.CliFault.{CliFault}
 use Rattle.auction_command.specs.declared.run.CliFault.TheVariants.{Input, Report, Start, Write, Memory, Stuck}
 
--- what the bytes of a sparse or of a dense text give
+-- the problem of the bytes of a sparse or of a dense text, or their fault
 abbrev pub Reads : Bool → List ℕ → Result (List Listing) InputFault → Type 0
 Reads true bytes result = SparseAnswers result (sparse_reading bytes)
 Reads false bytes result = Answers result (dense_reading bytes)
@@ -49,39 +49,44 @@ problem_under sense rows = record { problem = rows; sense = sense }
 abbrev pub solver_of : Method → SolveOpts → Solver
 solver_of method options = record { options = options; method = method }
 
--- a best assignment, or there is none
+-- an optimal assignment, or none exists
 abbrev pub IsSettled : Sense → List Listing → Outcome → Type 0
 IsSettled sense rows (Best c) = IsBest sense rows c.assignment
 IsSettled sense rows (Hall h) = (xs : List ℕ) → IsAssignment rows xs → ⊥
 
--- what a mode comes to from these prices: the outcome of plain rounds, or one of so many workers
+-- the outcome of a mode from these prices: that of plain rounds, or one of this many workers
 abbrev pub IsOutcomeIn : Mode → ℕ → ScaledProblem → List ℤ → Outcome → Type 0
 IsOutcomeIn Rounds workers s prices outcome = IsOfRounds s prices outcome
 IsOutcomeIn Workers workers s prices outcome = (tallies : List Tally) × IsSolved s prices workers outcome tallies
 
--- what a method comes to from these prices: the auction to what its mode comes to; shortest paths, from any prices, to an assignment exactly where there is one
+-- the outcome of a method from these prices: for the auction that of its mode; for shortest paths,
+-- from any prices, an assignment exactly if one exists
 abbrev pub IsOutcomeBy : Method → SolveOpts → ScaledProblem → List ℤ → Outcome → Type 0
 IsOutcomeBy Auction options s prices outcome = IsOutcomeIn options.mode options.workers s prices outcome
 IsOutcomeBy Paths options s prices outcome = IsDecided s outcome
 
--- what the method that is asked for comes to from these prices: with prices that prove it best, or a Hall set
+-- an outcome of the requested method from these prices: an assignment with prices that prove it
+-- optimal, or a Hall set
 pub record IsSolution (solver : Solver) (rows : List Listing) (prices : List ℤ) (outcome : Outcome) : Type 0 where
   pub reached : IsOutcomeBy solver.method solver.options (problem_under solver.options.sense rows) prices outcome
   pub proof : IsProof (problem_under solver.options.sense rows) outcome
   pub settled : IsSettled solver.options.sense rows outcome
 
+-- the end that belongs to an outcome
 abbrev pub end_of : Outcome → Ended
 end_of (Best c) = Optimal
 end_of (Hall h) = Infeasible
 
--- the text reports what the method that is asked for comes to from these prices, under the sense that is asked for, with its prices where they are
+-- the text is the report on an outcome of the requested method from these prices, under the
+-- requested sense, with its prices if they are requested
 pub record IsReportOn (solver : Solver) (rows : List Listing) (prices : List ℤ) (ended : Ended) (text : List ℕ) : Type 0 where
   pub outcome : Outcome
   pub solution : IsSolution solver rows prices outcome
   pub end : ended ≡ end_of outcome
   pub report : text ≡ report_text (outcome_report rows solver.options.sense outcome solver.options.prices)
 
--- the first prices: all 0 where no report is named, and else those of the report that its bytes are, where they are known
+-- the first prices: all 0 if no report is named, otherwise those of the report of these bytes, if
+-- they are known
 abbrev pub BeginsAt : Option (Option (List ℕ)) → List Listing → List ℤ → Type 0
 BeginsAt None rows prices = prices ≡ replicate (length rows) (pos 0)
 BeginsAt (Some text) rows prices =
@@ -93,19 +98,21 @@ IsAnswer solver input start ended text =
     (rows : List Listing) × (prices : List ℤ) × IfSome input (λ bytes. Reads solver.options.sparse bytes (Ok rows))
     × BeginsAt start rows prices × IsReportOn solver rows prices ended text
 
--- known bytes are no problem, and this is their first fault; nothing went out
+-- known bytes aren't a problem, and this is their first fault; nothing was written
 pub record IsRefused (sparse : Bool) (input old new : Option (List ℕ)) (fault : InputFault) : Type 0 where
   pub answer : IfSome input (λ bytes. Reads sparse bytes (Err fault))
   pub kept : Keeps old new
 
--- known bytes are a problem, and others no report, with this as their first fault; nothing went out
+-- known bytes are a problem, and other known bytes aren't a report, with this as their first fault;
+-- nothing was written
 pub record IsRefusedReport (sparse : Bool) (input text old new : Option (List ℕ)) (fault : ReportFault) : Type 0 where
   pub rows : List Listing
   pub problem : IfSome input (λ bytes. Reads sparse bytes (Ok rows))
   pub answer : IfSome text (λ bytes. ReportAnswers bytes (Err fault))
   pub kept : Keeps old new
 
--- known bytes are a problem, and others a report at whose prices its run can't begin; nothing went out
+-- known bytes are a problem, and other known bytes a report at whose prices its run can't begin;
+-- nothing was written
 pub record IsRefusedStart (sparse : Bool) (input text old new : Option (List ℕ)) (fault : StartFault) : Type 0 where
   pub rows : List Listing
   pub report : reports.Report
@@ -114,8 +121,8 @@ pub record IsRefusedStart (sparse : Bool) (input text old new : Option (List ℕ
   pub unfit : HasStartFault report (length rows) fault
   pub kept : Keeps old new
 
--- what a run has read, of the problem and of the report that is named, if one is, and written, by how it ended: the report and nothing else, or a beginning of
--- it where writing fails, or nothing
+-- what a run read, of the problem and of the named report, and wrote, by its end: the report and
+-- nothing else, or a beginning of it if writing failed, or nothing
 abbrev pub SolveOutcome : Solver → Option (List ℕ) → Option (Option (List ℕ)) → Option (List ℕ) →
     Option (List ℕ) → Result Ended CliFault → Type 0
 SolveOutcome solver input start old new (Ok ended) =
@@ -130,23 +137,24 @@ SolveOutcome solver input start old new (Err (Start fault)) =
 SolveOutcome solver input start old new (Err Memory) = Keeps old new
 SolveOutcome solver input start old new (Err (Stuck person)) = ⊥
 
--- 4 where the device failed or memory was refused, and 3 for a text that is refused
+-- 4 if the device failed or memory was refused, and 3 for a refused text
 abbrev pub input_status : InputFault → ℕ
 input_status inputs.Read = 4
 input_status inputs.Memory = 4
 input_status _ = 3
 
+-- 4 if the device failed or memory was refused, and 3 for a refused report
 abbrev pub report_status : ReportFault → ℕ
 report_status refusals.Read = 4
 report_status refusals.Memory = 4
 report_status _ = 3
 
--- 0 for an assignment, 1 where there is none
+-- 0 for an assignment, 1 if none exists
 abbrev pub end_status : Ended → ℕ
 end_status Optimal = 0
 end_status Infeasible = 1
 
--- what a fault prints, without its line feed
+-- the text of a fault, without its line feed
 abbrev pub fault_line : CliFault → List ℕ
 fault_line (Input fault) = fault_text fault
 fault_line (Report fault) = report_fault_text fault
@@ -155,8 +163,8 @@ fault_line Write = codes "device: write failed"
 fault_line Memory = codes "memory refused"
 fault_line (Stuck person) = codes "stuck at person " ++ decimal person
 
--- 4 for want of memory and for devices that fail, 5 where nothing was found, and else what a text
--- that is refused has
+-- 4 for refused memory and failed devices, 5 if no answer was found, and otherwise the status of
+-- the refused text
 abbrev pub status : CliFault → ℕ
 status (Input fault) = input_status fault
 status (Report fault) = report_status fault

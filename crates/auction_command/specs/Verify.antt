@@ -18,8 +18,8 @@ use Rattle.auction_command.specs.declared.run.CliFault.TheVariants as faults
 abbrev pub whole_line : Finding → List ℕ
 whole_line finding = finding_line finding ++ codes "\n"
 
--- known bytes are a problem and a report, in which this is found where this sense is asked for, or
--- any; where nothing is wrong, what the report says is so
+-- known bytes are a problem and a report, with this finding under the requested sense or any; if
+-- there is no fault, the report is right
 pub record IsFinding (sparse : Bool) (wanted : Option Sense) (input text : Option (List ℕ)) (finding : Finding) : Type 0 where
   pub rows : List Listing
   pub report : Report
@@ -28,8 +28,8 @@ pub record IsFinding (sparse : Bool) (wanted : Option Sense) (input text : Optio
   pub found : IsFoundUnder wanted rows report finding
   pub so : verdict_of finding ≡ Yes → IsSo rows report
 
--- what a run has read, of the problem and of the report, and written, by how it ended: one line, or
--- a beginning of it where writing fails, or nothing
+-- what a run read, of the problem and of the report, and wrote, by its end: one line, or a
+-- beginning of it if writing failed, or nothing
 abbrev pub VerifyOutcome : Bool → Option Sense → Option (List ℕ) → Option (List ℕ) → Option (List ℕ) →
     Option (List ℕ) → Result Verified CliFault → Type 0
 VerifyOutcome sparse wanted input text old new (Ok verified) =

@@ -1,4 +1,4 @@
--- Which command lines are taken, and what they choose.
+-- The command lines that are accepted, and what they choose.
 use Rattle.std.specs.Prelude.{◌≡◌, ◌≢◌, ◌≤◌, ◌↔◌, ℕ, List, [], ◌∷◌, Bool, true, false, Option, Some, None, Result, Ok, Err, codes, unwrap_or, ⊤}
 use Rattle.std.specs.Borrow.{Bor}
 use Rattle.std.specs.Option.{option_map}
@@ -22,40 +22,42 @@ use Rattle.auction_command.specs.declared.words.WordsFault.{WordsFault}
 use Rattle.auction_command.specs.declared.words.WordsFault.TheVariants as wrong
 use Rattle.auction_command.specs.declared.words.WordsFault.TheVariants.{Clap, Memory}
 
--- an option that takes no value
+-- an option without a value
 abbrev pub flag_rule : Text → Rule
 flag_rule name = record (new_rule name) { long = Some name; action = Some SetTrue }
 
--- an option with a value, which may be given
+-- an optional option with a value
 abbrev pub optional_rule : Text → Rule
 optional_rule name = record (new_rule name) { long = Some name; value_names = 1 }
 
--- the name of a file, which may be given behind `--start`
+-- an optional name of a file after `--start`
 abbrev pub start_rule : Rule
 start_rule = optional_rule (codes "start")
 
--- and one behind `--input`
+-- an optional name of a file after `--input`
 abbrev pub input_rule : Rule
 input_rule = optional_rule (codes "input")
 
--- an option with a value, and the value that it has where it isn't given
+-- an option with a value, and its default
 abbrev pub valued_rule : Text → Text → Rule
 valued_rule name usual = record (optional_rule name) { defaults = usual ∷ [] }
 
--- and one whose value is a number from `least` to `most`
+-- an option whose value is a number from `least` to `most`
 abbrev pub numbered_rule : Text → Text → ℕ → ℕ → Rule
 numbered_rule name usual least most = record (valued_rule name usual) { parser = Some (Unsigned least most) }
 
--- and one whose value is one of these names
+-- an option whose value is one of these names
 abbrev pub named_rule : Text → Text → Bor (List (Bor Text)) → Rule
 named_rule name usual names = record (valued_rule name usual) { parser = Some (Names names) }
 
--- where the names of the methods lie in memory: clap's commands have it, and no meaning rests on it
+-- where the names of the methods are in memory: clap's commands have it, and no meaning depends on
+-- it
 pub record Places : Type 0 where
   pub list : ℕ × ℕ
   pub auction : ℕ × ℕ
   pub paths : ℕ × ℕ
 
+-- a value at a place in memory
 abbrev pub lying : {X : Type 0} → ℕ × ℕ → X → Bor X
 lying place value = record { ref_ptr = place; now = value }
 
@@ -63,24 +65,27 @@ lying place value = record { ref_ptr = place; now = value }
 abbrev pub method_names : Places → Bor (List (Bor Text))
 method_names at = lying at.list (lying at.auction (codes "auction") ∷ lying at.paths (codes "paths") ∷ [])
 
+-- the option `--method`, by default `auction`
 abbrev pub method_rule : Places → Rule
 method_rule at = named_rule (codes "method") (codes "auction") (method_names at)
 
--- `solve`, but for the options on its method and mode
+-- `solve`, except for the options for its method and mode
 abbrev pub plain_solve_app : App
 plain_solve_app = with_rule (with_rule (with_rule (with_rule (with_rule (new_app (codes "solve")) (flag_rule (codes "sparse"))) input_rule) (flag_rule (codes "max"))) (flag_rule (codes "prices"))) start_rule
 
+-- `solve` with all its options
 abbrev pub solve_app : Places → App
 solve_app at = with_rule (with_rule (with_rule (with_rule (with_rule plain_solve_app (method_rule at)) (valued_rule (codes "mode") (codes "rounds"))) (numbered_rule (codes "workers") (codes "4") 1 MOST_WORKERS)) (numbered_rule (codes "refresh") (codes "1") 0 MOST_REFRESH)) (flag_rule (codes "progress"))
 
--- the name of a file, which must be given
+-- a required name of a file
 abbrev pub report_rule : Rule
 report_rule = record (new_rule (codes "REPORT")) { required = true }
 
+-- `verify` with its options and its report
 abbrev pub verify_app : App
 verify_app = with_rule (with_rule (with_rule (with_rule (new_app (codes "verify")) (flag_rule (codes "sparse"))) input_rule) (optional_rule (codes "sense"))) report_rule
 
--- the option that asks for the version, without a short name
+-- the option for the version, without a short name
 abbrev pub version_rule : Rule
 version_rule = record (new_rule (codes "version")) { long = Some (codes "version"); action = Some Version }
 
@@ -88,6 +93,7 @@ version_rule = record (new_rule (codes "version")) { long = Some (codes "version
 abbrev pub plain_program : App
 plain_program = let plain = new_app (codes "auction_cli") in record plain { top = record plain.top { has_version = true; disable_version_flag = true; subcommand_required = true } }
 
+-- the program without its subcommands
 abbrev pub bare_program : App
 bare_program = with_rule plain_program version_rule
 
@@ -95,16 +101,18 @@ bare_program = with_rule plain_program version_rule
 abbrev pub program : Places → App
 program at = with_subcommand (with_subcommand bare_program (solve_app at).top) verify_app.top
 
--- a flag, by the text that clap has for its option
+-- the flag by the text that clap has for its option
 pub record IsFlag (text : Option Text) (flag : Bool) : Type 0 where
   pub set : text ≡ Some (codes "true") → flag ≡ true
   pub unset : text ≡ Some (codes "false") → flag ≡ false
   pub absent : text ≡ None → flag ≡ false
 
+-- the sense is `Max`
 abbrev pub is_max : Sense → Bool
 is_max Min = false
 is_max Max = true
 
+-- the name of a mode
 abbrev pub mode_name : Mode → Text
 mode_name Rounds = codes "rounds"
 mode_name Workers = codes "workers"
@@ -113,30 +121,31 @@ mode_name Workers = codes "workers"
 abbrev pub NamesMode : List Row → Mode → Type 0
 NamesMode rows mode = first_of (codes "mode") rows ≡ Some (mode_name mode)
 
+-- the name of a sense
 abbrev pub sense_name : Sense → Text
 sense_name Min = codes "min"
 sense_name Max = codes "max"
 
--- the value of `--sense` is the name of the sense that is asked for; without it any will do
+-- the value of `--sense` is the name of the requested sense; without it any sense will do
 abbrev pub NamesSense : List Row → Option Sense → Type 0
 NamesSense rows sense = first_of (codes "sense") rows ≡ option_map sense_name sense
 
--- shortest paths just where the value of `--method` is `paths`
+-- shortest paths exactly if the value of `--method` is `paths`
 abbrev pub NamesMethod : List Row → Method → Type 0
 NamesMethod rows method = (method ≡ Paths) ↔ (first_of (codes "method") rows ≡ Some (codes "paths"))
 
--- the name of a file is the value of this option, where it has one
+-- the name of a file is the value of this option, if it has one
 abbrev pub NamesFile : Text → List Row → Option Text → Type 0
 NamesFile option rows name = name ≡ first_of option rows
 
--- the text that clap has for an option is a number in range, and this is the number
+-- the text that clap has for an option is this number, which is in range
 pub record IsNumberFor (text : Option Text) (least most number : ℕ) : Type 0 where
   pub digits : Text
   pub told : text ≡ Some digits
   pub in_range : IsUnsignedIn least most digits
   pub value : number ≡ digits_value 10 (without_leading_plus digits)
 
--- the options of `solve`, by what clap finds behind it
+-- the options of `solve`, by what clap finds after it
 pub record ChoosesSolving (rows : List Row) (options : SolveOpts) : Type 0 where
   pub sparse : IsFlag (one_of (codes "sparse") rows) options.sparse
   pub mode : NamesMode rows options.mode
@@ -145,14 +154,14 @@ pub record ChoosesSolving (rows : List Row) (options : SolveOpts) : Type 0 where
   pub prices : IsFlag (one_of (codes "prices") rows) options.prices
   pub sense : IsFlag (one_of (codes "max") rows) (is_max options.sense)
 
--- the options and the files of `verify`, by what clap finds behind it
+-- the options and the files of `verify`, by what clap finds after it
 pub record ChoosesFile (rows : List Row) (lists_pairs : Bool) (wanted : Option Sense) (name : Text) (problem : Option Text) : Type 0 where
   pub sparse : IsFlag (one_of (codes "sparse") rows) lists_pairs
   pub sense : NamesSense rows wanted
   pub report : name ≡ unwrap_or (first_of (codes "REPORT") rows) []
   pub input : NamesFile (codes "input") rows problem
 
--- what is to be done, by a subcommand and what clap finds behind it
+-- the request, by a subcommand and what clap finds after it
 abbrev pub Chooses : Option (Text × List Row) → Words → Type 0
 Chooses found (Solve options start asked) =
     (rows : List Row) × (found ≡ Some (codes "solve", rows)) × ChoosesSolving rows options
@@ -162,11 +171,11 @@ Chooses found (Verify sparse sense report input) =
     (rows : List Row) × (found ≡ Some (codes "verify", rows))
     × ChoosesFile rows sparse sense (string_bytes report) (option_map string_bytes input)
 
--- `solve` is to be done, in a mode that has no such name
+-- `solve` with a word for the mode that isn't a mode
 abbrev pub NamesNoMode : Option (Text × List Row) → Type 0
 NamesNoMode found = (rows : List Row) × (found ≡ Some (codes "solve", rows)) × ((mode : Mode) → NamesMode rows mode → ⊥)
 
--- `verify` is to be done, under a sense that has no such name
+-- `verify` with a word for the sense that isn't a sense
 abbrev pub NamesNoSense : Option (Text × List Row) → Type 0
 NamesNoSense found = (rows : List Row) × (found ≡ Some (codes "verify", rows)) × ((sense : Option Sense) → NamesSense rows sense → ⊥)
 
@@ -178,6 +187,7 @@ AskFor words asked = (at : Places) × (fault_of (program at) words ≡ []) × Ch
 abbrev pub AskForNoModeAt : Places → List Text → Type 0
 AskForNoModeAt at words = (fault_of (program at) words ≡ []) × NamesNoMode (subcommand_of (program at) words)
 
+-- the same for some place of the names in memory
 abbrev pub AskForNoMode : List Text → Type 0
 AskForNoMode words = (at : Places) × AskForNoModeAt at words
 
@@ -185,10 +195,13 @@ AskForNoMode words = (at : Places) × AskForNoModeAt at words
 abbrev pub AskForNoSenseAt : Places → List Text → Type 0
 AskForNoSenseAt at words = (fault_of (program at) words ≡ []) × NamesNoSense (subcommand_of (program at) words)
 
+-- the same for some place of the names in memory
 abbrev pub AskForNoSense : List Text → Type 0
 AskForNoSense words = (at : Places) × AskForNoSenseAt at words
 
--- words are taken where clap finds no fault in them and the mode and the sense that they name are one, with what clap finds behind the subcommand, and else one of their faults is told; requests for help count as faults
+-- words are accepted if clap finds no fault in them and the mode and the sense that they name
+-- exist; they choose what clap finds after the subcommand. Otherwise one of their faults is
+-- reported; requests for help count as faults
 abbrev pub WordsOutcome : List Text → Result Words WordsFault → Type 0
 WordsOutcome words (Ok asked) = AskFor words asked
 WordsOutcome words (Err wrong.Mode) = AskForNoMode words
@@ -196,24 +209,27 @@ WordsOutcome words (Err wrong.Sense) = AskForNoSense words
 WordsOutcome words (Err (Clap error)) = (at : Places) × IsAmong (kind_of error) (fault_of (program at) words) × (kind_of error ≢ OutOfMemory)
 WordsOutcome words (Err Memory) = ⊤
 
--- at least one worker, and no more workers or sessions than there may be
+-- at least one worker, and at most the most workers and sessions
 pub record HasRanges (options : SolveOpts) : Type 0 where
   pub some_workers : 1 ≤ options.workers
   pub few_workers : options.workers ≤ MOST_WORKERS
   pub few_sessions : options.refresh ≤ MOST_REFRESH
 
+-- the numbers of a request are in range
 abbrev pub IsInRanges : Words → Type 0
 IsInRanges (Solve options start asked) = HasRanges options
 IsInRanges (Verify sparse sense report input) = ⊤
 
--- the problem in the file of the first name, or else on standard input, is to be solved by this method with these options, and with the first prices of the report in the file of the other name, if there is one
+-- the request to solve the problem in the file of the first name, or else on standard input, by
+-- this method with these options, and with the first prices of the report in the file of the other
+-- name, if there is one
 abbrev pub SolvesFrom : Option Text → Method → SolveOpts → Option Text → Words → Type 0
 SolvesFrom problem method wanted name (Solve options start asked) =
     (options ≡ wanted) × (option_map string_bytes start ≡ name) × (asked.method ≡ method)
     × (option_map string_bytes asked.input ≡ problem)
 SolvesFrom problem method wanted name (Verify lists_pairs sense report input) = ⊥
 
--- the same on standard input
+-- the same for a problem on standard input
 abbrev pub SolvesBy : Method → SolveOpts → Option Text → Words → Type 0
 SolvesBy method wanted name asked = SolvesFrom None method wanted name asked
 
@@ -221,28 +237,30 @@ SolvesBy method wanted name asked = SolvesFrom None method wanted name asked
 abbrev pub Solves : SolveOpts → Option Text → Words → Type 0
 Solves wanted name asked = SolvesBy Auction wanted name asked
 
--- what `solve` alone chooses
+-- the options of `solve` by default
 abbrev pub usual_options : SolveOpts
 usual_options = record { sparse = false; mode = Rounds; workers = 4; refresh = 1; prices = false; sense = Min }
 
--- a line with every option of the auction, behind the program's name, and what it chooses
+-- a line with every option of the auction, after the program's name, and what it chooses
 abbrev pub full_line : List Text
 full_line = codes "solve" ∷ codes "--sparse" ∷ codes "--max" ∷ codes "--prices" ∷ codes "--start" ∷ codes "report" ∷ codes "--mode" ∷ codes "workers" ∷ codes "--workers" ∷ codes "64" ∷ codes "--refresh" ∷ codes "0" ∷ []
 
+-- the options that this line chooses
 abbrev pub full_options : SolveOpts
 full_options = record { sparse = true; mode = Workers; workers = 64; refresh = 0; prices = true; sense = Max }
 
--- a report is to be checked: the name of the problem's file, which else is on standard input, whether its text lists pairs, the sense that is asked for, if any, and the name of the report's file
+-- the request to check a report: the name of the problem's file, or none for standard input,
+-- whether its text lists pairs, the requested sense, if any, and the name of the report's file
 abbrev pub VerifiesFrom : Option Text → Bool → Option Sense → Text → Words → Type 0
 VerifiesFrom problem sparse wanted name (Solve options start asked) = ⊥
 VerifiesFrom problem sparse wanted name (Verify lists_pairs sense report input) =
     (lists_pairs ≡ sparse) × (sense ≡ wanted) × (string_bytes report ≡ name) × (option_map string_bytes input ≡ problem)
 
--- the same on standard input
+-- the same for a problem on standard input
 abbrev pub Verifies : Bool → Option Sense → Text → Words → Type 0
 Verifies sparse wanted name asked = VerifiesFrom None sparse wanted name asked
 
--- a line of `verify` that asks for a sense, behind the program's name
+-- a line of `verify` that requests a sense, after the program's name
 abbrev pub full_verify_line : List Text
 full_verify_line = codes "verify" ∷ codes "--sparse" ∷ codes "--sense" ∷ codes "max" ∷ codes "report" ∷ []
 
@@ -250,15 +268,16 @@ full_verify_line = codes "verify" ∷ codes "--sparse" ∷ codes "--sense" ∷ c
 abbrev pub input_line : List Text
 input_line = codes "solve" ∷ codes "--input" ∷ codes "problem" ∷ []
 
+-- a line of `verify` that names the problem's file
 abbrev pub input_verify_line : List Text
 input_verify_line = codes "verify" ∷ codes "--input" ∷ codes "problem" ∷ codes "report" ∷ []
 
--- want of memory apart, the words are taken so
+-- these words are accepted, unless memory is refused
 abbrev pub IsTaken : (Words → Type 0) → Result Words WordsFault → Type 0
 IsTaken P (Ok asked) = P asked
 IsTaken P (Err fault) = fault ≡ Memory
 
--- want of memory apart, the words ask for the version
+-- the words request the version, unless memory is refused
 abbrev pub AsksForVersion : Result Words WordsFault → Type 0
 AsksForVersion (Ok asked) = ⊥
 AsksForVersion (Err (Clap error)) = kind_of error ≡ DisplayVersion

@@ -1,4 +1,4 @@
--- What no public contract says: the definitions of contracts and lemmas inside the program.
+-- Definitions for contracts and lemmas inside the program, which no public contract names.
 pub mod Words
 pub mod Solve
 pub mod Program

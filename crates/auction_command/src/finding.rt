@@ -1,4 +1,4 @@
-// What is found in a report, and the line on it.
+// The result of checking a report, and its line.
 ghost use Rattle.std.specs.Prelude.{◌≡◌};
 ghost use Rattle.auction_command.specs.Findings.{HaveOneFinding, verdict_of};
 
@@ -7,30 +7,30 @@ use assign_core::{Cost, Person, Sense};
 use dual_checker::{HallVerdict, Verdict};
 use std::fmt;
 
-/// What is found in a report that is held against a problem: the first of these that applies, in
-/// a report on an assignment down to `Best`. The `Display` text is the line for standard output.
+/// The result of checking a report against a problem: the first of these that applies; for a report
+/// on an assignment those up to `Best`. `Display` writes the line for standard output.
 #[derive(Clone, Copy, PartialEq, Eq)]
 pub enum Finding {
-    /// It is of another sense than the one that is asked for.
+    /// The report's sense isn't the requested one.
     OtherSense,
-    /// It has no prices, so that nothing is proved.
+    /// The report has no prices, so that nothing is proved.
     NoPrices,
-    /// The fault that `check` finds in the objects and the prices, and never its `Yes`, behind
-    /// which the costs are looked at. No report that was read has a price out of range.
+    /// The fault that `check` finds in the objects and the prices, never its `Yes`: after that the
+    /// costs are compared. No report that was read has a price out of range.
     Unproved(Verdict),
     /// The lowest person whose cost isn't that of its pair.
     OtherCost(Person),
     /// The cost isn't the sum of the pairs' costs.
     OtherTotal,
-    /// The assignment is best under this sense, at this cost.
+    /// The assignment is optimal under this sense, at this cost.
     Best(Sense, Cost),
-    /// What `check_hall` finds in the lists of a Hall set. No report that was read has lists that
-    /// don't rise.
+    /// The verdict of `check_hall` on the lists of a Hall set. No report that was read has lists
+    /// that don't rise.
     Hall(HallVerdict),
 }
 
 impl Finding {
-    /// Whether nothing is wrong with the report.
+    /// Whether the report has no fault.
     pub fn verified(&self) -> Verified
         ensures { result ≡ verdict_of self.now }
     {
@@ -119,8 +119,8 @@ impl fmt::Display for Finding {
     }
 }
 
-/// A problem and a report have one finding, whatever sense is asked for: no other is the first that
-/// applies.
+/// A problem and a report have only one finding for each requested sense or none: no other finding
+/// is the first that applies.
 pub fn one_finding()
     ensures { HaveOneFinding }
 {}

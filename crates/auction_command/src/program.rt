@@ -31,7 +31,7 @@ use std::thread::Threads;
 /// Why the program has no words to read.
 #[derive(Clone, Copy, PartialEq, Eq)]
 pub enum NoWords {
-    /// One of them is no text.
+    /// A word isn't valid text.
     NoText,
     /// Memory was refused.
     Memory,
@@ -40,13 +40,13 @@ pub enum NoWords {
 /// Why a file can't be read.
 #[derive(Clone, Copy, PartialEq, Eq)]
 pub enum NoFile {
-    /// It can't be opened.
+    /// The file can't be opened.
     Unopened,
     /// Memory was refused.
     Memory,
 }
 
-/// Where files lie, each under a name.
+/// Files by their names.
 pub trait Files {
     /// An opened file.
     type File: Read + Drop;
@@ -61,47 +61,46 @@ pub trait Files {
         ensures { may_open self.now name.now (opening_of Self.File.remaining result) };
 }
 
-/// What the words name a file for.
+/// The use of a file that the words name.
 #[derive(Clone, Copy, PartialEq, Eq)]
 pub enum Named {
-    /// It has the report that is to be checked, or whose prices are to be the first.
+    /// The report to check, or the report whose prices are the first ones.
     Report,
-    /// It has the problem.
+    /// The problem.
     Input,
 }
 
-/// How much of a line or a text standard error took.
+/// How much of a text standard error took.
 #[derive(Clone, Copy, PartialEq, Eq)]
 pub enum Written {
     /// All of it.
     Whole,
-    /// A beginning of it or nothing: the stream failed, or took no byte.
+    /// A beginning of it or nothing: the stream failed, was interrupted or took no byte.
     Part,
 }
 
 /// How the program ended.
 #[derive(Drop)]
 pub enum ProgramEnd {
-    /// The report stands on standard output.
+    /// The report is on standard output.
     Reported(Ended),
-    /// What a report was found to be stands on standard output.
+    /// The result of checking a report is on standard output.
     Checked(Verified),
-    /// The help or the version that was asked for stands on standard output.
+    /// The requested help or version is on standard output.
     Helped,
-    /// The words are refused, and so much of the reason stands on standard error.
+    /// The words were refused, and this much of the reason is on standard error.
     Refused(Written),
-    /// The file that the words name for this can't be opened, and so much of the line on it stands on
+    /// The file that the words name for this can't be opened, and this much of its line is on
     /// standard error.
     Unopened(Named, Written),
-    /// The run failed, and so much of the fault's line stands on standard error.
+    /// The run failed, and this much of the fault's line is on standard error.
     Failed(CliFault, Written),
 }
 
 impl ProgramEnd {
-    /// The exit status: 0 for an assignment, for a report that is right and for help, 1 where there
-    /// is no assignment, 2 for words that are refused, 4 for a file that can't be opened, 5 for a
-    /// report that is wrong, and for a fault as `status_of` has it. It is the same where standard
-    /// error fails.
+    /// The exit status: 0 for an assignment, for a right report and for help, 1 if no assignment
+    /// exists, 2 for refused words, 4 for a file that can't be opened, 5 for a wrong report, and
+    /// `status_of` for a fault. It stays the same if standard error fails.
     pub fn status(&self) -> u8
         ensures { result ≡ exit_status self.now }
     {
@@ -116,7 +115,7 @@ impl ProgramEnd {
     }
 }
 
-// Writes a text to standard error, as far as that takes it.
+// Writes a text to standard error, as far as it is taken.
 fn write_error<E: Write>(e: &mut E, text: &[u8]) -> Written
     ensures { IsWritten (E.contents e.old) (E.contents e.new) text.now result }
 {
@@ -126,7 +125,7 @@ fn write_error<E: Write>(e: &mut E, text: &[u8]) -> Written
     }
 }
 
-// Writes the line of a fault to standard error. It takes no memory, which may be refused already.
+// Writes the line of a fault to standard error. It takes no memory, which may already be refused.
 fn fail<E: Write>(e: &mut E, fault: CliFault) -> ProgramEnd
     ensures { EndsFailed fault (E.contents e.old) (E.contents e.new) result }
 {
@@ -140,18 +139,19 @@ fn fail<E: Write>(e: &mut E, fault: CliFault) -> ProgramEnd
     }
 }
 
-// What stands beneath clap's words where they are of a word that could be the problem's file.
+// The hint after clap's words about a word that could be the problem's file.
 const FILE_HINT: &str = "
 To read the problem from a file, write '--input' before its name.
 ";
 
-// Whether clap's words are of such a word: one that it has no place for, and that is no option.
+// Whether clap's words are about a word that could be a file: an unexpected one that isn't an
+// option.
 fn may_be_file(text: &str) -> bool {
     text.starts_with("error: unexpected argument '")
         && !text.starts_with("error: unexpected argument '-")
 }
 
-// What clap has to say, with a hint where one may help.
+// The text of clap's error, with a hint if one may help.
 fn text_of(alloc: Global, error: &Error) -> Result<String, AllocError> {
     let mut text = format!(in alloc; "{error}")?;
     if may_be_file(text.as_str()) {
@@ -160,7 +160,7 @@ fn text_of(alloc: Global, error: &Error) -> Result<String, AllocError> {
     Ok(text)
 }
 
-// Prints what clap has to say: help that was asked for, or why the words are refused.
+// Prints the text of clap's error: requested help, or why the words are refused.
 fn refuse<W: Write, E: Write>(alloc: Global, error: Error, w: &mut W, e: &mut E) -> ProgramEnd
     ensures output { (words : List Text) → WordsOutcome words (Err (Clap error))
         → EndsAtWords (Ok words) (W.contents w.old) (W.contents w.new) result }
@@ -180,7 +180,7 @@ fn refuse<W: Write, E: Write>(alloc: Global, error: Error, w: &mut W, e: &mut E)
     }
 }
 
-// Solves from one stream to the other, from the prices of a report where there is one.
+// Solves from one stream to the other, from the prices of a report if there is one.
 fn solve<T: Threads + Wait + Sync, V: Watch + Sync, Q: Read + Drop, R: Read, W: Write, E: Write>(
     context: &Context<'_, T, OpenGate, V>,
     solver: Solver,
@@ -225,7 +225,7 @@ fn verify<Q: Read + Drop, R: Read, W: Write, E: Write>(
     }
 }
 
-// Opens the file of this name, if there is one.
+// Opens the file of this name, if one is given.
 fn open_named<F: Files>(files: &F, name: Option<String>) -> Result<Option<F::File>, NoFile>
     ensures ok { IfOk result (λ file. Opens (F.may_open files.now)
         (option_map string_bytes name) (option_map F.File.remaining file)) }
@@ -241,7 +241,7 @@ fn open_named<F: Files>(files: &F, name: Option<String>) -> Result<Option<F::Fil
     }
 }
 
-// The line on a file that can't be opened.
+// The line for a file that can't be opened.
 fn unopened(named: Named) -> &'static [u8]
     ensures { result.now ≡ unopened_line named }
 {
@@ -263,7 +263,7 @@ fn report_absent<E: Write>(named: Named, absent: NoFile, e: &mut E) -> ProgramEn
     }
 }
 
-// Solves the problem of the file that is named for it, or else of the stream.
+// Solves the problem in the named file, or else on the stream.
 fn solve_named<T: Threads + Wait + Sync, V: Watch + Sync, F: Files, R: Read, W: Write, E: Write>(
     context: &Context<'_, T, OpenGate, V>,
     files: &F,
@@ -298,7 +298,7 @@ fn solve_named<T: Threads + Wait + Sync, V: Watch + Sync, F: Files, R: Read, W: 
     }
 }
 
-// Checks a report on the problem of the file that is named for it, or else of the stream.
+// Checks a report on the problem in the named file, or else on the stream.
 fn verify_named<F: Files, R: Read, W: Write, E: Write>(
     alloc: Global,
     files: &F,
@@ -326,7 +326,7 @@ fn verify_named<F: Files, R: Read, W: Write, E: Write>(
     }
 }
 
-// Does what is asked for. The report is opened first that it names.
+// Does what the words request. Opens the named report first.
 fn run_asked<T: Threads + Wait + Sync, V: Watch + Sync, F: Files, R: Read, W: Write, E: Write>(
     context: &Context<'_, T, OpenGate, V>,
     files: &F,
@@ -367,7 +367,7 @@ fn run_asked<T: Threads + Wait + Sync, V: Watch + Sync, F: Files, R: Read, W: Wr
     }
 }
 
-// Does what the words ask for.
+// Does what the words request.
 fn run_words<
     T: Threads + Wait + Sync,
     V: Watch + Sync,
@@ -404,18 +404,18 @@ fn run_words<
     }
 }
 
-/// Does what the words ask for, the program's own name first: opens the report that they name, and
-/// then the file that they name for the problem, both in `files`; reads the problem from this file,
-/// or from `r` where none is named, and then the report; writes the report, what a report was found
-/// to be, or help to `w`; and what is wrong to `e`.
+/// Does what the words request, the first of which is the program's own name. It opens the report
+/// and then the problem's file, if the words name them, both in `files`. It reads the problem from
+/// this file, or else from `r`, and then the report. It writes the report, the result of a check,
+/// or help to `w`, and any fault to `e`.
 ///
-/// Nothing is written to `e` where the program ends with what was asked for on `w`, and nothing to
-/// `w` where it fails, but for a beginning of what was to be written where `w` itself fails. Nothing
-/// is read from `r` where the words are refused, ask for help, or name a file that can't be opened or
-/// a file for the problem.
+/// Nothing is written to `e` if the program ends with the requested text on `w`. Nothing is written
+/// to `w` if the program fails, except for a beginning of the text if `w` itself fails. Nothing is
+/// read from `r` if the words are refused, request help, or name a file for the problem or one that
+/// can't be opened.
 ///
-/// The watch is shown how far a run of `solve` is, and what the words say of that. Of what it is shown,
-/// and of what it does, no clause speaks.
+/// The watch is shown how far a run of `solve` is, and what the words say about progress. No clause
+/// says what it is shown, or what it does.
 pub fn run_program<
     T: Threads + Wait + Sync,
     V: Watch + Sync,

@@ -1,5 +1,5 @@
-// How far a run is, shown while it runs. Nothing is proved of what is shown, and no contract speaks of it: it changes
-// nothing of what a run reads, answers and writes.
+// Progress of a run. No contract mentions it, and nothing about it is proved: it doesn't change
+// what a run reads, answers or writes.
 ghost use Rattle.std.specs.Prelude.{◌≡◌};
 
 use assign_core::{Person, Prices};
@@ -19,49 +19,48 @@ use std::thread::Threads;
 pub struct Progress {
     /// The phase, from 1.
     pub phase: u16,
-    /// How many phases there are, 1 to 23.
+    /// The number of phases, 1 to 23.
     pub phases: u16,
     /// The slackness of the phase, at least 1, in the unit of benefits: costs times n + 1.
     pub slackness: i64,
-    /// How many persons have an object.
+    /// The number of persons who have an object.
     pub assigned: u16,
-    /// How many persons there are.
+    /// The number of persons.
     pub persons: u16,
 }
 
-/// What is shown of a run.
+/// News on the progress of a run.
 #[derive(Clone, Copy, PartialEq, Eq)]
 pub enum News {
-    /// So many bytes of the problem are read by now.
+    /// Called with the number of bytes of the problem read so far.
     Bytes(u64),
-    /// A round begins. Shown at the first one of each phase, and then after some hundred offers.
+    /// A round begins. Shown at the first round of each phase, and then after some hundred offers.
     Round(Progress),
-    /// So many sessions of all workers are over by now, and so many of their bids were accepted. Shown
-    /// after every 64 sessions of a worker.
+    /// The numbers of past sessions and of accepted bids of all workers. Shown after every 64
+    /// sessions of a worker.
     Sessions(u64, u128, Progress),
-    /// Shortest paths: so many of so many persons have an object by now. Shown as bids and as
-    /// searches begin, and then after some thousand of their steps. The number falls to 0 alone: where
-    /// first prices are left for others, and where an auction before the searches begins a phase or
-    /// ends.
+    /// Shortest paths: the number of persons who have an object, and the number of all persons.
+    /// Shown when bids and searches begin, and then after some thousand of their steps. The first
+    /// number falls only to 0: when first prices are left for others, and when an auction before
+    /// the searches begins a phase or ends.
     Paths(u16, u16),
 }
 
-/// Who is shown how far a run is. A method may be called by several threads at once, and often, so it
-/// should cost little; it can't stop the run.
+/// Callbacks for the progress of a run. A method may be called often, and by several threads at
+/// once, so it should cost little; it can't stop the run.
 pub trait Watch {
-    /// A run begins: whether the words ask for its progress, and whether they name a file for the
-    /// problem. A run of `verify` begins as one whose progress isn't asked for.
+    /// Called when a run begins, with whether the words request its progress and whether they name
+    /// a file for the problem. A run of `verify` counts as one without this request.
     fn begin(&self, asked: bool, named: bool);
 
-    /// The run has come so far.
+    /// Called with news.
     fn show(&self, news: News);
 
-    /// Nothing more is shown of the run, which is about to write its report or has failed. May be
-    /// called twice.
+    /// Called last, when the run is about to write its report or has failed. May be called twice.
     fn over(&self);
 }
 
-/// Is shown everything, and does nothing.
+/// A watch that does nothing.
 pub struct Unwatched;
 
 impl Watch for Unwatched {
@@ -72,7 +71,7 @@ impl Watch for Unwatched {
     fn over(&self) {}
 }
 
-/// A reader whose bytes are counted.
+/// A reader that counts its bytes.
 #[derive(Drop)]
 pub struct CountedReader<'a, R, V> {
     reader: R,
@@ -106,7 +105,7 @@ impl<R: Read, V: Watch> Read for CountedReader<'_, R, V> {
 // The most phases that a run can have.
 const MOST_PHASES: u16 = 23;
 
-// How many phases a run has.
+// The number of phases of a run.
 fn phases_of(scaled: &Scaled) -> u16 {
     let mut eps = scaled.first_eps();
     for phase in 1..MOST_PHASES {
@@ -118,8 +117,8 @@ fn phases_of(scaled: &Scaled) -> u16 {
     MOST_PHASES
 }
 
-/// A watch on how a problem is solved. It is shown how many persons have an object, while shortest
-/// paths are looked for.
+/// A watch on the solving of a problem. As an observer of shortest paths it shows the number of
+/// persons who have an object.
 #[derive(Drop)]
 pub struct WatchedSearch<'a, V> {
     watch: &'a V,
@@ -136,7 +135,7 @@ impl<'a, V: Watch> WatchedSearch<'a, V> {
         }
     }
 
-    // How far an auction is in this phase.
+    // The progress of an auction in this phase.
     fn progress(&self, phase: u16, slackness: i64, assigned: u16) -> Progress {
         Progress {
             phase,
@@ -154,7 +153,7 @@ impl<V: Watch> Observer for WatchedSearch<'_, V> {
     }
 }
 
-// After so many offers the watch is shown the next round.
+// The number of offers after which the watch is shown the next round.
 const OFFERS_A_LOOK: u64 = 256;
 
 /// Makes the offers of rounds as `InPieces` does, and shows them to a watch.
@@ -162,7 +161,7 @@ const OFFERS_A_LOOK: u64 = 256;
 pub struct WatchedOffers<'a, R, V> {
     rt: &'a R,
     search: WatchedSearch<'a, V>,
-    // The phase that was shown last, and the offers since.
+    // The phase last shown, and the offers since.
     phase: u16,
     offers: u64,
 }
@@ -177,13 +176,13 @@ impl<'a, R, V: Watch> WatchedOffers<'a, R, V> {
         }
     }
 
-    // Whether a round with so many offers is to be shown.
+    // Whether a round with this many offers shall be shown.
     fn is_due(&mut self, phase: u16, waiting: usize) -> bool {
         self.offers = self.offers.wrapping_add(waiting as u64);
         self.phase != phase || self.offers >= OFFERS_A_LOOK
     }
 
-    // Shows a round with so many offers.
+    // Shows a round with this many offers.
     fn show(&mut self, ask: Ask, waiting: usize) {
         self.phase = ask.phase;
         self.offers = 0;
@@ -216,15 +215,15 @@ impl<R: Threads + Sync, V: Watch> Offering for WatchedOffers<'_, R, V> {
     }
 }
 
-// After so many sessions of a worker the watch is shown how far all are.
+// The number of sessions of a worker after which the watch is shown the progress of all workers.
 const SESSIONS_A_LOOK: u64 = 64;
 
-/// A gate that also shows a watch how far the workers are.
+/// A gate that also shows the progress of the workers to a watch.
 #[derive(Drop)]
 pub struct WatchedGate<'a, G, V> {
     gate: &'a G,
     search: WatchedSearch<'a, V>,
-    // The sessions of all workers that were shown.
+    // The sessions of all workers shown so far.
     sessions: AtomicU64,
 }
 

@@ -1,4 +1,5 @@
-// Lines on how far a run is, for standard error: now and then, or where it is a terminal one line that is written over.
+// Progress lines for standard error: now and then a line, or on a terminal one line that is
+// overwritten.
 use crate::progress::{News, Progress, Watch};
 use arrayvec::ArrayString;
 use std::fmt;
@@ -7,34 +8,35 @@ use std::sync::atomic::{AtomicBool, AtomicU64, AtomicUsize, Ordering};
 
 /// The clock and standard error.
 pub trait Console {
-    /// Milliseconds since some time that stays the same; `None` where no clock answers.
+    /// Milliseconds since some fixed time; `None` if no clock answers.
     fn now(&self) -> Option<u64>;
 
-    /// Writes to standard error. Whether it took all.
+    /// Writes to standard error. Returns whether it took all.
     fn write(&self, text: &[u8]) -> bool;
 }
 
-// At least so many milliseconds lie between two lines, and so many before the first one on a terminal, unasked.
+// The least number of milliseconds between two lines, and before the first line on a terminal, by
+// default.
 const BETWEEN: u64 = 500;
 
 const UNASKED: u64 = 2000;
 
-// After so many milliseconds of an auction its lines say what may be faster.
+// After this many milliseconds of an auction its lines say what may be faster.
 const SLOW: u64 = 10_000;
 
 const FASTER: &str = "; --method paths may be faster";
 
-// The line where nothing comes unless it is typed.
+// The line for a run whose problem must be typed.
 const WAITING: &str =
     "waiting for a problem on standard input; Ctrl-D ends it, --input names a file\n";
 
-// No time: nothing is shown any more, or not yet.
+// No time: no line comes any more, or not yet.
 const NEVER: u64 = u64::MAX;
 
 // The most columns that a line takes on a terminal.
 const MOST_COLUMNS: usize = 79;
 
-// How far an auction is, where the news are of one.
+// The progress of an auction, if the news are of one.
 fn auction_in(news: News) -> Option<Progress> {
     match news {
         News::Round(it) | News::Sessions(_, _, it) => Some(it),
@@ -47,7 +49,7 @@ fn write_phase<W: fmt::Write>(f: &mut fmt::Formatter<W>, it: &Progress) -> fmt::
     write!(f, "phase {} of {}, ", it.phase, it.phases)
 }
 
-// How many persons have an object.
+// The number of persons who have an object.
 fn write_persons<W: fmt::Write>(
     f: &mut fmt::Formatter<W>,
     assigned: u16,
@@ -87,7 +89,7 @@ fn write_paths<W: fmt::Write>(
     write_persons(f, assigned, persons)
 }
 
-// What a line says of some news. Of an auction it has fewer figures, where there is no room for all.
+// The figures of a line, fewer of an auction if there is no room for all.
 #[derive(Clone, Copy)]
 struct Figures {
     news: News,
@@ -111,10 +113,11 @@ impl fmt::Display for Figures {
     }
 }
 
-// Room for a line and what is put around it.
+// Room for a line and the characters around it.
 type Line = ArrayString<256>;
 
-// A line after so many milliseconds, between these words. It takes no memory, and is cut where it is too long.
+// A line after `passed` milliseconds, between these words. It takes no memory, and is cut if it is
+// too long.
 fn line_of(word: &str, figures: Figures, passed: u64, end: &str) -> Line {
     let mut line = Line::new();
     let tenths = passed / 100;
@@ -127,15 +130,15 @@ fn line_of(word: &str, figures: Figures, passed: u64, end: &str) -> Line {
     line
 }
 
-// Puts so many blanks behind a text.
+// Adds blanks after a text.
 fn pad(text: &mut Line, blanks: usize) {
     for _ in 0..blanks {
         let _ = text.try_push(' ');
     }
 }
 
-/// Writes lines on how far a run is to a console. It takes no memory, and ends silently where the
-/// clock or standard error fails.
+/// Writes progress lines to a console. It takes no memory, and stops silently if the clock or
+/// standard error fails.
 #[derive(Drop)]
 pub struct ProgressLines<C> {
     console: C,
@@ -146,18 +149,18 @@ pub struct ProgressLines<C> {
     // The problem is in a file.
     named: AtomicBool,
     began: Option<u64>,
-    // The first time at which an auction was looked at.
+    // The time of the first news of an auction.
     auction: AtomicU64,
     // No line comes before this time.
     next: AtomicU64,
     busy: AtomicBool,
-    // How many columns stand on the terminal.
+    // The number of columns in use on the terminal.
     columns: AtomicUsize,
 }
 
 impl<C: Console> ProgressLines<C> {
-    /// Begins to count the time. On a terminal one line is written over, and typing isn't disturbed:
-    /// where the problem is to be typed, a line says so once.
+    /// Begins to count the time. On a terminal one line is overwritten, and typing isn't disturbed:
+    /// if the problem must be typed, a line says so once.
     pub fn new(console: C, in_place: bool, typed: bool) -> ProgressLines<C> {
         let began = console.now();
         ProgressLines {
@@ -173,7 +176,7 @@ impl<C: Console> ProgressLines<C> {
         }
     }
 
-    // The time, where there may be news. The first one of an auction is kept.
+    // The time, if there may be news. The time of the first news of an auction is kept.
     fn looked_at(&self, news: News) -> Option<u64> {
         let now = self.console.now()?;
         if auction_in(news).is_some() && self.auction.load(Ordering::SeqCst) == NEVER {
@@ -182,7 +185,7 @@ impl<C: Console> ProgressLines<C> {
         Some(now)
     }
 
-    // The time, where it is one for a line. Of several threads one gets it.
+    // The time, if a line is due. Only one of several threads gets it.
     fn due(&self, news: News) -> Option<u64> {
         let next = self.next.load(Ordering::SeqCst);
         if next == NEVER {
@@ -202,20 +205,20 @@ impl<C: Console> ProgressLines<C> {
         }
     }
 
-    // Whether the news are of an auction that has lasted long by this time.
+    // Whether the news are of an auction that has already lasted long.
     fn is_slow(&self, news: News, now: u64) -> bool {
         let lasted = now.saturating_sub(self.auction.load(Ordering::SeqCst));
         lasted >= SLOW && auction_in(news).is_some()
     }
 
-    // Writes a text, and nothing more from then on where that fails.
+    // Writes a text. If this fails, nothing more is written.
     fn put(&self, text: &str) {
         if !self.console.write(text.as_bytes()) {
             self.next.store(NEVER, Ordering::SeqCst);
         }
     }
 
-    // Writes a line over what stands on the terminal.
+    // Writes a line over the text on the terminal.
     fn put_in_place(&self, line: &str) {
         let line = line.get(..MOST_COLUMNS).unwrap_or(line);
         let before = self.columns.swap(line.len(), Ordering::SeqCst);
@@ -225,7 +228,7 @@ impl<C: Console> ProgressLines<C> {
         self.put(text.as_str());
     }
 
-    // Writes the line of some news, unless another thread is at it.
+    // Writes the line of some news, unless another thread is writing.
     fn write_line(&self, news: News, now: u64) {
         if self.busy.swap(true, Ordering::SeqCst) {
             return;

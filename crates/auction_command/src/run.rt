@@ -1,4 +1,4 @@
-// From the bytes that come in to the bytes that go out.
+// From the bytes read to the bytes written.
 ghost use Rattle.std.specs.Prelude.{◌≡◌, ◌<◌, ◌≤◌, All, List, None, Some, IfOk, IfErr, IfSome, length};
 ghost use Rattle.std.specs.Arc.{arc_value};
 ghost use Rattle.std.specs.Option.{option_map};
@@ -32,47 +32,48 @@ use std::thread::Threads;
 /// How a problem is solved.
 #[derive(Clone, Copy, PartialEq, Eq)]
 pub struct Solver {
-    /// Mode, workers and refresh are the auction's.
+    /// The options; mode, workers and refresh belong to the auction.
     pub options: SolveOpts,
     /// The auction or shortest paths.
     pub method: Method,
 }
 
-/// What a run is given besides its problem and its options.
+/// The surroundings of a run: all that it gets besides its problem and its options.
 #[derive(Drop)]
 pub struct Context<'a, T, G, V> {
-    /// Threads, and leave to wait for them.
+    /// The handle for threads and for waiting.
     pub rt: &'a T,
     pub alloc: Global,
-    /// Hears of the steps of workers.
+    /// Receives the steps of workers.
     pub gate: &'a G,
-    /// Is shown how far the run is.
+    /// Is shown the progress of the run.
     pub watch: &'a V,
 }
 
-/// How a run ended, where nothing failed.
+/// How a run ended that didn't fail.
 #[derive(Clone, Copy, PartialEq, Eq)]
 pub enum Ended {
-    /// A best assignment was reported.
+    /// An optimal assignment was reported.
     Optimal,
-    /// A Hall set was reported: there is no assignment.
+    /// A Hall set was reported: no assignment exists.
     Infeasible,
 }
 
-/// Why a run failed. The `Display` text is the line for standard error.
+/// Why a run failed. `Display` writes the line for standard error.
 #[derive(Drop)]
 pub enum CliFault {
-    /// The input is refused, its device failed, or memory was refused in reading.
+    /// The input is refused, its device failed, or memory was refused while reading it.
     Input(InputFault),
-    /// The report that is read is refused, its device failed, or memory was refused in reading it.
+    /// The report to read is refused, its device failed, or memory was refused while reading it.
     Report(ReportFault),
-    /// No run begins at the prices of the report.
+    /// A run can't begin at the prices of the report.
     Start(StartFault),
     /// The output's device failed.
     Write,
     /// Memory was refused.
     Memory,
-    /// A person is stuck between a floor and an unowned object. Kept for callers; no run ends so.
+    /// A person is stuck between a floor and an unowned object. Kept for callers; no run ends with
+    /// it.
     Stuck(Person),
 }
 
@@ -149,8 +150,8 @@ impl From<WriteFault> for CliFault {
     }
 }
 
-/// The exit status for a fault: 3 for a text that is refused, 4 for want of memory and for devices
-/// that fail, 5 where no answer was found.
+/// The exit status for a fault: 3 for a refused text, 4 for refused memory and failed devices, 5 if
+/// no answer was found.
 pub fn status_of(fault: &CliFault) -> u8
     ensures { result ≡ status fault.now }
 {
@@ -163,7 +164,7 @@ pub fn status_of(fault: &CliFault) -> u8
     }
 }
 
-/// The exit status of a run that reported: 0 for an assignment, 1 where there is none.
+/// The exit status of a run that reported: 0 for an assignment, 1 if none exists.
 pub fn end_status_of(ended: Ended) -> u8
     ensures { result ≡ end_status ended }
 {
@@ -176,7 +177,7 @@ pub fn end_status_of(ended: Ended) -> u8
 /// The problem of a sparse text or of a dense one.
 ///
 /// # Errors
-/// The first fault of the text; `Read` where the reader fails; `Memory`.
+/// The first fault of the text; `Read` if the reader fails; `Memory` if memory is refused.
 pub fn read_problem<R: Read>(alloc: Global, r: &mut R, sparse: bool) -> Result<Problem, InputFault>
     ensures { IfSome (R.remaining r.old) (λ bytes. Reads sparse bytes result) }
 {
@@ -187,7 +188,7 @@ pub fn read_problem<R: Read>(alloc: Global, r: &mut R, sparse: bool) -> Result<P
     }
 }
 
-// The problem of a text, while a watch is shown how much of it is read.
+// The problem of a text, with a watch on the number of bytes read.
 fn read_watched<R: Read, V: Watch>(
     alloc: Global,
     r: &mut R,
@@ -208,7 +209,7 @@ fn shared(alloc: Global, problem: Problem, sense: Sense) -> Result<Arc<Scaled>, 
     Ok(Arc::new(alloc, scaled)?)
 }
 
-// What the mode comes to from these first prices.
+// The outcome of the mode from these first prices.
 fn solve_in_mode<T: Threads + Wait + Sync, G: Gate + Sync, V: Watch + Sync>(
     context: &Context<'_, T, G, V>,
     scaled: Arc<Scaled>,
@@ -243,7 +244,7 @@ fn solve_in_mode<T: Threads + Wait + Sync, G: Gate + Sync, V: Watch + Sync>(
     }
 }
 
-// What the auction comes to from these first prices, once a checker has taken it.
+// The outcome of the auction from these first prices, after a checker has accepted it.
 fn solve_by_auction<T: Threads + Wait + Sync, G: Gate + Sync, V: Watch + Sync>(
     context: &Context<'_, T, G, V>,
     scaled: &Arc<Scaled>,
@@ -264,8 +265,8 @@ fn solve_by_auction<T: Threads + Wait + Sync, G: Gate + Sync, V: Watch + Sync>(
     Ok(outcome)
 }
 
-// What shortest paths come to from these first prices. What a search finds passes the checkers in
-// its own crate. Prices that are all 0 say nothing, so the search then begins at others.
+// The outcome of shortest paths from these first prices. Their own crate checks what a search
+// finds. Prices that are all 0 say nothing, so the search then begins at others.
 fn solve_by_paths<V: Watch>(
     alloc: Global,
     scaled: Arc<Scaled>,
@@ -285,7 +286,7 @@ fn solve_by_paths<V: Watch>(
     Ok(found?)
 }
 
-// What the method comes to from these first prices.
+// The outcome of the method from these first prices.
 fn solve_by<T: Threads + Wait + Sync, G: Gate + Sync, V: Watch + Sync>(
     context: &Context<'_, T, G, V>,
     scaled: &Arc<Scaled>,
@@ -305,7 +306,7 @@ fn solve_by<T: Threads + Wait + Sync, G: Gate + Sync, V: Watch + Sync>(
     }
 }
 
-// Which of the two an outcome is.
+// The end that belongs to an outcome.
 fn ended_by(outcome: &Outcome) -> Ended
     ensures { result ≡ end_of outcome.now }
 {
@@ -351,7 +352,7 @@ fn report_prices(alloc: Global, report: &Report, n: u16) -> Result<Prices, CliFa
     Ok(Prices::new(alloc, prices)?)
 }
 
-// The first prices of a run with `n` objects: those of a report, or 0 where there is none.
+// The first prices of a run with `n` objects: those of a report, or 0 if there is none.
 fn first_prices<Q: Read + Drop>(alloc: Global, start: Option<Q>, n: u16) -> Result<Prices, CliFault>
     requires few { n ≤ MOST_PERSONS }
     ensures begun { IfOk result (λ prices. (rows : List Listing) → length rows ≡ n
@@ -369,21 +370,21 @@ fn first_prices<Q: Read + Drop>(alloc: Global, start: Option<Q>, n: u16) -> Resu
     }
 }
 
-/// Reads a problem, and a report of either version where there is one for its start, and solves the
-/// problem by a method. The auction is run as by `run_solve` and `run_solve_from`; mode, workers and
-/// refresh are its options alone.
+/// Reads a problem, and a report of either version for the first prices if there is one, and solves
+/// the problem by a method. The auction runs as in `run_solve` and `run_solve_from`; only the
+/// auction uses mode, workers and refresh.
 ///
-/// By shortest paths the report that is written is on an outcome that is a proof, best exactly where
-/// there is an assignment, from whatever prices it begins. Which of several best assignments it is,
-/// and at which prices, no clause says; nothing is drawn and no thread is started, so the same bytes
-/// come from the same bytes, as tests show.
+/// By shortest paths, from any prices, the report is on a proved outcome, with an assignment
+/// exactly if one exists. No clause says which of several optimal assignments it is, or at which
+/// prices. Nothing is random and no thread is started, so the same bytes read give the same bytes
+/// written, as tests show.
 ///
-/// The watch is shown how far the run is: while it reads, in rounds, while workers take turns and
-/// while shortest paths are looked for. No clause speaks of what it is shown. The run is over for it
-/// before the report goes out; where the run fails before that, the caller has to call `over`.
+/// The watch is shown the progress of the run: while it reads, in rounds, while workers take turns,
+/// and during shortest paths. No clause says what it is shown. `over` is called before the report
+/// is written; if the run fails before that, the caller must call it.
 ///
 /// # Errors
-/// As `run_solve_from`; `Report` and `Start` only where there is a report for the start.
+/// As `run_solve_from`; `Report` and `Start` only if there is a report for the first prices.
 pub fn run_solve_by<
     T: Threads + Wait + Sync,
     G: Gate + Sync,
@@ -407,18 +408,18 @@ pub fn run_solve_by<
     report_from(context, problem, prices, w, solver)
 }
 
-/// Reads a problem, and writes the report on a best assignment, or on persons who list fewer
-/// objects than they are, and nothing else. There is at least one worker.
+/// Reads a problem, and writes only the report on an optimal assignment, or on persons who list
+/// fewer objects than they are. There must be at least one worker.
 ///
-/// In rounds mode the report is on the outcome of plain rounds, so the bytes written depend on the
-/// bytes read and on the options alone, and on no number of threads. In workers mode it is on an
-/// outcome of the workers; the call may wait for their threads, and the gate hears of their steps.
-/// The report goes out once a checker has taken the outcome, and no other fault than `Write` leaves
-/// anything written.
+/// In rounds mode the report is on the outcome of plain rounds, so the bytes written depend only on
+/// the bytes read and the options, not on the number of threads. In workers mode it is on an
+/// outcome of the workers; the call may wait for their threads, and the gate receives their steps.
+/// The report is written after a checker has accepted the outcome. Only with `Write` does a fault
+/// leave anything written.
 ///
 /// # Errors
-/// `Input` for a text that is refused, `Write` with a beginning of the report written, and
-/// `Memory`; no other.
+/// `Input` for a refused text, `Write` after a beginning of the report was written, and `Memory`;
+/// no other.
 pub fn run_solve<G: Gate + Sync, T: Threads + Wait + Sync, R: Read, W: Write>(
     rt: &T,
     alloc: Global,
@@ -445,17 +446,17 @@ pub fn run_solve<G: Gate + Sync, T: Threads + Wait + Sync, R: Read, W: Write>(
     run_solve_by(&context, r, start, w, solver)
 }
 
-/// Reads a problem and then a report, of either version, and solves the problem as `run_solve` does,
-/// but with the report's prices as the first prices. Nothing else of the report is looked at: it may
+/// Reads a problem and then a report of either version, and solves the problem as `run_solve` does,
+/// but with the report's prices as the first prices. The rest of the report doesn't matter: it may
 /// be on another problem, and under another sense.
 ///
-/// Prices that are far apart may cost very many rounds: three equal objects with the first prices 0, 0
-/// and P take P and more.
+/// Prices that are far apart may cost very many rounds: three equal objects with the first prices
+/// 0, 0 and P take P rounds and more.
 ///
 /// # Errors
-/// As `run_solve`, and `Report` for a report that is refused, `Start` for one without prices, with
-/// more or fewer than the problem has objects, or with one above `GREATEST_FIRST_PRICE`. A fault of
-/// the problem comes before those of the report.
+/// As `run_solve`; `Report` for a refused report; `Start` for a report without prices, with more or
+/// fewer than the problem has objects, or with a price above `GREATEST_FIRST_PRICE`. A fault of the
+/// problem comes before those of the report.
 pub fn run_solve_from<G: Gate + Sync, T: Threads + Wait + Sync, R: Read, Q: Read, W: Write>(
     rt: &T,
     alloc: Global,

@@ -1,4 +1,4 @@
-// Holds a report against its problem. Whoever wrote it is not trusted.
+// Checks a report against its problem, wherever the report comes from.
 ghost use Rattle.std.specs.Prelude.{◌≡◌, ◌↔◌, ◌≤◌, None, Ok, Some, IfOk, IfSome, IsTrue, MatchOption, length};
 ghost use Rattle.assign_core.specs.Rows.{listed_in, row_of};
 ghost use Rattle.assign_core.specs.Assignment.{total};
@@ -49,7 +49,7 @@ fn first_other_cost(problem: &Problem, pairs: &[(Object, Cost)]) -> Option<Perso
     ensures { MatchOption result (HaveCosts problem.now pairs.now)
         (λ i. IsFirst (HasOtherCost problem.now pairs.now) (length problem.now) i) }
 {
-    // That as many persons can be numbered follows from this call.
+    // This call shows the prover that this many persons can be numbered.
     let _persons = problem.n();
     for (i, (object, cost)) in pairs.iter().enumerate() {
         let person = Person(i as u16 + 1);
@@ -60,12 +60,12 @@ fn first_other_cost(problem: &Problem, pairs: &[(Object, Cost)]) -> Option<Perso
     None
 }
 
-// The sum of the costs that are given, which are those of the problem.
+// The sum of the given costs, which are those of the problem.
 fn sum_of(problem: &Problem, pairs: &[(Object, Cost)]) -> Cost
     requires { HaveCosts problem.now pairs.now }
     ensures { result ≡ total problem.now (objects_of pairs.now) }
 {
-    // That costs are in range, and their number, follows from this call.
+    // This call shows the prover that the costs are in range, and how many there are.
     let _persons = problem.n();
     let mut sum: Cost = 0;
     for (_, cost) in pairs {
@@ -74,7 +74,7 @@ fn sum_of(problem: &Problem, pairs: &[(Object, Cost)]) -> Cost
     sum
 }
 
-// What is found in the costs of an assignment that its prices prove best.
+// The finding on the costs of an assignment that its prices prove optimal.
 fn found_in_costs(problem: &Problem, sense: Sense, cost: Cost, pairs: &[(Object, Cost)]) -> Finding
     requires { length pairs.now ≡ length problem.now }
     ensures { IsFoundInCosts sense problem.now cost pairs.now result }
@@ -88,7 +88,7 @@ fn found_in_costs(problem: &Problem, sense: Sense, cost: Cost, pairs: &[(Object,
     Finding::Best(sense, cost)
 }
 
-// What is found in an assignment with prices.
+// The finding on an assignment with prices.
 fn found_in_priced(
     alloc: Global,
     problem: &Problem,
@@ -108,14 +108,14 @@ fn found_in_priced(
     }
 }
 
-// A report without a sense is on the least cost.
+// The sense of a report; a report without a sense minimises.
 fn sense_or_min(sense: Option<Sense>) -> Sense
     ensures { result ≡ sense_of sense }
 {
     sense.unwrap_or(Sense::Min)
 }
 
-// What is found in a report.
+// The finding on a report.
 fn found_in(alloc: Global, problem: &Problem, report: &Report) -> Result<Finding, AllocError>
     ensures { IfOk result (λ finding. IsFoundInReport problem.now (seen_report report.now) finding) }
 {
@@ -150,7 +150,7 @@ fn found_in(alloc: Global, problem: &Problem, report: &Report) -> Result<Finding
     }
 }
 
-// The sense that a report is on.
+// The sense of a report.
 fn sense_in(report: &Report) -> Sense
     ensures { result ≡ report_sense (seen_report report.now) }
 {
@@ -160,7 +160,7 @@ fn sense_in(report: &Report) -> Sense
     }
 }
 
-// Whether a sense is asked for, and not this one.
+// Whether another sense than this one is requested.
 fn is_other(wanted: Option<Sense>, sense: Sense) -> bool
     ensures { IsTrue result ↔ IsOtherSense wanted sense }
 {
@@ -170,7 +170,7 @@ fn is_other(wanted: Option<Sense>, sense: Sense) -> bool
     }
 }
 
-// What is found in a report where this sense is asked for, or any.
+// The finding on a report under this requested sense, or any.
 fn found_under(
     alloc: Global,
     problem: &Problem,
@@ -186,20 +186,19 @@ fn found_under(
     found_in(alloc, problem, report)
 }
 
-/// Reads a problem and then a report, of either version, holds the report against the problem, and
-/// writes one line: what is found, and nothing else.
+/// Reads a problem and then a report of either version, checks the report against the problem, and
+/// writes only the line of its finding.
 ///
-/// `Yes` proves that what the report says is so: its assignment is best under its sense (that of
-/// the least cost where it names none), its costs are those of the pairs, and its cost is their
-/// sum; or it names a Hall set, so that there is no assignment. A report on an assignment is found
-/// wrong where it has no prices, since then nothing proves it best.
+/// `Yes` proves that the report is right: its assignment is optimal under its sense (`Min` if it
+/// names none), its costs are those of the pairs, and its cost is their sum; or it names a Hall
+/// set, so that no assignment exists. A report on an assignment without prices is wrong, since
+/// nothing proves it optimal.
 ///
-/// Beside reading, it goes over the listed pairs of the problem a few times.
+/// It reads both texts, and scans the listed pairs of the problem a few times.
 ///
 /// # Errors
-/// `Input` for a problem that is refused; else `Report` for a report that is refused; `Write` with
-/// a beginning of the line written; and `Memory`. No other fault than `Write` leaves anything
-/// written. `Stuck` never.
+/// `Input` for a refused problem; else `Report` for a refused report; `Write` after a beginning of
+/// the line was written; and `Memory`. Only with `Write` is anything written. `Stuck` never comes.
 pub fn run_verify<P: Read, Q: Read, W: Write>(
     alloc: Global,
     problem: &mut P,
@@ -213,12 +212,13 @@ pub fn run_verify<P: Read, Q: Read, W: Write>(
     run_verify_under(alloc, problem, report, sparse, None, w)
 }
 
-/// Does what `run_verify` does, but where this sense is asked for, it finds first of all that a
-/// report is on the other one, an infeasible report too. A report that names none is on the least
-/// cost.
+/// Does what `run_verify` does, but first compares the sense, if one is requested: a report on the
+/// other sense, also an infeasible one, has the finding `OtherSense`. A report that names no sense
+/// minimises.
 ///
 /// # Errors
-/// As `run_verify`. A fault of the problem or of the report comes whatever sense is asked for.
+/// As `run_verify`. A fault of the problem or of the report comes first, whatever sense is
+/// requested.
 pub fn run_verify_under<P: Read, Q: Read, W: Write>(
     alloc: Global,
     problem: &mut P,

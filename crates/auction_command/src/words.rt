@@ -24,17 +24,17 @@ use std::convert::AsStr;
 /// The most workers.
 pub const MOST_WORKERS: u64 = 64;
 
-/// The most sessions after which a worker takes today's prices.
+/// The most sessions after which a worker's table catches up.
 pub const MOST_REFRESH: u64 = 1_000_000;
 
-// What help says behind the subcommands.
+// What help shows after the subcommands.
 const PROGRAM_NOTES: &str = "Example:
   auction_cli solve --prices < costs.txt > report.txt
   auction_cli verify report.txt < costs.txt
 
 'auction_cli solve --help' has the layouts of a problem, and the exit statuses.";
 
-// What help says behind the options of `solve`.
+// What help shows after the options of `solve`.
 const SOLVE_NOTES: &str =
     "Reads the problem from standard input, with --input FILE from that file: numbers
 between white space
@@ -63,7 +63,7 @@ Example:
   auction_cli solve --max --prices < sales.txt > report.txt
   auction_cli solve --max --prices --input sales.txt > report.txt";
 
-// What help says behind the options of `verify`.
+// What help shows after the options of `verify`.
 const VERIFY_NOTES: &str =
     "Reads the problem from standard input, with --input FILE from that file: numbers
 between white space
@@ -83,40 +83,40 @@ Example:
   auction_cli verify --sense max report.txt < sales.txt
   auction_cli verify --sense max --input sales.txt report.txt";
 
-/// Which number each limit is.
+/// The limits as numbers.
 pub fn word_limits()
     ensures workers { MOST_WORKERS ≡ 64 }
     ensures refresh { MOST_REFRESH ≡ 10 ^ 6 }
 {}
 
-/// Who bids when.
+/// When persons bid.
 #[derive(Clone, Copy, PartialEq, Eq)]
 pub enum Mode {
     /// All who wait bid from one table of prices, round by round.
     Rounds,
-    /// Workers bid from tables of their own, at any time.
+    /// Workers bid from their own tables, at any time.
     Workers,
 }
 
 /// How to solve.
 #[derive(Clone, Copy, PartialEq, Eq)]
 pub struct SolveOpts {
-    /// The text lists pairs.
+    /// Whether the text lists pairs.
     pub sparse: bool,
     /// Rounds or workers.
     pub mode: Mode,
-    /// How many workers there are; rounds make no use of it.
+    /// The number of workers; rounds don't use it.
     pub workers: u16,
-    /// After so many sessions with the book a worker takes today's prices; where 0, only after a
-    /// bid that was too low. Rounds make no use of it.
+    /// The number of sessions after which a worker's table catches up; 0 for only after a low bid.
+    /// Rounds don't use it.
     pub refresh: u64,
-    /// The report has the prices.
+    /// Whether the report has the prices.
     pub prices: bool,
-    /// Which costs are wanted.
+    /// Whether to minimise or to maximise.
     pub sense: Sense,
 }
 
-/// How an answer is looked for.
+/// The method of solving.
 #[derive(Clone, Copy, PartialEq, Eq)]
 pub enum Method {
     /// Persons bid for objects, in a `Mode`.
@@ -125,30 +125,30 @@ pub enum Method {
     Paths,
 }
 
-/// What is asked for beside `SolveOpts`.
+/// The requests of `solve` that aren't in `SolveOpts`.
 #[derive(Drop)]
 pub struct Asked {
-    /// The auction or shortest paths; mode, workers and refresh are the auction's.
+    /// The auction or shortest paths; mode, workers and refresh belong to the auction.
     pub method: Method,
     /// The file with the problem; without one it is on standard input.
     pub input: Option<String>,
-    /// How far the run is shall be told while it runs.
+    /// Whether progress lines are requested.
     pub progress: bool,
 }
 
-/// What the words ask for.
+/// The request of the words.
 #[derive(Drop)]
 pub enum Words {
-    /// Solve a problem; the first prices are those of the report in the file of the name that is
+    /// Solve a problem, with the first prices of the report in the file of this name, if one is
     /// given.
     Solve {
         options: SolveOpts,
         start: Option<String>,
         asked: Asked,
     },
-    /// Check the report in the file of this name, which is to be of the sense that is asked for, if
-    /// any; the problem's text lists pairs where `sparse`, and is in the file `input` or, without
-    /// one, on standard input.
+    /// Check the report in the file of this name, which must have the requested sense, if any. The
+    /// problem's text lists pairs if `sparse` is true; it is in the file `input`, or on standard
+    /// input without one.
     Verify {
         sparse: bool,
         sense: Option<Sense>,
@@ -157,12 +157,12 @@ pub enum Words {
     },
 }
 
-/// Why the words ask for nothing: they are refused or ask for help, or memory is refused.
+/// Why the words request nothing: they are refused or request help, or memory is refused.
 #[derive(Drop)]
 pub enum WordsFault {
-    /// The word behind `--mode` names no mode.
+    /// The word after `--mode` isn't a mode.
     Mode,
-    /// The word behind `--sense` names no sense.
+    /// The word after `--sense` isn't a sense.
     Sense,
     Clap(Error),
     Memory,
@@ -179,7 +179,7 @@ impl From<AllocError> for WordsFault {
     }
 }
 
-// An option that takes no value.
+// An option without a value.
 fn flag<'a>(alloc: Global, name: &'a str, help: &'a str) -> Arg<'a>
     ensures rule { rule_of result ≡ flag_rule name.now }
     ensures local { result.global ≡ false }
@@ -202,7 +202,7 @@ fn sparse_flag<'a>(alloc: Global) -> Arg<'a>
     )
 }
 
-// The option on the file with the problem.
+// The option for the file with the problem.
 fn input_option<'a>(alloc: Global) -> Arg<'a>
     ensures rule { rule_of result ≡ input_rule }
     ensures local { result.global ≡ false }
@@ -213,7 +213,7 @@ fn input_option<'a>(alloc: Global) -> Arg<'a>
         .help("The file with the problem, which is read in place of standard input")
 }
 
-// An option with a value, and the value that it has where it isn't given.
+// An option with a value, and its default.
 fn valued<'a>(
     alloc: Global,
     name: &'a str,
@@ -264,7 +264,7 @@ fn named<'a>(
     valued(alloc, name, value, usual, help).value_parser(ValueParser::Names(names))
 }
 
-// The option on the method.
+// The option for the method.
 fn method_option<'a>(alloc: Global) -> Arg<'a>
     ensures rule { (at : Places) × (rule_of result ≡ method_rule at) }
     ensures local { result.global ≡ false }
@@ -279,7 +279,7 @@ fn method_option<'a>(alloc: Global) -> Arg<'a>
     )
 }
 
-// The option on the file with the first prices.
+// The option for the file with the first prices.
 fn start_option<'a>(alloc: Global) -> Arg<'a>
     ensures rule { rule_of result ≡ start_rule }
     ensures local { result.global ≡ false }
@@ -290,8 +290,8 @@ fn start_option<'a>(alloc: Global) -> Arg<'a>
         .help("The file with a report whose prices are to be the first prices")
 }
 
-// The subcommand `solve`, but for the options on its mode. Each option is made where it is taken: what is held while
-// another may be refused makes the proof long.
+// The subcommand `solve`, except for the options for its mode. Each option is made where it is
+// added: values that are held while another may be refused make the proof long.
 fn plain_solve_command<'a>(alloc: Global) -> Result<Command<'a>, AllocError>
     ensures { IfOk result (λ c. app_of c ≡ plain_solve_app) }
 {
@@ -351,7 +351,7 @@ fn solve_command<'a>(alloc: Global) -> Result<Command<'a>, AllocError>
         ))
 }
 
-// The option on the sense that a report must have.
+// The option for the sense that a report must have.
 fn sense_option<'a>(alloc: Global) -> Arg<'a>
     ensures rule { rule_of result ≡ optional_rule (codes "sense") }
     ensures local { result.global ≡ false }
@@ -385,7 +385,7 @@ fn verify_command<'a>(alloc: Global) -> Result<Command<'a>, AllocError>
         .arg(report_argument(alloc))
 }
 
-// The option that asks for the program's version, by its long name alone.
+// The option for the program's version, only with a long name.
 fn version_flag<'a>(alloc: Global) -> Arg<'a>
     ensures rule { rule_of result ≡ version_rule }
     ensures local { result.global ≡ false }
@@ -396,7 +396,7 @@ fn version_flag<'a>(alloc: Global) -> Arg<'a>
         .action(ArgAction::Version)
 }
 
-// The program's number, as the file VERSION at the top has it.
+// The program's version, as the file VERSION at the top has it.
 const VERSION: &str = "2.0.0";
 
 // The program's command with its subcommands. clap's own option for the version has a short name.
@@ -435,7 +435,7 @@ fn named_mode(name: &str) -> Option<Mode>
     }
 }
 
-// Shortest paths where this is their name.
+// Shortest paths if this is their name, else the auction.
 fn named_method(name: &str) -> Method
     ensures { (result ≡ Method.Paths) ↔ (name.now ≡ codes "paths") }
 {
@@ -446,7 +446,7 @@ fn named_method(name: &str) -> Method
     }
 }
 
-// The mode that is named.
+// The chosen mode.
 fn chosen_mode(solve: &ArgMatches<'_>) -> Result<Mode, WordsFault>
     ensures ok { IfOk result (NamesMode (rows_of (found_of solve.now))) }
     ensures err { IfErr result (λ fault. (fault ≡ WordsFault.Mode)
@@ -458,7 +458,7 @@ fn chosen_mode(solve: &ArgMatches<'_>) -> Result<Mode, WordsFault>
     }
 }
 
-// The number of an option that has one.
+// The number of an option with a number.
 fn chosen_number(solve: &ArgMatches<'_>, name: &str) -> u64
     requires { (least : ℕ) × (most : ℕ)
         × IsNumberIn (one_of name.now (rows_of (found_of solve.now))) least most }
@@ -472,7 +472,7 @@ fn chosen_number(solve: &ArgMatches<'_>, name: &str) -> u64
     }
 }
 
-// What the words behind `solve` choose, with this mode.
+// The options that the words after `solve` choose, with this mode.
 fn solve_options(solve: &ArgMatches<'_>, mode: Mode) -> SolveOpts
     requires mode { NamesMode (rows_of (found_of solve.now)) mode }
     requires numbers { HasNumbers (rows_of (found_of solve.now)) }
@@ -488,7 +488,7 @@ fn solve_options(solve: &ArgMatches<'_>, mode: Mode) -> SolveOpts
     }
 }
 
-// The method that is named: clap takes no other name than these two.
+// The chosen method: clap takes only these two names.
 fn chosen_method(solve: &ArgMatches<'_>) -> Method
     ensures { NamesMethod (rows_of (found_of solve.now)) result }
 {
@@ -498,14 +498,14 @@ fn chosen_method(solve: &ArgMatches<'_>) -> Method
     }
 }
 
-// Whether the run's progress is asked for.
+// Whether progress lines are requested.
 fn progress_flag(solve: &ArgMatches<'_>) -> bool
     ensures { IsFlag (one_of (codes "progress") (rows_of (found_of solve.now))) result }
 {
     solve.get_flag("progress")
 }
 
-// The name of the file that is given for an option.
+// The file name that is given for an option.
 fn file_name(
     alloc: Global,
     matches: &ArgMatches<'_>,
@@ -520,7 +520,7 @@ fn file_name(
     }
 }
 
-// What the words behind `solve` choose, with the files.
+// What the words after `solve` choose, with the files.
 fn solve_words(alloc: Global, solve: &ArgMatches<'_>) -> Result<Words, WordsFault>
     requires { HasNumbers (rows_of (found_of solve.now)) }
     ensures ok { IfOk result (Chooses (Some (codes "solve", rows_of (found_of solve.now)))) }
@@ -552,7 +552,7 @@ fn named_sense(name: &str) -> Option<Sense>
     }
 }
 
-// The sense that is asked for, if any.
+// The requested sense, if any.
 fn chosen_sense(verify: &ArgMatches<'_>) -> Result<Option<Sense>, WordsFault>
     ensures ok { IfOk result (NamesSense (rows_of (found_of verify.now))) }
     ensures err { IfErr result (λ fault. (fault ≡ WordsFault.Sense)
@@ -567,7 +567,7 @@ fn chosen_sense(verify: &ArgMatches<'_>) -> Result<Option<Sense>, WordsFault>
     }
 }
 
-// What the words behind `verify` choose, with this sense.
+// What the words after `verify` choose, with this sense.
 fn verify_options(
     alloc: Global,
     verify: &ArgMatches<'_>,
@@ -576,7 +576,7 @@ fn verify_options(
     requires { NamesSense (rows_of (found_of verify.now)) sense }
     ensures { IfOk result (ChoosesVerifying (rows_of (found_of verify.now))) }
 {
-    // The empty name, which no file has, stands for none: clap takes no words without one.
+    // The empty name, which no file has, stands in for none: clap doesn't accept words without one.
     let name = verify.get_str("REPORT").unwrap_or("");
     Ok(Words::Verify {
         sparse: verify.get_flag("sparse"),
@@ -586,7 +586,7 @@ fn verify_options(
     })
 }
 
-// What the words behind `verify` choose.
+// What the words after `verify` choose.
 fn verify_words(alloc: Global, verify: &ArgMatches<'_>) -> Result<Words, WordsFault>
     ensures ok { IfOk result (ChoosesVerifying (rows_of (found_of verify.now))) }
     ensures err { IfErr result (IsChoiceFault (Some (codes "verify", rows_of (found_of verify.now)))) }
@@ -595,7 +595,7 @@ fn verify_words(alloc: Global, verify: &ArgMatches<'_>) -> Result<Words, WordsFa
     Ok(verify_options(alloc, verify, sense)?)
 }
 
-// What words choose that clap takes.
+// What words choose that clap accepts.
 fn chosen(alloc: Global, matches: &ArgMatches<'_>) -> Result<Words, WordsFault>
     requires names { NamesCommand (subcommand_rows_of matches.now) }
     requires numbers { HasNumbersIfSolving (subcommand_rows_of matches.now) }
@@ -611,7 +611,7 @@ fn chosen(alloc: Global, matches: &ArgMatches<'_>) -> Result<Words, WordsFault>
     }
 }
 
-// Want of memory, or what clap has to say.
+// Refused memory, or clap's error.
 fn words_fault(error: Error) -> WordsFault
     ensures { IsFaultOf error result }
 {
@@ -622,12 +622,12 @@ fn words_fault(error: Error) -> WordsFault
     }
 }
 
-/// Reads the words of a command line, the program's own name first.
+/// Reads the words of a command line, the first of which is the program's own name.
 ///
 /// # Errors
-/// `Clap` for words that are refused and for a request for help or for the version, whose text the
-/// error prints, `Mode` for a word behind `--mode` that is neither `rounds` nor `workers`, `Sense` for
-/// one behind `--sense` that is neither `min` nor `max`, and `Memory`.
+/// `Clap` for refused words and for requests for help or the version, whose text the error prints;
+/// `Mode` for a word after `--mode` other than `rounds` and `workers`; `Sense` for a word after
+/// `--sense` other than `min` and `max`; and `Memory`.
 pub fn read_words<'a, S: AsStr>(alloc: Global, words: &'a [S]) -> Result<Words, WordsFault>
     ensures outcome { WordsOutcome (map S.text words.entry.now) result }
     ensures ranges { IfOk result IsInRanges }

@@ -10,12 +10,12 @@ use Rattle.auction_command.specs.declared.program.Written.{Written}
 use Rattle.auction_command.specs.declared.program.ProgramEnd.{ProgramEnd}
 use Rattle.auction_command.specs.declared.program.ProgramEnd.TheVariants.{Unopened, Failed}
 
--- how the program ends where a file can't be read
+-- how the program ends if a file can't be read
 abbrev pub EndsAbsent : Named → NoFile → ProgramEnd → Type 0
 EndsAbsent named no_file.Unopened end = (written : Written) × (end ≡ Unopened named written)
 EndsAbsent named no_file.Memory end = (written : Written) × (end ≡ Failed Memory written)
 
--- a run that failed so, and what went to standard error
+-- a run with this fault, and what was written to standard error
 abbrev pub EndsFailed : CliFault → Option (List ℕ) → Option (List ℕ) → ProgramEnd → Type 0
 EndsFailed fault old new end =
     (written : Written) × (end ≡ Failed fault written) × IsWritten old new (line_of fault) written

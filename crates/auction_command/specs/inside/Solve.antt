@@ -1,4 +1,4 @@
--- Runs of `solve` behind the reading of the problem.
+-- Runs of `solve` after the problem is read.
 use Rattle.std.specs.Prelude.{ℕ, ℤ, List, Option, Result, Ok, Err, IfSome, ⊤}
 use Rattle.std.specs.Option.{IsSomeAnd}
 use Rattle.std.specs.Io.KnownBytes.{Appends, Keeps}
@@ -13,7 +13,8 @@ use Rattle.auction_command.specs.declared.run.Ended.{Ended}
 use Rattle.auction_command.specs.declared.run.CliFault.{CliFault}
 use Rattle.auction_command.specs.declared.run.CliFault.TheVariants.{Report, Start, Write, Memory}
 
--- by how a run over a problem and first prices ended: the report went out, or a beginning of it, or nothing
+-- by the end of a run over a problem and first prices: the report was written, or a beginning of
+-- it, or nothing
 abbrev pub Reports : Solver → List Listing → List ℤ → Option (List ℕ) → Option (List ℕ) →
     Result Ended CliFault → Type 0
 Reports solver rows prices old new (Ok ended) =
@@ -23,13 +24,13 @@ Reports solver rows prices old new (Err Write) =
 Reports solver rows prices old new (Err Memory) = Keeps old new
 Reports solver rows prices old new (Err fault) = ⊥
 
--- why no run with n objects begins at the prices of a report
+-- why a run with n objects can't begin at the prices of a report
 abbrev pub HasNoStart : reports.Report → ℕ → CliFault → Type 0
 HasNoStart report n (Start fault) = HasStartFault report n fault
 HasNoStart report n Memory = ⊤
 HasNoStart report n fault = ⊥
 
--- why no run with n objects begins at the report that is named: it is refused, or so are its prices
+-- why a run with n objects can't begin at the named report: it is refused, or its prices are
 abbrev pub FailsToBegin : Option (Option (List ℕ)) → ℕ → CliFault → Type 0
 FailsToBegin start n (Report fault) = IsSomeAnd start (λ text. IfSome text (λ bytes. Answers bytes (Err fault)))
 FailsToBegin start n (Start fault) =

@@ -22,7 +22,7 @@ pub record HasNumbers (rows : List Row) : Type 0 where
 abbrev pub ChoosesVerifying : List Row → Words → Type 0
 ChoosesVerifying rows words = Chooses (Some (codes "verify", rows)) words
 
--- why nothing is chosen by a subcommand and what clap finds behind it
+-- why a subcommand and what clap finds after it choose nothing
 abbrev pub IsChoiceFault : Option (Text × List Row) → WordsFault → Type 0
 IsChoiceFault found wrong.Mode = NamesNoMode found
 IsChoiceFault found wrong.Sense = NamesNoSense found
@@ -33,13 +33,13 @@ IsChoiceFault found (Clap error) = ⊥
 abbrev pub NamesCommand : Option (Text × List Row) → Type 0
 NamesCommand found = (rows : List Row) × ((found ≡ Some (codes "solve", rows)) ⊎ (found ≡ Some (codes "verify", rows)))
 
--- want of memory apart, an error of clap's is told as it is
+-- an error of clap's is reported as it is, unless memory was refused
 abbrev pub IsFaultOf : Error → WordsFault → Type 0
 IsFaultOf error Memory = kind_of error ≡ OutOfMemory
 IsFaultOf error (Clap told) = (told ≡ error) × (kind_of error ≢ OutOfMemory)
 IsFaultOf error wrong.Mode = ⊥
 IsFaultOf error wrong.Sense = ⊥
 
--- behind `solve` both numbers are in range
+-- after `solve` both numbers are in range
 abbrev pub HasNumbersIfSolving : Option (Text × List Row) → Type 0
 HasNumbersIfSolving found = (rows : List Row) → found ≡ Some (codes "solve", rows) → HasNumbers rows
