@@ -1,4 +1,4 @@
--- What is proved of the first n persons, and that it decides whether they have an assignment.
+-- A proof for the first n persons, which decides whether they have an assignment.
 use Rattle.std.proofs.Common.{◌≡◌, ℕ, ◌-◌, ◌++◌, List, Option, None, Some, IfSome, All, ◌≤◌, length, replicate, take, ap, append-nil, arith, subst, sym, ◌∙◌}
 use Rattle.std.proofs.lemmas.List.{take_all}
 use Rattle.std.proofs.lemmas.List.Elements.{All-take}
@@ -21,7 +21,7 @@ decides_among sense m rows (Hall h) proof = λ xs a. no_assignment rows h.person
 pub first_among : (n : ℕ) (rows : List Listing) → n ≤ length rows → IsProblem rows → IsAmong n (length rows) rows
 first_among n rows few h = record { persons = few; objects = h.size; each = All-take (IsRow (length rows)) n rows h.each }
 
--- no dummy is wanted where all persons are meant
+-- no dummy is needed for all persons
 pub whole_filled : (n : ℕ) (rows : List Listing) → n ≡ length rows → filled_up n rows ≡ rows
 whole_filled n rows e =
     let front : take n rows ≡ rows = take_all n rows (omega arith) in

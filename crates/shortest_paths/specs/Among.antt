@@ -8,6 +8,7 @@ use Rattle.scaled_values.specs.Scaled.{ScaledProblem}
 abbrev pub IsProofAmong : ScaledProblem → ℕ → Outcome → Type 0
 IsProofAmong s n outcome = core.IsProofAmong s.sense (length s.problem) (take n s.problem) outcome
 
--- a best assignment of the first n persons where they have an assignment, and a Hall set of them where they have none
+-- an optimal assignment of the first n persons if they have an assignment, and a Hall set of them
+-- otherwise
 abbrev pub IsDecidedAmong : ScaledProblem → ℕ → Outcome → Type 0
 IsDecidedAmong s n outcome = core.IsDecided (take n s.problem) outcome

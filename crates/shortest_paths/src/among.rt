@@ -21,7 +21,7 @@ use scaled_values::{Scaled, scale};
 use std::alloc::{AllocError, Global};
 use std::sync::Arc;
 
-// The problem of the first `n` persons with dummies in place of the others.
+// The problem of the first `n` persons, with dummies in place of the others.
 fn square_of(alloc: Global, scaled: &Scaled, n: u16) -> Result<Arc<Scaled>, AllocError>
     requires { n ≤ length scaled.now.problem }
     ensures problem { IfOk result (λ square.
@@ -33,7 +33,7 @@ fn square_of(alloc: Global, scaled: &Scaled, n: u16) -> Result<Arc<Scaled>, Allo
     Ok(Arc::new(alloc, square)?)
 }
 
-// What the outcome of that problem proves for the first `n` persons.
+// What the outcome of this problem proves for the first `n` persons.
 fn of_square(
     alloc: Global,
     scaled: &Scaled,
@@ -44,18 +44,18 @@ fn of_square(
     requires proof { IsProof scaled.now.sense (filled_up n scaled.now.problem) outcome }
     ensures { IfOk result (IsProofAmong scaled.now n) }
 {
-    // That it is a problem, and what the square's outcome proves, follows from these calls.
+    // These calls show the prover that it is a problem, and what the square's outcome proves.
     let _persons = scaled.n();
     dummies_change_nothing();
     of_first(alloc, outcome, n)
 }
 
-/// Solves the problem of the first `n` persons among all objects by way of a square: dummies who list
-/// all objects at cost 0 replace the other persons, and `solve_paths` solves that square.
-/// `solve_paths_among` does this only where the checkers refuse what it found, and is mostly far faster.
+/// Solves the problem of the first `n` persons among all objects by way of a square: dummies, who
+/// list all objects at cost 0, replace the other persons, and `solve_paths` solves this square.
+/// `solve_paths_among` does this only if the checkers refuse its result, and is mostly far faster.
 ///
 /// # Errors
-/// Only where memory is refused.
+/// `AllocError` if memory is refused.
 pub fn solve_with_dummies(alloc: Global, scaled: &Scaled, n: u16) -> Result<Outcome, AllocError>
     requires { n ≤ length scaled.now.problem }
     ensures proof { IfOk result (IsProofAmong scaled.now n) }
@@ -66,7 +66,7 @@ pub fn solve_with_dummies(alloc: Global, scaled: &Scaled, n: u16) -> Result<Outc
     of_square(alloc, scaled, n, outcome)
 }
 
-// The answer where all persons are meant: no dummy is wanted.
+// The outcome for all persons, without dummies.
 fn solve_whole(alloc: Global, scaled: &Arc<Scaled>, n: u16) -> Result<Outcome, AllocError>
     requires { n ≡ length (arc_value scaled.now).problem }
     ensures { IfOk result (IsProofAmong (arc_value scaled.now) n) }
@@ -75,7 +75,7 @@ fn solve_whole(alloc: Global, scaled: &Arc<Scaled>, n: u16) -> Result<Outcome, A
     of_square(alloc, scaled, n, outcome)
 }
 
-// The same from first prices on.
+// The outcome for all persons from first prices.
 fn solve_whole_from(
     alloc: Global,
     scaled: &Arc<Scaled>,
@@ -90,7 +90,7 @@ fn solve_whole_from(
     of_square(alloc, scaled, n, outcome)
 }
 
-// What searches for the first `n` persons found, if they found something.
+// The answer of searches for the first `n` persons, if they found one.
 fn answer_among<W: Number>(
     alloc: Global,
     scaled: &Scaled,
@@ -108,8 +108,8 @@ fn answer_among<W: Number>(
     }
 }
 
-// Paths of the first `n` persons from equal prices. Bids and searches raise prices of owned objects
-// alone, and none of these is left, so what nobody owns stays cheapest.
+// Paths of the first `n` persons from equal prices. Bids and searches raise only prices of owned
+// objects, and these objects stay owned, so unowned objects stay cheapest.
 fn paths_among<W: Number>(
     alloc: Global,
     scaled: &Scaled,
@@ -126,7 +126,7 @@ fn paths_among<W: Number>(
     answer_among(alloc, scaled, n, &market, &searched)
 }
 
-// What is found for the first `n` persons. Where distances leave 64 bits the first search finds no
+// The result for the first `n` persons. If distances leave 64 bits, the first search finds no
 // proof.
 fn find_among(alloc: Global, scaled: &Scaled, n: u16) -> Result<Option<Outcome>, AllocError>
     requires { n ≤ length scaled.now.problem }
@@ -138,7 +138,8 @@ fn find_among(alloc: Global, scaled: &Scaled, n: u16) -> Result<Option<Outcome>,
     }
 }
 
-// The objects of the first `n` persons with the prices, once no unowned object is dear.
+// The objects of the first `n` persons with the prices, once no unowned object has too high a
+// price.
 fn best_settled(
     alloc: Global,
     scaled: &Scaled,
@@ -156,8 +157,9 @@ fn best_settled(
     }
 }
 
-// Paths of the first `n` persons from first prices, if these fit: most persons are matched with best
-// objects, and few looks serve the others and lower the prices of unowned objects.
+// Paths of the first `n` persons from first prices, if these fit: most persons are then matched
+// with best objects, and few looks at pairs serve the others and lower the prices of unowned
+// objects.
 fn started_among(
     alloc: Global,
     scaled: &Scaled,
@@ -185,7 +187,7 @@ fn started_among(
     }
 }
 
-// What is found for the first `n` persons from these prices, or from equal ones if these don't fit.
+// The result for the first `n` persons from these prices, or from equal ones if these don't fit.
 fn find_among_from(
     alloc: Global,
     scaled: &Scaled,
@@ -202,8 +204,8 @@ fn find_among_from(
     }
 }
 
-// What was found for the first `n` persons, or if nothing was found the answer by way of the square
-// with dummies.
+// The result for the first `n` persons; if there is none, the outcome by way of the square with
+// dummies.
 fn settled_among(
     alloc: Global,
     scaled: &Scaled,
@@ -220,7 +222,7 @@ fn settled_among(
     }
 }
 
-// The answer for all persons or for fewer.
+// The outcome for all persons or for fewer.
 fn solve_among(alloc: Global, scaled: &Arc<Scaled>, n: u16) -> Result<Outcome, AllocError>
     requires { n ≤ length (arc_value scaled.now).problem }
     ensures { IfOk result (IsProofAmong (arc_value scaled.now) n) }
@@ -233,7 +235,7 @@ fn solve_among(alloc: Global, scaled: &Arc<Scaled>, n: u16) -> Result<Outcome, A
     }
 }
 
-// The same from first prices on.
+// The outcome for all persons from first prices.
 fn solve_among_from(
     alloc: Global,
     scaled: &Arc<Scaled>,
@@ -252,16 +254,16 @@ fn solve_among_from(
     }
 }
 
-/// Solves the problem of the first `n` persons among all objects: a best assignment with prices that
-/// prove it where they have an assignment, and a Hall set where they have none.
+/// Solves the problem of the first `n` persons among all objects: an optimal assignment with prices
+/// that prove it if they have an assignment, and a Hall set otherwise.
 ///
-/// Paths are looked for from equal prices, and the time is at most that of twice `n` searches over the
-/// pairs of these persons, and mostly far less. Where the checkers refuse what was found, which is not
-/// known to happen, dummies fill the problem up to a square, as in `solve_with_dummies`. None of this
-/// is proved but the answer.
+/// It searches for paths from equal prices, in at most the time of twice `n` searches over the
+/// pairs of these persons, and mostly far less. If the checkers refuse the result, which is not
+/// known to happen, dummies fill the problem up to a square, as in `solve_with_dummies`. Only the
+/// outcome is proved.
 ///
 /// # Errors
-/// Only where memory is refused.
+/// `AllocError` if memory is refused.
 ///
 /// # Example
 /// The body of `calling::solve_dense_among`:
@@ -278,12 +280,12 @@ pub fn solve_paths_among(alloc: Global, scaled: Arc<Scaled>, n: u16) -> Result<O
     solve_among(alloc, &scaled, n)
 }
 
-/// Solves as `solve_paths_among` does, from these first prices, one for each object. They may be any:
-/// prices that leave too much to search for are left for equal ones, where `n` is below the number of
-/// objects, and for the usual ones of `solve_paths` where it isn't.
+/// Solves as `solve_paths_among` does, from these first prices, one for each object. Any prices are
+/// allowed. If they leave too much to search for, it uses equal prices instead, or, if `n` is the
+/// number of objects, the usual ones of `solve_paths`.
 ///
 /// # Errors
-/// Only where memory is refused.
+/// `AllocError` if memory is refused.
 pub fn solve_paths_among_from(
     alloc: Global,
     scaled: Arc<Scaled>,

@@ -1,4 +1,4 @@
-// What was found, where the checkers take it.
+// The answer of a search, if the checkers accept it.
 ghost use Rattle.std.specs.Prelude.{◌≤◌, ◌↔◌, All, IfOk, IfSome, IsTrue, length};
 ghost use Rattle.rounds.specs.Outcomes.{IsProof};
 ghost use Rattle.shortest_paths.specs.Among.{IsProofAmong};
@@ -13,7 +13,7 @@ use rectangles::persons_of_a_hall_set;
 use scaled_values::Scaled;
 use std::alloc::{AllocError, Global};
 
-// The objects of persons 1, 2, ..; where a person has none, one that there isn't.
+// The objects of persons 1, 2, ..; a number without an object for a person that has none.
 fn objects_of<W: Number>(alloc: Global, market: &Market<W>) -> Result<Vec<Object>, AllocError> {
     let mut objects = Vec::with_capacity(alloc, market.objects.len())?;
     for place in &market.objects {
@@ -25,7 +25,8 @@ fn objects_of<W: Number>(alloc: Global, market: &Market<W>) -> Result<Vec<Object
     Ok(objects)
 }
 
-// The prices, all as much higher as the least of them is below 0: the differences are what proves.
+// The prices, all raised so that the least is at least 0: only the differences matter for the
+// proof.
 fn prices_of<W: Number>(alloc: Global, market: &Market<W>) -> Result<Vec<Price>, AllocError> {
     let least = least_in(market.prices.as_slice()).to_price().min(0);
     let mut prices = Vec::with_capacity(alloc, market.prices.len())?;
@@ -48,7 +49,7 @@ pub fn best_of<W: Number>(
     confirm_best(alloc, scaled.problem(), scaled.sense(), objects, prices)
 }
 
-// Which of n places are named.
+// Marks of these places, among n.
 fn marks_of(alloc: Global, n: u16, places: &[usize]) -> Result<Vec<bool>, AllocError> {
     let mut marks = vec![in alloc; false; n as usize]?;
     for place in places {
@@ -133,7 +134,7 @@ fn are_first(n: u16, persons: &[Person]) -> bool
     persons.iter().all(|person| person.0 <= n)
 }
 
-// The persons that a search of the first `n` scanned with the objects that it passed.
+// The persons that a search of the first `n` scanned, with the objects that it passed.
 pub fn hall_among<W: Number>(
     alloc: Global,
     scaled: &Scaled,
@@ -149,7 +150,7 @@ pub fn hall_among<W: Number>(
     if !are_first(n, persons.as_slice()) {
         return Ok(None);
     }
-    // That these persons' Hall set is one of the first rows follows from this call.
+    // This law shows the prover that a Hall set of these persons is one of the first rows.
     persons_of_a_hall_set();
     confirm_hall(alloc, scaled.problem(), persons, named)
 }

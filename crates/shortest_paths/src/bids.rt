@@ -1,7 +1,7 @@
-// Bids: a person takes its best object and raises the price to what leaves it as good as the second
-// best, or by eps more. Without eps it is the augmenting row reduction of Jonker and Volgenant (A
-// shortest augmenting path algorithm for dense and sparse linear assignment problems, 1987), with it
-// Bertsekas's auction.
+// Bids: a person takes its best object and raises its price until the object is as good as the
+// second best, or by eps more. Without eps this is the augmenting row reduction of Jonker and
+// Volgenant (A shortest augmenting path algorithm for dense and sparse linear assignment problems,
+// 1987), with eps Bertsekas's auction.
 ghost use Rattle.std.specs.Prelude.{◌≡◌, length, pos, ◌<ℤ◌};
 
 use super::market::Market;
@@ -11,7 +11,7 @@ use super::rows::{place_of, row_at};
 use assign_core::{Benefit, Object};
 use scaled_values::{Row, Scaled};
 
-// How many objects of a full row are looked at together.
+// The number of objects of a full row that are compared at once.
 const BLOCK: usize = 32;
 
 // The best object of a person with its value, and the second best value.
@@ -23,7 +23,7 @@ struct Two<W> {
 }
 
 impl<W: Number> Two<W> {
-    // Of no object.
+    // The two best of no object.
     fn none() -> Two<W> {
         Two {
             object: None,
@@ -47,7 +47,7 @@ impl<W: Number> Two<W> {
         }
     }
 
-    // With the objects of a block, which begins at this place.
+    // The two best with the objects of a block that begins at this place.
     fn with_block(self, at: usize, benefits: &[Benefit], prices: &[W]) -> Two<W> {
         let mut two = self;
         for (k, (benefit, price)) in benefits.iter().zip(prices).enumerate() {
@@ -98,15 +98,15 @@ fn two_of<W: Number>(scaled: &Scaled, prices: &[W], person: usize) -> Two<W> {
     }
 }
 
-// What a bid comes to.
+// The result of a bid.
 enum Came {
-    // The person got an object, or nothing that it can get without raising a price.
+    // The person got an object, or can't get one without raising a price.
     Done,
-    // It got an object of this person, which may bid at once.
+    // The person got the object of this person, which may bid at once.
     Evicted(usize),
 }
 
-// How much a price is raised: to where the second best is as good, in steps, and by eps.
+// The amount by which a price is raised: to where the second best is as good, in steps, plus eps.
 fn raise_of<W: Number>(two: Two<W>, eps: i64, step: i64) -> W
     requires { pos 0 <ℤ step }
 {
@@ -117,7 +117,7 @@ fn raise_of<W: Number>(two: Two<W>, eps: i64, step: i64) -> W
     gap.rounded(step).plus(W::of(eps))
 }
 
-// One bid of a person that owns nothing. Where the price stays nobody is evicted.
+// One bid of a person without an object. If the price stays, nobody is evicted.
 fn bid<W: Number>(market: &mut Market<W>, two: Two<W>, person: usize, eps: i64, step: i64) -> Came
     requires { pos 0 <ℤ step }
     ensures { length market.new.prices.items ≡ length market.old.prices.items }
@@ -141,7 +141,7 @@ fn bid<W: Number>(market: &mut Market<W>, two: Two<W>, person: usize, eps: i64, 
     }
 }
 
-// Bids of a person and of those that are evicted, at most so many. How many there were.
+// At most `most` bids of a person and of those evicted in turn. Returns the number of bids.
 fn bid_on<W: Number>(
     scaled: &Scaled,
     market: &mut Market<W>,
@@ -164,15 +164,15 @@ fn bid_on<W: Number>(
     most
 }
 
-// How many bids there may be: for each person, all together; and in a row, of a person and of those
-// that are evicted one by another.
+// The most bids: in all, as a number per person; and in a row, of a person and of those evicted one
+// by another.
 #[derive(Clone, Copy)]
 pub struct Bids {
     pub a_person: u16,
     pub in_a_row: usize,
 }
 
-// Each person bids that owns nothing, and so do those that are evicted.
+// Lets each person without an object bid, and those that are evicted.
 pub fn bid_all<W: Number, O: Observer>(
     scaled: &Scaled,
     market: &mut Market<W>,

@@ -1,5 +1,5 @@
-//! Shortest augmenting paths: a search that is trusted with nothing, whose answer passes the
-//! checkers, and rounds of offers where they refuse it.
+//! Shortest augmenting paths: an untrusted search whose answer must pass the checkers, with rounds
+//! of offers in case they refuse it.
 #![tactic(auto)]
 
 mod among;

@@ -1,4 +1,4 @@
-// The rows seen from the objects: who lists each object.
+// The rows seen from the objects: the persons that list each object.
 use super::rows::{place_of, row_at};
 use assign_core::{Benefit, Object};
 use scaled_values::{Row, Scaled};
@@ -21,7 +21,7 @@ pub struct Listers {
 }
 
 impl Listers {
-    // Of the first `persons` rows.
+    // The listers of the first `persons` rows.
     pub fn new(alloc: Global, scaled: &Scaled, persons: usize) -> Result<Listers, AllocError> {
         let mut listers = Listers {
             full: Vec::new(alloc),
@@ -54,7 +54,7 @@ impl Listers {
         Ok(())
     }
 
-    // How many pairs are listed.
+    // The number of listed pairs.
     pub fn count(&self) -> usize {
         let full = self.full.len().saturating_mul(self.last.len());
         full.saturating_add(self.pairs.len())

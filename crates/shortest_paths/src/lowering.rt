@@ -1,5 +1,5 @@
-// Objects that nobody owns, at prices that somebody would pay: each price comes down to where the
-// object is as good to some person as that person's best.
+// Unowned objects with prices that some person would pay: each price falls until the object is as
+// good to some person as its best object.
 ghost use Rattle.std.specs.Prelude.{◌≡◌, length};
 
 use super::market::Market;
@@ -8,7 +8,7 @@ use assign_core::{Benefit, Object};
 use scaled_values::{Row, Scaled};
 use std::alloc::{AllocError, Global};
 
-// The places of the unowned objects whose prices stand above the floor.
+// The places of the unowned objects with prices above the floor.
 pub fn unowned_above(
     alloc: Global,
     market: &Market<i64>,
@@ -23,7 +23,7 @@ pub fn unowned_above(
     Ok(places)
 }
 
-// The greater of what stood for an object and what somebody would pay.
+// The greater of the level so far and the price that a person would pay.
 fn raise(levels: &mut [i64], place: usize, level: i64) {
     if place < levels.len() {
         levels[place] = levels[place].max(level);
@@ -44,8 +44,8 @@ fn raise_pairs(levels: &mut [i64], pairs: &[(Object, Benefit)], value: i64) {
     }
 }
 
-// What is paid at most for each object that nobody owns, by persons who want as much as at their best
-// object; the least number where nobody lists it.
+// The most that persons would pay for each unowned object, if it shall be as good as their best
+// object; the least number for an object that no person lists.
 fn levels_of(
     alloc: Global,
     scaled: &Scaled,
@@ -65,8 +65,8 @@ fn levels_of(
     Ok(levels)
 }
 
-// Lowers the prices of these unowned objects, but not below the floor. `values` has each person's best
-// value.
+// Lowers the prices of these unowned objects, but not below the floor. `values` has each person's
+// best value.
 pub fn lower_unowned(
     alloc: Global,
     scaled: &Scaled,

@@ -1,18 +1,18 @@
-// Prices, and who owns what, while a search is under way.
+// Prices and owners during a search.
 ghost use Rattle.std.specs.Prelude.{◌≡◌, length, IfOk};
 
 use super::number::Number;
 use std::alloc::{AllocError, Global};
 
-// The price and the owner of each object, and the object of each person that is meant, by places from 0. The price
-// of an object that nobody owns stands here less 1: benefits and prices are multiples of one number
-// above 1, so of objects that are alike to a person those come first that nobody owns.
+// The price and the owner of each object, and the object of each person to assign, by places from
+// 0. The price of an unowned object is stored less 1: benefits and prices are multiples of one
+// number above 1, so of equally good objects the unowned ones come first.
 #[derive(Drop)]
 pub struct Market<W> {
     pub prices: Vec<W>,
     pub owners: Vec<Option<usize>>,
     pub objects: Vec<Option<usize>>,
-    // How many objects somebody owns.
+    // The number of owned objects.
     pub owned: u16,
 }
 
@@ -22,14 +22,14 @@ fn clear(places: &mut [Option<usize>]) {
     }
 }
 
-// The prices of objects that nobody owns.
+// Lowers the prices of unowned objects.
 fn lower<W: Number>(prices: &mut [W]) {
     for price in prices.iter_mut() {
         *price = price.minus(W::of(1));
     }
 }
 
-// Nobody owns an object any more.
+// Takes all objects from their owners.
 fn leave<W: Number>(owners: &mut [Option<usize>], prices: &mut [W]) {
     for k in 0..owners.len() {
         if owners[k].is_some() && k < prices.len() {
@@ -49,7 +49,7 @@ fn raise_unowned<W: Number>(owners: &[Option<usize>], prices: &mut [W], floor: W
 }
 
 impl<W: Number> Market<W> {
-    // So many persons, of whom nobody owns anything.
+    // A market of this many persons, none of which owns an object.
     pub fn new(alloc: Global, prices: Vec<W>, persons: usize) -> Result<Market<W>, AllocError>
         ensures { IfOk result (λ m. length m.prices.items ≡ length prices.items) }
     {
@@ -102,7 +102,7 @@ impl<W: Number> Market<W> {
         }
     }
 
-    // Makes an object unowned. Its owner takes another one.
+    // Makes an object unowned. Its owner takes another object.
     pub fn vacate(&mut self, object: usize)
         ensures { length self.new.prices.items ≡ length self.old.prices.items }
     {
@@ -118,7 +118,7 @@ impl<W: Number> Market<W> {
         self.owner(object).is_none() && self.price(object) > floor
     }
 
-    // The least price that is paid, or `most` if that is less.
+    // The least price of an owned object, or `most` if that is less.
     pub fn least_paid(&self, most: W) -> W {
         let mut least = most;
         for object in &self.objects {
@@ -129,19 +129,19 @@ impl<W: Number> Market<W> {
         least
     }
 
-    // Raises the prices of unowned objects to the floor. No owner would take them for that.
+    // Raises the prices of unowned objects to the floor. No owner prefers them at this price.
     pub fn raise_unowned(&mut self, floor: W)
         ensures { length self.new.prices.items ≡ length self.old.prices.items }
     {
         raise_unowned(self.owners.as_slice(), self.prices.as_mut_slice(), floor);
     }
 
-    // How many persons own nothing.
+    // The number of persons without an object.
     pub fn unserved(&self) -> usize {
         self.objects.len().saturating_sub(self.owned as usize)
     }
 
-    // Leaves a person without an object.
+    // Takes a person's object from it.
     pub fn release(&mut self, person: usize)
         ensures { length self.new.prices.items ≡ length self.old.prices.items }
     {
@@ -150,7 +150,7 @@ impl<W: Number> Market<W> {
         }
     }
 
-    // Leaves everybody without an object.
+    // Takes all objects from their owners.
     pub fn release_all(&mut self)
         ensures { length self.new.prices.items ≡ length self.old.prices.items }
     {

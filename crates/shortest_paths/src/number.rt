@@ -1,14 +1,14 @@
-// What prices and distances are told in: 64 bits, or 128 where sums would leave these.
+// The number types of prices and distances: 64 bits, or 128 if sums would leave these.
 ghost use Rattle.std.specs.Prelude.{pos, ◌<ℤ◌};
 
 use assign_core::Price;
 
-// Whole numbers whose sums wrap. No answer rests on a sum: what a search finds is checked.
+// Whole numbers whose sums wrap. No answer relies on a sum: what a search finds is checked.
 pub trait Number: Copy + Ord + Drop {
     const LEAST: Self;
 
     const GREATEST: Self;
-    // The cost of an object that isn't reached, and the key of one that was passed.
+    // The cost of an object that isn't reached, and the key of a passed object.
     const FAR: Self;
     // No object is reached at this distance.
     const END: Self;
@@ -23,7 +23,7 @@ pub trait Number: Copy + Ord + Drop {
 
     fn greater(self, other: Self) -> Self;
 
-    // The next multiple of the step, towards 0.
+    // The next multiple of the step, toward 0.
     fn rounded(self, step: i64) -> Self
         requires { pos 0 <ℤ step };
 

@@ -1,31 +1,32 @@
-// Who is told how many persons own an object, while paths are looked for. Nothing is proved of what is told.
+// Callbacks on the number of assigned persons during a search for paths. Nothing about them is
+// proved.
 use super::market::Market;
 use super::number::Number;
 
-/// Is told how far paths are.
+/// A callback for the progress of paths.
 pub trait Observer {
-    /// So many persons have an object by now, from 0 to n. Told as bids and as searches begin, and
-    /// then after some thousand bids and scanned persons. The number falls to 0 alone: where first
-    /// prices are left for others, and where an auction before the searches begins, at each of its
-    /// phases and at its end.
+    /// Called with the number of persons who have an object, from 0 to n: when bids and searches
+    /// begin, and then after some thousand bids and scanned persons. The number falls only to 0:
+    /// when first prices are left for others, and when an auction before the searches begins, at
+    /// each of its phases and at its end.
     fn assigned(&self, persons: u16);
 }
 
-/// Is told everything, and does nothing.
+/// An observer that does nothing.
 pub struct Unobserved;
 
 impl Observer for Unobserved {
     fn assigned(&self, _persons: u16) {}
 }
 
-// After so many bids and scanned persons the observer is told again.
+// The number of bids and scanned persons between two calls of the observer.
 const STEPS_A_LOOK: usize = 4096;
 
-// Tells an observer now and then.
+// Calls an observer now and then.
 #[derive(Drop)]
 pub struct Telling<'a, O> {
     observer: &'a O,
-    // The bids and the scanned persons since the observer was told.
+    // The bids and the scanned persons since the observer was last called.
     steps: usize,
 }
 
@@ -39,7 +40,7 @@ impl<'a, O: Observer> Telling<'a, O> {
         self.observer.assigned(market.owned);
     }
 
-    // So many bids or scanned persons more.
+    // Counts this many more bids or scanned persons.
     pub fn count<W: Number>(&mut self, steps: usize, market: &Market<W>) {
         self.steps = self.steps.saturating_add(steps);
         if self.steps >= STEPS_A_LOOK {

@@ -1,11 +1,11 @@
-// What a search changes: prices rise, and the persons on the path take new objects.
+// The changes after a search: prices rise, and the persons on the path take new objects.
 use super::market::Market;
 use super::number::Number;
 use super::rows::{benefit_at, row_at};
 use super::search::{Scanned, Search};
 use scaled_values::Scaled;
 
-// Raises the prices of the objects that were passed, up to the level of the object at the end.
+// Raises the prices of the passed objects, up to the level of the object at the end.
 pub fn raise<W: Number>(market: &mut Market<W>, search: &Search<W>, level: W) {
     for object in &search.passed {
         if market.owner(*object).is_some() {
@@ -23,9 +23,9 @@ fn reaches<W: Number>(scaled: &Scaled, one: Scanned<W>, object: usize, cost: W) 
     }
 }
 
-// Gives each person on the way back from an object the one that was reached from it. A person was
-// scanned after the one from whom its own object was reached, so one look at each is enough. Whether
-// the way came to the first person, who owned nothing.
+// Gives each person on the way back from an object the object that was reached from it. A person
+// was scanned after the one from which its own object was reached, so one look at each suffices.
+// Returns whether the way led to the first person, which had no object.
 pub fn walk_back<W: Number>(
     scaled: &Scaled,
     market: &mut Market<W>,

@@ -1,23 +1,23 @@
-// How much of what is tried: each number was found by measuring, and none is needed for an answer.
+// How much is tried of each method. The numbers come from measurements; no answer depends on them.
 ghost use Rattle.std.specs.Prelude.{◌≤◌};
 
 use super::bids::Bids;
 use assign_core::{MOST_PERSONS, Person};
 use scaled_values::Scaled;
 
-// A problem is sparse where fewer than one in so many pairs are listed.
+// A problem is sparse if fewer than one in this many pairs are listed.
 const SPARSE_BELOW: usize = 8;
 
-// How bids and searches share the work, and what an auction does where they leave too much.
+// How bids and searches share the work, and what an auction does if they leave too much.
 #[derive(Clone, Copy)]
 pub struct Plan {
-    // No search begins where more persons than so many are without objects.
+    // No search begins if more persons than this have no object.
     pub most_unserved: usize,
-    // Searches end where they have scanned more persons than so many.
+    // Searches end after they have scanned more persons than this.
     pub most_scans: usize,
-    // Bids of an auction for each person in each phase, at most.
+    // The most bids of an auction for each person in each phase.
     pub bids_a_phase: u16,
-    // Bids in a row, at most. Where there is no assignment some rows of bids have no end.
+    // The most bids in a row. Without an assignment some rows of bids have no end.
     pub bids_in_a_row: usize,
     // Whether a search looks for the nearest object in a heap.
     pub by_heap: bool,
@@ -31,7 +31,7 @@ impl Plan {
         }
     }
 
-    // The same, with searches that go on until they find something.
+    // This plan, with searches that go on until they find something.
     pub fn to_the_end(self) -> Plan {
         Plan {
             most_unserved: usize::MAX,
@@ -41,7 +41,7 @@ impl Plan {
     }
 }
 
-// Whether the first persons, so many, list so few pairs.
+// Whether the first `persons` persons list few pairs.
 fn is_sparse(scaled: &Scaled, persons: u16) -> bool {
     let mut pairs = 0usize;
     for i in 0..persons.min(scaled.n()) {
@@ -50,7 +50,7 @@ fn is_sparse(scaled: &Scaled, persons: u16) -> bool {
     pairs < persons as usize * scaled.n() as usize / SPARSE_BELOW
 }
 
-// The plan for so many persons without first prices.
+// The plan for `n` persons without first prices.
 fn plan_by(n: usize, is_sparse: bool) -> Plan
     requires { n ≤ MOST_PERSONS }
 {
@@ -79,16 +79,16 @@ pub fn plan_of(scaled: &Scaled) -> Plan {
     plan_by(n as usize, is_sparse(scaled, n))
 }
 
-// The plan for the first `n` persons among more objects. Searches go on until they find something: an
-// auction before them would leave objects dear that nobody owns.
+// The plan for the first `n` persons among more objects. Searches go on until they find something:
+// an auction before them would leave high prices at unowned objects.
 pub fn plan_among(scaled: &Scaled, n: u16) -> Plan
     requires { n ≤ MOST_PERSONS }
 {
     plan_by(n as usize, is_sparse(scaled, n)).to_the_end()
 }
 
-// The plan from first prices: little is tried, since the other plan is as good where they tell
-// nothing of the problem.
+// The plan from first prices. It tries little, since the other plan is as good if the prices don't
+// fit the problem.
 pub fn started_plan(scaled: &Scaled) -> Plan {
     let n = scaled.n() as usize;
     Plan {
@@ -98,7 +98,7 @@ pub fn started_plan(scaled: &Scaled) -> Plan {
     }
 }
 
-// The plan from first prices for the first `n` persons among more objects. Less is tried than in a
+// The plan from first prices for the first `n` persons among more objects. It tries less than in a
 // square, since the search from equal prices is mostly short.
 pub fn started_plan_among(scaled: &Scaled, n: u16) -> Plan
     requires { n ≤ MOST_PERSONS }
@@ -112,7 +112,7 @@ pub fn started_plan_among(scaled: &Scaled, n: u16) -> Plan
     }
 }
 
-// How many looks at pairs bring down the prices of dear unowned objects, where `pairs` are listed.
+// The most looks at pairs for lowering the prices of unowned objects, if `pairs` are listed.
 pub fn most_looks(pairs: usize) -> usize {
     pairs / 16 + 64
 }

@@ -8,10 +8,10 @@ use assign_core::{Benefit, Object, Price, Prices};
 use scaled_values::{Row, Scaled};
 use std::alloc::{AllocError, Global};
 
-// A first price is cut to this at most, so that a search has room for its sums.
+// The greatest first price, to which greater ones are cut, so that a search has room for its sums.
 pub const PRICE_CUT: i64 = 1 << 58;
 
-// The greater of each benefit and what stood before.
+// The greater of each benefit and the value before.
 fn raise_full(prices: &mut [i64], benefits: &[Benefit])
     requires { length prices.old ≡ length benefits.now }
 {
@@ -29,7 +29,7 @@ fn raise_pairs(prices: &mut [i64], pairs: &[(Object, Benefit)]) {
     }
 }
 
-// The greatest benefit of each object, and the least number where nobody lists it.
+// The greatest benefit of each object; the least number for an object that no person lists.
 fn greatest_benefits(alloc: Global, scaled: &Scaled) -> Result<Vec<i64>, AllocError>
     ensures { IfOk result (λ v. length v.items ≡ length scaled.now.problem) }
 {
@@ -45,7 +45,7 @@ fn greatest_benefits(alloc: Global, scaled: &Scaled) -> Result<Vec<i64>, AllocEr
     Ok(prices)
 }
 
-// The least of them, of objects that somebody lists.
+// The least of these benefits, of listed objects.
 fn least_listed(prices: &[i64]) -> i64 {
     let mut least = i64::MAX;
     for price in prices {
@@ -56,7 +56,8 @@ fn least_listed(prices: &[i64]) -> i64 {
     least
 }
 
-// The greatest benefit of each object, less the least of these; 0 where nobody lists it.
+// The greatest benefit of each object, less the least of these; 0 for an object that no person
+// lists.
 pub fn usual_prices(alloc: Global, scaled: &Scaled) -> Result<Vec<i64>, AllocError>
     ensures { IfOk result (λ v. length v.items ≡ length scaled.now.problem) }
 {
@@ -83,7 +84,7 @@ pub fn widened(alloc: Global, prices: &[i64]) -> Result<Vec<i128>, AllocError>
     Ok(wide)
 }
 
-// How far a price is above the least, cut and brought to a multiple of the step.
+// The amount by which a price is above the least, cut and rounded to a multiple of the step.
 fn cut_price(price: Price, least: Price, step: i64) -> i64
     requires { pos 0 <ℤ step }
 {
@@ -91,7 +92,7 @@ fn cut_price(price: Price, least: Price, step: i64) -> i64
     above.max(0).min(PRICE_CUT).rounded(step)
 }
 
-// Given prices, as far as a search can use them: it looks at differences alone.
+// Given prices, in the form that a search can use: only their differences matter.
 pub fn given_prices(alloc: Global, scaled: &Scaled, given: &Prices) -> Result<Vec<i64>, AllocError>
     requires { length given.now ≡ length scaled.now.problem }
     ensures { IfOk result (λ v. length v.items ≡ length scaled.now.problem) }

@@ -1,5 +1,5 @@
-// Which objects a person reaches, and the nearest of all that were reached. The distance of an
-// object is its cost, at which it is reached, and its key.
+// The objects that a person reaches, and the nearest of all reached ones. The distance of an object
+// is the sum of its cost, at which it is reached, and its key.
 ghost use Rattle.std.specs.Prelude.{◌≡◌, ◌≤◌, ◌<◌, length, IfSome};
 
 use super::number::Number;
@@ -8,10 +8,11 @@ use assign_core::{Benefit, Object};
 use std::alloc::AllocError;
 use std::collections::BinaryHeap;
 
-// How many objects make a block. Only blocks with an object that is nearest are looked at again.
+// The number of objects of a block. Only blocks with a nearest object are scanned again.
 const BLOCK: usize = 64;
 
-// The objects of a full row from one place to another: the costs afterwards, and the least distance.
+// The objects of a full row from one place to another: updates the costs, and returns the least
+// distance.
 fn reach_block<W: Number>(
     benefits: &[Benefit],
     base: W,
@@ -33,8 +34,8 @@ fn reach_block<W: Number>(
     least
 }
 
-// A full row: the costs afterwards, and the least distance of each block. With an object nearer than
-// `near` a search is at its end, and the blocks behind it are left as they are.
+// A full row: updates the costs and the least distance of each block. An object nearer than `near`
+// ends a search, and the later blocks stay as they are.
 pub fn reach_full<W: Number>(
     benefits: &[Benefit],
     base: W,
@@ -99,7 +100,7 @@ pub fn least_in<W: Number>(distances: &[W]) -> W {
     least
 }
 
-// The objects of a block at this distance, which begins at this place.
+// The objects of a block at this distance; the block begins at this place.
 fn gather_block<W: Number>(
     costs: &[W],
     keys: &[W],
@@ -115,7 +116,7 @@ fn gather_block<W: Number>(
     Ok(())
 }
 
-// The objects at this distance, which is the least, in the blocks that were looked at.
+// The objects at this least distance, in the scanned blocks.
 pub fn gather<W: Number>(
     costs: &[W],
     keys: &[W],
@@ -133,7 +134,7 @@ pub fn gather<W: Number>(
     Ok(())
 }
 
-// Objects from this one of a list on aren't found again.
+// Hides the objects of a list from this one on.
 pub fn hide<W: Number>(keys: &mut [W], places: &[usize], from: usize) {
     for place in places.iter().skip(from) {
         if *place < keys.len() {
@@ -142,7 +143,8 @@ pub fn hide<W: Number>(keys: &mut [W], places: &[usize], from: usize) {
     }
 }
 
-// Objects with their distances negated, the nearest first. One that got nearer stands there again.
+// Objects with their distances negated, the nearest first. An object that got nearer is in it
+// again.
 pub type Heap<W> = BinaryHeap<(W, usize)>;
 
 // One object of a short row.

@@ -1,11 +1,11 @@
-// What persons list. Persons and objects are told by their places, from 0.
+// The rows of persons. Persons and objects are given by their places, from 0.
 ghost use Rattle.std.specs.Prelude.{length, IfSome};
 ghost use Rattle.scaled_values.specs.Held.{HasForm};
 
 use assign_core::{Benefit, Object, Person};
 use scaled_values::{Row, Scaled};
 
-// What the person at this place lists, if there is one.
+// The row of the person at this place, if there is one.
 pub fn row_at(scaled: &Scaled, place: usize) -> Option<Row<'_>>
     ensures { IfSome result (HasForm (length scaled.now.problem)) }
 {
@@ -21,7 +21,7 @@ pub fn place_of(object: Object) -> usize {
     (object.0 as usize).saturating_sub(1)
 }
 
-// What a row gives for the object at this place.
+// The benefit of the object at this place, if the row lists it.
 pub fn benefit_at(row: Row<'_>, place: usize) -> Option<Benefit> {
     match row {
         Row::Full(benefits) => benefits.get(place).copied(),

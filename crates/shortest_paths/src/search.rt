@@ -1,5 +1,5 @@
-// The search for a shortest way from a person that owns nothing to an object that nobody owns
-// (Dijkstra's; Edmonds and Karp 1972, Tomizawa 1971).
+// The search for a shortest path from a person without an object to an unowned object (Dijkstra's;
+// Edmonds and Karp 1972, Tomizawa 1971).
 ghost use Rattle.std.specs.Prelude.{◌≡◌, length, IfOk};
 ghost use Rattle.scaled_values.specs.Held.{HasForm};
 
@@ -14,44 +14,44 @@ use scaled_values::{Row, Scaled};
 use std::alloc::{AllocError, Global};
 use std::collections::BinaryHeap;
 
-// A person that was scanned: its objects cost `base` less their benefits.
+// A scanned person: the costs of its objects are `base` less their benefits.
 #[derive(Clone, Copy)]
 pub struct Scanned<W> {
     pub person: usize,
     pub base: W,
 }
 
-// Costs and keys of the objects, whose sums are distances; who was scanned, and which objects were
-// passed or are to be.
+// Costs and keys of the objects, whose sums are distances; the scanned persons; and the objects
+// that were passed or are to be passed.
 #[derive(Drop)]
 pub struct Search<W: Number> {
     pub costs: Vec<W>,
     pub keys: Vec<W>,
     pub scanned: Vec<Scanned<W>>,
     pub passed: Vec<usize>,
-    // The distance of the last of these.
+    // The distance of the last of these objects.
     pub level: W,
-    // The least distance of each block of objects, of those that the last look at all objects saw.
+    // The least distance of each block of objects, from the last scan of all objects.
     pub blocks: Vec<W>,
     pub heap: Heap<W>,
-    // Whether persons list so few objects that a heap finds the nearest sooner than a scan.
+    // Whether persons list so few objects that a heap finds the nearest faster than a scan.
     pub by_heap: bool,
 }
 
-// How a search ends.
+// The end of a search.
 #[derive(Clone, Copy)]
 pub enum End {
-    // At this object, which nobody owns.
+    // It found this unowned object.
     Free(usize),
-    // With no object left.
+    // No object is left.
     Blocked,
-    // It went wrong.
+    // It failed.
     Lost,
-    // Of no one search, but of all: more persons were scanned than were to be.
+    // The end of all searches: more persons were scanned than planned.
     Long,
 }
 
-// An object isn't reached.
+// Resets an object that isn't reached.
 fn restore<W: Number>(market: &Market<W>, place: usize, costs: &mut [W], keys: &mut [W])
     requires { length keys.old ≡ length costs.old }
 {
@@ -82,7 +82,7 @@ fn restore_row<W: Number>(row: Row<'_>, market: &Market<W>, costs: &mut [W], key
     }
 }
 
-// The objects of these persons alone.
+// Resets only the objects of these persons.
 fn restore_scanned<W: Number>(
     scanned: &[Scanned<W>],
     scaled: &Scaled,
@@ -122,7 +122,8 @@ impl<W: Number> Search<W> {
         })
     }
 
-    // Nothing is reached. With a heap, what no person of the last search lists is as it was.
+    // Resets the search. With a heap, objects that no person of the last search lists stay as they
+    // are.
     fn clear(&mut self, scaled: &Scaled, market: &Market<W>)
         requires { length self.old.keys.items ≡ length self.old.costs.items }
         ensures costs { length self.new.costs.items ≡ length self.old.costs.items }
@@ -141,7 +142,7 @@ impl<W: Number> Search<W> {
         self.heap.clear();
     }
 
-    // By a heap: the nearest object is passed.
+    // With a heap: the nearest object is passed next.
     fn scan_by_heap(&mut self, row: Row<'_>, base: W) -> Result<(), AllocError>
         requires { length self.old.keys.items ≡ length self.old.costs.items }
         ensures costs { length self.new.costs.items ≡ length self.old.costs.items }
@@ -160,8 +161,8 @@ impl<W: Number> Search<W> {
         Ok(())
     }
 
-    // By looks at all objects: those that are nearest are to be passed, once none waits for it or they
-    // are as near as those that wait.
+    // With scans of all objects: the nearest ones are passed next, once none waits or they are as
+    // near as the waiting ones.
     fn scan_all(&mut self, row: Row<'_>, base: W) -> Result<(), AllocError>
         requires costs { HasForm (length self.old.costs.items) row }
         requires keys { length self.old.keys.items ≡ length self.old.costs.items }
@@ -170,7 +171,7 @@ impl<W: Number> Search<W> {
     {
         let from = self.passed.len();
         let waits = from >= self.scanned.len();
-        // Only an object that nobody owns can be nearer than those that wait.
+        // Only an unowned object can be nearer than the waiting ones.
         let near = if waits { self.level } else { W::LEAST };
         let keys = self.keys.as_slice();
         let costs = self.costs.as_mut_slice();
@@ -194,7 +195,7 @@ impl<W: Number> Search<W> {
         Ok(())
     }
 
-    // One person more is scanned.
+    // Scans one more person.
     fn scan(&mut self, scaled: &Scaled, one: Scanned<W>) -> Result<(), AllocError>
         requires costs { length self.old.costs.items ≡ length scaled.now.problem }
         requires keys { length self.old.keys.items ≡ length scaled.now.problem }
@@ -214,7 +215,7 @@ impl<W: Number> Search<W> {
         }
     }
 
-    // The owner of an object that was passed is scanned next.
+    // The owner of a passed object, which is scanned next.
     fn next(&self, scaled: &Scaled, market: &Market<W>, object: usize) -> Option<Scanned<W>> {
         let person = market.owner(object)?;
         let benefit = row_at(scaled, person).and_then(|row| benefit_at(row, object))?;
@@ -226,7 +227,7 @@ impl<W: Number> Search<W> {
     }
 
     // The search from a person. Objects at one distance are passed in the order in which they were
-    // reached, which leads to an unowned one far sooner than the order of their numbers.
+    // reached, which leads to an unowned object far sooner than the order of their numbers.
     pub fn run(
         &mut self,
         scaled: &Scaled,

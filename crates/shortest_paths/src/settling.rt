@@ -1,8 +1,9 @@
-// Few persons among many objects, from first prices. An unowned object may cost no more than the least
-// price that is paid, the base. From each one that costs more a search lowers its price until it is as
-// good to some person as that person's own object. Then the price of that object falls too, and so on,
-// until an object comes down to the base. It stays unowned, and each person on the path takes the
-// object from which it was reached. This is Dijkstra's search, seen from the objects.
+// Few persons among many objects, from first prices. The price of an unowned object may be at most
+// the least price of an owned one, the base. From each object above the base a search lowers its
+// price until it is as good to some person as that person's own object. Then the price of that
+// object falls too, and so on, until an object comes down to the base. It stays unowned, and each
+// person on the path takes the object from which it was reached. This is Dijkstra's search, seen
+// from the objects.
 ghost use Rattle.std.specs.Prelude.{◌≡◌, length};
 
 use super::listers::Listers;
@@ -15,7 +16,7 @@ use super::ties::{Ties, match_dear};
 use scaled_values::Scaled;
 use std::alloc::{AllocError, Global};
 
-// Nobody is reached at this distance.
+// No person is reached at this distance.
 const FAR: i64 = i64::MAX;
 
 // A reached object. Its price begins to fall once the price of the first object has fallen by
@@ -39,7 +40,7 @@ struct Settling {
     // Reached persons that aren't scanned yet, and scanned ones.
     waiting: Vec<usize>,
     scanned: Vec<usize>,
-    // How many more pairs may be looked at.
+    // The number of pairs that may still be looked at.
     looks: usize,
 }
 
@@ -88,7 +89,8 @@ impl Settling {
         self.distances.get(person).copied().unwrap_or(FAR)
     }
 
-    // A person may be reached from an object. `level` is the person's distance less its value.
+    // Reaches a person from an object, if this is nearer. `level` is the person's distance less its
+    // value.
     fn look(&mut self, person: usize, object: usize, level: i64) -> Result<(), AllocError> {
         let distance = self
             .values
@@ -143,7 +145,7 @@ impl Settling {
         Ok(())
     }
 
-    // Takes the nearest waiting person, if it is nearer than this.
+    // Takes the nearest waiting person, if it is nearer than `end`.
     fn nearest(&mut self, end: i64) -> Result<Option<usize>, AllocError> {
         let mut least = end;
         let mut place = usize::MAX;
@@ -162,7 +164,7 @@ impl Settling {
         Ok(None)
     }
 
-    // Marks everybody as not reached.
+    // Marks all persons as not reached.
     fn clear(&mut self) {
         forget(self.distances.as_mut_slice(), self.waiting.as_slice());
         forget(self.distances.as_mut_slice(), self.scanned.as_slice());
@@ -170,7 +172,8 @@ impl Settling {
         self.scanned.clear();
     }
 
-    // Searches from an object for the one that comes down to the base first. `None` if no look is left.
+    // Searches from an object for the object that comes down to the base first. `None` if no look
+    // is left.
     fn run(
         &mut self,
         scaled: &Scaled,
@@ -232,7 +235,8 @@ impl Settling {
         }
     }
 
-    // Brings an unowned object down to the base, or another one in its place. Whether it did.
+    // Brings an unowned object down to the base, or another one in its place. Returns whether it
+    // did.
     fn bring_down(
         &mut self,
         scaled: &Scaled,
@@ -240,7 +244,7 @@ impl Settling {
         object: usize,
         base: i64,
     ) -> Result<bool, AllocError> {
-        // An unowned object's price stands 1 lower.
+        // The price of an unowned object is stored less 1.
         let price = market.price(object).wrapping_add(1);
         market.set_price(object, price);
         let first = Reached {
@@ -258,14 +262,14 @@ impl Settling {
     }
 }
 
-// The least price that is paid, and the unowned objects that stood above it.
+// The base, and the unowned objects that were above it.
 #[derive(Drop)]
 pub struct Base {
     price: i64,
     dear: Vec<usize>,
 }
 
-// Those of these objects that are unowned at a price above the floor.
+// Those of these objects that are still unowned at a price above the floor.
 fn still_above(
     alloc: Global,
     market: &Market<i64>,
@@ -281,8 +285,8 @@ fn still_above(
     Ok(above)
 }
 
-// The base. Unowned objects come near it first: persons take dear ones along ties, the prices of others
-// fall to where somebody would pay them, and cheap ones rise to the base.
+// The base. First unowned objects come near it: persons take those above it along ties, prices of
+// others fall until some person would pay them, and low prices rise to the base.
 pub fn base_of(
     alloc: Global,
     scaled: &Scaled,
@@ -310,7 +314,7 @@ pub fn base_of(
     Ok(Base { price, dear })
 }
 
-// Brings the price of each unowned object down to the base. Whether the looks sufficed.
+// Brings the price of each unowned object down to the base. Returns whether the looks sufficed.
 pub fn settle(
     alloc: Global,
     scaled: &Scaled,

@@ -20,13 +20,13 @@ use scaled_values::{EPS_DIVISOR, Scaled};
 use std::alloc::{AllocError, Global};
 use std::sync::Arc;
 
-// Bids for each person before the searches, without slackness.
+// The bids of each person before the searches, without slackness.
 const BIDS_BEFORE: u16 = 4;
 
-// The most phases of an auction: slackness falls to a fifth from one to the next.
+// The most phases of an auction: each phase has a fifth of the slackness before it.
 const PHASES: usize = 24;
 
-// One person more gets an object, if it reaches one that nobody owns.
+// Gives one more person an object, if it reaches an unowned one.
 fn augment<W: Number>(
     scaled: &Scaled,
     market: &mut Market<W>,
@@ -50,8 +50,8 @@ fn augment<W: Number>(
     Ok(end)
 }
 
-// Each person that owns nothing gets an object, up to one that reaches none, or up to so many scanned
-// persons. How the search of that one ended.
+// Gives each person without an object one, up to a person that reaches none, or up to this many
+// scanned persons. Returns how the last search ended.
 fn augment_all<W: Number, O: Observer>(
     scaled: &Scaled,
     market: &mut Market<W>,
@@ -79,8 +79,8 @@ fn augment_all<W: Number, O: Observer>(
     Ok(None)
 }
 
-// Prices of an auction in phases of falling slackness, all multiples of n + 1. Nobody owns anything
-// afterwards.
+// Prices of an auction in phases of falling slackness, all multiples of n + 1. No object is owned
+// after it.
 fn auction<W: Number, O: Observer>(
     scaled: &Scaled,
     market: &mut Market<W>,
@@ -108,14 +108,14 @@ fn auction<W: Number, O: Observer>(
     market.release_all();
 }
 
-// What searches left: the last of them, and how it ended where it found no object.
+// The last search, and its end if it found no object.
 #[derive(Drop)]
 pub struct Searched<W: Number> {
     pub search: Search<W>,
     pub end: Option<End>,
 }
 
-// Bids, and then searches for those who are left, as far as the plan goes.
+// Bids, and then searches for the persons left, as far as the plan goes.
 pub fn bid_and_search<W: Number, O: Observer>(
     alloc: Global,
     scaled: &Scaled,
@@ -135,7 +135,7 @@ pub fn bid_and_search<W: Number, O: Observer>(
     Ok(Searched { search, end })
 }
 
-// What the searches found, if they found something.
+// The answer of the searches, if they found one.
 fn answer_of<W: Number>(
     alloc: Global,
     scaled: &Scaled,
@@ -151,7 +151,7 @@ fn answer_of<W: Number>(
     }
 }
 
-// Paths from the prices of an auction that begins at these.
+// Paths from the prices of an auction that begins at these prices.
 fn paths_after_auction<W: Number, O: Observer>(
     alloc: Global,
     scaled: &Scaled,
@@ -168,8 +168,8 @@ fn paths_after_auction<W: Number, O: Observer>(
     answer_of(alloc, scaled, &market, &searched)
 }
 
-// Paths from these prices, and where much is left to search for or the searches turn out long once
-// more after an auction.
+// Paths from these prices; and once more after an auction, if many persons are left or the searches
+// turn out long.
 fn paths_from<W: Number, O: Observer>(
     alloc: Global,
     scaled: &Scaled,
@@ -190,7 +190,7 @@ fn paths_from<W: Number, O: Observer>(
     answer_of(alloc, scaled, &market, &searched)
 }
 
-// What is found from the usual prices in numbers of 128 bits, while an observer is told of it.
+// The result from the usual prices in numbers of 128 bits, with an observer.
 fn find_in_wide<O: Observer>(
     alloc: Global,
     scaled: &Scaled,
@@ -203,8 +203,8 @@ fn find_in_wide<O: Observer>(
     paths_from(alloc, scaled, prices, plan_of(scaled), observer)
 }
 
-// What is found from the usual prices, while an observer is told of it. Where distances leave 64 bits
-// the first search finds no proof.
+// The result from the usual prices, with an observer. If distances leave 64 bits, the first search
+// finds no proof.
 fn find<O: Observer>(
     alloc: Global,
     scaled: &Scaled,
@@ -219,8 +219,8 @@ fn find<O: Observer>(
     }
 }
 
-// Paths from first prices, if these tell something of the problem: where they do, most persons are
-// matched with best objects, and the searches for the others are short.
+// Paths from first prices, if these fit the problem: most persons are then matched with best
+// objects, and the searches for the others are short.
 fn started_paths<O: Observer>(
     alloc: Global,
     scaled: &Scaled,
@@ -250,8 +250,8 @@ fn started_paths<O: Observer>(
     answer_of(alloc, scaled, &market, &searched)
 }
 
-// What is found from these prices, and where they tell nothing from the usual ones, while an observer
-// is told of it.
+// The result from these prices, or from the usual ones if these don't fit the problem, with an
+// observer.
 fn find_from<O: Observer>(
     alloc: Global,
     scaled: &Scaled,
@@ -268,31 +268,31 @@ fn find_from<O: Observer>(
     }
 }
 
-/// Looks for a proof by shortest augmenting paths: a best assignment with prices that prove it, or a
-/// Hall set. `None` where what was found is no proof, which is not known to happen.
+/// Searches for a proof by shortest augmenting paths: an optimal assignment with prices that prove
+/// it, or a Hall set. `None` if the result is no proof, which is not known to happen.
 ///
-/// The search is made in 64 bits, and once more in 128 where the checkers refuse what it found: with
-/// costs near `GREATEST_COST` distances may go beyond 2^60.
+/// The search runs in 64 bits, and again in 128 bits if the checkers refuse its result: with costs
+/// near `GREATEST_COST` distances may exceed 2^60.
 ///
-/// The prices of a best assignment are multiples of `n + 1` under which each person has slackness 0.
-/// The time is at most that of four times `n` searches over all listed pairs and of two auctions'
-/// bids, and mostly far less. None of this is proved.
+/// The prices of an optimal assignment are multiples of `n + 1` at which each person has slackness
+/// 0. The time is at most that of four times `n` searches over all listed pairs and of two
+/// auctions' bids, and mostly far less. None of this is proved.
 ///
 /// # Errors
-/// Only where memory is refused.
+/// `AllocError` if memory is refused.
 pub fn try_paths(alloc: Global, scaled: &Scaled) -> Result<Option<Outcome>, AllocError>
     ensures { IfOk result (λ found. IfSome found (IsProof scaled.now)) }
 {
     find(alloc, scaled, &Unobserved)
 }
 
-/// Looks for a proof as `try_paths` does, beginning at these prices, one for each object. Prices of
-/// a neighbour of the problem save most of the work. They may be any: their differences are cut to
-/// what fits and rounded to multiples of `n + 1`, and prices at which few persons can be matched, or
-/// the searches for the others turn out long, are left for the usual ones.
+/// Searches for a proof as `try_paths` does, from these first prices, one for each object. Prices
+/// of a similar problem save most of the work. Any prices are allowed: their differences are cut to
+/// fit and rounded to multiples of `n + 1`. If few persons can be matched at them, or the searches
+/// for the others turn out long, the usual prices are used instead.
 ///
 /// # Errors
-/// Only where memory is refused.
+/// `AllocError` if memory is refused.
 pub fn try_paths_from(
     alloc: Global,
     scaled: &Scaled,
@@ -304,7 +304,7 @@ pub fn try_paths_from(
     find_from(alloc, scaled, prices, &Unobserved)
 }
 
-// What was found, and where nothing was found what rounds come to.
+// The result, or the outcome of rounds if there is none.
 fn settled(
     alloc: Global,
     scaled: Arc<Scaled>,
@@ -318,18 +318,18 @@ fn settled(
         Some(outcome) => Ok(outcome),
         None => match solve_rounds_alone(alloc, scaled) {
             Ok(outcome) => Ok(outcome),
-            // The one fault of rounds is that memory was refused.
+            // Rounds have only one fault: memory was refused.
             Err(_) => Err(AllocError),
         },
     }
 }
 
-/// Solves by shortest augmenting paths, and where these find no proof by rounds of offers in the
-/// calling thread: a best assignment with prices that prove it where there is an assignment, and a
-/// Hall set where there is none.
+/// Solves by shortest augmenting paths, and by rounds of offers in the calling thread if these find
+/// no proof: an optimal assignment with prices that prove it if an assignment exists, and a Hall
+/// set otherwise.
 ///
 /// # Errors
-/// Only where memory is refused.
+/// `AllocError` if memory is refused.
 ///
 /// # Example
 /// The body of `calling::least_cost`:
@@ -348,11 +348,11 @@ pub fn solve_paths(alloc: Global, scaled: Arc<Scaled>) -> Result<Outcome, AllocE
     solve_paths_watched(alloc, scaled, &Unobserved)
 }
 
-/// Does what `solve_paths` does, and tells an observer how many persons have an object. No clause
-/// speaks of what it is told. Rounds, where they are wanted, tell it nothing.
+/// Does what `solve_paths` does, and calls an observer with the number of persons who have an
+/// object. No clause says what the observer hears. Rounds, if they are needed, don't call it.
 ///
 /// # Errors
-/// Only where memory is refused.
+/// `AllocError` if memory is refused.
 pub fn solve_paths_watched<O: Observer>(
     alloc: Global,
     scaled: Arc<Scaled>,
@@ -365,11 +365,11 @@ pub fn solve_paths_watched<O: Observer>(
     settled(alloc, scaled, found)
 }
 
-/// Solves as `solve_paths` does, beginning at these prices, one for each object; rounds, where they
-/// are wanted, begin at prices of 0.
+/// Solves as `solve_paths` does, from these first prices, one for each object. Rounds, if they are
+/// needed, begin at prices of 0.
 ///
 /// # Errors
-/// Only where memory is refused.
+/// `AllocError` if memory is refused.
 pub fn solve_paths_from(
     alloc: Global,
     scaled: Arc<Scaled>,
@@ -382,11 +382,10 @@ pub fn solve_paths_from(
     solve_paths_from_watched(alloc, scaled, prices, &Unobserved)
 }
 
-/// Does what `solve_paths_from` does, and tells an observer how many persons have an object, as
-/// `solve_paths_watched` does.
+/// Does what `solve_paths_from` does, and calls an observer as `solve_paths_watched` does.
 ///
 /// # Errors
-/// Only where memory is refused.
+/// `AllocError` if memory is refused.
 pub fn solve_paths_from_watched<O: Observer>(
     alloc: Global,
     scaled: Arc<Scaled>,

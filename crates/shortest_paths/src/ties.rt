@@ -1,6 +1,6 @@
-// Ties: near best prices many objects are a person's best. Persons are matched with them from lists
-// that are made by one look at each row, by augmenting paths that look at no row (Kuhn, The Hungarian
-// method for the assignment problem, 1955).
+// Ties: near optimal prices many objects are a person's best. One look at each row lists them, and
+// augmenting paths that need no row match the persons with objects of these lists (Kuhn, The
+// Hungarian method for the assignment problem, 1955).
 ghost use Rattle.std.specs.Prelude.{◌≡◌, length};
 
 use super::bids::greatest_value;
@@ -10,24 +10,24 @@ use assign_core::{Benefit, Object};
 use scaled_values::{Row, Scaled};
 use std::alloc::{AllocError, Global};
 
-// So many best objects of a person are kept, at most.
+// The most best objects that are kept for a person.
 const MOST_KEPT: usize = 16;
 
-// How many objects of a full row are looked at together.
+// The number of objects of a full row that are compared at once.
 const BLOCK: usize = 32;
 
-// Best objects of the persons, those of one person after those of another.
+// Best objects of the persons, one person after the other.
 #[derive(Drop)]
 pub struct Ties {
     objects: Vec<usize>,
-    // How long the list was before each person, and at the end.
+    // The length of the list before each person, and at the end.
     bounds: Vec<usize>,
     // The value of the best objects of each person.
     pub values: Vec<i64>,
 }
 
 impl Ties {
-    // Of nobody yet.
+    // Ties of no persons yet.
     fn new(alloc: Global, n: usize) -> Result<Ties, AllocError> {
         Ok(Ties {
             objects: Vec::new(alloc),
@@ -40,7 +40,7 @@ impl Ties {
         self.bounds.get(person).copied().unwrap_or(0)
     }
 
-    // With those of the next person.
+    // Adds the best objects of the next person.
     fn look(&mut self, scaled: &Scaled, prices: &[i64], person: usize) -> Result<(), AllocError> {
         let value = keep(scaled, prices, person, &mut self.objects)?;
         self.values.push(value)?;
@@ -49,7 +49,7 @@ impl Ties {
     }
 }
 
-// The objects of a block, which begins at this place, that have this value.
+// Keeps the objects with this value in a block that begins at this place.
 fn keep_block(
     benefits: &[Benefit],
     prices: &[i64],
@@ -65,7 +65,7 @@ fn keep_block(
     Ok(())
 }
 
-// The best objects of a person, whose list begins here, where the best value so far is this one.
+// The best objects of a person: where its list begins, and the best value so far.
 #[derive(Clone, Copy)]
 struct Best {
     start: usize,
@@ -73,7 +73,7 @@ struct Best {
 }
 
 impl Best {
-    // With a part of a full row, which begins at this place.
+    // Adds a part of a full row that begins at this place.
     fn with_full(
         self,
         benefits: &[Benefit],
@@ -97,7 +97,7 @@ impl Best {
         Ok(best)
     }
 
-    // With one object of a row of pairs.
+    // Adds one object of a row of pairs.
     fn with_pair(
         self,
         place: usize,
@@ -133,8 +133,8 @@ impl Best {
     }
 }
 
-// Keeps best objects of the person at this place, and answers their value. A full row is looked at
-// from this place on, so that of persons to whom many objects are alike not all keep the same.
+// Keeps best objects of the person at this place, and returns their value. It scans a full row from
+// this place on, so that persons with many equally good objects don't all keep the same ones.
 fn keep(
     scaled: &Scaled,
     prices: &[i64],
@@ -161,8 +161,9 @@ fn keep(
     Ok(best.value)
 }
 
-// A search along ties: the person from whom each object was reached, and the objects that were reached
-// in their order. What a search reached in vain stays reached, since no later one comes on from there.
+// A search along ties: the person from which each object was reached, and the reached objects in
+// their order. An object reached without success stays reached, since no later search gets further
+// from there.
 // It ends at an unowned object whose price stands above the floor.
 #[derive(Drop)]
 struct Reach {
@@ -191,7 +192,7 @@ impl Reach {
         }
     }
 
-    // Reaches the best objects of a person, up to an end.
+    // Reaches the best objects of a person, up to an end of the search.
     fn reach(
         &mut self,
         ties: &Ties,
@@ -211,7 +212,7 @@ impl Reach {
         Ok(None)
     }
 
-    // The search from a person: an end, if one is reached.
+    // The search from a person: an end, if it reaches one.
     fn run(
         &mut self,
         ties: &Ties,
@@ -234,7 +235,7 @@ impl Reach {
         Ok(None)
     }
 
-    // Gives each person on the way back from an object the one that was reached from it.
+    // Gives each person on the way back from an object the object that was reached from it.
     fn walk_back(&self, scaled: &Scaled, market: &mut Market<i64>, end: usize)
         requires { length market.old.prices.items ≡ length scaled.now.problem }
         ensures { length market.new.prices.items ≡ length scaled.now.problem }
@@ -253,7 +254,7 @@ impl Reach {
         }
     }
 
-    // Nothing of the last search is reached any more.
+    // Forgets what the last search reached.
     fn forget(&mut self) {
         for object in &self.objects {
             if *object < self.from.len() {
@@ -263,8 +264,8 @@ impl Reach {
     }
 }
 
-// Matches persons with best objects, where nobody owns anything yet, and answers these; `None` once more
-// persons than so many can't be matched: no later person changes that for them.
+// Matches persons with best objects, starting without owned objects, and returns the best objects.
+// `None` if more persons than `most_unserved` can't be matched: no later person changes this.
 pub fn match_ties(
     alloc: Global,
     scaled: &Scaled,
@@ -294,8 +295,8 @@ pub fn match_ties(
     Ok(Some(ties))
 }
 
-// A person whose object costs no more than the floor allows leaves it, if ties lead to a dear unowned
-// object.
+// A person whose object's price is at most the floor leaves it, if ties lead to an unowned object
+// above the floor.
 fn leave_for_dear(
     scaled: &Scaled,
     market: &mut Market<i64>,
@@ -320,7 +321,7 @@ fn leave_for_dear(
     Ok(())
 }
 
-// Moves persons along ties from objects at the floor to dear unowned ones.
+// Moves persons along ties from objects at the floor to unowned ones above it.
 pub fn match_dear(
     alloc: Global,
     scaled: &Scaled,
