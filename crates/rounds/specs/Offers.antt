@@ -7,7 +7,8 @@ use Rattle.bidder.specs.declared.offers.Offer.{Offer}
 use Rattle.bidder.specs.declared.offers.Offer.TheVariants as made
 use Rattle.bidder.specs.Offers.{IsAsk, offer_of}
 
--- what each of these persons offers, in their order, all from one table; rounds keep no versions, so each is 0
+-- the offers of these persons, in their order, all from one table; rounds keep no versions, so each
+-- version is 0
 abbrev pub offers_of : ScaledProblem → List ℤ → Ask → List ℕ → List Offer
 offers_of s prices ask persons = map (offer_of s prices 0 ask) persons
 

@@ -1,4 +1,4 @@
--- What an outcome says.
+-- The meaning of an outcome.
 use Rattle.std.specs.Prelude.{◌≡◌, ◌↔◌, ℕ, ℤ, List, Option, Some, length}
 use Rattle.assign_core.specs.Numbered.{IsNumber, numbered}
 use Rattle.assign_core.specs.Matching.{owner_of}
@@ -14,7 +14,8 @@ pub record IsOwned (owners : List (Option ℕ)) (n : ℕ) (xs : List ℕ) : Type
   pub long : length xs ≡ n
   pub owned : (i j : ℕ) → IsNumber n i → (numbered xs i 0 ≡ j) ↔ (owner_of owners j ≡ Some i)
 
--- the outcome of a run that ends so: the objects owned with the prices, or what the halted person reaches
+-- the outcome of a run with this end: the objects owned with the prices, or the Hall set of the
+-- persons that the halted person reaches
 abbrev pub IsOutcome : ScaledProblem → End → Outcome → Type 0
 IsOutcome s (Finished b) (Best c) = IsOwned b.owners (length s.problem) c.assignment × (c.prices ≡ b.prices)
 IsOutcome s (Halted person b) (Hall h) = IsRefuted s.problem b.owners person h
@@ -29,6 +30,6 @@ IsOfRounds s prices outcome = (m : ℕ) × (end : End) × (run s m (opening s pr
 abbrev pub IsProof : ScaledProblem → Outcome → Type 0
 IsProof s outcome = core.IsProof s.sense s.problem outcome
 
--- a best assignment where there is an assignment, and a Hall set where there is none
+-- an optimal assignment if an assignment exists, and a Hall set otherwise
 abbrev pub IsDecided : ScaledProblem → Outcome → Type 0
 IsDecided s outcome = core.IsDecided s.problem outcome

@@ -1,4 +1,5 @@
-// Persons whose rows are the same have one offer, but for the name on it: in a round one of them bids.
+// Persons with the same row have the same offer, except for the name: in a round only one of them
+// bids.
 ghost use Rattle.std.specs.Prelude.{◌≡◌, ℕ, ◌<◌, ◌≤◌, length, All, IfOk, OnOk, IsTrue, slice_index_or};
 ghost use Rattle.assign_core.specs.Numbered.{IsNumber, numbered};
 ghost use Rattle.assign_core.specs.Rows.{IsSize};
@@ -14,10 +15,11 @@ use scaled_values::{Row, Scaled};
 use std::alloc::{AllocError, Global};
 use std::hash::{FoldHasher, Hasher};
 
-// Rows that differ mostly differ in so many entries at their start.
+// The number of entries at the start in which different rows mostly differ.
 const START: usize = 16;
 
-// The hash of so many benefits at a row's start. It finds who may be alike, and a comparison decides.
+// The hash of at most `most` benefits at a row's start. It finds candidates for equal rows, and a
+// comparison decides.
 fn hash_of_benefits(benefits: &[Benefit], most: usize) -> u64 {
     let mut hasher = FoldHasher::default();
     for benefit in benefits.iter().take(most) {
@@ -26,7 +28,7 @@ fn hash_of_benefits(benefits: &[Benefit], most: usize) -> u64 {
     hasher.finish()
 }
 
-// The hash of so many objects at a row's start, with their benefits.
+// The hash of at most `most` objects at a row's start, with their benefits.
 fn hash_of_pairs(pairs: &[(Object, Benefit)], most: usize) -> u64 {
     let mut hasher = FoldHasher::default();
     for (object, benefit) in pairs.iter().take(most) {
@@ -66,7 +68,7 @@ fn has_neighbour(hashed: &[(u64, Person)], place: usize) -> bool
         || place + 1 < hashed.len() && hashed[place + 1].0 == hash
 }
 
-// Those of a sorted list whose hash another one has, each with the hash of its whole row.
+// The persons of a sorted list that share a hash, each with the hash of its whole row.
 fn rehashed_persons(
     alloc: Global,
     scaled: &Scaled,
@@ -86,7 +88,7 @@ fn rehashed_persons(
     Ok(again)
 }
 
-// For each person its own number.
+// Each person's own number.
 fn all_apart(alloc: Global, scaled: &Scaled) -> Result<Vec<Person>, AllocError>
     ensures { IfOk result (λ alike. HasAlike scaled.now alike.items) }
 {
@@ -125,7 +127,8 @@ fn are_alike(scaled: &Scaled, first: Person, second: Person) -> bool
     }
 }
 
-// Each person is compared with that of the person before it, where both have one hash. Whether some are alike.
+// Compares each person's row with that of the person before it, if both have the same hash. Returns
+// whether some are equal.
 fn find_alike(scaled: &Scaled, hashed: &[(u64, Person)], alike: &mut [Person]) -> bool
     requires numbers { All (λ e. IsNumber (length scaled.now.problem) e.1) hashed.now }
     requires alike { HasAlike scaled.now alike.old }
@@ -154,7 +157,8 @@ fn named(offer: Offer, person: Person) -> Offer
     }
 }
 
-// The place of a person among the first ones of a round, which it joins where none of them is of its kind.
+// The place of a person's kind among the first persons of a round. A person of a new kind joins
+// them.
 fn place_of(
     alike: &[Person],
     marks: &mut [u16],
@@ -182,7 +186,8 @@ fn place_of(
     Ok(place)
 }
 
-// The first person of each kind among those of a round, and for each of these the place of its first one.
+// The first person of each kind among the persons of a round, and for each person the place of its
+// kind.
 fn gather(
     alike: &[Person],
     persons: &[Person],
@@ -205,7 +210,7 @@ fn gather(
     Ok(())
 }
 
-// Each person's offer is that at its place, under its own name.
+// Gives each person the offer at its place, under its own name.
 fn hand_out(
     made: &[Offer],
     places: &[u16],
@@ -226,17 +231,17 @@ fn hand_out(
     Ok(())
 }
 
-/// Which persons of a problem have the same row, and what a round needs to let one of them bid for
-/// all. Where no two are known to be alike it takes no memory, and else 4 bytes a person and lists
-/// that grow with the rounds in which some are alike.
+/// The persons of a problem that have the same row, and what a round needs so that one of them bids
+/// for all. If no two are known to be alike it takes no memory; otherwise it takes 4 bytes a
+/// person, and lists that grow with the rounds in which some are alike.
 #[derive(Drop)]
 pub struct Kinds {
-    // Some two persons are known to be alike. If not, the lists are empty.
+    // Whether some two persons are known to be alike. If not, the lists are empty.
     some: bool,
-    // For each person one whose row is the same.
+    // For each person a person with the same row.
     alike: Vec<Person>,
-    // Where the first person of a kind may stand in the list of them, by the person in `alike`: whoever reads it looks
-    // there, so it is never wiped.
+    // By the person in `alike`, the place where the first person of this kind may be. A reader
+    // checks this place, so the list is never cleared.
     marks: Vec<u16>,
     firsts: Vec<Person>,
     places: Vec<u16>,
@@ -244,7 +249,7 @@ pub struct Kinds {
 }
 
 impl Kinds {
-    // No two persons are known to be alike.
+    // Kinds in which no two persons are known to be alike.
     fn none(alloc: Global) -> Kinds
         ensures { (s : ScaledProblem) → AreKinds s result }
     {
@@ -277,8 +282,8 @@ impl Kinds {
         })
     }
 
-    /// The kinds of a problem's persons, in at most one pass over what they list and one comparison
-    /// a person.
+    /// The kinds of a problem's persons, in at most one pass over their rows and one comparison a
+    /// person.
     pub fn find(alloc: Global, scaled: &Scaled) -> Result<Kinds, AllocError>
         ensures { IfOk result (AreKinds scaled.now) }
     {
@@ -292,7 +297,7 @@ impl Kinds {
         Kinds::among(alloc, scaled, again.as_slice())
     }
 
-    /// The offers of the persons, of whom the first of each kind makes its own.
+    /// The offers of the persons. Only the first person of each kind makes its own offer.
     pub fn make<O: Offering>(
         &mut self,
         offering: &mut O,

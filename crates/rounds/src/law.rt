@@ -1,4 +1,4 @@
-// What holds of plain rounds.
+// Laws of plain rounds.
 ghost use Rattle.std.specs.Prelude.{◌≡◌, ◌≤◌, ℕ, ℤ, List, length};
 ghost use Rattle.assign_core.specs.declared.outcome.Outcome.{Outcome};
 ghost use Rattle.scaled_values.specs.Scaled.{ScaledProblem};
@@ -13,24 +13,23 @@ ghost use Rattle.rounds.specs.Outcomes.{IsOfRounds};
 ghost use Rattle.rounds.specs.Plain.{Plain, End, Ends, run};
 ghost use Rattle.rounds.specs.Rounds.{IsAtRest};
 
-/// Persons who list the same objects with the same benefits have one offer under a table of prices,
-/// but for the name on it.
+/// Persons who list the same objects with the same benefits have the same offer under a table of
+/// prices, except for the name.
 pub fn like_persons_share_an_offer()
     ensures { (s : ScaledProblem) (prices : List ℤ) (version : ℕ) (ask : Ask) (i k : ℕ)
         → benefits_at s k ≡ benefits_at s i
         → named i (offer_of s prices version ask k) ≡ offer_of s prices version ask i }
 {}
 
-/// A book with a worker for each person that has just been opened is at rest, and the next phase of a
-/// book at rest begins at rest.
+/// A newly opened book with a worker for each person is at rest, and the next phase of a book at
+/// rest begins at rest.
 pub fn books_begin_at_rest()
     ensures opened { (s : ScaledProblem) (prices : List ℤ) → IsFree (opened s prices (length s.problem))
         → IsAtRest (opened s prices (length s.problem)) }
     ensures phase { (b : BookData) → IsAtRest b → IsFree (next_if_over b) → IsAtRest (next_if_over b) }
 {}
 
-/// Plain rounds end once: two ends of a run from the same start are one, and a run that has ended
-/// stays as it is.
+/// A run of plain rounds has only one end, and a run that has ended stays as it is.
 pub fn rounds_end_once()
     ensures once { (s : ScaledProblem) (start : Plain) (m k : ℕ) (first second : End)
         → run s m start ≡ Ends first → run s k start ≡ Ends second → first ≡ second }
@@ -38,7 +37,7 @@ pub fn rounds_end_once()
         → run s m start ≡ Ends end → run s k start ≡ Ends end }
 {}
 
-/// Rounds of a problem that begin at the same prices have one outcome. So the outcome doesn't
+/// Rounds of a problem that begin at the same prices have only one outcome. So the outcome doesn't
 /// depend on the number of threads.
 pub fn rounds_have_one_outcome()
     ensures { (s : ScaledProblem) (prices : List ℤ) (first second : Outcome)

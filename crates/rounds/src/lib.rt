@@ -1,4 +1,4 @@
-//! Rounds of offers: the solver whose answer is the same for any number of threads.
+//! Rounds of offers: a solver with the same answer for any number of threads.
 #![tactic(auto)]
 
 mod kinds;

@@ -11,20 +11,20 @@ use scaled_values::Scaled;
 use std::alloc::AllocError;
 use std::thread::Threads;
 
-/// A round is cut into pieces of so many listed pairs or more, each for a thread of its own, where
-/// it has at least four times as many; a smaller one is computed by the calling thread. Pieces have
-/// equally many persons, so one whose persons list less than others do has fewer pairs, and the last
-/// one may be short. A piece is worth a millisecond or more: where other work runs, a round waits
-/// for the thread that starts last.
+/// The least number of listed pairs of a piece. A round with at least four times as many is cut
+/// into pieces, each for a thread of its own; the calling thread computes a smaller one. Pieces
+/// have equally many persons, so a piece whose persons list less has fewer pairs, and the last
+/// piece may be short. A piece takes a millisecond or more: next to other work a round waits for
+/// the thread that starts last.
 pub const LEAST_PAIRS: usize = 1 << 21;
 
-// What stands in a buffer before it is filled.
+// The content of a buffer before it is filled.
 const NOTHING: Offer = Offer::Below(BelowFloor {
     person: Person(0),
     phase: 0,
 });
 
-// The offers of the persons from a place on.
+// Fills in the offers of the persons from a place on.
 fn fill_from(
     scaled: &Scaled,
     prices: &Prices,
@@ -44,7 +44,7 @@ fn fill_from(
     }
 }
 
-// The offers of the persons, made by several threads, each of which has pieces of so many persons.
+// The offers of the persons, made by several threads in pieces of this many persons.
 fn fill_pieces(
     rt: &(impl Threads + Sync),
     piece: usize,
@@ -83,7 +83,7 @@ fn fill_here(scaled: &Scaled, prices: &Prices, ask: Ask, persons: &[Person], off
     fill_from(scaled, prices, ask, persons, 0, offers);
 }
 
-// How many pairs the persons list, or the greatest `usize` if they are more.
+// The number of pairs that the persons list, at most the greatest `usize`.
 fn pairs_of(scaled: &Scaled, persons: &[Person]) -> usize
     requires { All (IsNumber (length scaled.now.problem)) persons.now }
 {
@@ -94,8 +94,8 @@ fn pairs_of(scaled: &Scaled, persons: &[Person]) -> usize
     pairs
 }
 
-// How many persons a piece has: as many as list `least` pairs or more, if all list as many, and all
-// persons where these list less than four times as many.
+// The number of persons of a piece: as many as list `least` pairs or more, if all list equally
+// many; all persons if these list less than four times as many.
 fn piece_of(persons: usize, pairs: usize, least: usize) -> usize
     ensures { 0 < result }
 {
@@ -106,9 +106,9 @@ fn piece_of(persons: usize, pairs: usize, least: usize) -> usize
     persons.div_ceil(pieces.max(1)).max(1)
 }
 
-/// The offers of the persons from one table, in their order, into a buffer that is reused. Threads
-/// are started where the persons list at least four times `least` pairs, one for a piece of some
-/// `least` pairs or more. Rounds keep no versions: the version of each bid is 0.
+/// Writes the offers of the persons from one table, in their order, into a buffer that is reused.
+/// It starts threads if the persons list at least four times `least` pairs, one for a piece of
+/// about `least` pairs or more. Rounds keep no versions: the version of each bid is 0.
 pub fn make_offers(
     rt: &(impl Threads + Sync),
     least: usize,
@@ -139,16 +139,18 @@ pub fn make_offers(
     Ok(())
 }
 
-/// Who makes the offers of a round.
+/// Makes the offers of a round.
 pub trait Offering {
-    /// What lets it make them.
+    /// What it needs to make them.
     ghost ready: { Type 0 };
 
-    /// A round begins in which so many persons wait. Of those who are known to have the same row one
-    /// makes the offer of all, so the offers of fewer may be asked for.
+    /// Called when a round begins, with the number of persons who wait. One of the persons known to
+    /// have the same row makes the offer of all, so `make` may get fewer persons. Does nothing by
+    /// default.
     fn begin(&mut self, _ask: Ask, _waiting: usize) {}
 
-    /// The offers of the persons from one table, in their order, into a buffer that is reused.
+    /// Writes the offers of the persons from one table, in their order, into a buffer that is
+    /// reused.
     fn make(
         &mut self,
         scaled: &Scaled,
@@ -184,7 +186,7 @@ impl Offering for Alone {
     }
 }
 
-/// Threads make the offers, each those of a piece of some `least` listed pairs or more.
+/// Threads make the offers, each those of a piece of about `least` listed pairs or more.
 #[derive(Clone, Copy)]
 pub struct InPieces<'a, R> {
     pub rt: &'a R,

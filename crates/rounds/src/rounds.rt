@@ -29,17 +29,17 @@ use std::marker::Model;
 use std::sync::Arc;
 use std::thread::Threads;
 
-/// What a round came to.
+/// The result of a round.
 #[derive(Clone, Copy)]
 pub enum Round {
-    /// Nobody waited.
+    /// No person waited.
     Over,
-    /// This person finds nothing worth the floor.
+    /// No object has for this person a value of at least the floor.
     Halted(Person),
     More,
 }
 
-// The front of the queue is claimed, if somebody waits.
+// Claims the front of the queue, if somebody waits.
 fn claim_next(book: &mut Book, worker: u16) -> Option<Person>
     requires worker { IsNumber (length book.old.claims) worker }
     requires none { numbered book.old.claims worker None ≡ None }
@@ -54,7 +54,7 @@ fn claim_next(book: &mut Book, worker: u16) -> Option<Person>
     }
 }
 
-// Workers 1, 2, .. claim all who wait.
+// Lets workers 1, 2, .. claim all who wait.
 fn claim_all(book: &mut Book, persons: &mut Vec<Person>) -> Result<(), AllocError>
     requires { IsAtRest book.old }
     ensures claimed { OnOk result (IsClaimed book.old persons.new.items book.new) }
@@ -72,7 +72,7 @@ fn claim_all(book: &mut Book, persons: &mut Vec<Person>) -> Result<(), AllocErro
     Ok(())
 }
 
-// A claimed person's bid of this phase is submitted.
+// Submits a claimed person's bid of this phase.
 fn submit_bid(book: &mut Book, worker: u16, bid: Bid) -> Result<(), AllocError>
     requires worker { IsNumber (length book.old.claims) worker }
     requires held { Holds book.old worker bid.person }
@@ -91,7 +91,7 @@ fn submit_bid(book: &mut Book, worker: u16, bid: Bid) -> Result<(), AllocError>
     }
 }
 
-// The next offer.
+// The offer at a place.
 fn next_offer(offers: &[Offer], place: usize) -> Offer
     requires { place < length offers.now }
     ensures { (d : _) → result ≡ slice_index_or offers.now place d }
@@ -99,7 +99,7 @@ fn next_offer(offers: &[Offer], place: usize) -> Offer
     offers[place]
 }
 
-// Offers one by one, up to a person that finds nothing worth the floor.
+// Submits offers one by one, up to the first that is below the floor. Returns its person.
 fn submit_all(book: &mut Book, offers: &[Offer]) -> Result<Option<Person>, AllocError>
     requires { (persons : List ℕ) × HaveOffered book.old persons offers.now }
     ensures submitted { IfOk result (λ below. AreSubmitted book.old offers.now below book.new) }
@@ -116,8 +116,8 @@ fn submit_all(book: &mut Book, offers: &[Offer]) -> Result<Option<Person>, Alloc
     Ok(None)
 }
 
-// One round: all who wait make their offers from one table, and these are submitted one by one.
-// A person that finds nothing worth the floor ends it. Of those who are alike one makes the offer of all.
+// One round: all who wait make their offers from one table, and these are submitted one by one, up
+// to the first that is below the floor. One of the persons who are alike makes the offer of all.
 fn run_shared_round<O: Offering>(
     offering: &mut O,
     kinds: &mut Kinds,
@@ -158,10 +158,10 @@ fn run_shared_round<O: Offering>(
     }
 }
 
-/// A problem's rounds, one by one: who bids, and what they offer. Persons with the same row share
-/// the scan of it.
+/// The rounds of a problem, one by one: the persons who bid, and their offers. Persons with the
+/// same row share a scan of it.
 ///
-/// Seen as the problem, and who bid in the last round and what they offered.
+/// A contract sees the problem, the persons who bid in the last round, and their offers.
 #[derive(Drop)]
 pub struct Rounds {
     scaled: Arc<Scaled>,
@@ -188,10 +188,10 @@ impl Model for Rounds {
 }
 
 impl Rounds {
-    /// Rounds of a problem, before the first one. The persons are looked through for equal rows.
+    /// The rounds of a problem, before the first one. It searches the persons for equal rows.
     ///
     /// # Errors
-    /// Only where memory is refused.
+    /// `AllocError` if memory is refused.
     pub fn new(alloc: Global, scaled: Arc<Scaled>) -> Result<Rounds, AllocError>
         ensures { IfOk result (λ rounds. rounds ≡ no_round_yet (arc_value scaled)) }
     {
@@ -204,16 +204,16 @@ impl Rounds {
         })
     }
 
-    /// One round over a book of the problem that is at rest: workers 1, 2, .. claim all who wait, in
-    /// the queue's order; these make their offers from the book's prices, and the offers are
-    /// submitted in that order. A person that finds nothing worth the floor ends the round, and it
-    /// and those after it are still claimed then. After any other round the book is at rest again.
-    /// A new phase doesn't begin here.
+    /// One round over a book of the problem that is at rest. Workers 1, 2, .. claim all who wait,
+    /// in the queue's order; these make their offers from the book's prices, and the offers are
+    /// submitted in that order. An offer below the floor ends the round, and its person and those
+    /// after it stay claimed. After any other round the book is at rest again. No new phase begins
+    /// here.
     ///
     /// # Errors
-    /// Only where memory is refused. How far the round came is not said then: no price is lower and
-    /// the book is going, but some persons may still be claimed. `Book::give_up` for each worker lets
-    /// these wait again.
+    /// `AllocError` if memory is refused. Nothing says how far the round went: no price is lower
+    /// and the book is going, but some persons may still be claimed. `Book::give_up` for each
+    /// worker lets these wait again.
     pub fn run_round<O: Offering>(
         &mut self,
         offering: &mut O,
@@ -240,14 +240,14 @@ impl Rounds {
         )
     }
 
-    /// Who bid in the last round, in their order.
+    /// The persons who bid in the last round, in their order.
     pub fn persons(&self) -> &[Person]
         ensures { result.now ≡ self.now.persons }
     {
         self.persons.as_slice()
     }
 
-    /// What they offered, in the same order.
+    /// Their offers, in the same order.
     pub fn offers(&self) -> &[Offer]
         ensures { result.now ≡ self.now.offers }
     {
@@ -255,7 +255,7 @@ impl Rounds {
     }
 }
 
-// What everybody owns in the last phase.
+// The answer in the last phase, when everybody is assigned.
 fn finish(alloc: Global, book: &Book) -> Result<Outcome, AllocError>
     requires rest { IsAtRest book.now }
     requires queue { book.now.queue ≡ [] }
@@ -269,8 +269,8 @@ fn finish(alloc: Global, book: &Book) -> Result<Outcome, AllocError>
     }
 }
 
-// What a person reaches that finds nothing worth the floor: never an unowned object, since the floor
-// is exact.
+// The Hall set of the persons that a person below the floor reaches. The search never finds an
+// unowned object, since the floor is exact.
 fn halt(alloc: Global, book: &Book, person: Person) -> Result<Outcome, AllocError>
     requires { IsBelowFloor book.now person }
     ensures outcome { IfOk result (IsOutcome book.now.base (Halted person (plain_of book.now))) }
@@ -282,7 +282,7 @@ fn halt(alloc: Global, book: &Book, person: Person) -> Result<Outcome, AllocErro
     }
 }
 
-// Rounds from these prices up to their end.
+// Runs rounds from these prices up to their end.
 fn run_rounds<O: Offering>(
     offering: &mut O,
     alloc: Global,
@@ -308,11 +308,11 @@ fn run_rounds<O: Offering>(
     }
 }
 
-/// Solves by rounds of offers as `solve_rounds_from` does, where `offering` makes the offers of each
-/// round. The outcome is that of plain rounds, whoever makes them.
+/// Solves by rounds of offers as `solve_rounds_from` does, with `offering` as the maker of each
+/// round's offers. The outcome is that of plain rounds for any maker.
 ///
 /// # Errors
-/// Only where memory is refused.
+/// `Memory` if memory is refused.
 pub fn solve_rounds_by<O: Offering>(
     offering: &mut O,
     alloc: Global,
@@ -332,17 +332,17 @@ pub fn solve_rounds_by<O: Offering>(
 
 /// Solves by rounds of offers that begin at these prices, one for each object and each at most
 /// `GREATEST_FIRST_PRICE`. The outcome is that of plain rounds, so it is the same for any number of
-/// threads: a best assignment with prices that prove it where there is an assignment, and a Hall
-/// set where there is none (Bertsekas, A distributed algorithm for the assignment problem, 1979;
-/// the rounds are in Jacobi's form).
+/// threads: an optimal assignment with prices that prove it if an assignment exists, and a Hall set
+/// otherwise (Bertsekas, A distributed algorithm for the assignment problem, 1979; the rounds are
+/// in Jacobi's form).
 ///
 /// It returns, but first prices that are far apart, or a problem without an assignment, may cost
-/// very many rounds. A round costs the pairs that its persons list. It takes memory where more
-/// persons wait than in the rounds before and for the log of raises; a new phase and the end take
-/// some too.
+/// very many rounds. A round takes time linear in the pairs that its persons list. It takes memory
+/// for the log of raises, and when more persons wait than in the rounds before; a new phase and the
+/// end take some too.
 ///
 /// # Errors
-/// Only where memory is refused.
+/// `Memory` if memory is refused.
 pub fn solve_rounds_from(
     rt: &(impl Threads + Sync),
     alloc: Global,
@@ -366,7 +366,7 @@ pub fn solve_rounds_from(
 /// Solves by rounds of offers as `solve_rounds_from` does, with all first prices 0.
 ///
 /// # Errors
-/// Only where memory is refused.
+/// `Memory` if memory is refused.
 ///
 /// # Example
 /// The body of `calling::solve_in_threads`:
@@ -392,11 +392,11 @@ pub fn solve_rounds(
     solve_rounds_from(rt, alloc, scaled, zeros)
 }
 
-/// Solves by rounds of offers as `solve_rounds_from` does, in the calling thread alone, so that it
+/// Solves by rounds of offers as `solve_rounds_from` does, in the calling thread only, so that it
 /// needs no handle. The outcome is the same.
 ///
 /// # Errors
-/// Only where memory is refused.
+/// `Memory` if memory is refused.
 pub fn solve_rounds_alone_from(
     alloc: Global,
     scaled: Arc<Scaled>,
@@ -412,10 +412,10 @@ pub fn solve_rounds_alone_from(
     solve_rounds_by(&mut Alone, alloc, scaled, prices)
 }
 
-/// Solves by rounds of offers in the calling thread alone, with all first prices 0.
+/// Solves by rounds of offers in the calling thread only, with all first prices 0.
 ///
 /// # Errors
-/// Only where memory is refused.
+/// `Memory` if memory is refused.
 ///
 /// # Example
 /// The body of `calling::solve_alone`:

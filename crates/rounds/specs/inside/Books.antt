@@ -19,7 +19,7 @@ pub record HaveOffered (b : BookData) (persons : List ℕ) (offers : List Offer)
   pub claimed : AreClaimed persons 0 b.claims
   pub made : offers ≡ offers_of b.base (prices_of b) b.ask persons
 
--- offers are submitted one by one, up to one of a person that finds nothing worth the floor
+-- offers are submitted one by one, up to the first that is below the floor
 abbrev pub AreSubmitted : BookData → List Offer → Option ℕ → BookData → Type 0
 AreSubmitted old offers None new = (after_offers offers (plain_of old) ≡ Goes (plain_of new)) × IsAtRest new × (0 < length offers → room (prices_of new) < room (prices_of old))
 AreSubmitted old offers (Some person) new = (after_offers offers (plain_of old) ≡ Ends (Halted person (plain_of new))) × IsBelowFloor new person

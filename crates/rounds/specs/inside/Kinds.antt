@@ -1,4 +1,4 @@
--- Persons whose rows are the same, and the first ones of a round.
+-- Persons with the same row, and the first persons of a round.
 use Rattle.std.specs.Prelude.{◌≡◌, ℕ, ◌<◌, ◌++◌, ◌⊎◌, List, [], ◌∷◌, All, IsTrue, length, slice_index_or}
 use Rattle.assign_core.specs.Numbered.{IsNumber, numbered}
 use Rattle.scaled_values.specs.Scaled.{ScaledProblem}
@@ -11,18 +11,19 @@ pub record HasAlike (s : ScaledProblem) (alike : List ℕ) : Type 0 where
   pub numbers : All (IsNumber (length s.problem)) alike
   pub same : (i : ℕ) → IsNumber (length s.problem) i → benefits_at s (numbered alike i 0) ≡ benefits_at s i
 
--- and room for a mark for each person, where some are known to be alike
+-- the same, with room for a mark for each person if some are known to be alike
 pub record AreKinds (s : ScaledProblem) (kinds : Kinds) : Type 0 where
   pub alike : IsTrue kinds.some → HasAlike s kinds.alike.items
   pub marks : IsTrue kinds.some → length kinds.marks.items ≡ length s.problem
 
--- a person of a round was given a place among first ones, which may have got one more: who stands there is of its kind
+-- a person of a round has a place among first persons, of which there may be one more than before,
+-- and the person there is of its kind
 pub record IsPlaced (alike old new : List ℕ) (person place : ℕ) : Type 0 where
   pub grown : (new ≡ old) ⊎ (new ≡ old ++ person ∷ [])
   pub within : place < length new
   pub same : (d : ℕ) → numbered alike (slice_index_or new place d) 0 ≡ numbered alike person 0
 
--- for each of a round's persons the place of a first one of its kind
+-- for each of a round's persons, the place of the first person of its kind
 pub record IsGathered (alike persons firsts places : List ℕ) : Type 0 where
   pub long : length places ≡ length persons
   pub numbers : All (IsNumber (length alike)) firsts
