@@ -8,10 +8,10 @@ virtual environment, they are shown as not run. With --text it runs nothing, and
 
 Then it looks at the text of all pages: links and names of files that lead nowhere, lines of more than 100 characters,
 sentences of more than 35 words, and words that docs/CONTRIBUTING.md lists to avoid. Tables, code and quoted output are
-exempt. It compares docs/DEFINITIONS.md with what docs/definitions.py makes, whose sentences come from the sources and
-are exempt too. And it looks for each block below `# Example` in the documentation of calls, and for each block that
-docs/CALLING.md shows other crates, among the lines of crates/calling, which the gate proves. Prints what is wrong, and
-ends with status 1 then.
+exempt. It compares docs/DEFINITIONS.md with what docs/definitions.py makes, whose sentences come from the sources. The
+doc comments of crates and the comments of their specs avoid the same words. And it looks for each block below
+`# Example` in the documentation of calls, and for each block that docs/CALLING.md shows other crates, among the lines
+of crates/calling, which the gate proves. Prints what is wrong, and ends with status 1 then.
 """
 import glob
 import importlib.util
@@ -27,6 +27,9 @@ RUN = ["README.md", "docs/MODELLING.md", "docs/MODES.md", "docs/SCRIPTS.md"]
 # A command that uses a release, or the environment that it was installed in.
 RELEASED = re.compile(r"\brelease/|\bplanner\b")
 GENERATED = "docs/DEFINITIONS.md"
+# The sources whose comments avoid the same words, the beginning of these comments, and code in them.
+COMMENTS = {"crates/*/src/**/*.rt": re.compile(r"\s*//[/!]"), "crates/*/specs/**/*.antt": re.compile(r"\s*--")}
+QUOTED = re.compile(r"```.*?```|`[^`\n]*`", re.DOTALL)
 # The crate of examples, and the section of a page that shows some of them.
 EXAMPLES = "crates/calling/src"
 SHOWN = ("docs/CALLING.md", "## Another crate in Rattle")
@@ -180,7 +183,7 @@ def avoided():
         for entry in re.split(r"[,;] ", re.split(r"\s{2,}", line.strip())[0]):
             word, _, spared = entry.partition(" (except '")
             parts.append(re.escape(word) + (f"(?!{re.escape(spared[len(word):-2])})" if spared else ""))
-    return re.compile(rf"\b({'|'.join(parts)})\b", re.IGNORECASE)
+    return re.compile(rf"\b({'|'.join(parts)})\b".replace("\\ ", r"\s+"), re.IGNORECASE)
 
 
 def look_at_sentences(page, words_to_avoid, told):
@@ -191,6 +194,18 @@ def look_at_sentences(page, words_to_avoid, told):
                 told.append(f"{page}:{number}: {len(words)} words: {' '.join(words[:8])} ..")
             for word in words_to_avoid.findall(sentence):
                 told.append(f"{page}:{number}: avoid '{word}'")
+
+
+def look_at_comments(words_to_avoid, told):
+    """Looks for words to avoid in the doc comments of crates and in the comments of their specs."""
+    for pattern, mark in COMMENTS.items():
+        for path in sorted(glob.glob(os.path.join(TOP, pattern), recursive=True)):
+            name = os.path.relpath(path, TOP)
+            found = ((mark.match(line), line) for line in lines_of(name))
+            text = "\n".join(line[begins.end():] if begins else "" for begins, line in found)
+            text = QUOTED.sub(lambda code: "\n" * code[0].count("\n"), text)
+            for word in words_to_avoid.finditer(text):
+                told.append(f"{name}:{text.count(chr(10), 0, word.start()) + 1}: avoid '{' '.join(word[0].split())}'")
 
 
 def look_at_generated(told):
@@ -256,6 +271,7 @@ def look_at_text(told):
         look_for_wide_lines(page, told)
         if page != GENERATED:
             look_at_sentences(page, words_to_avoid, told)
+    look_at_comments(words_to_avoid, told)
     look_at_generated(told)
     look_at_examples(told)
 
