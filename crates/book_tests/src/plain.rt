@@ -1,8 +1,8 @@
 // A plain book: the rules of the auction over lists, with the table of every version.
 use super::drawn::Case;
-use assign_core::{Object, Person, Price, Sense};
+use assign_core::{Object, Person, Price};
 use std::alloc::{AllocError, Global};
-use test_helpers::{Pair, benefit_range, plain_benefits};
+use test_helpers::{benefit_range, plain_benefits};
 
 #[derive(Drop)]
 pub(crate) struct PlainBook {

@@ -7,7 +7,7 @@ use super::plain::{PlainBook, at, bound, offer, opened, prices, version};
 use super::plain_calls;
 use super::plain_calls::{ask, phase_over};
 use super::seen::{answers, records, waiting};
-use assign_core::{Object, Person, Price};
+use assign_core::{Person, Price};
 use auction_book::Book;
 use std::alloc::{AllocError, Global};
 use std::test::Fail;
