@@ -262,17 +262,23 @@ static void starts(void) {
     }
 }
 
-/* The same with an object that nobody has: it costs 0, and the others stand 1 above. */
+/* Seven persons of eight objects. Person 1 lists object 1 at 0 and object 2 at 3, each other one its own object at 0, and all the
+   rest costs 100. First prices that fit are kept, but for that of object 1, which falls by 4 units with object 2. */
 static void rectangle_starts(void) {
-    struct call c = two_of_three(NUSHBARET_MIN);
-    int form;
-    for (form = 0; form < 2; form++) {
-        c.is_from = 0, c.first[1].low = 8;
-        WANT(solve(&c) == NUSHBARET_BEST && c.prices[0].low != 1);
-        c.is_from = 1;
-        WANT(solve(&c) == NUSHBARET_BEST && c.prices[0].low == 1 && c.prices[1].low == 9 && c.prices[2].low == 0);
-        list_pairs(&c);
-    }
+    int64_t costs[56];
+    uint16_t objects[7], persons[7];
+    struct nushbaret_price first[8], prices[8];
+    struct nushbaret_problem problem = {NUSHBARET_MIN, 7, 8, costs, NULL, NULL, 56, first};
+    struct nushbaret_answer answer = {objects, persons, prices, {0, 0, 0, 0, 0, 0}};
+    size_t k;
+    for (k = 0; k < 56; k++) costs[k] = k == 0 || k % 8 == k / 8 + 1 ? 0 : 100;
+    costs[1] = 3;
+    memset(first, 0, sizeof first);
+    first[0].low = 63, first[1].low = 9, first[3].low = 18;
+    WANT(nushbaret_solve(&problem, &answer) == NUSHBARET_BEST && answer.told.total == 0);
+    WANT(prices[0].low == 28 && prices[1].low == 0 && prices[2].low == 1 && prices[3].low == 19);
+    problem.first = NULL;
+    WANT(nushbaret_solve(&problem, &answer) == NUSHBARET_BEST && prices[3].low != 19);
 }
 
 /* First prices at which an object is dear that nobody wants: it is cheap in the answer. */

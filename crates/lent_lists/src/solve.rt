@@ -24,12 +24,20 @@ use shortest_paths::{solve_paths_among, solve_paths_among_from};
 use std::alloc::{AllocError, Global};
 use std::sync::Arc;
 
-// The solver's outcome for the first `n` persons, from the first prices if there is one for each
-// object of the problem.
+// Whether first prices may save time. With far more objects than persons and few pairs for each
+// object, a search from equal prices is about as short as a look at first prices. The numbers come
+// from measurements.
+fn may_save_time(n: u16, m: u16, pairs: usize) -> bool {
+    n as usize * 8 >= m as usize * 7 || pairs / 64 >= m as usize
+}
+
+// The solver's outcome for the first `n` persons, who list `pairs` pairs, from the first prices if
+// there is one for each object of the problem and they may save time.
 fn outcome_of(
     alloc: Global,
     scaled: Arc<Scaled>,
     n: u16,
+    pairs: usize,
     first: &[SplitPrice],
 ) -> Result<Outcome, AllocError>
     requires persons { n ≤ length (arc_value scaled).problem }
@@ -37,7 +45,7 @@ fn outcome_of(
     ensures { IfOk result (λ outcome. let s = arc_value scaled in
         IsProofAmong s.sense (length s.problem) (take n s.problem) outcome) }
 {
-    if first.len() == scaled.n() as usize {
+    if first.len() == scaled.n() as usize && may_save_time(n, scaled.n(), pairs) {
         let prices = first_prices(alloc, first)?;
         solve_paths_among_from(alloc, scaled, n, prices)
     } else {
@@ -127,7 +135,7 @@ fn solve(
     let n = given.n as u16;
     let scaled = shared(alloc, problem, sense)?;
     let kept = scaled.clone()?;
-    let outcome = outcome_of(alloc, scaled, n, given.first)?;
+    let outcome = outcome_of(alloc, scaled, n, given.costs.len(), given.first)?;
     Ok(give(
         kept.problem(),
         n,
