@@ -4,10 +4,10 @@ ghost use Rattle.std.specs.Prelude.{◌≡◌};
 
 use assign_core::{Person, Prices};
 use async_workers::{Gate, Note, Standing};
+use augmenting_paths::Observer;
 use bidder::{Ask, Offer};
 use rounds::{LEAST_PAIRS, Offering, make_offers};
 use scaled_values::{Scaled, next_eps};
-use shortest_paths::Observer;
 use std::alloc::AllocError;
 use std::io;
 use std::io::Read;

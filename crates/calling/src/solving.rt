@@ -3,7 +3,7 @@ ghost use Rattle.std.specs.Prelude.{◌≡◌, ◌*◌, ◌<◌, ◌≤◌, All,
 ghost use Rattle.assign_core.specs.Dense.{dense_rows, dense_rows_among};
 ghost use Rattle.assign_core.specs.Rows.{IsCost, IsSize};
 ghost use Rattle.rounds.specs.Outcomes.{IsDecided, IsOfRounds, IsProof};
-ghost use Rattle.shortest_paths.specs.Among.{IsDecidedAmong, IsProofAmong};
+ghost use Rattle.augmenting_paths.specs.Among.{IsDecidedAmong, IsProofAmong};
 ghost use Rattle.calling.specs.Solving.{problem_under};
 
 use assign_core::{Cost, Outcome, Problem, Sense};

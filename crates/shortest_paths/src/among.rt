@@ -3,19 +3,11 @@ ghost use Rattle.std.specs.Prelude.{◌≡◌, ◌≤◌, length, IfOk, IfSome};
 ghost use Rattle.std.specs.Arc.{arc_value};
 ghost use Rattle.assign_core.specs.Outcomes.{IsProof};
 ghost use Rattle.rectangles.specs.Filled.{filled_up};
-ghost use Rattle.shortest_paths.specs.Among.{IsDecidedAmong, IsProofAmong};
+ghost use Rattle.augmenting_paths.specs.Among.{IsDecidedAmong, IsProofAmong};
 
-use super::answer::{best_among, hall_among};
-use super::market::Market;
-use super::number::Number;
-use super::observer::{Telling, Unobserved};
-use super::plan::{plan_among, started_plan_among};
-use super::prices::given_prices;
-use super::search::End;
-use super::settling::{Base, base_of, settle};
-use super::solve::{Searched, bid_and_search, solve_paths, solve_paths_from};
-use super::ties::match_ties;
+use super::solve::{solve_paths, solve_paths_from};
 use assign_core::{Outcome, Prices};
+use augmenting_paths::{try_paths_among, try_paths_among_from};
 use rectangles::{dummies_change_nothing, filled_up, of_first};
 use scaled_values::{Scaled, scale};
 use std::alloc::{AllocError, Global};
@@ -90,120 +82,6 @@ fn solve_whole_from(
     of_square(alloc, scaled, n, outcome)
 }
 
-// The answer of searches for the first `n` persons, if they found one.
-fn answer_among<W: Number>(
-    alloc: Global,
-    scaled: &Scaled,
-    n: u16,
-    market: &Market<W>,
-    searched: &Searched<W>,
-) -> Result<Option<Outcome>, AllocError>
-    requires { n ≤ length scaled.now.problem }
-    ensures { IfOk result (λ found. IfSome found (IsProofAmong scaled.now n)) }
-{
-    match searched.end {
-        None => best_among(alloc, scaled, n, market),
-        Some(End::Blocked) => hall_among(alloc, scaled, n, &searched.search),
-        Some(_) => Ok(None),
-    }
-}
-
-// Paths of the first `n` persons from equal prices. Bids and searches raise only prices of owned
-// objects, and these objects stay owned, so unowned objects stay cheapest.
-fn paths_among<W: Number>(
-    alloc: Global,
-    scaled: &Scaled,
-    n: u16,
-) -> Result<Option<Outcome>, AllocError>
-    requires { n ≤ length scaled.now.problem }
-    ensures { IfOk result (λ found. IfSome found (IsProofAmong scaled.now n)) }
-{
-    let prices = vec![in alloc; W::of(0); scaled.n() as usize]?;
-    let mut market = Market::new(alloc, prices, n as usize)?;
-    let mut telling = Telling::new(&Unobserved);
-    let plan = plan_among(scaled, n);
-    let searched = bid_and_search(alloc, scaled, &mut market, plan, &mut telling)?;
-    answer_among(alloc, scaled, n, &market, &searched)
-}
-
-// The result for the first `n` persons. If distances leave 64 bits, the first search finds no
-// proof.
-fn find_among(alloc: Global, scaled: &Scaled, n: u16) -> Result<Option<Outcome>, AllocError>
-    requires { n ≤ length scaled.now.problem }
-    ensures { IfOk result (λ found. IfSome found (IsProofAmong scaled.now n)) }
-{
-    match paths_among::<i64>(alloc, scaled, n)? {
-        None => paths_among::<i128>(alloc, scaled, n),
-        found => Ok(found),
-    }
-}
-
-// The objects of the first `n` persons with the prices, once no unowned object has too high a
-// price.
-fn best_settled(
-    alloc: Global,
-    scaled: &Scaled,
-    n: u16,
-    market: &mut Market<i64>,
-    base: &Base,
-) -> Result<Option<Outcome>, AllocError>
-    requires { n ≤ length scaled.now.problem }
-    ensures { IfOk result (λ found. IfSome found (IsProofAmong scaled.now n)) }
-{
-    if settle(alloc, scaled, market, base)? {
-        best_among(alloc, scaled, n, market)
-    } else {
-        Ok(None)
-    }
-}
-
-// Paths of the first `n` persons from first prices, if these fit: most persons are then matched
-// with best objects, and few looks at pairs serve the others and lower the prices of unowned
-// objects.
-fn started_among(
-    alloc: Global,
-    scaled: &Scaled,
-    n: u16,
-    prices: &Prices,
-) -> Result<Option<Outcome>, AllocError>
-    requires persons { n ≤ length scaled.now.problem }
-    requires prices { length prices.now ≡ length scaled.now.problem }
-    ensures { IfOk result (λ found. IfSome found (IsProofAmong scaled.now n)) }
-{
-    // That `n` is at most `MOST_PERSONS` follows from this call.
-    let _objects = scaled.n();
-    let plan = started_plan_among(scaled, n);
-    let prices = given_prices(alloc, scaled, prices)?;
-    let mut market = Market::new(alloc, prices, n as usize)?;
-    let Some(ties) = match_ties(alloc, scaled, &mut market, plan.most_unserved)? else {
-        return Ok(None);
-    };
-    let base = base_of(alloc, scaled, &mut market, &ties)?;
-    let mut telling = Telling::new(&Unobserved);
-    let searched = bid_and_search(alloc, scaled, &mut market, plan, &mut telling)?;
-    match searched.end {
-        None => best_settled(alloc, scaled, n, &mut market, &base),
-        _ => answer_among(alloc, scaled, n, &market, &searched),
-    }
-}
-
-// The result for the first `n` persons from these prices, or from equal ones if these don't fit.
-fn find_among_from(
-    alloc: Global,
-    scaled: &Scaled,
-    n: u16,
-    prices: &Prices,
-) -> Result<Option<Outcome>, AllocError>
-    requires persons { n ≤ length scaled.now.problem }
-    requires prices { length prices.now ≡ length scaled.now.problem }
-    ensures { IfOk result (λ found. IfSome found (IsProofAmong scaled.now n)) }
-{
-    match started_among(alloc, scaled, n, prices)? {
-        None => find_among(alloc, scaled, n),
-        found => Ok(found),
-    }
-}
-
 // The result for the first `n` persons; if there is none, the outcome by way of the square with
 // dummies.
 fn settled_among(
@@ -230,7 +108,7 @@ fn solve_among(alloc: Global, scaled: &Arc<Scaled>, n: u16) -> Result<Outcome, A
     if n == scaled.n() {
         solve_whole(alloc, scaled, n)
     } else {
-        let found = find_among(alloc, scaled, n)?;
+        let found = try_paths_among(alloc, scaled, n)?;
         settled_among(alloc, scaled, n, found)
     }
 }
@@ -249,7 +127,7 @@ fn solve_among_from(
     if n == scaled.n() {
         solve_whole_from(alloc, scaled, n, prices)
     } else {
-        let found = find_among_from(alloc, scaled, n, &prices)?;
+        let found = try_paths_among_from(alloc, scaled, n, &prices)?;
         settled_among(alloc, scaled, n, found)
     }
 }

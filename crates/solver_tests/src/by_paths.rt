@@ -10,10 +10,10 @@ mod worked;
 use assign_core::{
     Cost, GREATEST_COST, GREATEST_FIRST_PRICE, MOST_PERSONS, Object, Outcome, Person, Price, Sense,
 };
+use augmenting_paths::{Observer, try_paths, try_paths_from};
 use scaled_values::{Scaled, scale};
 use shortest_paths::{
-    Observer, solve_paths, solve_paths_from, solve_paths_from_watched, solve_paths_watched,
-    try_paths, try_paths_from,
+    solve_paths, solve_paths_from, solve_paths_from_watched, solve_paths_watched,
 };
 use std::alloc::{AllocError, Global};
 use test_helpers::{Pair, best_cost, first_prices, next_number, problem_of, scaled_of, size};
