@@ -2,10 +2,10 @@
 #![tactic(auto)]
 
 pub use auction_command::{
-    CliFault, Context, Ended, Method, Mode, SolveOpts, Solver, Verified, Words, WordsFault,
-    read_words, run_solve, run_solve_by, run_solve_from, run_verify,
+    CliFault, Context, Ended, Solver, Verified, run_solve, run_solve_by, run_solve_from, run_verify,
 };
 use auction_command::{Console, Files, NoFile, NoWords, ProgressLines, run_program};
+pub use command_line::{Method, Mode, SolveOpts, Words, WordsFault, read_words};
 use std::fs::File;
 use std::io::{IsTerminal, Write};
 use std::os::fd::AsRawFd;

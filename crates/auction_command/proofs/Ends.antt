@@ -11,7 +11,7 @@ use Rattle.auction_command.specs.declared.program.NoFile.{NoFile}
 use Rattle.auction_command.specs.declared.program.NoFile.TheVariants as no_file
 use Rattle.auction_command.specs.declared.program.Named.TheVariants as named_for
 use Rattle.auction_command.specs.declared.program.ProgramEnd.{ProgramEnd}
-use Rattle.auction_command.specs.declared.words.Words.{Words}
+use Rattle.command_line.specs.declared.words.Words.{Words}
 
 -- nothing is done if the input can't be read after the report
 pub no_input_done : (asked : Words) (standard : Option (List ℕ)) (files : Openings) (text : Option (Option (List ℕ))) (old : Option (List ℕ)) (why : NoFile) (end : ProgramEnd) →

@@ -1,11 +1,6 @@
-pub mod CommandLines
-pub mod Choices
 pub mod Costs
 pub mod Ends
 pub mod Findings
-pub mod Subcommands
 pub mod Verdicts
 pub mod Settled
 pub mod Starts
-pub mod Rows
-pub mod Numbers

@@ -1,6 +1,5 @@
 pub mod Solve
 pub mod Findings
 pub mod Verify
-pub mod Words
 pub mod Program
 pub mod inside

@@ -10,9 +10,9 @@ use Rattle.assign_core.specs.declared.sense.Sense.{Sense}
 use Rattle.report.specs.Writing.{IsCutOff}
 use Rattle.auction_command.specs.Solve.{SolveOutcome, end_status, fault_line, solver_of, status}
 use Rattle.auction_command.specs.Verify.{VerifyOutcome}
-use Rattle.auction_command.specs.Words.{AskFor, AskForNoMode, AskForNoModeAt, AskForNoSense, AskForNoSenseAt, Places, program}
-use Rattle.auction_command.specs.declared.words.Words.{Words}
-use Rattle.auction_command.specs.declared.words.Words.TheVariants.{Solve, Verify}
+use Rattle.command_line.specs.Words.{AskFor, AskForNoMode, AskForNoModeAt, AskForNoSense, AskForNoSenseAt, Places, program}
+use Rattle.command_line.specs.declared.words.Words.{Words}
+use Rattle.command_line.specs.declared.words.Words.TheVariants.{Solve, Verify}
 use Rattle.auction_command.specs.declared.verify.Verified.TheVariants.{Yes, No}
 use Rattle.auction_command.specs.declared.run.Solver.{Solver}
 use Rattle.auction_command.specs.declared.run.CliFault.{CliFault}

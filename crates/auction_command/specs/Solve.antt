@@ -25,11 +25,11 @@ use Rattle.report.specs.declared.fault.StartFault.{StartFault}
 use Rattle.report.specs.Answers.{Answers as ReportAnswers}
 use Rattle.report.specs.Reports as reports
 use Rattle.report.specs.Starts.{HasStartFault, IsStart}
-use Rattle.auction_command.specs.declared.words.Method.{Method}
-use Rattle.auction_command.specs.declared.words.Method.TheVariants.{Auction, Paths}
-use Rattle.auction_command.specs.declared.words.Mode.{Mode}
-use Rattle.auction_command.specs.declared.words.Mode.TheVariants.{Rounds, Workers}
-use Rattle.auction_command.specs.declared.words.SolveOpts.{SolveOpts}
+use Rattle.command_line.specs.declared.words.Method.{Method}
+use Rattle.command_line.specs.declared.words.Method.TheVariants.{Auction, Paths}
+use Rattle.command_line.specs.declared.words.Mode.{Mode}
+use Rattle.command_line.specs.declared.words.Mode.TheVariants.{Rounds, Workers}
+use Rattle.command_line.specs.declared.words.SolveOpts.{SolveOpts}
 use Rattle.auction_command.specs.declared.run.Solver.{Solver}
 use Rattle.auction_command.specs.declared.run.Ended.{Ended}
 use Rattle.auction_command.specs.declared.run.Ended.TheVariants.{Optimal, Infeasible}

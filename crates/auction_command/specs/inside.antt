@@ -1,4 +1,3 @@
 -- Definitions for contracts and lemmas inside the program, which no public contract names.
-pub mod Words
 pub mod Solve
 pub mod Program

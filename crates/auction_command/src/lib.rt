@@ -1,4 +1,4 @@
-//! The program's words, runs and lines: from a command line and streams to an end with its status.
+//! The program's runs and lines: from words and streams to an end with its status.
 #![tactic(auto)]
 
 mod finding;
@@ -7,7 +7,6 @@ mod progress;
 mod progress_lines;
 mod run;
 mod verify;
-mod words;
 
 pub use finding::Finding;
 pub use program::{Files, Named, NoFile, NoWords, ProgramEnd, Written, run_program};
@@ -18,6 +17,3 @@ pub use run::{
     status_of,
 };
 pub use verify::{Verified, run_verify, run_verify_under};
-pub use words::{
-    Asked, MOST_REFRESH, MOST_WORKERS, Method, Mode, SolveOpts, Words, WordsFault, read_words,
-};

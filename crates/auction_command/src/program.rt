@@ -8,18 +8,18 @@ ghost use Rattle.auction_command.specs.Program.{Does, EndsAtWords, SolveEnd, Ver
 ghost use Rattle.auction_command.specs.inside.Program.{EndsAbsent, EndsFailed};
 ghost use Rattle.auction_command.specs.Program.{FailsToOpen, Given, IsReadWhere, Opening, Opens, given_by, input_name, opening_of};
 ghost use Rattle.auction_command.specs.Program.{ErrorOutcome, InputOutcome, IsWritten, ProgramOutcome, exit_status, unopened_line};
-ghost use Rattle.auction_command.specs.Words.{IsInRanges, WordsOutcome};
-ghost use Rattle.auction_command.specs.declared.words.Words.TheVariants.{Solve, Verify};
-ghost use Rattle.auction_command.specs.declared.words.WordsFault.TheVariants.{Clap};
+ghost use Rattle.command_line.specs.Words.{IsInRanges, WordsOutcome};
+ghost use Rattle.command_line.specs.declared.words.Words.TheVariants.{Solve, Verify};
+ghost use Rattle.command_line.specs.declared.words.WordsFault.TheVariants.{Clap};
 
 use crate::progress::Watch;
 use crate::run::{CliFault, Context, Ended, Solver, end_status_of, run_solve_by, status_of};
 use crate::verify::{Verified, run_verify_under};
-use crate::words::{Asked, SolveOpts, Words, WordsFault, read_words};
 use arrayvec::ArrayString;
 use assign_core::Sense;
 use async_workers::OpenGate;
 use clap::Error;
+use command_line::{Asked, SolveOpts, Words, WordsFault, read_words};
 use report::{WriteFault, write_text};
 use std::alloc::{AllocError, Global};
 use std::convert::AsStr;

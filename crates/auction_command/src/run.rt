@@ -12,9 +12,9 @@ ghost use Rattle.auction_command.specs.Solve.{Reads, SolveOutcome, end_of, end_s
 ghost use Rattle.auction_command.specs.inside.Solve.{FailsToBegin, HasNoStart, Reports};
 
 use crate::progress::{CountedReader, Unwatched, Watch, WatchedGate, WatchedOffers, WatchedSearch};
-use crate::words::{Method, Mode, SolveOpts};
 use assign_core::{MOST_PERSONS, Outcome, Person, Prices, Problem, Sense, SolveFault};
 use async_workers::{Gate, solve_workers_from};
+use command_line::{Method, Mode, SolveOpts};
 use dual_checker::confirms;
 use orlib_reader::{InputFault, read_dense, read_sparse};
 use report::{

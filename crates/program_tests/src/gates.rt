@@ -1,7 +1,8 @@
 // What a gate sees of a run by one worker.
 use assign_core::Sense;
 use async_workers::{Gate, Note, Standing};
-use auction_command::{Ended, Mode, SolveOpts, run_solve};
+use auction_command::{Ended, run_solve};
+use command_line::{Mode, SolveOpts};
 use std::alloc::Global;
 use std::sync::Wait;
 use std::sync::atomic::{AtomicU64, Ordering};

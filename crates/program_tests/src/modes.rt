@@ -3,7 +3,8 @@
 use crate::watched::{Seen, assert_words_refused, run_with};
 use assign_core::Sense;
 use async_workers::{Gate, Note};
-use auction_command::{Ended, Mode, SolveOpts, run_solve};
+use auction_command::{Ended, run_solve};
+use command_line::{Mode, SolveOpts};
 use std::alloc::Global;
 use std::process::Abort;
 use std::sync::Wait;

@@ -2,9 +2,9 @@
 use assign_core::Sense;
 use async_workers::OpenGate;
 use auction_command::{
-    Console, Context, Ended, Method, Mode, News, Progress, ProgressLines, SolveOpts, Solver, Watch,
-    run_solve_by,
+    Console, Context, Ended, News, Progress, ProgressLines, Solver, Watch, run_solve_by,
 };
+use command_line::{Method, Mode, SolveOpts};
 use std::alloc::Global;
 use std::cell::RefCell;
 use std::sync::Wait;

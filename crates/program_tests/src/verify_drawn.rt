@@ -3,7 +3,8 @@
 use crate::texts::problem_in;
 use assign_core::{Cost, Object, Person, Price, Problem, Sense};
 use async_workers::OpenGate;
-use auction_command::{Mode, SolveOpts, Verified, run_solve, run_verify};
+use auction_command::{Verified, run_solve, run_verify};
+use command_line::{Mode, SolveOpts};
 use orlib_reader::InputFault;
 use report::{Report, read_report};
 use std::alloc::{AllocError, Global};

@@ -1,7 +1,7 @@
 use Rattle.std.proofs.Common.{Err, Ok, codes, inl, map, refl, rules, subst}
-use Rattle.auction_command.specs.Words.{AskForNoMode, AskForNoSense, WordsOutcome}
-use Rattle.auction_command.specs.declared.words.WordsFault.{WordsFault}
-use Rattle.auction_command.proofs.CommandLines.{no_mode_or_sense}
+use Rattle.command_line.specs.Words.{AskForNoMode, AskForNoSense, WordsOutcome}
+use Rattle.command_line.specs.declared.words.WordsFault.{WordsFault}
+use Rattle.command_line.proofs.CommandLines.{no_mode_or_sense}
 use Rattle.auction_command.proofs.program.run_words.Goals as goal
 
 pub returns-in-Ok-clause-errors : goal.returns-in-Ok-clause-errors

@@ -1,5 +1,5 @@
 use Rattle.std.proofs.Common.{Some}
-use Rattle.auction_command.specs.declared.words.Words.TheVariants.{Verify}
+use Rattle.command_line.specs.declared.words.Words.TheVariants.{Verify}
 use Rattle.auction_command.proofs.Ends.{no_input_done}
 use Rattle.auction_command.proofs.program.verify_named.Goals as goal
 

@@ -1,0 +1,5 @@
+pub mod CommandLines
+pub mod Choices
+pub mod Subcommands
+pub mod Rows
+pub mod Numbers

@@ -1,0 +1,8 @@
+//! The words of the command line: what the program accepts, and what it is asked for.
+#![tactic(auto)]
+
+mod words;
+
+pub use words::{
+    Asked, MOST_REFRESH, MOST_WORKERS, Method, Mode, SolveOpts, Words, WordsFault, read_words,
+};
