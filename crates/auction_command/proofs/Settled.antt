@@ -7,7 +7,7 @@ use Rattle.assign_core.specs.declared.sense.Sense.{Sense}
 use Rattle.assign_core.specs.Outcomes as core
 use Rattle.assign_core.specs.Rows.{Listing, IsProblem}
 use Rattle.report.specs.Lines.{report_text}
-use Rattle.report.specs.Outcomes.{IsOutcome, outcome_report}
+use Rattle.report.specs.Outcomes.{outcome_report}
 use Rattle.rounds.specs.Outcomes.{IsProof}
 use Rattle.scaled_values.specs.Scaled.{ScaledProblem}
 use Rattle.auction_command.specs.declared.run.Solver.{Solver}
@@ -18,11 +18,6 @@ use Rattle.std.proofs.Common.{◌≡◌, ℤ, List, refl, subst, sym}
 pub settled : (sense : Sense) (rows : List Listing) (outcome : Outcome) → IsProblem rows → core.IsProof sense rows outcome → IsSettled sense rows outcome
 settled sense rows (Best c) problem proof = best_by_slack sense rows c.assignment c.prices problem proof.assigned proof.slack
 settled sense rows (Hall h) problem proof = λ xs a. no_assignment rows h.persons h.objects xs proof a
-
--- a proof can be reported
-pub is_outcome : (s : ScaledProblem) (outcome : Outcome) → IsProof s outcome → IsOutcome s.problem outcome
-is_outcome s (Best c) proof = (proof.assigned, proof.priced, proof.in_range)
-is_outcome s (Hall h) proof = proof
 
 -- the report on what a method comes to, where it is a proof
 pub report_on : (solver : Solver) (rows : List Listing) (prices : List ℤ) (s : ScaledProblem) (outcome : Outcome) → s ≡ problem_under solver.options.sense rows → IsProblem s.problem →
