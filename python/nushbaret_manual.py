@@ -3,6 +3,7 @@ import textwrap
 from typing import Iterable, Iterator, List, NamedTuple, Tuple
 
 from nushbaret import _words as words
+from nushbaret._library import VERSION
 
 EXAMPLES = """
 The costs of nurses and shifts, one pair in each line of roster.csv:
@@ -82,7 +83,7 @@ def _examples() -> Iterator[str]:
 
 def command_page() -> str:
     """The page of the command."""
-    lines = heading(words.NAME, 1, words.VERSION)
+    lines = heading(words.NAME, 1, VERSION)
     lines += [".SH NAME", f"{words.NAME} \\- {escaped(words.SUMMARY[0].lower() + words.SUMMARY[1:].rstrip('.'))}"]
     lines += [".SH SYNOPSIS", f"\\fB{words.NAME}\\fR [\\fIOPTION\\fR].. \\fI{ARGUMENT.name}\\fR"]
     lines += [".SH DESCRIPTION", escaped(words.SUMMARY), *option_lines([ARGUMENT]), ".SH OPTIONS", *option_lines(GENERAL)]

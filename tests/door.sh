@@ -66,7 +66,7 @@ run 'example in C++' "$work/example_as_cpp"
 run 'example: build' cc -std=c99 -pedantic "${flags[@]}" "$top/c/example.c" -L"$top/c/out" -lnushbaret -Wl,-rpath,"$top/c/out" -o "$work/example"
 shows 'example' "$work/example"
 
-if type -P aarch64-linux-gnu-gcc qemu-aarch64 > "$work/tools" && [ "$(wc -l < "$work/tools")" = 2 ]; then
+if type -P aarch64-linux-gnu-gcc qemu-aarch64 > /dev/null; then
     "$top/c/build.sh" "$@" --target aarch64
     on_arm
     ran="$ran, on ARM under qemu"
