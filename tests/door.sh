@@ -2,7 +2,8 @@
 # Builds the library for C, compares its header with the crate, and calls it from C and from C++: worked and drawn
 # problems, square and not, each fault and each code, each growth refused, eight threads at a time; once more with the
 # compiler's own checks of addresses and of undefined behaviour on the C side, where cc has them. Prints what differs.
-# Needs the kit, cc with the binutils, c++ and python3: tests/door.sh [gate], with c/build.sh's word.
+# Needs cc with the binutils, c++ and python3, and the kit: tests/door.sh [gate], with c/build.sh's word. With the word
+# `built` it takes c/out as it stands, and needs no kit.
 set -euo pipefail
 top=$(cd "$(dirname "$0")/.." && pwd)
 work=$(mktemp -d)
@@ -20,7 +21,7 @@ run() {
     fi
 }
 
-"$top/c/build.sh" "$@"
+[ "${1-}" = built ] || "$top/c/build.sh" "$@"
 archive=$top/c/out/libnushbaret.a
 run header python3 "$top/tests/door/header.py"
 

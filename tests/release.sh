@@ -49,8 +49,8 @@ compare() {
         echo "release: $(head -n 1 "$folder/SOURCE"), of other sources or tools than there are here. Of the release (<), and here (>):"
         diff "$folder/SOURCE" "$work/SOURCE" | grep '^[<>]'
         echo 'a comparison with what is built here (other sources or tools)' >> "$work/without"
-    elif [ ! -e "$top/crates/auction_cli/out/auction_cli" ] && [ ! -e "$top/c/out/libnushbaret.so" ]; then
-        echo 'a comparison with what is built here (nothing is)' >> "$work/without"
+    elif [ ! -e "$top/crates/auction_cli/out/auction_cli" ] || [ ! -e "$top/c/out/libnushbaret.so" ]; then
+        echo 'a comparison with what is built here (not all is)' >> "$work/without"
     else
         compare_bytes
     fi
