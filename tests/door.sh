@@ -3,7 +3,8 @@
 # problems, square and not, each fault and each code, each growth refused, eight threads at a time; once more with the
 # compiler's own checks of addresses and of undefined behaviour on the C side, where cc has them; and once more as built for
 # 64-bit ARM, where its compiler and qemu are. Prints what differs; the last line says what ran.
-# Needs the kit, cc with the binutils, c++ and python3: tests/door.sh [gate], with c/build.sh's word.
+# Needs cc with the binutils, c++ and python3, and the kit: tests/door.sh [gate], with c/build.sh's word. With the word
+# `built` it takes c/out as it stands, and needs no kit.
 set -euo pipefail
 top=$(cd "$(dirname "$0")/.." && pwd)
 work=$(mktemp -d)
@@ -42,7 +43,7 @@ on_arm() {
     shows 'example for ARM' qemu-aarch64 -L "$(dirname "$(dirname "$("$cc" -print-file-name=libc.so.6)")")" "$work/example_on_arm"
 }
 
-"$top/c/build.sh" "$@"
+[ "${1-}" = built ] || "$top/c/build.sh" "$@"
 archive=$top/c/out/libnushbaret.a
 run header python3 "$top/tests/door/header.py"
 
@@ -66,12 +67,14 @@ run 'example in C++' "$work/example_as_cpp"
 run 'example: build' cc -std=c99 -pedantic "${flags[@]}" "$top/c/example.c" -L"$top/c/out" -lnushbaret -Wl,-rpath,"$top/c/out" -o "$work/example"
 shows 'example' "$work/example"
 
-if type -P aarch64-linux-gnu-gcc qemu-aarch64 > /dev/null; then
-    "$top/c/build.sh" "$@" --target aarch64
+if ! type -P aarch64-linux-gnu-gcc qemu-aarch64 > /dev/null; then
+    ran="$ran; not on ARM: no aarch64-linux-gnu-gcc or qemu-aarch64"
+elif [ "${1-}" = built ] && [ ! -e "$top/c/out/aarch64/libnushbaret.a" ]; then
+    ran="$ran; not on ARM: c/build.sh --target aarch64 hasn't run"
+else
+    [ "${1-}" = built ] || "$top/c/build.sh" "$@" --target aarch64
     on_arm
     ran="$ran, on ARM under qemu"
-else
-    ran="$ran; not on ARM (no aarch64-linux-gnu-gcc or qemu-aarch64)"
 fi
 echo "door: $ran"
 [ "$failed" = 0 ]
