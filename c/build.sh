@@ -73,8 +73,8 @@ while [ $# -gt 0 ]; do
 done
 cc=cc
 [ -z "$tools" ] || cc=${tools}gcc
-type -P rt > /dev/null || stop "the Rattle kit isn't on the path (docs/RATTLE.md)"
 type -P "$cc" > /dev/null || stop "$cc isn't here${tools:+: Debian has it in gcc-aarch64-linux-gnu}"
+type -P rt > /dev/null || stop "the Rattle kit isn't on the path (docs/RATTLE.md)"
 kit=$(dirname "$(rt doc)")
 log=$(mktemp)
 trap 'rm -f "$log"' EXIT

@@ -43,6 +43,11 @@ on_arm() {
     shows 'example for ARM' qemu-aarch64 -L "$(dirname "$(dirname "$("$cc" -print-file-name=libc.so.6)")")" "$work/example_on_arm"
 }
 
+# Without the compiler for ARM the build says in one sentence where it is.
+asks_for_its_compiler() {
+    [ "$("$top/c/build.sh" --target aarch64 2>&1)" = "c/build.sh: aarch64-linux-gnu-gcc isn't here: Debian has it in gcc-aarch64-linux-gnu" ]
+}
+
 [ "${1-}" = built ] || "$top/c/build.sh" "$@"
 archive=$top/c/out/libnushbaret.a
 run header python3 "$top/tests/door/header.py"
@@ -67,8 +72,11 @@ run 'example in C++' "$work/example_as_cpp"
 run 'example: build' cc -std=c99 -pedantic "${flags[@]}" "$top/c/example.c" -L"$top/c/out" -lnushbaret -Wl,-rpath,"$top/c/out" -o "$work/example"
 shows 'example' "$work/example"
 
-if ! type -P aarch64-linux-gnu-gcc qemu-aarch64 > /dev/null; then
-    ran="$ran; not on ARM: no aarch64-linux-gnu-gcc or qemu-aarch64"
+if ! type -P aarch64-linux-gnu-gcc > /dev/null; then
+    run 'no compiler for ARM' asks_for_its_compiler
+    ran="$ran; not on ARM: no aarch64-linux-gnu-gcc"
+elif ! type -P qemu-aarch64 > /dev/null; then
+    ran="$ran; not on ARM: no qemu-aarch64"
 elif [ "${1-}" = built ] && [ ! -e "$top/c/out/aarch64/libnushbaret.a" ]; then
     ran="$ran; not on ARM: c/build.sh --target aarch64 hasn't run"
 else
