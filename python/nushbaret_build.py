@@ -45,7 +45,7 @@ def _library():
     """The library for the machine that the wheel is for."""
     found = re.fullmatch(r"(?:linux|manylinux2014)[-_](\w+)", PLATFORM)
     if found is None or found[1] not in LIBRARIES:
-        raise SystemExit(f"nushbaret runs on Linux for x86-64 and for 64-bit ARM, and this is {PLATFORM}: use a container of Linux there")
+        raise SystemExit(f"nushbaret runs on Linux for x86-64 and for 64-bit ARM, and this is {PLATFORM}: use a Linux container there")
     place, words = LIBRARIES[found[1]]
     for file in (PACKAGE / NAME, place):
         if file.exists():

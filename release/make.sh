@@ -98,7 +98,7 @@ look_at_the_library() {
     done
     soname=$(readelf -d "$library.so" | sed -n 's/.*(SONAME).*\[\(.*\)\]/\1/p')
     [ "$soname" = "libnushbaret.so.$major" ] || stop "the SONAME of ${library#"$top"/}.so is '$soname', not libnushbaret.so.$major: run c/build.sh$words"
-    readelf -h "$library.so" | sed 's/X86-64/x86_64/; s/AArch64/aarch64/' | grep -q "Machine:.*$machine" || stop "${library#"$top"/}.so is for another machine"
+    readelf -h "$library.so" | sed 's/X86-64/x86_64/; s/AArch64/aarch64/' | grep "Machine:.*$machine" > /dev/null || stop "${library#"$top"/}.so is for another machine"
     needs_only "$library.so" "$library_glibc"
 }
 

@@ -62,7 +62,7 @@ without_kit() {
 library() {
     local newest
     if has readelf; then
-        readelf -h "$1" | grep -q "Machine:.*$2" || fail "$1 is for another machine than $2"
+        readelf -h "$1" | grep "Machine:.*$2" > /dev/null
         newest=$(printf '%s\n' 2.17 $(readelf -W --dyn-syms "$1" | grep -o 'GLIBC_[0-9.]*' | cut -d _ -f 2) | sort -V | tail -n 1)
         [ "$newest" = 2.17 ] || fail "$1 needs glibc $newest"
     fi
