@@ -2,7 +2,7 @@
 import operator
 from collections import Counter
 from functools import cached_property
-from typing import Any, Dict, List, NamedTuple, Optional, Sequence, Tuple
+from typing import Any, Collection, Dict, List, NamedTuple, Optional, Tuple
 
 from ._checking import problem_of
 from ._exact import manner
@@ -148,7 +148,7 @@ def missing(bounds: List[Bounds], had: Dict[int, int]) -> Dict[int, int]:
     return {number: bound.least - had.get(number, 0) for number, bound in enumerate(bounds) if had.get(number, 0) < bound.least}
 
 
-def planned(counted: Counted, partial: bool, kept: Optional[Sequence[Pair]] = None) -> Tuple[List[Lack], Optional[List[Pair]]]:
+def planned(counted: Counted, partial: bool, kept: Optional[Collection[Pair]] = None) -> Tuple[List[Lack], Optional[List[Pair]]]:
     """What is short, and the pairs of a best plan: None where something is short and the plan may not be partial."""
     trimmed(counted)
     lacks, served = lacks_of(counted)

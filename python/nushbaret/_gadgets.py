@@ -325,9 +325,17 @@ def best_pairs(counted: Counted, served: Optional[Served] = None, kept: Optional
         if kept is not None and not broken:
             pairs = _fewest_changes(counted, nodes, result, kept)
             broken = _broken(counted, pairs)
+        if not broken and sum_of(counted, pairs) != result.cost:
+            raise RuntimeError("a plan was found to be as good as the best, and isn't")
         if not broken:
             return pairs
         builder.add(broken)
+
+
+def sum_of(counted: Counted, pairs: Collection[Pair]) -> int:
+    """What pairs cost together."""
+    own = set(pairs)
+    return sum(cost for row, column, cost in zip(counted.rows, counted.columns, counted.costs) if (row, column) in own)
 
 
 def _fewest_changes(counted: Counted, nodes: Nodes, result: Any, kept: Collection[Pair]) -> List[Pair]:

@@ -304,10 +304,20 @@ class Costs:
 Read = Tuple[Tuple[str, str, str], Names, Names, Numbers, Numbers]
 
 
+class Groups(NamedTuple):
+    """Groups of objects of which nobody takes two: their title, their names in the order of the file, and the group of each object that is
+    in one."""
+
+    title: str
+    names: List[str]
+    of_objects: Dict[int, int]
+
+
 class Roster(NamedTuple):
     """A problem by names. Pair k is of `persons[of_persons[k]]` and `objects[of_objects[k]]`, no pair twice; `costs[k]` is in
     units of 10^-decimals. `titles` are the words for a person, an object and a cost. `tasks` and `places` say of persons and of
-    objects how many they take, where it isn't one; None where nothing was said. `rounded` says whether any cost was changed by
+    objects how many they take at most, where it isn't one; None where nothing was said. Where bounds alone decide, `least` says of persons
+    and of objects how many they take at least, where it isn't 0. `rounded` says whether any cost was changed by
     rounding, `has_bom` whether the file began with a BOM, and `is_matrix` whether it is a matrix."""
 
     persons: List[str]
@@ -326,6 +336,13 @@ class Roster(NamedTuple):
     rounded: bool = False
     has_bom: bool = False
     is_matrix: bool = False
+    least: Optional[Tuple[Dict[int, int], Dict[int, int]]] = None
+    groups: Optional[Groups] = None
+
+    @property
+    def ruled(self) -> bool:
+        """Whether names may count several times, or there are groups."""
+        return self.counts or self.groups is not None
 
     @property
     def counts(self) -> bool:
