@@ -13,7 +13,8 @@ from typing import List, Optional, Sequence
 from ._answer import Answer, Plan, Wish, answer_of, listed
 from ._files import OutputFault, refuse_existing, write_file
 from ._page import page
-from ._roster import OldPlan, PlanLine, Roster, RosterFault, quoted, read_counts, read_old_plan, read_plan, read_roster
+from ._roster import OldPlan, PlanLine, Roster, read_counts, read_old_plan, read_plan, read_roster
+from ._sheets import RosterFault, quoted
 from ._texts import as_csv, as_json, first_lines, printed, read_lines
 from ._words import Options, read_words
 
