@@ -1,11 +1,13 @@
 """Answers by names: the plan of a roster, or who is short of what."""
+from array import array
 from collections import Counter
 from typing import Any, Dict, List, NamedTuple, Optional, Sequence, Set, Tuple
 
 from ._infeasible import Group, Infeasible
-from ._nodes import Listed, Nodes, Swap, changed, face_of, fewest_changes, least_costs, next_best_more, nodes_of, swaps_of
+from ._nodes import (Listed, Nodes, Swap, changed, face_of, fewest_changes, is_only_one, least_costs, next_best_more, nodes_of, solved,
+                     swaps_of)
+from ._library import Numbers
 from ._roster import PlanLine, Roster
-from ._solving import solve_sparse
 
 MOST_NAMES_SHOWN = 20
 
@@ -35,8 +37,9 @@ class Short(NamedTuple):
 
 class Plan(NamedTuple):
     """Pairs in the order of the persons, their cost, who and what gets less than it should, and the rent of each object that isn't
-    fixed, where nobody counts several times. Costs and rents are in the roster's units. `swaps` are the groups that could change places
-    at no cost, none where changes are weighed; `next_cost` is that of the best other plan, where it was asked for and there is one."""
+    fixed, where nobody counts several times. Costs and rents are in the roster's units. `is_only_one` says that no other plan is
+    as good; where others were asked for, `swaps` are the groups that could change places at no cost, and `next_cost` is that of the best
+    other plan, if it costs more. Where changes are weighed nothing is said of others."""
 
     pairs: List[Pair]
     cost: int
@@ -44,6 +47,7 @@ class Plan(NamedTuple):
     unused: List[int]
     rents: Dict[int, int]
     swaps: Sequence[Swap] = ()
+    is_only_one: bool = True
     next_cost: Optional[int] = None
 
 
@@ -75,10 +79,10 @@ def nodes_around(roster: Roster, fixed: Sequence[PlanLine]) -> Nodes:
         tasks[pair.person] -= 1
         places[pair.object] -= 1
     if not fixed:
-        return nodes_of(Listed(tasks, places, roster.of_persons, roster.of_objects, roster.costs))
+        return nodes_of(Listed(tasks, places, roster.of_persons, roster.of_objects, roster.costs, roster.by_persons, roster.is_full))
     taken = {(pair.person, pair.object) for pair in fixed}
     triples = [triple for triple in zip(roster.of_persons, roster.of_objects, roster.costs) if triple[:2] not in taken]
-    persons, objects, costs = zip(*triples) if triples else ((), (), ())
+    persons, objects, costs = (array(kind, [triple[place] for triple in triples]) for place, kind in enumerate("HHq"))
     return nodes_of(Listed(tasks, places, persons, objects, costs))
 
 
@@ -89,19 +93,15 @@ def answer_of(roster: Roster, wish: Wish) -> Answer:
     if wish.kept is not None and wish.change:
         costs = changed(costs, nodes.edges, wish.kept, wish.change)
     try:
-        return Answer(_plan(roster, wish, nodes, costs, _solved(nodes, costs, False)), [])
+        return Answer(_plan(roster, wish, nodes, costs, solved(nodes, costs, False)), [])
     except Infeasible as found:
         groups = shortages(nodes, found)
     if not wish.fullest:
         return Answer(None, groups)
-    return Answer(_plan(roster, wish, nodes, costs, _solved(nodes, costs, True)), groups)
+    return Answer(_plan(roster, wish, nodes, costs, solved(nodes, costs, True)), groups)
 
 
-def _solved(nodes: Nodes, costs: List[int], fullest: bool) -> Any:
-    return solve_sparse(len(nodes.of_rows), len(nodes.of_columns), nodes.rows, nodes.columns, costs, partial=fullest)
-
-
-def _plan(roster: Roster, wish: Wish, nodes: Nodes, costs: List[int], result: Any) -> Plan:
+def _plan(roster: Roster, wish: Wish, nodes: Nodes, costs: Numbers, result: Any) -> Plan:
     rents = {} if roster.counts else dict(zip(nodes.of_columns, result._rents))
     if wish.kept is not None and wish.change is not None:
         return plan_of(roster, wish.fixed, nodes.pairs(result.rows, result.columns), rents)
@@ -112,16 +112,18 @@ def _plan(roster: Roster, wish: Wish, nodes: Nodes, costs: List[int], result: An
         plan = plan_of(roster, wish.fixed, chosen, rents)
         if (len(plan.pairs), plan.cost) != (len(best.pairs), best.cost):
             raise RuntimeError("a plan with fewest changes was found to be as good as the best, and isn't")
+    if not wish.others:
+        return plan._replace(is_only_one=is_only_one(nodes, face, chosen))
     plan = plan._replace(swaps=swaps_of(nodes, face, chosen))
-    if plan.swaps or not wish.others:
-        return plan
+    if plan.swaps:
+        return plan._replace(is_only_one=False)
     more = _more(roster, nodes, costs, chosen, result)
     if more == 0:
         raise RuntimeError("no other plan was found to be as good, and then one was")
     return plan if more is None else plan._replace(next_cost=plan.cost + more * (-1 if wish.maximize else 1))
 
 
-def _more(roster: Roster, nodes: Nodes, costs: List[int], chosen: List[Tuple[int, int]], result: Any) -> Optional[int]:
+def _more(roster: Roster, nodes: Nodes, costs: Numbers, chosen: List[Tuple[int, int]], result: Any) -> Optional[int]:
     """How much worse the best other plan is. Nodes of one name are alike, and a plan in which they change is no other one."""
     if roster.counts:
         return next_best_more(nodes, costs, chosen)

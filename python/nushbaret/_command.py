@@ -15,7 +15,8 @@ from ._by_counts import answer_by_counts, missing_of
 from ._files import OutputFault, refuse_existing, write_file
 from ._groups import read_counts, read_groups, refuse_two_of_a_group, with_rules
 from ._page import page
-from ._roster import OldPlan, PlanLine, Roster, RosterFault, quoted, read_old_plan, read_plan, read_roster
+from ._roster import OldPlan, PlanLine, Roster, read_old_plan, read_plan, read_roster
+from ._sheets import RosterFault, quoted
 from ._texts import as_csv, as_json, first_lines, printed, read_lines
 from ._words import Options, read_words
 

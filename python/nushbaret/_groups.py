@@ -4,7 +4,8 @@ from typing import Dict, Iterator, List, NamedTuple, Optional, Sequence, Tuple
 
 from ._gadgets import Bounds
 from ._library import MOST_PERSONS
-from ._roster import Groups, PlanLine, Roster, RosterFault, Sheet, looks_like_number, quoted
+from ._roster import Groups, PlanLine, Roster, _known, looks_like_number
+from ._sheets import RosterFault, Sheet, quoted
 
 
 class Counts(NamedTuple):
@@ -30,7 +31,7 @@ def read_counts(path: str, roster: Roster, of_objects: bool) -> Counts:
     bounds: Dict[int, Bounds] = {}
     are_ranges = False
     for line, cells in _lines(sheet, len(title)):
-        number = _known(sheet, roster, cells[0], line, of_objects)
+        number = _known(sheet, roster, cells[0], line, 2 if of_objects else 1, 1)
         if number in bounds:
             sheet.refuse(f"the name {quoted(cells[0])} a second time", line, 1)
         least = _count(sheet, cells[1], line, 2)
@@ -58,15 +59,6 @@ def _count(sheet: Sheet, cell: str, line: int, column: int) -> int:
     return int(cell)
 
 
-def _known(sheet: Sheet, roster: Roster, cell: str, line: int, of_objects: bool) -> int:
-    """The number of a name that the roster must have."""
-    name = sheet.name(cell, line, 1)
-    numbers = roster.object_numbers if of_objects else roster.person_numbers
-    if name not in numbers:
-        sheet.refuse(f"the roster has no {'object' if of_objects else 'person'} {quoted(name)}", line, 1)
-    return numbers[name]
-
-
 def read_groups(path: str, roster: Roster) -> Groups:
     """Reads groups of objects of which nobody takes two: a title line, and lines of an object and its group.
 
@@ -82,7 +74,7 @@ def read_groups(path: str, roster: Roster) -> Groups:
     groups = Groups(title[1], [], {})
     lines: Dict[int, int] = {}
     for line, cells in sheet.body(len(title)):
-        object_ = _known(sheet, roster, cells[0], line, True)
+        object_ = _known(sheet, roster, cells[0], line, 2, 1)
         name = sheet.name(cells[1], line, 2)
         if object_ in lines:
             where = f"in {groups.names[groups.of_objects[object_]]}, since line {lines[object_]}"

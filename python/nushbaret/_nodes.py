@@ -10,29 +10,52 @@ is in some best plan and not in all stands, as an arrow from the object to its p
 where it isn't, in a round of these arrows. What stays out is held by one vertex on each side.
 """
 from array import array
+from bisect import bisect_right
 from collections import Counter, deque
 from heapq import heappop, heappush
-from typing import Any, Collection, Dict, List, NamedTuple, Optional, Sequence, Set, Tuple
+from operator import add
+from typing import Any, Collection, Dict, Iterator, List, NamedTuple, Optional, Sequence, Set, Tuple, Union
 
-from ._library import MOST_PERSONS, Numbers
-from ._solving import solve_sparse
+from ._library import GREATEST_COST, MOST_PERSONS, Numbers
+from ._problem import Problem
+from ._solving import solve_problem, solve_sparse
 
 Pair = Tuple[int, int]
 
 
 class Listed(NamedTuple):
-    """What may be paired at which cost, and how often each person and each object counts."""
+    """What may be paired at which cost, and how often each person and each object counts. `by_rows` says that the pairs stand person by
+    person, and `is_full` that they are a whole matrix, in order."""
 
     tasks: List[int]
     places: List[int]
-    persons: Sequence[int]
-    objects: Sequence[int]
-    costs: Sequence[int]
+    persons: Numbers
+    objects: Numbers
+    costs: Numbers
+    by_rows: bool = False
+    is_full: bool = False
+
+
+class Edges(Sequence[Pair]):
+    """The pairs that edges choose where each node stands for a name."""
+
+    def __init__(self, rows: Sequence[int], columns: Sequence[int]):
+        self._rows, self._columns = rows, columns
+
+    def __len__(self) -> int:
+        return len(self._rows)
+
+    def __iter__(self) -> Iterator[Pair]:
+        return zip(self._rows, self._columns)
+
+    def __getitem__(self, edge: Any) -> Any:
+        return self._rows[edge], self._columns[edge]
 
 
 class Nodes(NamedTuple):
     """Rows and columns with the pairs among them. `of_rows[row]` is a person, and `of_columns[column]` an object, or below 0: ~k is
-    a node of its own of the pair `joined[k]`. `edges[k]` is the pair that edge k chooses, or NO_PAIR."""
+    a node of its own of the pair `joined[k]`. `edges[k]` is the pair that edge k chooses, or NO_PAIR. `by_rows` says that the edges
+    stand row by row, and `is_full` that they are a whole matrix, in order."""
 
     of_rows: List[int]
     of_columns: List[int]
@@ -40,7 +63,9 @@ class Nodes(NamedTuple):
     rows: Numbers
     columns: Numbers
     costs: Numbers
-    edges: List[Pair]
+    edges: Union[List[Pair], Edges]
+    by_rows: bool = False
+    is_full: bool = False
 
     def pairs(self, rows: Sequence[int], columns: Sequence[int]) -> List[Pair]:
         """The persons and objects that matched nodes stand for."""
@@ -82,9 +107,8 @@ def _judge(listed: Listed) -> None:
 def nodes_of(listed: Listed) -> Nodes:
     """The nodes of a problem; ValueError where they are too many."""
     if max(listed.tasks, default=0) <= 1 and max(listed.places, default=0) <= 1 and 0 not in listed.tasks + listed.places:
-        edges = list(zip(listed.persons, listed.objects))
-        return Nodes(list(range(len(listed.tasks))), list(range(len(listed.places))), [],
-                     array("q", listed.persons), array("q", listed.objects), array("q", listed.costs), edges)
+        return Nodes(list(range(len(listed.tasks))), list(range(len(listed.places))), [], listed.persons, listed.objects, listed.costs,
+                     Edges(listed.persons, listed.objects), listed.by_rows, listed.is_full)
     _judge(listed)
     of_rows, own_rows = _copies(listed.tasks)
     of_columns, own_columns = _copies(listed.places)
@@ -109,6 +133,7 @@ def _join(nodes: Nodes, pair: Pair, cost: int, own_rows: range, own_columns: ran
 
 def _add(nodes: Nodes, rows: range, columns: range, cost: int, pair: Pair) -> None:
     """Lists each of the rows with each of the columns."""
+    assert isinstance(nodes.edges, list)
     for row in rows:
         nodes.rows.extend([row] * len(columns))
         nodes.columns.extend(columns)
@@ -116,19 +141,32 @@ def _add(nodes: Nodes, rows: range, columns: range, cost: int, pair: Pair) -> No
         nodes.edges.extend([pair] * len(columns))
 
 
-def least_costs(nodes: Nodes, maximize: bool) -> List[int]:
+def least_costs(nodes: Nodes, maximize: bool) -> Numbers:
     """Costs of which the best plans have the least sum. Where pairs have nodes of their own, none is below 0: as every plan has as many
     pairs, the best ones stay the best, and a node of a pair gains nothing where its pair isn't made."""
-    costs = [-cost for cost in nodes.costs] if maximize else list(nodes.costs)
+    costs = array("q", map(int.__neg__, nodes.costs)) if maximize else nodes.costs
     if not nodes.joined:
         return costs
     least = min(cost for cost, edge in zip(costs, nodes.edges) if edge != NO_PAIR)
-    return [cost if edge == NO_PAIR else cost - least for cost, edge in zip(costs, nodes.edges)]
+    return array("q", (cost if edge == NO_PAIR else cost - least for cost, edge in zip(costs, nodes.edges)))
 
 
-def changed(costs: Sequence[int], edges: Sequence[Pair], kept: Collection[Pair], change: int) -> List[int]:
+def changed(costs: Sequence[int], edges: Sequence[Pair], kept: Collection[Pair], change: int) -> Numbers:
     """Costs with `change` more for each pair that isn't kept."""
-    return [cost if edge in kept or edge == NO_PAIR else cost + change for cost, edge in zip(costs, edges)]
+    return array("q", (cost if edge in kept or edge == NO_PAIR else cost + change for cost, edge in zip(costs, edges)))
+
+
+def solved(nodes: Nodes, costs: Numbers, fullest: bool) -> Any:
+    """The result of the problem of nodes, for these costs, which are to be least. ValueError where any is out of range."""
+    rows, columns = len(nodes.of_rows), len(nodes.of_columns)
+    if not isinstance(nodes.edges, Edges) or max(max(costs, default=0), -min(costs, default=0)) > GREATEST_COST:
+        return solve_sparse(rows, columns, nodes.rows, nodes.columns, costs, partial=fullest)
+    persons, objects = (None, None) if nodes.is_full else (_from_one(nodes.rows), _from_one(nodes.columns))
+    return solve_problem(Problem(rows, columns, False, costs, persons, objects, 0, False, None), None, fullest)
+
+
+def _from_one(numbers: Numbers) -> Numbers:
+    return array("H", [number + 1 for number in numbers])
 
 
 # All best plans: one with the fewest changes, and who could change places.
@@ -142,22 +180,38 @@ class Face(NamedTuple):
     columns: List[int]
 
 
-def face_of(nodes: Nodes, costs: List[int], result: Any) -> Face:
+def face_of(nodes: Nodes, costs: Numbers, result: Any) -> Face:
     """All plans as good as a result for these costs, which are to be least."""
     rents = result._rents
-    paid = [cost + rents[column] for cost, column in zip(costs, nodes.columns)]
     least: List[Optional[int]] = [None] * len(nodes.of_rows)
-    for row, cost in zip(nodes.rows, paid):
-        before = least[row]
-        least[row] = cost if before is None else min(before, cost)
+    lowest: List[List[int]] = [[] for _ in nodes.of_rows]
+    for row, edges, paid in _paid(nodes, costs, rents):
+        low = least[row] = min(paid)
+        lowest[row] = [edges[paid.index(low)]] if paid.count(low) == 1 else [edge for edge, cost in zip(edges, paid) if cost == low]
     out = [least[row] for row in result.unmatched_rows]
     bound = min((cost for cost in out if cost is not None), default=None)
-    held = [cost if bound is None or cost is None else min(cost, bound) for cost in least]
-    tight = [edge for edge, (row, cost) in enumerate(zip(nodes.rows, paid)) if cost == held[row]]
+    tight = [edge for low, own in zip(least, lowest) if low is not None and (bound is None or low <= bound) for edge in own]
     some_out = len(result.unmatched_rows) > 0
     rows = [row for row, cost in enumerate(least) if some_out and (cost is None or bound is None or cost >= bound)]
     spare = len(result.unmatched_columns) > 0
     return Face(tight, rows, [column for column in range(len(nodes.of_columns)) if spare and rents[column] == 0])
+
+
+def _paid(nodes: Nodes, costs: Numbers, rents: List[int]) -> Iterator[Tuple[int, Sequence[int], List[int]]]:
+    """The edges of each row that has any, and what they cost with the rents of their columns."""
+    if not nodes.by_rows:
+        own: Dict[int, List[int]] = {}
+        for edge, row in enumerate(nodes.rows):
+            own.setdefault(row, []).append(edge)
+        for row, edges in own.items():
+            yield row, edges, [costs[edge] + rents[nodes.columns[edge]] for edge in edges]
+        return
+    begin, end = 0, 0
+    for row in range(len(nodes.of_rows)):
+        begin, end = end, bisect_right(nodes.rows, row, end)
+        if begin < end:
+            own_rents = rents if nodes.is_full else map(rents.__getitem__, nodes.columns[begin:end])
+            yield row, range(begin, end), list(map(add, costs[begin:end], own_rents))
 
 
 def fewest_changes(nodes: Nodes, face: Face, result: Any, kept: Collection[Pair]) -> List[Pair]:
@@ -193,6 +247,23 @@ class Swap(NamedTuple):
 
 def swaps_of(nodes: Nodes, face: Face, chosen: List[Pair]) -> List[Swap]:
     """The groups that could change places, in the order of their first persons; none where the chosen plan is the only best one."""
+    pairs, first_object, part = _parts_of(nodes, face, chosen)
+    swaps: Dict[int, List[Pair]] = {}
+    for person, object_ in sorted(pairs):
+        if part[person] == part[first_object + object_]:
+            swaps.setdefault(part[person], []).append((person, object_))
+    return [Swap(group) for group in swaps.values()]
+
+
+def is_only_one(nodes: Nodes, face: Face, chosen: List[Pair]) -> bool:
+    """Whether the chosen plan is the only best one."""
+    pairs, first_object, part = _parts_of(nodes, face, chosen)
+    return not any(part[person] == part[first_object + object_] for person, object_ in pairs)
+
+
+def _parts_of(nodes: Nodes, face: Face, chosen: List[Pair]) -> Tuple[Set[Pair], int, List[int]]:
+    """The pairs that a best plan may have or not, as far as they themselves say; the vertex of the first object, and for each vertex
+    which others it depends on: two with the same number do."""
     tasks, places = Counter(nodes.of_rows), Counter(nodes.of_columns)
     first_object = max(tasks, default=0) + 1
     out = first_object + max(places, default=0) + 1
@@ -209,12 +280,7 @@ def swaps_of(nodes: Nodes, face: Face, chosen: List[Pair]) -> List[Swap]:
     for object_ in {nodes.of_columns[column] for column in face.columns if nodes.of_columns[column] >= 0}:
         leads[out + 1].append(first_object + object_)
         leads[first_object + object_] += [out + 1] if used[object_] < places[object_] else []
-    part = _parts(leads)
-    swaps: Dict[int, List[Pair]] = {}
-    for person, object_ in sorted(pairs):
-        if part[person] == part[first_object + object_]:
-            swaps.setdefault(part[person], []).append((person, object_))
-    return [Swap(group) for group in swaps.values()]
+    return pairs, first_object, _parts(leads)
 
 
 def _free_pairs(nodes: Nodes, face: Face) -> Set[Pair]:
@@ -283,7 +349,7 @@ class Changes(NamedTuple):
     out: int
 
 
-def _changes(nodes: Nodes, costs: List[int], chosen: List[Pair]) -> Changes:
+def _changes(nodes: Nodes, costs: Sequence[int], chosen: List[Pair]) -> Changes:
     tasks, places = Counter(nodes.of_rows), Counter(nodes.of_columns)
     first_object = max(tasks, default=0) + 1
     out = first_object + max(places, default=0) + 1
@@ -337,7 +403,7 @@ def _shortest_round(changes: Changes, potentials: List[int], person: int, most: 
     return most
 
 
-def next_best_more(nodes: Nodes, costs: List[int], chosen: List[Pair]) -> Optional[int]:
+def next_best_more(nodes: Nodes, costs: Sequence[int], chosen: List[Pair]) -> Optional[int]:
     """By how much the best other plan with as many pairs costs more than the chosen one, whose cost is to be least; None where there
     is no other plan. Two plans differ by rounds of changes, in each of which some person leaves an object."""
     changes = _changes(nodes, costs, chosen)

@@ -7,7 +7,8 @@ from typing import Dict, List, Optional
 from ._answer import MOST_NAMES_SHOWN, Answer, Pair, Plan, Short, counted, left_out, named, sentence
 from ._by_counts import missing_of
 from ._groups import order_of
-from ._roster import SEPARATORS, OldPlan, Roster, alike, decimal_text, quoted
+from ._roster import OldPlan, Roster, alike, decimal_text
+from ._sheets import SEPARATORS, quoted
 from ._words import Options
 
 FORMAT = 1
@@ -86,7 +87,7 @@ def outside(roster: Roster, plan: Plan) -> List[str]:
 def others(roster: Roster, plan: Plan, options: Options) -> List[str]:
     """That there are other best plans, and where it is asked for, who could change places or what the next best plan costs."""
     if not options.others:
-        is_shown = plan.swaps and not options.keep
+        is_shown = not plan.is_only_one and not options.keep
         return ["other plans are as good: --others shows who could change places"] if is_shown else []
     if plan.swaps:
         return [f"could change places at no cost: {named(swap.persons, roster.titles[0], roster.persons)} "

@@ -604,7 +604,7 @@ class Statuses(Runs):
         self.file("r.csv", SQUARE)
         with mock.patch.dict(library._calls, clear=True), mock.patch.object(library, "PLACES", ()):
             self.refused(4, "c/build.sh", "r.csv", "--output", "p.csv")
-        with mock.patch("nushbaret._answer.solve_sparse", side_effect=MemoryError):
+        with mock.patch("nushbaret._answer.solved", side_effect=MemoryError):
             self.refused(4, "memory refused", "r.csv", "--output", "p.csv")
 
     def program(self, *words, **options):
