@@ -3,6 +3,7 @@ from array import array
 from collections import Counter
 from typing import Any, Dict, List, NamedTuple, Optional, Sequence, Set, Tuple
 
+from ._groups import missing_of
 from ._infeasible import Group, Infeasible
 from ._nodes import (Listed, Nodes, Swap, changed, face_of, fewest_changes, is_only_one, least_costs, next_best_more, nodes_of, solved,
                      swaps_of)
@@ -193,12 +194,15 @@ class Out(NamedTuple):
 
 
 def left_out(roster: Roster, plan: Plan) -> List[Out]:
-    """Who gets less than it should, and what has places left, as far as there are any."""
+    """Who gets less than it should, and what has places left, as far as there are any; with bounds what misses its least count, and who
+    and what is in no pair."""
     had, used = Counter(pair.person for pair in plan.pairs), Counter(pair.object for pair in plan.pairs)
     by_bounds = roster.least is not None
     without = [_part_of(roster.persons[number], had[number], 1 if by_bounds else roster.tasks_of(number)) for number in plan.without]
     unused = [_part_of(roster.objects[number], used[number], 1 if by_bounds else roster.places_of(number)) for number in plan.unused]
-    return [out for out in (Out("without", 0, without), Out("unused", 1, unused)) if out.names]
+    outs = [Out("missing", side, [f"{missing.name}: {missing.had} of {missing.least}" for missing in missing_of(roster, plan.pairs)
+                                  if missing.side == side]) for side in (1, 0)]
+    return [out for out in (*outs, Out("without", 0, without), Out("unused", 1, unused)) if out.names]
 
 
 def _part_of(name: str, had: int, wanted: int) -> str:

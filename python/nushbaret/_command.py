@@ -11,9 +11,9 @@ import sys
 from typing import List, Optional, Sequence
 
 from ._answer import Answer, Plan, Wish, answer_of, listed
-from ._by_counts import answer_by_counts, missing_of
+from ._by_counts import answer_by_counts
 from ._files import OutputFault, refuse_existing, write_file
-from ._groups import read_counts, read_groups, refuse_two_of_a_group, with_rules
+from ._groups import missing_of, read_counts, read_groups, refuse_two_of_a_group, with_rules
 from ._page import page
 from ._roster import OldPlan, PlanLine, Roster, read_old_plan, read_plan, read_roster
 from ._sheets import RosterFault, quoted
@@ -169,8 +169,7 @@ def _judge_bounds(roster: Roster, hand: OldPlan, plan: Plan) -> None:
     own = missing_of(roster, hand.known)
     lack = [sum(missing.least - missing.had for missing in those) for those in (own, missing_of(roster, plan.pairs))]
     if lack[0] > lack[1]:
-        names = [f"{(roster.objects if missing.is_object else roster.persons)[missing.number]}: {missing.had} of {missing.least}"
-                 for missing in own]
+        names = [f"{missing.name}: {missing.had} of {missing.least}" for missing in own]
         raise RosterFault(hand.path, f"{lack[0]} too few, where {lack[1] or 'none'} must be: {listed(names, list(range(len(names))))}")
 
 

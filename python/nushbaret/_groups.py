@@ -1,6 +1,7 @@
 """Counts and groups of a roster: files that say how many each name takes, and of which objects nobody takes two."""
 import re
-from typing import Dict, Iterator, List, NamedTuple, Optional, Sequence, Tuple
+from collections import Counter
+from typing import Dict, Iterator, List, NamedTuple, Optional, Protocol, Sequence, Tuple
 
 from ._gadgets import Bounds
 from ._library import MOST_PERSONS
@@ -112,6 +113,16 @@ def refuse_two_of_a_group(path: str, roster: Roster, pairs: Sequence[PlanLine]) 
                               f"{roster.objects[before.object]}: two of {groups.title} {groups.names[group]}", pair.line)
 
 
+class Paired(Protocol):
+    """A person and an object, by number."""
+
+    @property
+    def person(self) -> int: ...
+
+    @property
+    def object(self) -> int: ...
+
+
 def order_of(roster: Roster) -> List[int]:
     """A rank for each object: by the groups in the order of their file, then those in none."""
     last = 0 if roster.groups is None else len(roster.groups.names)
@@ -121,3 +132,26 @@ def order_of(roster: Roster) -> List[int]:
     for rank, object_ in enumerate(order):
         ranks[object_] = rank
     return ranks
+
+
+class Missing(NamedTuple):
+    """A person (side 0) or an object (side 1) that has fewer than it must."""
+
+    side: int
+    name: str
+    number: int
+    had: int
+    least: int
+
+
+def missing_of(roster: Roster, pairs: Sequence[Paired]) -> List[Missing]:
+    """Which least counts are missed: of objects in the order of groups, then of persons. Without bounds none."""
+    if roster.least is None:
+        return []
+    ranks = order_of(roster)
+    had, used = Counter(pair.person for pair in pairs), Counter(pair.object for pair in pairs)
+    of_persons, of_objects = roster.least
+    objects = sorted((number for number, least in of_objects.items() if used[number] < least), key=ranks.__getitem__)
+    persons = sorted(number for number, least in of_persons.items() if had[number] < least)
+    return ([Missing(1, roster.objects[number], number, used[number], of_objects[number]) for number in objects]
+            + [Missing(0, roster.persons[number], number, had[number], of_persons[number]) for number in persons])

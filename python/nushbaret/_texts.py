@@ -5,8 +5,7 @@ import json
 from typing import Dict, List, Optional
 
 from ._answer import MOST_NAMES_SHOWN, Answer, Pair, Plan, Short, counted, left_out, named, sentence
-from ._by_counts import missing_of
-from ._groups import order_of
+from ._groups import missing_of, order_of
 from ._roster import OldPlan, Roster, alike, decimal_text
 from ._sheets import SEPARATORS, quoted
 from ._words import Options
@@ -77,11 +76,7 @@ def _times(roster: Roster, count: int) -> str:
 
 def outside(roster: Roster, plan: Plan) -> List[str]:
     """Who gets less than it should, and what has places left."""
-    lines = []
-    for missing in missing_of(roster, plan.pairs):
-        name = (roster.objects if missing.is_object else roster.persons)[missing.number]
-        lines.append(f"missing: {name}: {missing.had} of {missing.least}")
-    return lines + [f"{out.how}: {', '.join(out.names)}" for out in left_out(roster, plan)]
+    return [f"{out.how}: {', '.join(out.names)}" for out in left_out(roster, plan)]
 
 
 def others(roster: Roster, plan: Plan, options: Options) -> List[str]:
@@ -177,9 +172,8 @@ def as_json(roster: Roster, answer: Answer, lines: List[str], maximize: bool) ->
         content["cost"] = text(plan.cost)
         content["pairs"] = [_pair(roster, pair, text(pair.cost)) for pair in plan.pairs]
         if roster.least is not None:
-            content["missing"] = [
-                {"object" if missing.is_object else "person": (roster.objects if missing.is_object else roster.persons)[missing.number],
-                 "had": missing.had, "least": missing.least} for missing in missing_of(roster, plan.pairs)]
+            content["missing"] = [{("person", "object")[missing.side]: missing.name, "had": missing.had, "least": missing.least}
+                                  for missing in missing_of(roster, plan.pairs)]
         content["without"] = _names(roster.persons, plan.without)
         content["unused"] = _names(roster.objects, plan.unused)
         content["rents"] = {roster.objects[number]: text(rent) for number, rent in plan.rents.items()}

@@ -108,7 +108,8 @@ class Commands(Runs):
                 self.assertEqual(len(plan.get("short", [])) > 0, missed > 0)
                 if case.ranges:
                     self.assertEqual(sum(lack["least"] - lack["had"] for lack in plan["missing"]), missed)
-                    self.assertEqual(out.count("missing: "), len(plan["missing"]))
+                    self.assertEqual([f"{lack.get('object') or lack.get('person')}: {lack['had']} of {lack['least']}" for lack in plan["missing"]],
+                                     [name for line in out.splitlines() if line.startswith("missing: ") for name in line[9:].split(", ")])
                 if missed:
                     status, out, _ = self.run_words(*words)
                     self.assertEqual((status, len(out.splitlines())), (1, len(plan["short"])))
