@@ -4,7 +4,7 @@ from typing import List, Sequence, Tuple
 
 from ._answer import Answer, Pair, Plan, Short, Wish, plural
 from ._counts import planned
-from ._exchanges import exchanges_of, free_pairs, next_more
+from ._exchanges import Exchanges, exchanges_of, free_pairs, next_more
 from ._gadgets import Bounds, Counted, TooLarge
 from ._groups import order_of
 from ._lack import Lack
@@ -27,12 +27,15 @@ def answer_by_counts(roster: Roster, wish: Wish) -> Answer:
     plan = _plan(roster, wish.fixed, pairs)
     if wish.kept is not None and wish.change is not None:
         return Answer(plan, groups)
-    exchanges = exchanges_of(counted, pairs, bool(lacks))
-    plan = plan._replace(swaps=[Swap(those) for those in free_pairs(exchanges)])
-    more = next_more(exchanges) if wish.others and not plan.swaps else None
-    if more is not None:
-        plan = plan._replace(next_cost=plan.cost + more * (-1 if wish.maximize else 1))
-    return Answer(plan, groups)
+    return Answer(_with_others(plan, wish, exchanges_of(counted, pairs, bool(lacks))), groups)
+
+
+def _with_others(plan: Plan, wish: Wish, exchanges: Exchanges) -> Plan:
+    """The plan with what was asked for of others."""
+    swaps = [Swap(those) for those in free_pairs(exchanges)]
+    plan = plan._replace(swaps=swaps if wish.others else (), is_only_one=not swaps)
+    more = next_more(exchanges) if wish.others and not swaps else None
+    return plan if more is None else plan._replace(next_cost=plan.cost + more * (-1 if wish.maximize else 1))
 
 
 def counted_of(roster: Roster, wish: Wish) -> Counted:
