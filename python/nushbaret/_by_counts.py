@@ -85,7 +85,7 @@ def _short(roster: Roster, counted: Counted, lack: Lack, some_fixed: bool) -> Sh
     if not lack.of_columns:
         objects.update(column for unit, column in zip(counted.units(), counted.columns) if unit in once)
     sentence = sentence_of(roster, counted, lack)
-    return Short(persons, sorted(objects), lack.of_columns, lack.wanted, lack.had, [],
+    return Short(persons, sorted(objects), lack.of_columns, lack.wanted, lack.had,
                  "around the fixed pairs, " + sentence if some_fixed else sentence)
 
 

@@ -8,7 +8,7 @@ from heapq import heappop, heappush
 from typing import Dict, List, NamedTuple, Optional, Sequence, Set, Tuple
 
 from ._gadgets import Bounds, Counted, Pair, Unit
-from ._nodes import _parts, _potentials
+from ._graphs import potentials_of, strong_parts
 
 Arrows = List[Dict[int, int]]
 
@@ -36,7 +36,7 @@ def exchanges_of(counted: Counted, chosen: Sequence[Pair], is_partial: bool) -> 
         begin, end = (vertex, unit[0]) if unit in taken else (unit[0], vertex)
         arrows[begin][end] = 0
     _add_ends(arrows, counted, own, is_partial)
-    return Exchanges(arrows, n_rows, ends, own, _potentials(arrows))
+    return Exchanges(arrows, n_rows, ends, own, potentials_of(arrows))
 
 
 def _add_pairs(arrows: Arrows, counted: Counted, units: Dict[Unit, int], chosen: Set[Pair]) -> Dict[Pair, Tuple[int, int]]:
@@ -92,7 +92,7 @@ def free_pairs(exchanges: Exchanges) -> List[List[Pair]]:
     potentials = exchanges.potentials
     tight = [[end for end, cost in ends.items() if potentials[begin] + cost == potentials[end]]
              for begin, ends in enumerate(exchanges.arrows)]
-    part = _parts(tight)
+    part = strong_parts(tight)
     groups: Dict[int, List[Pair]] = {}
     for pair, (begin, end) in sorted(exchanges.ends.items()):
         begin, end = (end, begin) if pair in exchanges.chosen else (begin, end)

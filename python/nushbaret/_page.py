@@ -6,7 +6,7 @@ from typing import Dict, Iterator, List, NamedTuple, Optional, Sequence, Set, Tu
 
 from ._answer import Answer, Plan, counted, left_out
 from ._days import STYLE as DAYS_STYLE, by_days
-from ._groups import missing_of, order_of
+from ._groups import order_of
 from ._roster import Roster
 
 MOST_CELLS = 250_000

@@ -343,9 +343,9 @@ class NoPlans(Runs):
         self.file("r.csv", ",x,y\nAda,1,1\nBen,1,1\n")
         roster = read_roster("r.csv", None, None, False)
         for short, wanted in (
-                (Short([0, 1], [], False, 2, 0, []), "2 people (Ada, Ben) can take no object: allow each one, or leave them out"),
-                (Short([], [0, 1], True, 2, 0, []), "2 objects (x, y) can go to no person: allow each to somebody, or leave them open"),
-                (Short([0, 1, 1], [0], False, 3, 1, []), "3 people (Ada, Ben, Ben) can take only 1 object between them (x): "
+                (Short([0, 1], [], False, 2, 0), "2 people (Ada, Ben) can take no object: allow each one, or leave them out"),
+                (Short([], [0, 1], True, 2, 0), "2 objects (x, y) can go to no person: allow each to somebody, or leave them open"),
+                (Short([0, 1, 1], [0], False, 3, 1), "3 people (Ada, Ben, Ben) can take only 1 object between them (x): "
                  "allow 2 of them another, or leave 2 out")):
             self.assertEqual(sentence(roster, short, False), wanted)
 
