@@ -70,7 +70,8 @@ def _run(options: Options) -> int:
     roster = _read(options)
     fixed = _read_fixed(options.fixed, roster) if options.fixed else []
     hand = read_hand(options.compare, roster, fixed) if options.compare else None
-    kept = read_old_plan(options.keep, roster) if options.keep else None
+    # Counts may have changed since an earlier plan: what of it can't be any more is changed.
+    kept = read_old_plan(options.keep, roster, not roster.ruled) if options.keep else None
     pairs = None if kept is None else {(pair.person, pair.object) for pair in kept.known}
     wish = Wish(fixed, options.max, options.as_many_as_can, pairs, _change_cost(options.change_cost, roster), options.others)
     try:

@@ -380,10 +380,10 @@ class OldPlan(NamedTuple):
     forbidden: List[Tuple[int, int, int]]
 
 
-def read_old_plan(path: str, roster: Roster) -> OldPlan:
+def read_old_plan(path: str, roster: Roster, by_counts: bool = True) -> OldPlan:
     """Reads an earlier plan, a CSV file as `read_plan` reads it or a plan in JSON. Its names may be gone, and its pairs forbidden.
 
-    Raises `RosterFault` for the first name that stands more often than it may.
+    Raises `RosterFault` for the first name that stands more often than it may, if counts are to be kept, and for a pair that stands twice.
     """
     if os.path.splitext(path)[1].lower() == ".json":
         named = _plan_of_json(path)
@@ -397,7 +397,7 @@ def read_old_plan(path: str, roster: Roster) -> OldPlan:
         gone.update({object_: None} if object_ not in roster.object_numbers else {})
         if person in roster.person_numbers and object_ in roster.object_numbers:
             places.append((roster.person_numbers[person], roster.object_numbers[object_], line))
-    _refuse_twice(path, roster, places)
+    _refuse_twice(path, roster, places, by_counts)
     costs = roster.costs_of({(person, object_) for person, object_, _ in places})
     known = [PlanLine(person, object_, line, costs[person, object_]) for person, object_, line in places if (person, object_) in costs]
     return OldPlan(path, [(person, object_) for person, object_, _ in named], known, list(gone),
@@ -436,10 +436,10 @@ def _known(sheet: Sheet, roster: Roster, cell: str, line: int, side: int, column
     return numbers[name]
 
 
-def _refuse_twice(place: Union[Sheet, str], roster: Roster, places: List[Tuple[int, int, int]]) -> None:
-    """Refuses a name that stands more often than it may, and a pair that stands twice."""
+def _refuse_twice(place: Union[Sheet, str], roster: Roster, places: List[Tuple[int, int, int]], by_counts: bool = True) -> None:
+    """Refuses a name that stands more often than it may, if counts are to be kept, and a pair that stands twice."""
     path = place if isinstance(place, str) else place.path
-    for column, names, most in ((1, roster.persons, roster.tasks_of), (2, roster.objects, roster.places_of)):
+    for column, names, most in ((1, roster.persons, roster.tasks_of), (2, roster.objects, roster.places_of)) if by_counts else ():
         lines: Dict[int, List[int]] = {}
         for found in places:
             number = found[column - 1]

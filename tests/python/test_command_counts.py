@@ -68,6 +68,8 @@ class Week(Runs):
     def test_keep_fixed_and_compare(self):
         self.file("k.csv", "a,b\nAda,late Mon\nBen,early Mon\nCleo,early Tue\n")
         self.assertIn("k.csv: 2 of 3 pairs changed\n", self.run_words(*RULES, "--keep", "k.csv")[1])
+        self.file("sick.csv", TASKS.replace("Ben,1,3", "Ben,0,0"))
+        self.assertIn("k.csv: 1 of 3 pairs changed\n  Ada: early Mon\n", self.run_words("r.csv", *RULES[1:3], "--tasks", "sick.csv", "--keep", "k.csv")[1])
         self.assertIn("k.csv: 0 of 3 pairs changed\n", self.run_words(*RULES, "--keep", "k.csv", "--change-cost", "2")[1])
         self.expect(0, "least hours: 5\nAda: late Mon, 2 (fixed)\nBen: early Mon, 2 (fixed)\nCleo: early Tue, 1 (fixed)\nat early Tue: Cleo\n"
                     "at early Mon: Ben\nat late Mon: Ada\nunused: office\n", "", *RULES, "--fixed", "k.csv")

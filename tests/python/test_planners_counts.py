@@ -206,10 +206,10 @@ class Sentences(unittest.TestCase):
         """The greatest counts of persons and objects, and what persons have at most once."""
         found = {"p": {}, "o": {}, "once": set()}
         for part in filter(None, text.split("; ")):
-            count = re.fullmatch(r"((?:[po]\d+(?:, )?)+) at most (\d+)(?: each)?", part)
+            count = re.fullmatch(r"((?:[po]\d+(?:, )?)+) (?:none|at most (\d+)(?: each)?)", part)
             if count:
                 for letter, number in re.findall(r"([po])(\d+)", count[1]):
-                    found[letter][int(number)] = int(count[2])
+                    found[letter][int(number)] = int(count[2] or 0)
                 continue
             once = re.fullmatch(r"((?:p\d+(?:, )?)+) (?:once|at most one)(?: each)? (?:at|of day|of every day|at each of) \(?((?:[og]\d+(?:, )?)+)\)?",
                                 part)
