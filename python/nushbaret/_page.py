@@ -5,6 +5,8 @@ from itertools import product
 from typing import Dict, Iterator, List, NamedTuple, Optional, Sequence, Set, Tuple
 
 from ._answer import Answer, Plan, counted, left_out
+from ._days import STYLE as DAYS_STYLE, by_days
+from ._groups import order_of
 from ._roster import Roster
 
 MOST_CELLS = 250_000
@@ -72,16 +74,20 @@ class Frame(NamedTuple):
 
 def frame_of(roster: Roster, answer: Answer) -> Frame:
     """The short groups first, so that each one's cells stand in one block; then all others, or those in pairs where all are too many.
-    Who can have nothing at all has the whole row framed, or the whole column."""
-    persons = [number for short in answer.groups for number in short.persons]
-    objects = [number for short in answer.groups for number in short.objects]
+    Who can have nothing at all has the whole row framed, or the whole column. Groups that share names aren't framed."""
+    persons = list(dict.fromkeys(number for short in answer.groups for number in short.persons))
+    objects = list(dict.fromkeys(number for short in answer.groups for number in short.objects))
     other_persons, other_objects = _others(roster, answer, set(persons), set(objects))
-    if not roster.is_matrix:
+    if roster.groups is not None:
+        other_objects.sort(key=order_of(roster).__getitem__)
+    elif not roster.is_matrix:
         other_objects.sort(key=lambda number: natural(roster.objects[number]))
     rows, columns = len(persons) + len(other_persons), len(objects) + len(other_objects)
     blocks = []
     row = column = 0
-    for short in answer.groups:
+    are_apart = len(persons) == sum(len(short.persons) for short in answer.groups) and len(objects) == sum(
+        len(short.objects) for short in answer.groups)
+    for short in answer.groups if are_apart else ():
         below, after = row + len(short.persons), column + len(short.objects)
         if not short.objects:
             blocks.append(Block(row, below, 0, columns))
@@ -121,12 +127,12 @@ def _parts(roster: Roster, answer: Answer, heading: str, lines: List[str]) -> It
     yield (
         '<!DOCTYPE html>\n<html lang="en">\n<head>\n<meta charset="utf-8">\n'
         "<meta http-equiv=\"Content-Security-Policy\" content=\"default-src 'none'; style-src 'unsafe-inline'\">\n"
-        f"<title>{escape(heading)}</title>\n<style>{STYLE}{_shades()}</style>\n</head>\n<body>\n<h1>{escape(heading)}</h1>\n")
+        f"<title>{escape(heading)}</title>\n<style>{STYLE}{DAYS_STYLE}{_shades()}</style>\n</head>\n<body>\n<h1>{escape(heading)}</h1>\n")
     for place, line in enumerate(lines):
         kind = ' class="short"' if place < len(answer.groups) else ""
         yield f"<p{kind}>{escape(line)}</p>\n"
     if answer.plan is not None:
-        yield from _list(roster, answer.plan)
+        yield from by_days(roster, answer.plan) if roster.groups is not None else _list(roster, answer.plan)
         yield from _folded(roster, answer.plan)
     frame = frame_of(roster, answer)
     if len(frame.persons) * len(frame.objects) > MOST_CELLS:

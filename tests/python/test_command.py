@@ -210,7 +210,8 @@ class Plans(Runs):
         self.expect(0, "least cost: 12\nAda: day, 1; night, 5\nBen: night, 4\nCleo: night, 2\nat night: Ada, Ben, Cleo\n", "",
                     "r.csv", "--places", "c.csv", "--tasks", "t.csv")
         self.file("t.csv", "nurse,tasks\nAda,3\nBen,0\nCleo,0\nDan,0\n")
-        self.expect(1, "1 person (Ada) needs 3, and no more than 2 can be had (day, night once): 1 too few\n"
+        self.expect(1, "Ada must take 3 objects, and can take at most 2: Ada once at each of day, night: allow others, or let Ada take one "
+                    "fewer\n"
                     "least cost of 2 pairs: 6\nAda: day, 1; night, 5\nat night: Ada\nwithout: Ada (2 of 3)\nunused: night (1 of 3)\n", "",
                     "r.csv", "--places", "c.csv", "--tasks", "t.csv", "--as-many-as-can")
         self.file("f.csv", "a,b\nAda,night\nBen,night\n")
@@ -239,7 +240,9 @@ class Plans(Runs):
                               ("a,b\nlate,8193\n", "c.csv, line 2, column 2: '8193' is no whole number"),
                               ("late,2\n", "c.csv, line 1, column 2: a title line must come first"),
                               ("late\n", "c.csv, line 1: each line must have a name and how many it takes"),
-                              ("a,b\nearly,8000\nlate,8000\n", "3 tasks and 16001 places need 16001 nodes")):
+                              ("a,b,c\nlate,1,x\n", "c.csv, line 2, column 3: 'x' is no whole number from 0 to 8192"),
+                              ("a,b,c\nlate,2,1\n", "c.csv, line 2, column 3: at least 2 and at most 1: the second number can't be less"),
+                              ("a,b\nlate,1,2,3\n", "c.csv, line 2: 4 cells, where a name and one or two numbers are needed")):
             self.file("c.csv", content)
             self.refused(3, text, "r.csv", "--places", "c.csv")
         self.file("c.csv", "a,b\nlate,1\n")
@@ -340,9 +343,9 @@ class NoPlans(Runs):
         self.file("r.csv", ",x,y\nAda,1,1\nBen,1,1\n")
         roster = read_roster("r.csv", None, None, False)
         for short, wanted in (
-                (Short([0, 1], [], False, 2, 0, []), "2 people (Ada, Ben) can take no object: allow each one, or leave them out"),
-                (Short([], [0, 1], True, 2, 0, []), "2 objects (x, y) can go to no person: allow each to somebody, or leave them open"),
-                (Short([0, 1, 1], [0], False, 3, 1, []), "3 people (Ada, Ben, Ben) can take only 1 object between them (x): "
+                (Short([0, 1], [], False, 2, 0), "2 people (Ada, Ben) can take no object: allow each one, or leave them out"),
+                (Short([], [0, 1], True, 2, 0), "2 objects (x, y) can go to no person: allow each to somebody, or leave them open"),
+                (Short([0, 1, 1], [0], False, 3, 1), "3 people (Ada, Ben, Ben) can take only 1 object between them (x): "
                  "allow 2 of them another, or leave 2 out")):
             self.assertEqual(sentence(roster, short, False), wanted)
 
@@ -601,7 +604,7 @@ class Statuses(Runs):
         self.file("r.csv", SQUARE)
         with mock.patch.dict(library._calls, clear=True), mock.patch.object(library, "PLACES", ()):
             self.refused(4, "c/build.sh", "r.csv", "--output", "p.csv")
-        with mock.patch("nushbaret._answer.solve_sparse", side_effect=MemoryError):
+        with mock.patch("nushbaret._answer.solved", side_effect=MemoryError):
             self.refused(4, "memory refused", "r.csv", "--output", "p.csv")
 
     def program(self, *words, **options):
