@@ -216,7 +216,7 @@ def read_roster(path: str, form: Optional[str], decimals: Optional[int], comma: 
     used, scaled = costs.scaled()
     return Roster(persons.list, objects.list, persons.numbers, objects.numbers, of_persons, of_objects, scaled,
                   used, titles, sheet.separator, comma, rounded=costs.rounded, has_bom=sheet.has_bom, is_matrix=is_matrix,
-                  by_persons=all(map(le, of_persons, islice(of_persons, 1, None))))
+                  by_persons=is_matrix or all(map(le, of_persons, islice(of_persons, 1, None))))
 
 
 def _may_be_lines(sheet: Sheet) -> bool:
@@ -247,9 +247,12 @@ def _read_lines(sheet: Sheet, costs: Costs) -> Read:
         sheet.refuse(f"a title line must come first, and {quoted(title[2])} is a number", line, 3)
     first, second, third = (sheet.name(cell, line, column) if cell else TITLES[column - 1] for column, cell in enumerate(title, 1))
     reading = Lines(sheet, costs)
-    for lines, columns in sheet.blocks(3):
-        if not reading.take_all(lines, *columns):
-            reading.take_each(lines, *columns)
+    try:
+        for lines, columns in sheet.blocks(3):
+            if not reading.take_all(lines, *columns):
+                reading.take_each(lines, *columns)
+    finally:
+        reading.refuse_twice()
     if not reading.of_persons:
         sheet.refuse("no line after the title", line)
     return (first, second, third), reading.persons, reading.objects, reading.of_persons, reading.of_objects
@@ -262,19 +265,15 @@ class Lines:
         self._sheet, self._costs = sheet, costs
         self.persons, self.objects = Names(sheet, "persons"), Names(sheet, "objects")
         self.of_persons, self.of_objects = array("H"), array("H")
-        self._pairs: Set[int] = set()
+        self._pairs = array("q")
 
     def take_all(self, lines: Sequence[int], persons: Sequence[str], objects: Sequence[str], costs: Sequence[str]) -> bool:
-        """Takes many lines in one go, if all names are known or plain and no pair stands twice. Otherwise takes none."""
+        """Takes many lines in one go, if all names are known or plain, and all costs are. Otherwise takes none."""
         of_persons = self.persons.known(persons)
         of_objects = None if of_persons is None else self.objects.known(objects)
-        if of_persons is None or of_objects is None:
+        if of_persons is None or of_objects is None or not self._costs.take_plain(costs, lines, repeat(3)):
             return False
-        pairs = set(map(add, map(mul, of_persons, repeat(MOST_PERSONS)), of_objects))
-        if len(pairs) < len(lines) or not self._pairs.isdisjoint(pairs):
-            return False
-        self._costs.take_all(costs, lines, repeat(3))
-        self._pairs |= pairs
+        self._pairs.extend(map(add, map(mul, of_persons, repeat(MOST_PERSONS)), of_objects))
         self.of_persons.extend(of_persons)
         self.of_objects.extend(of_objects)
         return True
@@ -286,23 +285,20 @@ class Lines:
             if not (person_name or object_name or cost):
                 continue
             person, object_ = self.persons.number(person_name, line, 1), self.objects.number(object_name, line, 2)
-            if _key(person, object_) in self._pairs:
-                before = self._line_of(person, object_)
-                self._sheet.refuse(f"the pair {person_name}, {object_name} a second time, after line {before}", line)
+            self._pairs.append(person * MOST_PERSONS + object_)
             self._costs.take(cost, line, 3)
-            self._pairs.add(_key(person, object_))
             self.of_persons.append(person)
             self.of_objects.append(object_)
 
-    def _line_of(self, person: int, object_: int) -> int:
-        """Where a pair stands first."""
-        return next(line for line, cells in self._sheet.body(3) if (person, object_) == (
-            self.persons.number(cells[0], line, 1), self.objects.number(cells[1], line, 2)))
-
-
-def _key(person: int, object_: int) -> int:
-    """One number for a pair."""
-    return person * MOST_PERSONS + object_
+    def refuse_twice(self) -> None:
+        """Refuses the first pair of those taken that stands twice."""
+        if len(set(self._pairs)) == len(self._pairs):
+            return
+        lines: Dict[int, int] = {}
+        for pair, (line, cells) in zip(self._pairs, self._sheet.body(3)):
+            before = lines.setdefault(pair, line)
+            if before != line:
+                self._sheet.refuse(f"the pair {cells[0]}, {cells[1]} a second time, after line {before}", line)
 
 
 def _read_matrix(sheet: Sheet, costs: Costs) -> Read:
@@ -315,11 +311,15 @@ def _read_matrix(sheet: Sheet, costs: Costs) -> Read:
     of_persons, of_objects = array("H"), array("H")
     for column, name in enumerate(title[1:], 2):
         objects.once(name, line, column)
-    all_objects = array("H", range(len(title) - 1))
+    all_objects, all_columns = array("H", range(len(title) - 1)), range(2, len(title) + 1)
     for line, cells in sheet.body(len(title)):
         person = persons.once(cells.pop(0), line, 1)
-        own = array("H", compress(all_objects, cells)) if "" in cells else all_objects
-        costs.take_all(list(filter(None, cells)), repeat(line), [object_ + 2 for object_ in own])
+        own = all_objects
+        columns: Sequence[int] = all_columns
+        if "" in cells:
+            own, columns = array("H", compress(all_objects, cells)), list(compress(all_columns, cells))
+            cells = list(filter(None, cells))
+        costs.take_all(cells, repeat(line), columns)
         of_persons.extend(array("H", (person,)) * len(own))
         of_objects.extend(own)
     if not persons.list:

@@ -15,7 +15,7 @@ WIDE_BOMS = (b"\xff\xfe", b"\xfe\xff")
 BOMS = (b"\xef\xbb\xbf", *WIDE_BOMS)
 SAVE = "save the sheet as 'CSV UTF-8'"
 # So many records, and letters of a text, are looked at in one go.
-BLOCK = 4096
+BLOCK = 1024
 PIECE = 2**20
 # str.splitlines ends a line here too.
 OTHER_ENDS = "\v\f\x1c\x1d\x1e\x85\u2028\u2029"
@@ -244,6 +244,10 @@ def _numbered(rows: List[List[str]], first: int, last: Optional[int]) -> Sequenc
 
 
 def _stripped(cells: List[str]) -> List[str]:
+    """A record without white space around its cells. Mostly the first alone has any inside."""
+    rest = "".join(cells[1:])
+    if rest.split(None, 1) == [rest]:
+        return [cells[0].strip(), *cells[1:]]
     return [cell.strip() for cell in cells]
 
 
