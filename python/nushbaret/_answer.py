@@ -23,7 +23,8 @@ class Pair(NamedTuple):
 
 class Short(NamedTuple):
     """Why there is no plan. Where `of_objects` is false these persons need `wanted` and can have no more than `had`, of these objects
-    alone, and of those in `once` one for each pair; where it is true it is the other way round."""
+    alone, and of those in `once` one for each pair; where it is true it is the other way round. `text` is the sentence that says so, where
+    it isn't `sentence` that does."""
 
     persons: List[int]
     objects: List[int]
@@ -31,6 +32,7 @@ class Short(NamedTuple):
     wanted: int
     had: int
     once: List[int]
+    text: str = ""
 
 
 class Plan(NamedTuple):
@@ -193,8 +195,9 @@ class Out(NamedTuple):
 def left_out(roster: Roster, plan: Plan) -> List[Out]:
     """Who gets less than it should, and what has places left, as far as there are any."""
     had, used = Counter(pair.person for pair in plan.pairs), Counter(pair.object for pair in plan.pairs)
-    without = [_part_of(roster.persons[number], had[number], roster.tasks_of(number)) for number in plan.without]
-    unused = [_part_of(roster.objects[number], used[number], roster.places_of(number)) for number in plan.unused]
+    by_bounds = roster.least is not None
+    without = [_part_of(roster.persons[number], had[number], 1 if by_bounds else roster.tasks_of(number)) for number in plan.without]
+    unused = [_part_of(roster.objects[number], used[number], 1 if by_bounds else roster.places_of(number)) for number in plan.unused]
     return [out for out in (Out("without", 0, without), Out("unused", 1, unused)) if out.names]
 
 
@@ -230,6 +233,8 @@ def listed(names: List[str], numbers: List[int]) -> str:
 def sentence(roster: Roster, short: Short, some_fixed: bool) -> str:
     """What a manager reads of a group that is short."""
     person, object_ = roster.titles[0], roster.titles[1]
+    if short.text:
+        return short.text
     if roster.counts:
         said = _sentence_of_counts(roster, short)
     elif short.of_objects:

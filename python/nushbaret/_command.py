@@ -11,9 +11,11 @@ import sys
 from typing import List, Optional, Sequence
 
 from ._answer import Answer, Plan, Wish, answer_of, listed
+from ._by_counts import answer_by_counts, missing_of
 from ._files import OutputFault, refuse_existing, write_file
+from ._groups import read_counts, read_groups, refuse_two_of_a_group, with_rules
 from ._page import page
-from ._roster import OldPlan, PlanLine, Roster, read_counts, read_old_plan, read_plan, read_roster
+from ._roster import OldPlan, PlanLine, Roster, read_old_plan, read_plan, read_roster
 from ._sheets import RosterFault, quoted
 from ._texts import as_csv, as_json, first_lines, printed, read_lines
 from ._words import Options, read_words
@@ -66,13 +68,13 @@ def _run(options: Options) -> int:
         if not options.force:
             refuse_existing(output.path)
     roster = _read(options)
-    fixed = read_plan(options.fixed, roster) if options.fixed else []
+    fixed = _read_fixed(options.fixed, roster) if options.fixed else []
     hand = read_hand(options.compare, roster, fixed) if options.compare else None
     kept = read_old_plan(options.keep, roster) if options.keep else None
     pairs = None if kept is None else {(pair.person, pair.object) for pair in kept.known}
     wish = Wish(fixed, options.max, options.as_many_as_can, pairs, _change_cost(options.change_cost, roster), options.others)
     try:
-        answer = answer_of(roster, wish)
+        answer = (answer_by_counts if roster.ruled else answer_of)(roster, wish)
     except ValueError as fault:
         raise RosterFault(options.roster, str(fault)) from fault
     if hand is not None and answer.plan is not None:
@@ -93,7 +95,13 @@ def _read(options: Options) -> Roster:
             print(line, file=sys.stderr)
     tasks = read_counts(options.tasks, roster, False) if options.tasks else None
     places = read_counts(options.places, roster, True) if options.places else None
-    return roster._replace(tasks=tasks, places=places)
+    return with_rules(roster, tasks, places, read_groups(options.groups, roster) if options.groups else None)
+
+
+def _read_fixed(path: str, roster: Roster) -> List[PlanLine]:
+    fixed = read_plan(path, roster)
+    refuse_two_of_a_group(path, roster, fixed)
+    return fixed
 
 
 def _name_gone(plan: Optional[OldPlan]) -> None:
@@ -133,6 +141,7 @@ def read_hand(path: str, roster: Roster, fixed: List[PlanLine]) -> OldPlan:
     hand = read_old_plan(path, roster)
     for person, object_, line in hand.forbidden:
         raise RosterFault(path, f"{roster.persons[person]}, {roster.objects[object_]} is a forbidden pair", line)
+    refuse_two_of_a_group(path, roster, hand.known)
     pairs = {(pair.person, pair.object) for pair in hand.known}
     for pair in fixed:
         if (pair.person, pair.object) not in pairs:
@@ -141,9 +150,12 @@ def read_hand(path: str, roster: Roster, fixed: List[PlanLine]) -> OldPlan:
 
 
 def judge_hand(roster: Roster, hand: OldPlan, plan: Plan) -> None:
-    """Refuses a plan made by hand that has fewer pairs than possible, unless names are gone: its cost can't be compared with that of a
-    whole plan."""
-    if hand.gone or len(hand.known) == len(plan.pairs):
+    """Refuses a plan made by hand that has fewer pairs than possible, or with bounds misses more, unless names are gone: its cost can't be
+    compared with that of a whole plan."""
+    if hand.gone or roster.least is None and len(hand.known) == len(plan.pairs):
+        return
+    if roster.least is not None:
+        _judge_bounds(roster, hand, plan)
         return
     missing = ""
     if not roster.counts:
@@ -151,6 +163,15 @@ def judge_hand(roster: Roster, hand: OldPlan, plan: Plan) -> None:
         had = {pair[side] for pair in hand.known}
         missing = ": none has " + listed(names, [number for number in range(len(names)) if number not in had])
     raise RosterFault(hand.path, f"{len(hand.known)} pairs, where {len(plan.pairs)} can be{missing}")
+
+
+def _judge_bounds(roster: Roster, hand: OldPlan, plan: Plan) -> None:
+    own = missing_of(roster, hand.known)
+    lack = [sum(missing.least - missing.had for missing in those) for those in (own, missing_of(roster, plan.pairs))]
+    if lack[0] > lack[1]:
+        names = [f"{(roster.objects if missing.is_object else roster.persons)[missing.number]}: {missing.had} of {missing.least}"
+                 for missing in own]
+        raise RosterFault(hand.path, f"{lack[0]} too few, where {lack[1] or 'none'} must be: {listed(names, list(range(len(names))))}")
 
 
 def write_outputs(roster: Roster, answer: Answer, lines: List[str], options: Options) -> List[str]:

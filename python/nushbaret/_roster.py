@@ -78,10 +78,20 @@ class Names:
 Read = Tuple[Tuple[str, str, str], Names, Names, Numbers, Numbers]
 
 
+class Groups(NamedTuple):
+    """Groups of objects of which nobody takes two: their title, their names in the order of the file, and the group of each object that is
+    in one."""
+
+    title: str
+    names: List[str]
+    of_objects: Dict[int, int]
+
+
 class Roster(NamedTuple):
     """A problem by names. Pair k is of `persons[of_persons[k]]` and `objects[of_objects[k]]`, no pair twice; `costs[k]` is in
     units of 10^-decimals. `titles` are the words for a person, an object and a cost. `tasks` and `places` say of persons and of
-    objects how many they take, where it isn't one; None where nothing was said. `rounded` says whether any cost was changed by
+    objects how many they take at most, where it isn't one; None where nothing was said. Where bounds alone decide, `least` says of persons
+    and of objects how many they take at least, where it isn't 0. `rounded` says whether any cost was changed by
     rounding, `has_bom` whether the file began with a BOM, `is_matrix` whether it is a matrix, and `by_persons`
     whether the pairs stand person by person."""
 
@@ -102,6 +112,13 @@ class Roster(NamedTuple):
     has_bom: bool = False
     is_matrix: bool = False
     by_persons: bool = False
+    least: Optional[Tuple[Dict[int, int], Dict[int, int]]] = None
+    groups: Optional[Groups] = None
+
+    @property
+    def ruled(self) -> bool:
+        """Whether names may count several times, or there are groups."""
+        return self.counts or self.groups is not None
 
     @property
     def counts(self) -> bool:
@@ -334,28 +351,6 @@ class PlanLine(NamedTuple):
     object: int
     line: int
     cost: int
-
-
-def read_counts(path: str, roster: Roster, of_objects: bool) -> Dict[int, int]:
-    """Reads how many each object, or each person, takes: a title line, and lines of a name and a whole number.
-
-    Raises `RosterFault` for the first name that the roster doesn't have or that stands twice, or count that is none from 0 to 8192.
-    """
-    sheet = Sheet(path)
-    line, title = sheet.title()
-    if len(title) < 2:
-        sheet.refuse("each line must have a name and how many it takes", line)
-    if looks_like_number(title[1]):
-        sheet.refuse(f"a title line must come first, and {quoted(title[1])} is a number", line, 2)
-    counts: Dict[int, int] = {}
-    for line, cells in sheet.body(len(title)):
-        number = _known(sheet, roster, cells[0], line, 2 if of_objects else 1, 1)
-        if number in counts:
-            sheet.refuse(f"the name {quoted(cells[0])} a second time", line, 1)
-        if re.fullmatch("[0-9]{1,9}", cells[1]) is None or int(cells[1]) > MOST_PERSONS:
-            sheet.refuse(f"{quoted(cells[1])} is no whole number from 0 to {MOST_PERSONS}", line, 2)
-        counts[number] = int(cells[1])
-    return counts
 
 
 def read_plan(path: str, roster: Roster) -> List[PlanLine]:

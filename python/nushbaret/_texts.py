@@ -4,7 +4,9 @@ import io
 import json
 from typing import Dict, List, Optional
 
-from ._answer import MOST_NAMES_SHOWN, Answer, Plan, counted, left_out, named, sentence
+from ._answer import MOST_NAMES_SHOWN, Answer, Pair, Plan, Short, counted, left_out, named, sentence
+from ._by_counts import missing_of
+from ._groups import order_of
 from ._roster import OldPlan, Roster, alike, decimal_text
 from ._sheets import SEPARATORS, quoted
 from ._words import Options
@@ -59,17 +61,27 @@ def rows_of(roster: Roster, plan: Plan) -> List[str]:
     for pair in plan.pairs:
         text = f"{roster.objects[pair.object]}, {roster.shown(pair.cost)}" + (" (fixed)" if pair.fixed else "")
         own.setdefault(pair.person, []).append(text)
-    lines = [f"{roster.persons[person]}: {'; '.join(texts)}" for person, texts in own.items()]
-    for object_ in range(len(roster.objects)):
+    lines = [f"{roster.persons[person]}{_times(roster, len(texts))}: {'; '.join(texts)}" for person, texts in own.items()]
+    ranks = order_of(roster)
+    for object_ in sorted(range(len(roster.objects)), key=ranks.__getitem__):
         who = [roster.persons[pair.person] for pair in plan.pairs if pair.object == object_] if roster.places_of(object_) > 1 else []
         if who:
-            lines.append(f"at {roster.objects[object_]}: {', '.join(who)}")
+            lines.append(f"at {roster.objects[object_]}{_times(roster, len(who))}: {', '.join(who)}")
     return lines
+
+
+def _times(roster: Roster, count: int) -> str:
+    """How often a name is used, where that isn't once and isn't what its count says."""
+    return f" ({count})" if count != 1 and (roster.least is not None or roster.groups is not None) else ""
 
 
 def outside(roster: Roster, plan: Plan) -> List[str]:
     """Who gets less than it should, and what has places left."""
-    return [f"{out.how}: {', '.join(out.names)}" for out in left_out(roster, plan)]
+    lines = []
+    for missing in missing_of(roster, plan.pairs):
+        name = (roster.objects if missing.is_object else roster.persons)[missing.number]
+        lines.append(f"missing: {name}: {missing.had} of {missing.least}")
+    return lines + [f"{out.how}: {', '.join(out.names)}" for out in left_out(roster, plan)]
 
 
 def others(roster: Roster, plan: Plan, options: Options) -> List[str]:
@@ -103,7 +115,7 @@ def compared(roster: Roster, plan: Plan, hand: OldPlan, maximize: bool) -> List[
     """By how much a plan made by hand is worse than the best, and where the two differ."""
     cost = sum(pair.cost for pair in hand.known)
     more = plan.cost - cost if maximize else cost - plan.cost
-    if len(hand.known) != len(plan.pairs):
+    if len(hand.known) != len(plan.pairs) and (hand.gone or roster.least is None):
         lines = [f"{hand.path}: {roster.shown(cost)} for {len(hand.known)} pairs that the roster allows, where {len(plan.pairs)} can be"]
     elif more == 0:
         lines = [f"{hand.path}: {roster.shown(cost)}, as good as the best"]
@@ -132,6 +144,25 @@ def _title_quoting(roster: Roster) -> int:
     return csv.QUOTE_ALL if any(mark in title for mark in SEPARATORS for title in roster.titles) else csv.QUOTE_MINIMAL
 
 
+def _names(names: List[str], numbers: List[int]) -> List[str]:
+    return [names[number] for number in numbers]
+
+
+def _short(roster: Roster, short: Short, line: str) -> Dict[str, object]:
+    """A group that is short; where names count, how many are needed and possible."""
+    counts: Dict[str, object] = {"needed": short.wanted, "possible": short.had} if roster.ruled else {}
+    names = {"persons": _names(roster.persons, short.persons), "objects": _names(roster.objects, short.objects)}
+    return {**names, **counts, "sentence": line}
+
+
+def _pair(roster: Roster, pair: Pair, cost: str) -> Dict[str, object]:
+    """A pair, and the group of its object, where it is in one."""
+    found: Dict[str, object] = {"person": roster.persons[pair.person], "object": roster.objects[pair.object], "cost": cost, "fixed": pair.fixed}
+    if roster.groups is not None and pair.object in roster.groups.of_objects:
+        found["group"] = roster.groups.names[roster.groups.of_objects[pair.object]]
+    return found
+
+
 def as_json(roster: Roster, answer: Answer, lines: List[str], maximize: bool) -> str:
     """All of the answer; numbers stand in quotes, exactly."""
     plan = answer.plan
@@ -141,16 +172,15 @@ def as_json(roster: Roster, answer: Answer, lines: List[str], maximize: bool) ->
 
     content: Dict[str, object] = {"format": FORMAT, "sense": "max" if maximize else "min"}
     if answer.groups:
-        content["short"] = [
-            {"persons": [roster.persons[number] for number in short.persons],
-             "objects": [roster.objects[number] for number in short.objects], "sentence": line}
-            for short, line in zip(answer.groups, lines)]
+        content["short"] = [_short(roster, short, line) for short, line in zip(answer.groups, lines)]
     if plan is not None:
         content["cost"] = text(plan.cost)
-        content["pairs"] = [
-            {"person": roster.persons[pair.person], "object": roster.objects[pair.object],
-             "cost": text(pair.cost), "fixed": pair.fixed} for pair in plan.pairs]
-        content["without"] = [roster.persons[number] for number in plan.without]
-        content["unused"] = [roster.objects[number] for number in plan.unused]
+        content["pairs"] = [_pair(roster, pair, text(pair.cost)) for pair in plan.pairs]
+        if roster.least is not None:
+            content["missing"] = [
+                {"object" if missing.is_object else "person": (roster.objects if missing.is_object else roster.persons)[missing.number],
+                 "had": missing.had, "least": missing.least} for missing in missing_of(roster, plan.pairs)]
+        content["without"] = _names(roster.persons, plan.without)
+        content["unused"] = _names(roster.objects, plan.unused)
         content["rents"] = {roster.objects[number]: text(rent) for number, rent in plan.rents.items()}
     return json.dumps(content, ensure_ascii=False, indent=1) + "\n"

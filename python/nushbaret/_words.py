@@ -52,6 +52,7 @@ class Options(NamedTuple):
     decimal_comma: bool
     places: Optional[str]
     tasks: Optional[str]
+    groups: Optional[str]
     max: bool
     fixed: Optional[str]
     as_many_as_can: bool
@@ -98,8 +99,11 @@ OPTIONS = (
     Option("--round", "round costs to K decimal places, and say by how much that may matter", READING, "round", COUNT_OF_PLACES,
            choice="places"),
     Option("--decimal-comma", "costs are written as 2,50", READING, "decimal_comma"),
-    Option("--places", "lines of an object and how many persons it takes (else one)", COUNTING, "places", COUNTS),
-    Option("--tasks", "lines of a person and how many objects it takes (else one)", COUNTING, "tasks", COUNTS),
+    Option("--places", "lines of an object and how many persons it takes (else one): a number, or at least and at most", COUNTING, "places",
+           COUNTS),
+    Option("--tasks", "lines of a person and how many objects it takes (else one): a number, or at least and at most", COUNTING, "tasks",
+           COUNTS),
+    Option("--groups", "lines of an object and its group: nobody takes two objects of one group", COUNTING, "groups", COUNTS),
     Option("--max", "find the plan of greatest cost", PLANNING, "max"),
     Option("--fixed", "lines of a person and an object that stand", PLANNING, "fixed", PLAN_TABLE),
     Option("--as-many-as-can", "where there is no plan for all, find the fullest", PLANNING, "as_many_as_can"),
@@ -154,8 +158,8 @@ def _judge(options: Options, refuse: Callable[[str], NoReturn]) -> None:
         refuse("--change-cost needs --keep")
     if options.others and options.change_cost is not None:
         refuse("--others compares costs alone: not with --change-cost")
-    if options.rents and (options.places or options.tasks):
-        refuse("--rents are of single places and tasks: not with --places or --tasks")
+    if options.rents and (options.places or options.tasks or options.groups):
+        refuse("--rents are of single places and tasks: not with --places, --tasks or --groups")
     _judge_files(options, refuse)
 
 

@@ -210,7 +210,8 @@ class Plans(Runs):
         self.expect(0, "least cost: 12\nAda: day, 1; night, 5\nBen: night, 4\nCleo: night, 2\nat night: Ada, Ben, Cleo\n", "",
                     "r.csv", "--places", "c.csv", "--tasks", "t.csv")
         self.file("t.csv", "nurse,tasks\nAda,3\nBen,0\nCleo,0\nDan,0\n")
-        self.expect(1, "1 person (Ada) needs 3, and no more than 2 can be had (day, night once): 1 too few\n"
+        self.expect(1, "Ada must take 3 objects, and can take at most 2: Ada once at each of day, night: allow others, or let Ada take one "
+                    "fewer\n"
                     "least cost of 2 pairs: 6\nAda: day, 1; night, 5\nat night: Ada\nwithout: Ada (2 of 3)\nunused: night (1 of 3)\n", "",
                     "r.csv", "--places", "c.csv", "--tasks", "t.csv", "--as-many-as-can")
         self.file("f.csv", "a,b\nAda,night\nBen,night\n")
@@ -239,7 +240,9 @@ class Plans(Runs):
                               ("a,b\nlate,8193\n", "c.csv, line 2, column 2: '8193' is no whole number"),
                               ("late,2\n", "c.csv, line 1, column 2: a title line must come first"),
                               ("late\n", "c.csv, line 1: each line must have a name and how many it takes"),
-                              ("a,b\nearly,8000\nlate,8000\n", "3 tasks and 16001 places need 16001 nodes")):
+                              ("a,b,c\nlate,1,x\n", "c.csv, line 2, column 3: 'x' is no whole number from 0 to 8192"),
+                              ("a,b,c\nlate,2,1\n", "c.csv, line 2, column 3: at least 2 and at most 1: the second number can't be less"),
+                              ("a,b\nlate,1,2,3\n", "c.csv, line 2: 4 cells, where a name and one or two numbers are needed")):
             self.file("c.csv", content)
             self.refused(3, text, "r.csv", "--places", "c.csv")
         self.file("c.csv", "a,b\nlate,1\n")
