@@ -1,14 +1,16 @@
 """Answers to rosters in which names count several times, or of which nobody takes two of a group."""
 from collections import Counter
-from typing import List, NamedTuple, Sequence, Tuple, Union
+from itertools import islice
+from typing import List, Sequence, Tuple
 
-from ._answer import Answer, Pair, Plan, Short, Wish
+from ._answer import Answer, Pair, Plan, Short, Wish, plural, with_following
 from ._counts import planned
-from ._exchanges import exchanges_of, free_pairs, next_more
-from ._gadgets import Bounds, Counted
+from ._exchanges import exchanges_of, free_pairs
+from ._gadgets import Bounds, Counted, TooLarge
 from ._groups import order_of
 from ._lack import Lack
 from ._nodes import Swap
+from ._ranked import plans_after
 from ._roster import PlanLine, Roster
 from ._sentences import sentence_of
 
@@ -16,7 +18,11 @@ from ._sentences import sentence_of
 def answer_by_counts(roster: Roster, wish: Wish) -> Answer:
     """The answer to a roster with counts or groups; ValueError where it is too large for the library."""
     counted = counted_of(roster, wish)
-    lacks, pairs = planned(counted, wish.fullest, wish.kept if wish.change is None else None)
+    try:
+        lacks, pairs = planned(counted, wish.fullest, wish.kept if wish.change is None else None)
+    except TooLarge as fault:
+        persons, objects = map(plural, roster.titles[:2])
+        raise ValueError(fault.said(f"{objects} that {persons} may take", f"places at {objects}")) from fault
     groups = [_short(roster, counted, lack, bool(wish.fixed)) for lack in lacks]
     if pairs is None:
         return Answer(None, groups)
@@ -24,11 +30,11 @@ def answer_by_counts(roster: Roster, wish: Wish) -> Answer:
     if wish.kept is not None and wish.change is not None:
         return Answer(plan, groups)
     exchanges = exchanges_of(counted, pairs, bool(lacks))
-    plan = plan._replace(swaps=[Swap(those) for those in free_pairs(exchanges)])
-    more = next_more(exchanges) if wish.others and not plan.swaps else None
-    if more is not None:
-        plan = plan._replace(next_cost=plan.cost + more * (-1 if wish.maximize else 1))
-    return Answer(plan, groups)
+    swaps = [Swap(those) for those in free_pairs(exchanges)]
+    plan = plan._replace(swaps=swaps, is_only_one=not swaps)
+    count = max(wish.plans - 1, int(wish.others and not swaps))
+    following = [_plan(roster, wish.fixed, sorted(other.pairs)) for other in islice(plans_after(counted, pairs, bool(lacks)), count)]
+    return Answer(with_following(plan, following, wish.others and not swaps), groups)
 
 
 def counted_of(roster: Roster, wish: Wish) -> Counted:
@@ -78,7 +84,7 @@ def _short(roster: Roster, counted: Counted, lack: Lack, some_fixed: bool) -> Sh
     if not lack.of_columns:
         objects.update(column for unit, column in zip(counted.units(), counted.columns) if unit in once)
     sentence = sentence_of(roster, counted, lack)
-    return Short(persons, sorted(objects), lack.of_columns, lack.wanted, lack.had, [],
+    return Short(persons, sorted(objects), lack.of_columns, lack.wanted, lack.had,
                  "around the fixed pairs, " + sentence if some_fixed else sentence)
 
 
@@ -89,33 +95,16 @@ def _plan(roster: Roster, fixed: Sequence[PlanLine], chosen: Sequence[Tuple[int,
     pairs += [Pair(person, object_, costs[person, object_], False) for person, object_ in chosen]
     pairs.sort(key=lambda pair: (pair.person, ranks[pair.object]))
     had, used = Counter(pair.person for pair in pairs), Counter(pair.object for pair in pairs)
-    without = [person for person in range(len(roster.persons)) if had[person] < _wanted(roster, roster.tasks_of(person))]
-    unused = [object_ for object_ in range(len(roster.objects)) if used[object_] < _wanted(roster, roster.places_of(object_))]
+    least_tasks, least_places = roster.least or ({}, {})
+    without = [person for person in range(len(roster.persons))
+               if had[person] < _wanted(roster, roster.tasks_of(person), least_tasks.get(person, 0))]
+    unused = [object_ for object_ in range(len(roster.objects))
+              if used[object_] < _wanted(roster, roster.places_of(object_), least_places.get(object_, 0))]
     return Plan(pairs, sum(pair.cost for pair in pairs), without, unused, {})
 
 
-def _wanted(roster: Roster, most: int) -> int:
-    """With bounds, who has one isn't without."""
-    return most if roster.least is None else min(most, 1)
-
-
-class Missing(NamedTuple):
-    """An object, or a person, that has fewer than it must."""
-
-    is_object: bool
-    number: int
-    had: int
-    least: int
-
-
-def missing_of(roster: Roster, pairs: Sequence[Union[Pair, PlanLine]]) -> List[Missing]:
-    """Which least counts are missed: of objects in the order of groups, then of persons. Without bounds none."""
+def _wanted(roster: Roster, most: int, least: int) -> int:
+    """How many a name has that isn't left out. With bounds one is enough, and what misses its least count is missing."""
     if roster.least is None:
-        return []
-    ranks = order_of(roster)
-    had, used = Counter(pair.person for pair in pairs), Counter(pair.object for pair in pairs)
-    of_persons, of_objects = roster.least
-    objects = sorted((number for number, least in of_objects.items() if used[number] < least), key=ranks.__getitem__)
-    persons = sorted(number for number, least in of_persons.items() if had[number] < least)
-    return ([Missing(True, number, used[number], of_objects[number]) for number in objects]
-            + [Missing(False, number, had[number], of_persons[number]) for number in persons])
+        return most
+    return min(most, 1) if least == 0 else 0

@@ -62,29 +62,41 @@ class Trimmed(NamedTuple):
     places: Dict[Unit, int]
 
 
+class TooLarge(ValueError):
+    """Counts need more nodes than the library takes: how many columns rows may take, how many rows columns may take, how many rules of at
+    most one there are, and the nodes of all that."""
+
+    def __init__(self, copies: int, places: int, rules: int, nodes: int):
+        self.copies, self.places, self.rules, self.nodes = copies, places, rules, nodes
+        super().__init__(self.said("columns that rows may take", "rows that columns may take"))
+
+    def said(self, copies: str, places: str) -> str:
+        """The fault and what helps, in the words of the caller."""
+        return (f"{self.copies} {copies}, {self.places} {places} and {self.rules} rules of at most one need {self.nodes} nodes, and "
+                f"{MOST_PERSONS} can be had: lower the greatest counts, forbid more pairs, or split the problem, as by weeks")
+
+    def __reduce__(self) -> Tuple[Any, ...]:
+        return type(self), (self.copies, self.places, self.rules, self.nodes)
+
+
 def trimmed(counted: Counted) -> Trimmed:
-    """The counts without what can't be used; ValueError if the rest alone has too many nodes."""
+    """The counts without what can't be used; TooLarge if the rest alone needs too many nodes."""
     columns = _cut(counted.column_bounds, Counter(counted.columns))
-    places: Dict[Unit, int] = {}
+    held: Dict[Unit, int] = {}
     of_rows: Dict[int, int] = Counter()
     for unit, column in zip(counted.units(), counted.columns):
-        of_rows[unit[0]] += unit not in places
+        of_rows[unit[0]] += unit not in held
         if unit[1] < counted.n_groups:
-            places[unit] = places.get(unit, 0) + columns[column].most
+            held[unit] = held.get(unit, 0) + columns[column].most
     rows = _cut(counted.row_bounds, of_rows)
-    for what, bounds in (("rows", rows), ("columns", columns)):
-        _judge(sum(bound.most for bound in bounds), f"the greatest counts of all {what}")
-    return Trimmed(rows, columns, places)
+    copies, places = (sum(bound.most for bound in bounds) for bounds in (rows, columns))
+    if max(copies, places) > MOST_PERSONS:
+        raise TooLarge(copies, places, 0, max(copies, places))
+    return Trimmed(rows, columns, held)
 
 
 def _cut(bounds: List[Bounds], most: Dict[int, int]) -> List[Bounds]:
     return [Bounds(min(bound.least, most[number]), min(bound.most, most[number])) for number, bound in enumerate(bounds)]
-
-
-def _judge(nodes: int, what: str) -> None:
-    if nodes > MOST_PERSONS:
-        raise ValueError(f"{what} need {nodes} nodes, of which the library takes {MOST_PERSONS}: lower greatest counts, forbid more "
-                         "pairs, or split the problem, as by weeks")
 
 
 class _Side(NamedTuple):
@@ -226,11 +238,12 @@ class _Builder:
                     yield unit
 
     def add(self, units: Iterable[Unit]) -> None:
-        """Makes gadgets; ValueError if these are too many."""
+        """Makes gadgets; TooLarge if these are too many."""
         for unit in units:
             self.gadgets.setdefault(unit, len(self.gadgets))
-        _judge(self.most(len(self.gadgets)), f"{len(self.rows.owners)} columns that rows may take, {len(self.columns.owners)} rows "
-               f"that columns may take, and {len(self.gadgets)} rules of at most one")
+        nodes = self.most(len(self.gadgets))
+        if nodes > MOST_PERSONS:
+            raise TooLarge(len(self.rows.owners), len(self.columns.owners), len(self.gadgets), nodes)
 
     def nodes(self) -> Nodes:
         """The nodes with the gadgets made so far."""
@@ -309,7 +322,7 @@ def best_pairs(counted: Counted, served: Optional[Served] = None, kept: Optional
 
     Raises
     ------
-    ValueError
+    TooLarge
         If the problem has too many nodes for the library.
     """
     builder = _Builder(counted, served, kept is not None)

@@ -1,11 +1,12 @@
 """Counts and groups of a roster: files that say how many each name takes, and of which objects nobody takes two."""
 import re
-from typing import Dict, Iterator, List, NamedTuple, Optional, Sequence, Tuple
+from collections import Counter
+from typing import Dict, Iterator, List, NamedTuple, Optional, Protocol, Sequence, Tuple
 
 from ._gadgets import Bounds
 from ._library import MOST_PERSONS
-from ._roster import Groups, PlanLine, Roster, _known, looks_like_number
-from ._sheets import RosterFault, Sheet, quoted
+from ._roster import Groups, PlanLine, Roster, known, looks_like_number
+from ._sheets import RosterFault, Sheet, quoted, unit_of
 
 
 class Counts(NamedTuple):
@@ -31,7 +32,7 @@ def read_counts(path: str, roster: Roster, of_objects: bool) -> Counts:
     bounds: Dict[int, Bounds] = {}
     are_ranges = False
     for line, cells in _lines(sheet, len(title)):
-        number = _known(sheet, roster, cells[0], line, 2 if of_objects else 1, 1)
+        number = known(sheet, roster, cells[0], line, 2 if of_objects else 1, 1)
         if number in bounds:
             sheet.refuse(f"the name {quoted(cells[0])} a second time", line, 1)
         least = _count(sheet, cells[1], line, 2)
@@ -74,7 +75,7 @@ def read_groups(path: str, roster: Roster) -> Groups:
     groups = Groups(title[1], [], {})
     lines: Dict[int, int] = {}
     for line, cells in sheet.body(len(title)):
-        object_ = _known(sheet, roster, cells[0], line, 2, 1)
+        object_ = known(sheet, roster, cells[0], line, 2, 1)
         name = sheet.name(cells[1], line, 2)
         if object_ in lines:
             where = f"in {groups.names[groups.of_objects[object_]]}, since line {lines[object_]}"
@@ -108,8 +109,18 @@ def refuse_two_of_a_group(path: str, roster: Roster, pairs: Sequence[PlanLine]) 
         group = groups.of_objects.get(pair.object)
         before = None if group is None else first.setdefault((pair.person, group), pair)
         if group is not None and before is not None and before is not pair:
-            raise RosterFault(path, f"{roster.persons[pair.person]} has {roster.objects[pair.object]} and, on line {before.line}, "
+            raise RosterFault(path, f"{roster.persons[pair.person]} has {roster.objects[pair.object]} and, in {unit_of(path)} {before.line}, "
                               f"{roster.objects[before.object]}: two of {groups.title} {groups.names[group]}", pair.line)
+
+
+class Paired(Protocol):
+    """A person and an object, by number."""
+
+    @property
+    def person(self) -> int: ...
+
+    @property
+    def object(self) -> int: ...
 
 
 def order_of(roster: Roster) -> List[int]:
@@ -121,3 +132,26 @@ def order_of(roster: Roster) -> List[int]:
     for rank, object_ in enumerate(order):
         ranks[object_] = rank
     return ranks
+
+
+class Missing(NamedTuple):
+    """A person (side 0) or an object (side 1) that has fewer than it must."""
+
+    side: int
+    name: str
+    number: int
+    had: int
+    least: int
+
+
+def missing_of(roster: Roster, pairs: Sequence[Paired]) -> List[Missing]:
+    """Which least counts are missed: of objects in the order of groups, then of persons. Without bounds none."""
+    if roster.least is None:
+        return []
+    ranks = order_of(roster)
+    had, used = Counter(pair.person for pair in pairs), Counter(pair.object for pair in pairs)
+    of_persons, of_objects = roster.least
+    objects = sorted((number for number, least in of_objects.items() if used[number] < least), key=ranks.__getitem__)
+    persons = sorted(number for number, least in of_persons.items() if had[number] < least)
+    return ([Missing(1, roster.objects[number], number, used[number], of_objects[number]) for number in objects]
+            + [Missing(0, roster.persons[number], number, had[number], of_persons[number]) for number in persons])

@@ -65,7 +65,8 @@ def _most(names: List[str], bounds: Sequence[Bounds], numbers: List[int]) -> Lis
     by_count: Dict[int, List[int]] = {}
     for number in numbers:
         by_count.setdefault(bounds[number].most, []).append(number)
-    return [f"{listed(names, own)} at most {most}{' each' if len(own) > 1 else ''}" for most, own in sorted(by_count.items())]
+    return [f"{listed(names, own)} at most {most}{' each' if len(own) > 1 else ''}" if most else f"{listed(names, own)} none"
+            for most, own in sorted(by_count.items(), reverse=True)]
 
 
 def _once(roster: Roster, problem: Counted, lack: Lack) -> List[str]:

@@ -108,7 +108,8 @@ class Commands(Runs):
                 self.assertEqual(len(plan.get("short", [])) > 0, missed > 0)
                 if case.ranges:
                     self.assertEqual(sum(lack["least"] - lack["had"] for lack in plan["missing"]), missed)
-                    self.assertEqual(out.count("missing: "), len(plan["missing"]))
+                    self.assertEqual([f"{lack.get('object') or lack.get('person')}: {lack['had']} of {lack['least']}" for lack in plan["missing"]],
+                                     [name for line in out.splitlines() if line.startswith("missing: ") for name in line[9:].split(", ")])
                 if missed:
                     status, out, _ = self.run_words(*words)
                     self.assertEqual((status, len(out.splitlines())), (1, len(plan["short"])))
@@ -205,10 +206,10 @@ class Sentences(unittest.TestCase):
         """The greatest counts of persons and objects, and what persons have at most once."""
         found = {"p": {}, "o": {}, "once": set()}
         for part in filter(None, text.split("; ")):
-            count = re.fullmatch(r"((?:[po]\d+(?:, )?)+) at most (\d+)(?: each)?", part)
+            count = re.fullmatch(r"((?:[po]\d+(?:, )?)+) (?:none|at most (\d+)(?: each)?)", part)
             if count:
                 for letter, number in re.findall(r"([po])(\d+)", count[1]):
-                    found[letter][int(number)] = int(count[2])
+                    found[letter][int(number)] = int(count[2] or 0)
                 continue
             once = re.fullmatch(r"((?:p\d+(?:, )?)+) (?:once|at most one)(?: each)? (?:at|of day|of every day|at each of) \(?((?:[og]\d+(?:, )?)+)\)?",
                                 part)
