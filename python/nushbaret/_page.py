@@ -8,6 +8,7 @@ from ._answer import Answer, Plan, counted, left_out
 from ._days import STYLE as DAYS_STYLE, by_days
 from ._groups import order_of
 from ._roster import Roster
+from ._texts import Note, Report, notes_of
 
 MOST_CELLS = 250_000
 # Up to so many cells persons and objects that are in no pair and in no short group are drawn as well.
@@ -113,17 +114,18 @@ def natural(name: str) -> List[Tuple[int, int, str]]:
     return [(0, int(part), "") if part.isdecimal() else (1, 0, part.casefold()) for part in re.findall("[0-9]{1,30}|[^0-9]+", name)]
 
 
-def page(roster: Roster, answer: Answer, heading: str, lines: List[str]) -> str:
+def page(report: Report, heading: str, lines: List[str]) -> str:
     """The page of an answer: the lines, the plan as a list, who stays out, and the matrix with the chosen cells and the short groups
     framed.
 
     Of a matrix of more than 20000 cells only the persons and objects of the plan and of the short groups are drawn; where even these
     have more than 250000 cells none is, and the page says so.
     """
-    return "".join(_parts(roster, answer, heading, lines))
+    return "".join(_parts(report, heading, lines))
 
 
-def _parts(roster: Roster, answer: Answer, heading: str, lines: List[str]) -> Iterator[str]:
+def _parts(report: Report, heading: str, lines: List[str]) -> Iterator[str]:
+    roster, answer = report.roster, report.answer
     yield (
         '<!DOCTYPE html>\n<html lang="en">\n<head>\n<meta charset="utf-8">\n'
         "<meta http-equiv=\"Content-Security-Policy\" content=\"default-src 'none'; style-src 'unsafe-inline'\">\n"
@@ -134,6 +136,7 @@ def _parts(roster: Roster, answer: Answer, heading: str, lines: List[str]) -> It
     if answer.plan is not None:
         yield from by_days(roster, answer.plan) if roster.groups is not None else _list(roster, answer.plan)
         yield from _folded(roster, answer.plan)
+        yield from _notes(notes_of(report, answer.plan))
     frame = frame_of(roster, answer)
     if len(frame.persons) * len(frame.objects) > MOST_CELLS:
         yield f"<p>The matrix has more than {MOST_CELLS} cells and isn't drawn.</p>\n"
@@ -150,7 +153,7 @@ def _shades() -> str:
 
 def _matrix(roster: Roster, answer: Answer, frame: Frame) -> Iterator[str]:
     chosen = {} if answer.plan is None else {(pair.person, pair.object): pair.fixed for pair in answer.plan.pairs}
-    costs = _costs_by_person(roster)
+    costs = costs_by_person(roster)
     span = (min(roster.costs, default=0), max(roster.costs, default=0))
     edges = _edges(frame)
     yield '<div class="matrix"><table>\n<thead><tr><th></th>'
@@ -169,7 +172,7 @@ def _matrix(roster: Roster, answer: Answer, frame: Frame) -> Iterator[str]:
         yield "<p>Who and what is in no pair isn't drawn.</p>\n"
 
 
-def _costs_by_person(roster: Roster) -> List[Dict[int, int]]:
+def costs_by_person(roster: Roster) -> List[Dict[int, int]]:
     costs: List[Dict[int, int]] = [{} for _ in roster.persons]
     for person, object_, cost in zip(roster.of_persons, roster.of_objects, roster.costs):
         costs[person][object_] = cost
@@ -226,6 +229,14 @@ def _table(titles: List[str], rows: List[List[str]]) -> Iterator[str]:
     for row in rows:
         yield "<tr>" + "".join(f"<td>{escape(cell)}</td>" for cell in row) + "</tr>\n"
     yield "</tbody>\n</table>\n"
+
+
+def _notes(notes: List[Note]) -> Iterator[str]:
+    """What there is to say of the plan."""
+    for note in notes:
+        yield f"<p>{escape(note.line)}</p>\n"
+        if note.details:
+            yield "<ul>\n" + "".join(f"<li>{escape(detail)}</li>\n" for detail in note.details) + "</ul>\n"
 
 
 def _folded(roster: Roster, plan: Plan) -> Iterator[str]:
