@@ -543,7 +543,7 @@ class Page(HTMLParser):
         self.tags.add(tag)
         named = dict(attributes)
         for name in named:
-            assert name in ("class", "scope", "lang", "charset", "http-equiv", "content"), name
+            assert name in ("class", "scope", "colspan", "lang", "charset", "http-equiv", "content"), name
         if tag != "meta":
             self.open.append((tag, (named.get("class") or "").split()))
         if tag == "td":
