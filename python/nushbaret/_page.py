@@ -25,8 +25,8 @@ STYLE = """
 body { font: 15px/1.4 sans-serif; margin: 2em; color: #1b1b1b; background: #fff }
 table { border-collapse: collapse; margin: 1em 0 }
 th, td { border: 1px solid #d0d0d0; padding: .15em .45em; white-space: nowrap }
-.matrix { display: flex; align-items: flex-start; overflow: auto; max-height: 85vh }
-.matrix table { flex: none; margin: 0; border-collapse: separate; border-spacing: 0 }
+.matrix { overflow: auto; max-height: 85vh; white-space: nowrap }
+.matrix table { display: inline-table; vertical-align: top; margin: 0; border-collapse: separate; border-spacing: 0 }
 .matrix th, .matrix td { border-width: 0 1px 1px 0 }
 .matrix thead th { border-top-width: 1px }
 .matrix th:first-child { border-left-width: 1px }
@@ -53,8 +53,8 @@ p.short { color: #b00020; font-weight: bold }
 @page { size: landscape; margin: 1cm }
 @media print {
 body { margin: 0; print-color-adjust: exact; -webkit-print-color-adjust: exact }
-.matrix { display: block; overflow: visible; max-height: none; font-size: 9px }
-.matrix table { margin-bottom: 1em; break-inside: avoid }
+.matrix { overflow: visible; max-height: none; font-size: 9px }
+.matrix table { display: table; margin-bottom: 1em; break-inside: avoid }
 .matrix th { position: static }
 .matrix tbody th { white-space: normal; overflow-wrap: anywhere; max-width: 180px }
 .matrix thead tr:last-child th { padding: .3em .15em }

@@ -11,6 +11,8 @@ from unittest import mock
 import test_command
 from test_command import SQUARE, TOP, Runs
 
+from nushbaret._page import _filled
+
 try:
     import openpyxl
 except ImportError:
@@ -100,6 +102,35 @@ class Shown(Daily):
         self.file("c.csv", "a,b\nnight,3\nearly,0\n")
         self.run_words("r.csv", "--places", "c.csv", "--output", "s.json")
         self.assertEqual(json.loads(self.read("s.json"))["unused"], [{"object": "night", "had": 2, "most": 3}])
+
+
+class Paper(Daily):
+    def test_a_wide_matrix_in_parts(self):
+        self.file("w.csv", test_command.square(50))
+        self.run_words("w.csv", "--html", "p.html")
+        text = self.read("p.html")
+        page = test_command.parsed(text)
+        self.assertEqual(len(page.cells), 50 * 50 + 3 * 50)
+        self.assertEqual(text.count('<th scope="row">p49</th>'), 2)
+        self.assertEqual([text.count(f"(part {number} of 2)</th>") for number in (1, 2, 3)], [1, 1, 0])
+        self.run_words("r.csv", "--html", "q.html")
+        self.assertNotIn("(part ", self.read("q.html"))
+
+    def test_parts_fit(self):
+        for widths, room in (([10] * 95, 300), ([10, 400, 10, 10], 300), ([290] * 3, 300), ([7, 30] * 40, 100)):
+            parts = _filled(widths, room)
+            self.assertEqual([column for part in parts for column in part], list(range(len(widths))))
+            for part in parts:
+                self.assertTrue(len(part) == 1 or sum(widths[column] for column in part) <= room)
+
+    def test_lists_are_unfolded(self):
+        self.file("w.csv", ",x,y,z\nAda,5,1,4\n")
+        self.run_words("w.csv", "--html", "p.html")
+        text = self.read("p.html")
+        self.assertIn("<details><summary>unused: 2 objects</summary><p>x, z</p></details>\n<p class=\"paper\">unused: 2 objects: x, z</p>", text)
+        screen, paper = text.split("@media print", 1)
+        self.assertIn("p.paper { display: none }", screen)
+        self.assertIn("details { display: none }\np.paper { display: block }", paper)
 
 
 class Faults(Daily):
