@@ -50,7 +50,7 @@ def _wheel_text():
 
 def _info():
     return {f"{INFO}/METADATA": _metadata().encode(), f"{INFO}/WHEEL": _wheel_text().encode(),
-            f"{INFO}/entry_points.txt": b"[console_scripts]\nnushbaret = nushbaret._command:main\n"}
+            f"{INFO}/entry_points.txt": b"[console_scripts]\nnushbaret = nushbaret.__main__:main\n"}
 
 
 def _sources():

@@ -1,11 +1,13 @@
 """Answers by names: the plan of a roster, or who is short of what."""
 from collections import Counter
+from itertools import islice
 from typing import Any, Dict, List, NamedTuple, Optional, Sequence, Set, Tuple
 
 from ._groups import missing_of
 from ._infeasible import Infeasible
 from ._library import Numbers
 from ._nodes import Edges, Nodes, Swap, changed, face_of, fewest_changes, is_only_one, least_costs, nodes_without, solved, swaps_of
+from ._plans import best_plans
 from ._roster import PlanLine, Roster
 
 MOST_NAMES_SHOWN = 20
@@ -36,7 +38,8 @@ class Plan(NamedTuple):
     """Pairs in the order of the persons, their cost, who and what gets less than it should, and the rent of each object that isn't
     fixed, where nobody counts several times. Costs and rents are in the roster's units. `is_only_one` says that no other plan is
     as good; where others were asked for, `swaps` are the groups that could change places at no cost, and `next_cost` is that of the best
-    other plan, if it costs more. Where changes are weighed nothing is said of others."""
+    other plan, if it costs more. `following` are the next plans in order, as many as were asked for. Where changes are weighed nothing is
+    said of others."""
 
     pairs: List[Pair]
     cost: int
@@ -46,6 +49,7 @@ class Plan(NamedTuple):
     swaps: Sequence[Swap] = ()
     is_only_one: bool = True
     next_cost: Optional[int] = None
+    following: Sequence["Plan"] = ()
 
 
 class Answer(NamedTuple):
@@ -57,8 +61,8 @@ class Answer(NamedTuple):
 
 class Wish(NamedTuple):
     """What is asked of a roster: pairs that stand, whatever they cost; the greatest cost, not the least; where there is no plan for all
-    the fullest one; pairs to be kept where that costs nothing, or where it costs no more than `change` for each pair; the cost of the
-    best other plan."""
+    the fullest one; pairs to be kept where that costs nothing, or where it costs no more than `change` for each pair; the best other
+    plan, if it isn't as good; and so many plans in all, in order."""
 
     fixed: Sequence[PlanLine] = ()
     maximize: bool = False
@@ -66,6 +70,7 @@ class Wish(NamedTuple):
     kept: Optional[Set[Tuple[int, int]]] = None
     change: Optional[int] = None
     others: bool = False
+    plans: int = 1
 
 
 def nodes_around(roster: Roster, fixed: Sequence[PlanLine]) -> Nodes:
@@ -103,17 +108,22 @@ def _plan(roster: Roster, wish: Wish, nodes: Nodes, costs: Numbers, result: Any)
         plan = plan_of(roster, wish.fixed, chosen, rents)
         if (len(plan.pairs), plan.cost) != (len(best.pairs), best.cost):
             raise RuntimeError("a plan with fewest changes was found to be as good as the best, and isn't")
-    if not wish.others:
-        return plan._replace(is_only_one=is_only_one(nodes, face, chosen))
-    plan = plan._replace(swaps=swaps_of(nodes, face, chosen))
-    if plan.swaps:
-        return plan._replace(is_only_one=False)
-    other = result.next_best()
-    if other is None:
-        return plan
-    if other.cost == result.cost:
+    swaps = swaps_of(nodes, face, chosen) if wish.others else []
+    plan = plan._replace(swaps=swaps, is_only_one=not swaps if wish.others else is_only_one(nodes, face, chosen))
+    is_next_shown = wish.others and plan.is_only_one
+    count = max(wish.plans - 1, int(is_next_shown))
+    # The library's first plan may be another one than that with the fewest changes.
+    ranked = best_plans(result, count + 1) if count else iter(())
+    others = (pairs for pairs in (nodes.pairs(other.rows, other.columns) for other in ranked) if pairs != chosen)
+    following = [plan_of(roster, wish.fixed, pairs, {}) for pairs in islice(others, count)]
+    return with_following(plan, following, is_next_shown)
+
+
+def with_following(plan: Plan, following: Sequence[Plan], is_next_shown: bool) -> Plan:
+    """A plan with those after it; where none is as good, the cost of the next one is known."""
+    if is_next_shown and following and following[0].cost == plan.cost:
         raise RuntimeError("no other plan was found to be as good, and then one was")
-    return plan._replace(next_cost=plan.cost + (other.cost - result.cost) * (-1 if wish.maximize else 1))
+    return plan._replace(following=following, next_cost=following[0].cost if is_next_shown and following else None)
 
 
 def shortages(nodes: Nodes, found: Infeasible) -> List[Short]:
@@ -165,22 +175,20 @@ def _part_of(name: str, had: int, wanted: int) -> str:
     return name if wanted == 1 else f"{name} ({had} of {wanted})"
 
 
+# Titles are in any language, so plurals are of these words alone.
+PLURALS = {"person": "people", **{word: word + "s" for word in (
+    "object", "pair", "nurse", "doctor", "worker", "driver", "teacher", "student", "volunteer", "vehicle", "shift", "job", "task", "place",
+    "day", "room", "course", "project", "seat")}}
+
+
 def counted(count: int, word: str) -> str:
-    """A count of things, in English: 1 shift, 2 shifts, 3 people."""
+    """A count of things: 1 shift, 2 shifts, 3 people, 2 Schicht."""
     return f"{count} {word if count == 1 else plural(word)}"
 
 
 def plural(word: str) -> str:
-    """The English plural of a title; one that ends like a plural stays."""
-    if word.lower() in ("person", "people"):
-        return "people"
-    if word.endswith(("ch", "sh", "ss", "x")):
-        return word + "es"
-    if word.endswith("s"):
-        return word
-    if word.endswith("y") and word[-2:-1] not in tuple("aeiou"):
-        return word[:-1] + "ies"
-    return word + "s"
+    """The plural of a title, as far as it is known."""
+    return PLURALS.get(word, word)
 
 
 def listed(names: List[str], numbers: List[int]) -> str:

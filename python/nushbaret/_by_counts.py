@@ -1,14 +1,16 @@
 """Answers to rosters in which names count several times, or of which nobody takes two of a group."""
 from collections import Counter
+from itertools import islice
 from typing import List, Sequence, Tuple
 
-from ._answer import Answer, Pair, Plan, Short, Wish, plural
+from ._answer import Answer, Pair, Plan, Short, Wish, plural, with_following
 from ._counts import planned
-from ._exchanges import Exchanges, exchanges_of, free_pairs, next_more
+from ._exchanges import exchanges_of, free_pairs
 from ._gadgets import Bounds, Counted, TooLarge
 from ._groups import order_of
 from ._lack import Lack
 from ._nodes import Swap
+from ._ranked import plans_after
 from ._roster import PlanLine, Roster
 from ._sentences import sentence_of
 
@@ -27,15 +29,12 @@ def answer_by_counts(roster: Roster, wish: Wish) -> Answer:
     plan = _plan(roster, wish.fixed, pairs)
     if wish.kept is not None and wish.change is not None:
         return Answer(plan, groups)
-    return Answer(_with_others(plan, wish, exchanges_of(counted, pairs, bool(lacks))), groups)
-
-
-def _with_others(plan: Plan, wish: Wish, exchanges: Exchanges) -> Plan:
-    """The plan with what was asked for of others."""
+    exchanges = exchanges_of(counted, pairs, bool(lacks))
     swaps = [Swap(those) for those in free_pairs(exchanges)]
-    plan = plan._replace(swaps=swaps if wish.others else (), is_only_one=not swaps)
-    more = next_more(exchanges) if wish.others and not swaps else None
-    return plan if more is None else plan._replace(next_cost=plan.cost + more * (-1 if wish.maximize else 1))
+    plan = plan._replace(swaps=swaps, is_only_one=not swaps)
+    count = max(wish.plans - 1, int(wish.others and not swaps))
+    following = [_plan(roster, wish.fixed, sorted(other.pairs)) for other in islice(plans_after(counted, pairs, bool(lacks)), count)]
+    return Answer(with_following(plan, following, wish.others and not swaps), groups)
 
 
 def counted_of(roster: Roster, wish: Wish) -> Counted:

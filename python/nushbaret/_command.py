@@ -1,7 +1,7 @@
 """The command: a roster of names in a CSV file, and its plan.
 
 Status 0: a plan; 1: there is none; 2: the words are refused; 3: something is wrong in a roster, a plan or a list of counts; 4: a file
-can't be read or written, an output exists, the library isn't there, or memory was refused.
+can't be read or written, an output exists, the library isn't there, memory was refused, or nushbaret itself failed; 130: Ctrl-C.
 """
 import contextlib
 import io
@@ -12,15 +12,20 @@ from typing import List, Optional, Sequence
 
 from ._answer import Answer, Plan, Wish, answer_of, listed
 from ._by_counts import answer_by_counts
-from ._files import OutputFault, refuse_existing, write_file
+from ._exact import MOST_PLACES
+from ._fair import fair_answer
+from ._files import STANDARD_OUTPUT, Output, OutputFault, print_content, refuse_existing, write_files
 from ._groups import missing_of, read_counts, read_groups, refuse_two_of_a_group, with_rules
+from ._json import as_json
 from ._page import page
 from ._roster import OldPlan, PlanLine, Roster, read_old_plan, read_plan, read_roster
 from ._sheets import RosterFault, quoted
-from ._texts import as_csv, as_json, first_lines, printed, read_lines
+from ._texts import Report, as_csv, first_lines, gone_line, printed, read_lines
 from ._words import Options, read_words
+from ._workbook import as_xlsx, need_openpyxl
 
 PLANNED, NONE, WORDS, REFUSED, DEVICE = range(5)
+INTERRUPTED = 130
 
 
 def main(words: Optional[Sequence[str]] = None) -> int:
@@ -34,7 +39,7 @@ def main(words: Optional[Sequence[str]] = None) -> int:
     Returns
     -------
     int
-        The status, 0 to 4. Words that are refused, and `--help`, end by `SystemExit` with status 2 and 0.
+        The status, 0 to 4, or 130 after Ctrl-C. Words that are refused, and `--help`, end by `SystemExit` with status 2 and 0.
     """
     options = read_words(words)
     for stream in (sys.stdout, sys.stderr):
@@ -44,16 +49,20 @@ def main(words: Optional[Sequence[str]] = None) -> int:
         return _run(options)
     except RosterFault as fault:
         return _refused(fault, REFUSED)
-    except (OSError, OutputFault, RuntimeError) as fault:
+    except (OSError, OutputFault) as fault:
         return _refused(_device(fault), DEVICE)
     except MemoryError:
         return _refused("memory refused", DEVICE)
+    except KeyboardInterrupt:
+        return INTERRUPTED
+    except Exception as fault:
+        if os.environ.get("NUSHBARET_DEBUG"):
+            raise
+        return _refused(f"a fault of nushbaret itself: {type(fault).__name__}: {fault} (NUSHBARET_DEBUG=1 shows where)", DEVICE)
 
 
 def _refused(fault: object, status: int) -> int:
-    if sys.stderr is not None:
-        with contextlib.suppress(OSError):
-            print(fault, file=sys.stderr)
+    _say(str(fault))
     return status
 
 
@@ -65,76 +74,61 @@ def _device(fault: Exception) -> str:
 
 def _run(options: Options) -> int:
     for output in options.outputs:
-        if not options.force:
+        if not options.force and not output.is_standard:
             refuse_existing(output.path)
-    roster = _read(options)
+        if output.kind == "xlsx":
+            need_openpyxl(output.path)
+    report = _report(options, _read(options))
+    answer = report.answer
+    for plan in (report.kept, report.hand):
+        if plan is not None and plan.gone:
+            _say(gone_line(plan, report.roster))
+    lines = first_lines(report)
+    is_content = _write(report, lines)
+    skipped = [f"{output.path} isn't written: there is no plan" for output in options.outputs if not _is_written(output, answer)]
+    _print_lines(lines + printed(report) + skipped, is_content)
+    return PLANNED if not answer.groups else NONE
+
+
+def _report(options: Options, roster: Roster) -> Report:
+    """The answer, and what was read to compare it with."""
     fixed = _read_fixed(options.fixed, roster) if options.fixed else []
     hand = read_hand(options.compare, roster, fixed) if options.compare else None
     # Counts may have changed since an earlier plan: what of it can't be any more is changed.
     kept = read_old_plan(options.keep, roster, not roster.ruled) if options.keep else None
     pairs = None if kept is None else {(pair.person, pair.object) for pair in kept.known}
-    wish = Wish(fixed, options.max, options.as_many_as_can, pairs, _change_cost(options.change_cost, roster), options.others)
+    wish = Wish(fixed, options.max, options.as_many_as_can, pairs, change_cost(options, roster), options.others, options.plans)
+    solve = answer_by_counts if roster.ruled else answer_of
     try:
-        answer = (answer_by_counts if roster.ruled else answer_of)(roster, wish)
+        answer, fair = fair_answer(roster, wish, solve) if options.fair else (solve(roster, wish), None)
     except ValueError as fault:
         raise RosterFault(options.roster, str(fault)) from fault
     if hand is not None and answer.plan is not None:
         judge_hand(roster, hand, answer.plan)
-    lines = first_lines(roster, answer, options.max, bool(fixed))
-    _name_gone(kept)
-    _name_gone(hand)
-    skipped = write_outputs(roster, answer, lines, options)
-    _print(lines + printed(roster, answer, options, kept, hand) + skipped)
-    return PLANNED if not answer.groups else NONE
+    return Report(options, roster, answer, kept, hand, fair)
 
 
 def _read(options: Options) -> Roster:
     """The roster, with how many each name takes."""
-    roster = read_roster(options.roster, options.form, options.decimals, options.decimal_comma, options.round)
-    if sys.stderr is not None:
-        for line in read_lines(options.roster, roster, sys.stderr.isatty()):
-            print(line, file=sys.stderr)
+    roster = read_roster(options.roster, options.form, options.decimals, options.decimal_comma, options.round, options.sheet, options.skip_rows)
+    for line in read_lines(options.roster, roster, sys.stderr is not None and sys.stderr.isatty()):
+        _say(line)
     tasks = read_counts(options.tasks, roster, False) if options.tasks else None
     places = read_counts(options.places, roster, True) if options.places else None
     return with_rules(roster, tasks, places, read_groups(options.groups, roster) if options.groups else None)
+
+
+def _say(line: str) -> None:
+    """Prints a line on standard error, if that is open."""
+    if sys.stderr is not None:
+        with contextlib.suppress(OSError):
+            print(line, file=sys.stderr)
 
 
 def _read_fixed(path: str, roster: Roster) -> List[PlanLine]:
     fixed = read_plan(path, roster)
     refuse_two_of_a_group(path, roster, fixed)
     return fixed
-
-
-def _name_gone(plan: Optional[OldPlan]) -> None:
-    """Names on standard error what an earlier plan has and the roster has no more."""
-    if plan is not None and plan.gone and sys.stderr is not None:
-        print(f"{plan.path}: the roster has no {', '.join(plan.gone)}", file=sys.stderr)
-
-
-def _change_cost(text: Optional[str], roster: Roster) -> Optional[int]:
-    """What a change costs, in units of the roster."""
-    if text is None:
-        return None
-    point = "," if roster.comma else r"\."
-    found = re.fullmatch(rf"([0-9]{{1,13}})(?:{point}([0-9]*))?", text)
-    if found is None:
-        raise RosterFault("--change-cost", f"{quoted(text)} is no cost from 0 on")
-    part = (found[2] or "").rstrip("0")
-    if len(part) > roster.decimals:
-        raise RosterFault("--change-cost", f"{quoted(text)} has more decimal places than the roster's {roster.decimals}")
-    return int(found[1] + part.ljust(roster.decimals, "0"))
-
-
-def _print(lines: List[str]) -> None:
-    """Prints all, or raises what the stream says. A broken stream is replaced, so that the end of the program prints nothing more."""
-    if sys.stdout is None:
-        raise OutputFault("standard output is closed")
-    try:
-        sys.stdout.write("".join(line + "\n" for line in lines))
-        sys.stdout.flush()
-    except OSError as fault:
-        sys.stdout = open(os.devnull, "w")
-        raise OutputFault(f"standard output: {fault.strerror}") from fault
 
 
 def read_hand(path: str, roster: Roster, fixed: List[PlanLine]) -> OldPlan:
@@ -174,24 +168,56 @@ def _judge_bounds(roster: Roster, hand: OldPlan, plan: Plan) -> None:
         raise RosterFault(hand.path, f"{lack[0]} too few, where {lack[1] or 'none'} must be: {listed(names, list(range(len(names))))}")
 
 
-def write_outputs(roster: Roster, answer: Answer, lines: List[str], options: Options) -> List[str]:
-    """Writes the outputs. If there is no plan a CSV file isn't written, and a line says so."""
-    texts = []
-    skipped = []
-    for output in options.outputs:
-        if output.kind != "csv":
-            texts.append((output.path, rendered(roster, answer, lines, options, output.kind)))
-        elif answer.plan is not None:
-            texts.append((output.path, as_csv(roster, answer.plan)))
-        else:
-            skipped.append(f"{output.path} isn't written: there is no plan")
-    for path, text in texts:
-        write_file(path, text, options.force)
-    return skipped
+def change_cost(options: Options, roster: Roster) -> Optional[int]:
+    """What a change costs, in units of the roster."""
+    text = options.change_cost
+    if text is None:
+        return None
+    point = "," if roster.comma else r"\."
+    found = re.fullmatch(rf"([0-9]{{1,13}})(?:{point}([0-9]*))?", text)
+    if found is None:
+        raise RosterFault("--change-cost", f"{quoted(text)} is no cost from 0 on")
+    part = (found[2] or "").rstrip("0")
+    if len(part) > roster.decimals:
+        word = "--round" if options.round is not None else "--decimals"
+        hint = f": {word} {len(part)} allows it" if len(part) <= MOST_PLACES else ""
+        raise RosterFault("--change-cost", f"{quoted(text)} has more decimal places than the roster's {roster.decimals}{hint}")
+    return int(found[1] + part.ljust(roster.decimals, "0"))
 
 
-def rendered(roster: Roster, answer: Answer, lines: List[str], options: Options, kind: str) -> str:
-    """The text of an output in JSON, or of a page."""
+def _is_written(output: Output, answer: Answer) -> bool:
+    """Whether an output is written: as a table only a plan is."""
+    return answer.plan is not None or output.kind in ("json", "html")
+
+
+def _write(report: Report, lines: List[str]) -> bool:
+    """Writes the outputs, the files first. Whether standard output got one."""
+    options = report.options
+    outputs = [*options.outputs, *([Output(STANDARD_OUTPUT[0], options.print)] if options.print else [])]
+    contents = [(output, content_of(report, lines, output.kind)) for output in outputs if _is_written(output, report.answer)]
+    write_files([(output.path, content) for output, content in contents if not output.is_standard], options.force)
+    for output, content in contents:
+        if output.is_standard:
+            print_content(content)
+    return any(output.is_standard for output in outputs)
+
+
+def content_of(report: Report, lines: List[str], kind: str) -> bytes:
+    """What is written of a kind."""
     if kind == "json":
-        return as_json(roster, answer, lines, options.max)
-    return page(roster, answer, os.path.splitext(os.path.basename(options.roster))[0], lines)
+        return as_json(report, lines).encode()
+    if kind == "html":
+        return page(report, os.path.splitext(os.path.basename(report.options.roster))[0], lines).encode()
+    plan = report.answer.plan
+    if plan is None:
+        raise ValueError("there is no plan")
+    return as_xlsx(report, plan) if kind == "xlsx" else as_csv(report.roster, plan).encode()
+
+
+def _print_lines(lines: List[str], is_content: bool) -> None:
+    """Prints what is said: to standard error where standard output has an output."""
+    if is_content:
+        for line in lines:
+            _say(line)
+    else:
+        print_content("".join(line + "\n" for line in lines))

@@ -34,26 +34,25 @@ class Costs:
 
     def take_all(self, cells: Sequence[str], lines: Iterable[int], columns: Iterable[int]) -> None:
         """Takes many cells: in one go where all are plain numbers, and else one by one, up to the first that is refused."""
-        if cells and not self._take_plain(cells, lines, columns):
+        if cells and not self.take_plain(cells, lines, columns):
             for cell, line, column in zip(cells, lines, columns):
                 self.take(cell.strip(), line, column)
 
-    def _take_plain(self, cells: Sequence[str], lines: Iterable[int], columns: Iterable[int]) -> bool:
+    def take_plain(self, cells: Sequence[str], lines: Iterable[int], columns: Iterable[int]) -> bool:
         """Takes cells that are digits with at most a sign and a point, none out of range or with too many places. Otherwise takes none."""
         try:
             places, numbers = self._plain_numbers(cells)
-            taken = array("q", numbers)
-        except (ValueError, OverflowError):
+        except ValueError:
             return False
-        size = max(max(taken), -min(taken))
-        used = self._used(places, taken)
+        size = max(max(numbers), -min(numbers))
+        used = self._used(places, numbers)
         if size > GREATEST_COST * 10**places or used > self._most or self._rounds is not None and used > self._rounds:
             return False
         self._places = used
         if size * 10**(MOST_PLACES - places) > self._greatest:
             self._greatest = size * 10**(MOST_PLACES - places)
-            self._greatest_place = next(place for number, *place in zip(taken, lines, columns) if abs(number) == size)
-        self._run(places).extend(taken)
+            self._greatest_place = next(place for number, *place in zip(numbers, lines, columns) if abs(number) == size)
+        self._run(places).extend(array("q", numbers))
         return True
 
     def _plain_numbers(self, cells: Sequence[str]) -> Tuple[int, List[int]]:
@@ -76,7 +75,7 @@ class Costs:
             raise ValueError
         return places, [int(whole + part + ZEROS[len(part):places]) for whole, _, part in parts]
 
-    def _used(self, places: int, numbers: Numbers) -> int:
+    def _used(self, places: int, numbers: List[int]) -> int:
         """How many places are used so far, with these numbers of so many."""
         used, unit = places, 10
         while used > self._places and not any(map(mod, numbers, repeat(unit))):

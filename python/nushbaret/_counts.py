@@ -7,7 +7,7 @@ from typing import Any, Collection, Dict, List, NamedTuple, Optional, Tuple
 from ._checking import problem_of
 from ._exact import manner
 from ._gadgets import Bounds, Counted, Pair, best_pairs, trimmed
-from ._infeasible import Infeasible, _shown
+from ._infeasible import Infeasible, numbered
 from ._lack import Lack, lacks_of
 from ._problem import Problem, lists_of
 from ._result import Number, in_unit
@@ -62,15 +62,11 @@ def _why(short: Shortage) -> str:
     """A shortage in words."""
     need, own, word = ("column", short.columns, "row") if short.of_columns else ("row", short.rows, "column")
     others = short.rows if short.of_columns else short.columns
-    parts = [f"{short.had - len(short.once)} by the most of {_numbered(word, others)}"] if others else []
+    parts = [f"{short.had - len(short.once)} by the most of {numbered(word, others)}"] if others else []
     if short.once:
         parts.append(f"{len(short.once)} where a pair or a group counts once")
     had = f"can have {short.had}: {', '.join(parts)}" if parts else "may have none"
-    return f"{_numbered(need, own)} must have {short.wanted} {word}{'s' if short.wanted > 1 else ''}, and {had}"
-
-
-def _numbered(word: str, numbers: List[int]) -> str:
-    return f"{word}{'s' if len(numbers) > 1 else ''} {_shown(numbers)}"
+    return f"{numbered(need, own)} must have {short.wanted} {word}{'s' if short.wanted > 1 else ''}, and {had}"
 
 
 def shortages_of(counted: Counted, lacks: List[Lack]) -> List[Shortage]:

@@ -5,7 +5,7 @@ take, and back where it has it. One more vertex is where rows and columns that m
 for least counts that are missed, of which as many are met in each plan."""
 from collections import Counter
 from heapq import heappop, heappush
-from typing import Dict, List, NamedTuple, Optional, Sequence, Set, Tuple
+from typing import Collection, Dict, List, NamedTuple, Optional, Sequence, Set, Tuple
 
 from ._gadgets import Bounds, Counted, Pair, Unit
 from ._graphs import potentials_of, strong_parts
@@ -24,13 +24,13 @@ class Exchanges(NamedTuple):
     potentials: List[int]
 
 
-def exchanges_of(counted: Counted, chosen: Sequence[Pair], is_partial: bool) -> Exchanges:
-    """The changes of a best plan, whose costs are to be least."""
+def exchanges_of(counted: Counted, chosen: Sequence[Pair], is_partial: bool, settled: Collection[Pair] = ()) -> Exchanges:
+    """The changes of a plan whose cost is the least of all those that agree with it in the settled pairs, which it may have or not."""
     n_rows, n_columns = len(counted.row_bounds), len(counted.column_bounds)
     units = _units(counted, n_rows + n_columns + 3)
     arrows: Arrows = [{} for _ in range(n_rows + n_columns + 3 + len(units))]
     own = set(chosen)
-    ends = _add_pairs(arrows, counted, units, own)
+    ends = _add_pairs(arrows, counted, units, own, settled)
     taken = {(row, counted.group_of[column]) for row, column in chosen}
     for unit, vertex in units.items():
         begin, end = (vertex, unit[0]) if unit in taken else (unit[0], vertex)
@@ -39,10 +39,13 @@ def exchanges_of(counted: Counted, chosen: Sequence[Pair], is_partial: bool) -> 
     return Exchanges(arrows, n_rows, ends, own, potentials_of(arrows))
 
 
-def _add_pairs(arrows: Arrows, counted: Counted, units: Dict[Unit, int], chosen: Set[Pair]) -> Dict[Pair, Tuple[int, int]]:
-    """Adds an arrow for each pair; the two vertices of each."""
+def _add_pairs(arrows: Arrows, counted: Counted, units: Dict[Unit, int], chosen: Set[Pair],
+               settled: Collection[Pair]) -> Dict[Pair, Tuple[int, int]]:
+    """Adds an arrow for each pair that isn't settled; the two vertices of each."""
     ends: Dict[Pair, Tuple[int, int]] = {}
     for unit, row, column, cost in zip(counted.units(), counted.rows, counted.columns, counted.costs):
+        if (row, column) in settled:
+            continue
         begin, end = ends[row, column] = units.get(unit, row), len(counted.row_bounds) + column
         if (row, column) in chosen:
             arrows[end][begin] = -cost
@@ -101,31 +104,55 @@ def free_pairs(exchanges: Exchanges) -> List[List[Pair]]:
     return list(groups.values())
 
 
-def next_more(exchanges: Exchanges) -> Optional[int]:
-    """By how much the best other plan costs more; None where there is none. Each other plan changes some column's pairs."""
-    most: float = float("inf")
+class Other(NamedTuple):
+    """A plan, and by how much it costs more than another."""
+
+    more: int
+    pairs: Set[Pair]
+
+
+def next_plan(exchanges: Exchanges) -> Optional[Other]:
+    """The best other plan of those that agree in the settled pairs; None where there is none. Each changes some column's pairs."""
+    best = Round(float("inf"), [])
     tails: Dict[int, Set[int]] = {}
     for begin, end in exchanges.ends.values():
         tails.setdefault(end, set()).add(begin)
     for column in sorted(tails):
-        most = _round(exchanges, column, tails[column], most)
-    return None if most == float("inf") else int(most)
+        best = _round(exchanges, column, tails[column], best)
+    if not best.vertices:
+        return None
+    pairs = {ends: pair for pair, ends in exchanges.ends.items()}
+    steps = list(zip(best.vertices, best.vertices[1:] + best.vertices[:1]))
+    changed = {pairs[ends] for step in steps for ends in (step, step[::-1]) if ends in pairs}
+    return Other(int(best.length), exchanges.chosen ^ changed)
 
 
-def _round(exchanges: Exchanges, column: int, tails: Set[int], most: float) -> float:
-    """The least cost of a round through a column that changes one of its pairs, whose other ends are given; `most` where none costs less
+class Round(NamedTuple):
+    """The vertices of a round of changes, and what it costs."""
+
+    length: float
+    vertices: List[int]
+
+
+State = Tuple[int, bool]
+
+
+def _round(exchanges: Exchanges, column: int, tails: Set[int], best: Round) -> Round:
+    """The cheapest round through a column that changes one of its pairs, whose other ends are given; `best` where none costs less
     (Dijkstra 1959). A state is a vertex, and whether the round began with a pair of the column."""
-    arrows, potentials = exchanges.arrows, exchanges.potentials
-    far: Dict[Tuple[int, bool], float] = {}
+    arrows, potentials, most = exchanges.arrows, exchanges.potentials, best.length
+    far: Dict[State, float] = {}
+    back: Dict[State, Optional[State]] = {}
     waiting: List[Tuple[float, int, bool]] = []
+    last: Optional[State] = None
 
-    def go(length: float, vertex: int, by_pair: bool) -> None:
-        if length < far.get((vertex, by_pair), most):
-            far[vertex, by_pair] = length
-            heappush(waiting, (length, vertex, by_pair))
+    def go(length: float, state: State, before: Optional[State]) -> None:
+        if length < far.get(state, most):
+            far[state], back[state] = length, before
+            heappush(waiting, (length, *state))
 
     for end, cost in arrows[column].items():
-        go(cost + potentials[column] - potentials[end], end, end in tails)
+        go(cost + potentials[column] - potentials[end], (end, end in tails), None)
     while waiting and waiting[0][0] < most:
         length, vertex, by_pair = heappop(waiting)
         if length > far[vertex, by_pair]:
@@ -133,7 +160,17 @@ def _round(exchanges: Exchanges, column: int, tails: Set[int], most: float) -> f
         for end, cost in arrows[vertex].items():
             longer = length + cost + potentials[vertex] - potentials[end]
             if end != column:
-                go(longer, end, by_pair)
-            elif by_pair or vertex in tails:
-                most = min(most, longer)
-    return most
+                go(longer, (end, by_pair), (vertex, by_pair))
+            elif (by_pair or vertex in tails) and longer < most:
+                most, last = longer, (vertex, by_pair)
+    return best if last is None else Round(most, [column, *_way(back, last)])
+
+
+def _way(back: Dict[State, Optional[State]], last: State) -> List[int]:
+    """The vertices that lead to a state, in order."""
+    way: List[int] = []
+    state: Optional[State] = last
+    while state is not None:
+        way.append(state[0])
+        state = back[state]
+    return way[::-1]

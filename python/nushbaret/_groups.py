@@ -5,8 +5,8 @@ from typing import Dict, Iterator, List, NamedTuple, Optional, Protocol, Sequenc
 
 from ._gadgets import Bounds
 from ._library import MOST_PERSONS
-from ._roster import Groups, PlanLine, Roster, _known, looks_like_number
-from ._sheets import RosterFault, Sheet, quoted
+from ._roster import Groups, PlanLine, Roster, known, looks_like_number
+from ._sheets import RosterFault, Sheet, quoted, unit_of
 
 
 class Counts(NamedTuple):
@@ -32,7 +32,7 @@ def read_counts(path: str, roster: Roster, of_objects: bool) -> Counts:
     bounds: Dict[int, Bounds] = {}
     are_ranges = False
     for line, cells in _lines(sheet, len(title)):
-        number = _known(sheet, roster, cells[0], line, 2 if of_objects else 1, 1)
+        number = known(sheet, roster, cells[0], line, 2 if of_objects else 1, 1)
         if number in bounds:
             sheet.refuse(f"the name {quoted(cells[0])} a second time", line, 1)
         least = _count(sheet, cells[1], line, 2)
@@ -75,7 +75,7 @@ def read_groups(path: str, roster: Roster) -> Groups:
     groups = Groups(title[1], [], {})
     lines: Dict[int, int] = {}
     for line, cells in sheet.body(len(title)):
-        object_ = _known(sheet, roster, cells[0], line, 2, 1)
+        object_ = known(sheet, roster, cells[0], line, 2, 1)
         name = sheet.name(cells[1], line, 2)
         if object_ in lines:
             where = f"in {groups.names[groups.of_objects[object_]]}, since line {lines[object_]}"
@@ -109,7 +109,7 @@ def refuse_two_of_a_group(path: str, roster: Roster, pairs: Sequence[PlanLine]) 
         group = groups.of_objects.get(pair.object)
         before = None if group is None else first.setdefault((pair.person, group), pair)
         if group is not None and before is not None and before is not pair:
-            raise RosterFault(path, f"{roster.persons[pair.person]} has {roster.objects[pair.object]} and, on line {before.line}, "
+            raise RosterFault(path, f"{roster.persons[pair.person]} has {roster.objects[pair.object]} and, in {unit_of(path)} {before.line}, "
                               f"{roster.objects[before.object]}: two of {groups.title} {groups.names[group]}", pair.line)
 
 

@@ -31,9 +31,9 @@ class Infeasible(ValueError):
     def __init__(self, groups: List[Tuple[Any, Any]]):
         rows, columns = groups[0]
         if len(rows) > len(columns):
-            why = f"rows {_shown(rows)} may have " + (f"columns {_shown(columns)} only" if len(columns) else "no column")
+            why = f"{numbered('row', rows)} may have " + (f"{numbered('column', columns)} only" if len(columns) else "no column")
         else:
-            why = f"columns {_shown(columns)} may go to " + (f"rows {_shown(rows)} only" if len(rows) else "no row")
+            why = f"{numbered('column', columns)} may go to " + (f"{numbered('row', rows)} only" if len(rows) else "no row")
         more = f" (the first of {len(groups)} groups)" if len(groups) > 1 else ""
         super().__init__(f"cost matrix is infeasible: {why}{more}")
         self.groups = groups
@@ -42,6 +42,11 @@ class Infeasible(ValueError):
 
     def __reduce__(self) -> Tuple[Any, ...]:
         return type(self), (self.groups,)
+
+
+def numbered(kind: str, numbers: Any) -> str:
+    """Numbers, after what they are of: row 3, rows 3, 4."""
+    return f"{kind}{'s' if len(numbers) != 1 else ''} {_shown(numbers)}"
 
 
 Lists = Sequence[Sequence[int]]

@@ -7,6 +7,7 @@ where it isn't, in a round of these arrows. What stays out is held by one vertex
 """
 from array import array
 from bisect import bisect_right
+from itertools import compress
 from operator import add
 from typing import Any, Collection, Dict, Iterator, List, NamedTuple, Optional, Sequence, Set, Tuple
 
@@ -72,14 +73,15 @@ def least_costs(nodes: Nodes, maximize: bool) -> Numbers:
 
 def changed(costs: Sequence[int], edges: Sequence[Pair], kept: Collection[Pair], change: int) -> Numbers:
     """Costs with `change` more for each pair that isn't kept."""
-    return array("q", (cost if edge in kept else cost + change for cost, edge in zip(costs, edges)))
+    more = array("q", (cost if edge in kept else cost + change for cost, edge in zip(costs, edges)))
+    if max(more, default=0) > GREATEST_COST:
+        raise ValueError(f"with the cost of a change a cost is beyond {GREATEST_COST}")
+    return more
 
 
 def solved(nodes: Nodes, costs: Numbers, fullest: bool) -> Any:
-    """The result of the problem of nodes, for these costs, which are to be least. ValueError where any is out of range."""
+    """The result of the problem of nodes, for these costs, which are to be least."""
     rows, columns = len(nodes.of_rows), len(nodes.of_columns)
-    if max(max(costs, default=0), -min(costs, default=0)) > GREATEST_COST:
-        return solve_sparse(rows, columns, nodes.rows, nodes.columns, costs, partial=fullest)
     persons, objects = (None, None) if nodes.is_full else (_from_one(nodes.rows), _from_one(nodes.columns))
     return solve_problem(Problem(rows, columns, False, costs, persons, objects, 0, False, None), None, fullest)
 
@@ -106,7 +108,7 @@ def face_of(nodes: Nodes, costs: Numbers, result: Any) -> Face:
     lowest: List[List[int]] = [[] for _ in nodes.of_rows]
     for row, edges, paid in _paid(nodes, costs, rents):
         low = least[row] = min(paid)
-        lowest[row] = [edges[paid.index(low)]] if paid.count(low) == 1 else [edge for edge, cost in zip(edges, paid) if cost == low]
+        lowest[row] = list(compress(edges, map(low.__eq__, paid))) if paid.count(low) > 1 else [edges[paid.index(low)]]
     out = [least[row] for row in result.unmatched_rows]
     bound = min((cost for cost in out if cost is not None), default=None)
     tight = [edge for low, own in zip(least, lowest) if low is not None and (bound is None or low <= bound) for edge in own]

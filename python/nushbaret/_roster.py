@@ -10,14 +10,16 @@ from array import array
 from bisect import bisect_left, bisect_right
 from itertools import compress, islice, repeat
 from operator import add, le, mul
-from typing import Dict, Iterator, List, NamedTuple, Optional, Sequence, Set, Tuple, Union, cast
+from typing import Any, Dict, List, NamedTuple, Optional, Sequence, Set, Tuple, cast
 
 from ._costs import Costs
 from ._library import MOST_PERSONS, Numbers
-from ._sheets import MOST_BYTES, RosterFault, Sheet, quoted
+from ._sheets import MOST_BYTES, RosterFault, Sheet, is_json, quoted, unit_of
 
 LINES, MATRIX = "lines", "matrix"
 TITLES = ("person", "object", "cost")
+# Of plans in JSON; those before are read too.
+FORMAT = 2
 
 
 def is_plain(name: str) -> bool:
@@ -93,7 +95,7 @@ class Roster(NamedTuple):
     objects how many they take at most, where it isn't one; None where nothing was said. Where bounds alone decide, `least` says of persons
     and of objects how many they take at least, where it isn't 0. `rounded` says whether any cost was changed by
     rounding, `has_bom` whether the file began with a BOM, `is_matrix` whether it is a matrix, and `by_persons`
-    whether the pairs stand person by person."""
+    whether the pairs stand person by person. `sheets` are those of a workbook, first the one that was read."""
 
     persons: List[str]
     objects: List[str]
@@ -114,6 +116,7 @@ class Roster(NamedTuple):
     by_persons: bool = False
     least: Optional[Tuple[Dict[int, int], Dict[int, int]]] = None
     groups: Optional[Groups] = None
+    sheets: Sequence[str] = ()
 
     @property
     def ruled(self) -> bool:
@@ -165,8 +168,30 @@ def alike(names: List[str]) -> List[List[str]]:
     """The names that differ in case or spaces alone, together."""
     groups: Dict[str, List[str]] = {}
     for name in names:
-        groups.setdefault("".join(name.split()).casefold(), []).append(name)
+        groups.setdefault(_bare(name), []).append(name)
     return [group for group in groups.values() if len(group) > 1]
+
+
+def like(name: str, names: List[str]) -> List[str]:
+    """Names that differ from a name in case, spaces or one letter alone, those of the first kinds if there are any; three at most."""
+    bare = _bare(name)
+    found = [other for other in names if _bare(other) == bare] or [other for other in names if _is_near(_bare(other), bare)]
+    return found[:3]
+
+
+def _bare(name: str) -> str:
+    return "".join(name.split()).casefold()
+
+
+def _is_near(one: str, other: str) -> bool:
+    """Whether two differ by one letter, or by two neighbours in the other order. A digit makes another name."""
+    longer, shorter = (one, other) if len(one) >= len(other) else (other, one)
+    begin = len(os.path.commonprefix((longer, shorter)))
+    left, right = longer[begin:], shorter[begin:]
+    if len(longer) == len(shorter):
+        is_turned = left[:2] == right[1::-1] and left[2:] == right[2:] and not left[:2].isdigit()
+        return is_turned or left[1:] == right[1:] and not (left[:1] + right[:1]).isdigit()
+    return len(shorter) > 1 and left[1:] == right and not left[0].isdigit()
 
 
 def decimal_text(units: int, decimals: int, point: str) -> str:
@@ -202,7 +227,8 @@ def are_lines(numbers: bool, words: bool, twice: bool) -> bool:
     return words and not numbers or twice and not words
 
 
-def read_roster(path: str, form: Optional[str], decimals: Optional[int], comma: bool, rounds: Optional[int] = None) -> Roster:
+def read_roster(path: str, form: Optional[str], decimals: Optional[int], comma: bool, rounds: Optional[int] = None,
+                sheet_name: Optional[str] = None, skipped: int = 0) -> Roster:
     """Reads a roster.
 
     Parameters
@@ -217,6 +243,10 @@ def read_roster(path: str, form: Optional[str], decimals: Optional[int], comma: 
         Whether costs are written with a decimal comma.
     rounds : int or None
         To how many decimal places costs are rounded, in place of `decimals`; None: they are taken exactly.
+    sheet_name : str or None
+        Which sheet of a workbook is read; None: the first.
+    skipped : int
+        How many rows above the titles aren't read.
 
     Raises
     ------
@@ -225,7 +255,7 @@ def read_roster(path: str, form: Optional[str], decimals: Optional[int], comma: 
     OSError
         Where the file can't be read.
     """
-    sheet = Sheet(path, comma)
+    sheet = Sheet(path, comma, sheet_name, skipped)
     costs = Costs(sheet, decimals, comma, rounds)
     is_matrix = form == MATRIX or form is None and not _may_be_lines(sheet)
     read = _read_matrix if is_matrix else _read_lines if form else _read_sure_lines
@@ -233,7 +263,7 @@ def read_roster(path: str, form: Optional[str], decimals: Optional[int], comma: 
     used, scaled = costs.scaled()
     return Roster(persons.list, objects.list, persons.numbers, objects.numbers, of_persons, of_objects, scaled,
                   used, titles, sheet.separator, comma, rounded=costs.rounded, has_bom=sheet.has_bom, is_matrix=is_matrix,
-                  by_persons=all(map(le, of_persons, islice(of_persons, 1, None))))
+                  sheets=sheet.sheets, by_persons=is_matrix or all(map(le, of_persons, islice(of_persons, 1, None))))
 
 
 def _may_be_lines(sheet: Sheet) -> bool:
@@ -264,9 +294,12 @@ def _read_lines(sheet: Sheet, costs: Costs) -> Read:
         sheet.refuse(f"a title line must come first, and {quoted(title[2])} is a number", line, 3)
     first, second, third = (sheet.name(cell, line, column) if cell else TITLES[column - 1] for column, cell in enumerate(title, 1))
     reading = Lines(sheet, costs)
-    for lines, columns in sheet.blocks(3):
-        if not reading.take_all(lines, *columns):
-            reading.take_each(lines, *columns)
+    try:
+        for lines, columns in sheet.blocks(3):
+            if not reading.take_all(lines, *columns):
+                reading.take_each(lines, *columns)
+    finally:
+        reading.refuse_twice()
     if not reading.of_persons:
         sheet.refuse("no line after the title", line)
     return (first, second, third), reading.persons, reading.objects, reading.of_persons, reading.of_objects
@@ -279,19 +312,15 @@ class Lines:
         self._sheet, self._costs = sheet, costs
         self.persons, self.objects = Names(sheet, "persons"), Names(sheet, "objects")
         self.of_persons, self.of_objects = array("H"), array("H")
-        self._pairs: Set[int] = set()
+        self._pairs = array("q")
 
     def take_all(self, lines: Sequence[int], persons: Sequence[str], objects: Sequence[str], costs: Sequence[str]) -> bool:
-        """Takes many lines in one go, if all names are known or plain and no pair stands twice. Otherwise takes none."""
+        """Takes many lines in one go, if all names are known or plain, and all costs are. Otherwise takes none."""
         of_persons = self.persons.known(persons)
         of_objects = None if of_persons is None else self.objects.known(objects)
-        if of_persons is None or of_objects is None:
+        if of_persons is None or of_objects is None or not self._costs.take_plain(costs, lines, repeat(3)):
             return False
-        pairs = set(map(add, map(mul, of_persons, repeat(MOST_PERSONS)), of_objects))
-        if len(pairs) < len(lines) or not self._pairs.isdisjoint(pairs):
-            return False
-        self._costs.take_all(costs, lines, repeat(3))
-        self._pairs |= pairs
+        self._pairs.extend(map(add, map(mul, of_persons, repeat(MOST_PERSONS)), of_objects))
         self.of_persons.extend(of_persons)
         self.of_objects.extend(of_objects)
         return True
@@ -303,23 +332,20 @@ class Lines:
             if not (person_name or object_name or cost):
                 continue
             person, object_ = self.persons.number(person_name, line, 1), self.objects.number(object_name, line, 2)
-            if _key(person, object_) in self._pairs:
-                before = self._line_of(person, object_)
-                self._sheet.refuse(f"the pair {person_name}, {object_name} a second time, after line {before}", line)
+            self._pairs.append(person * MOST_PERSONS + object_)
             self._costs.take(cost, line, 3)
-            self._pairs.add(_key(person, object_))
             self.of_persons.append(person)
             self.of_objects.append(object_)
 
-    def _line_of(self, person: int, object_: int) -> int:
-        """Where a pair stands first."""
-        return next(line for line, cells in self._sheet.body(3) if (person, object_) == (
-            self.persons.number(cells[0], line, 1), self.objects.number(cells[1], line, 2)))
-
-
-def _key(person: int, object_: int) -> int:
-    """One number for a pair."""
-    return person * MOST_PERSONS + object_
+    def refuse_twice(self) -> None:
+        """Refuses the first pair of those taken that stands twice."""
+        if len(set(self._pairs)) == len(self._pairs):
+            return
+        lines: Dict[int, int] = {}
+        for pair, (line, cells) in zip(self._pairs, self._sheet.body(3)):
+            before = lines.setdefault(pair, line)
+            if before != line:
+                self._sheet.refuse(f"the pair {cells[0]}, {cells[1]} a second time, after line {before}", line)
 
 
 def _read_matrix(sheet: Sheet, costs: Costs) -> Read:
@@ -332,16 +358,21 @@ def _read_matrix(sheet: Sheet, costs: Costs) -> Read:
     of_persons, of_objects = array("H"), array("H")
     for column, name in enumerate(title[1:], 2):
         objects.once(name, line, column)
-    all_objects = array("H", range(len(title) - 1))
+    all_objects, all_columns = array("H", range(len(title) - 1)), range(2, len(title) + 1)
     for line, cells in sheet.body(len(title)):
         person = persons.once(cells.pop(0), line, 1)
-        own = array("H", compress(all_objects, cells)) if "" in cells else all_objects
-        costs.take_all(list(filter(None, cells)), repeat(line), [object_ + 2 for object_ in own])
+        own = all_objects
+        columns: Sequence[int] = all_columns
+        if "" in cells:
+            own, columns = array("H", compress(all_objects, cells)), list(compress(all_columns, cells))
+            cells = list(filter(None, cells))
+        costs.take_all(cells, repeat(line), columns)
         of_persons.extend(array("H", (person,)) * len(own))
         of_objects.extend(own)
     if not persons.list:
         sheet.refuse("no line after the title", line)
-    return TITLES, persons, objects, of_persons, of_objects
+    corner = sheet.name(title[0], line, 1) if title[0] else TITLES[0]
+    return (corner, *TITLES[1:]), persons, objects, of_persons, of_objects
 
 
 class PlanLine(NamedTuple):
@@ -354,18 +385,19 @@ class PlanLine(NamedTuple):
 
 
 def read_plan(path: str, roster: Roster) -> List[PlanLine]:
-    """Reads pairs that are to stand: a title line, and lines of a person and an object; further cells aren't read.
+    """Reads pairs that are to stand: a title line, and lines of a person and an object, of which further cells aren't read; or a plan in
+    JSON.
 
     Raises `RosterFault` for the first name that the roster doesn't have, then for the first name that stands more often than it may,
     then for the first pair that the roster forbids; and `OSError` where the file can't be read.
     """
-    sheet = Sheet(path)
-    places = [(*_plan_place(sheet, roster, line, cells), line) for line, cells in _plan_cells(sheet, roster)]
-    _refuse_twice(sheet, roster, places)
+    places = [(_known(path, roster, person, line, 1, 1), _known(path, roster, object_, line, 2, 2), line)
+              for person, object_, line in _named_pairs(path, roster)]
+    _refuse_twice(path, roster, places)
     costs = roster.costs_of({(person, object_) for person, object_, _ in places})
     for person, object_, line in places:
         if (person, object_) not in costs:
-            sheet.refuse(f"{roster.persons[person]}, {roster.objects[object_]} is a forbidden pair", line)
+            raise RosterFault(path, f"{roster.persons[person]}, {roster.objects[object_]} is a forbidden pair", line)
     return [PlanLine(person, object_, line, costs[person, object_]) for person, object_, line in places]
 
 
@@ -381,20 +413,16 @@ class OldPlan(NamedTuple):
 
 
 def read_old_plan(path: str, roster: Roster, by_counts: bool = True) -> OldPlan:
-    """Reads an earlier plan, a CSV file as `read_plan` reads it or a plan in JSON. Its names may be gone, and its pairs forbidden.
+    """Reads an earlier plan, as `read_plan` does. Its names may be gone, and its pairs forbidden.
 
     Raises `RosterFault` for the first name that stands more often than it may, if counts are to be kept, and for a pair that stands twice.
     """
-    if os.path.splitext(path)[1].lower() == ".json":
-        named = _plan_of_json(path)
-    else:
-        sheet = Sheet(path)
-        named = [(sheet.name(cells[0], line, 1), sheet.name(cells[1], line, 2), line) for line, cells in _plan_cells(sheet, roster)]
+    named = _named_pairs(path, roster)
     gone: Dict[str, None] = {}
     places = []
     for person, object_, line in named:
-        gone.update({person: None} if person not in roster.person_numbers else {})
-        gone.update({object_: None} if object_ not in roster.object_numbers else {})
+        gone.update({} if person in roster.person_numbers else {person: None})
+        gone.update({} if object_ in roster.object_numbers else {object_: None})
         if person in roster.person_numbers and object_ in roster.object_numbers:
             places.append((roster.person_numbers[person], roster.object_numbers[object_], line))
     _refuse_twice(path, roster, places, by_counts)
@@ -404,41 +432,59 @@ def read_old_plan(path: str, roster: Roster, by_counts: bool = True) -> OldPlan:
                    [place for place in places if place[:2] not in costs])
 
 
-def _plan_of_json(path: str) -> List[Tuple[str, str, int]]:
-    with open(path, "rb") as file:
-        data = file.read(MOST_BYTES)
-    try:
-        plan = json.loads(data.decode("utf-8-sig"))
-        return [(str(pair["person"]), str(pair["object"]), number) for number, pair in enumerate(plan["pairs"], 1)]
-    except (ValueError, RecursionError, KeyError, TypeError) as fault:
-        raise RosterFault(path, f"no plan with pairs in JSON: {fault}") from fault
+NamedPairs = List[Tuple[str, str, int]]
 
 
-def _plan_cells(sheet: Sheet, roster: Roster) -> Iterator[Tuple[int, List[str]]]:
+def _named_pairs(path: str, roster: Roster) -> NamedPairs:
+    """The pairs of a plan by names, each with its line, or in JSON with its number."""
+    if is_json(path):
+        return _plan_of_json(path)
+    sheet = Sheet(path)
     line, title = sheet.title()
     if len(title) < 2:
         sheet.refuse("each line must have a person and an object", line)
     if title[0] in roster.person_numbers and title[1] in roster.object_numbers:
         sheet.refuse(f"a title line must come first, and {title[0]}, {title[1]} is a pair", line)
-    return sheet.body(len(title))
+    return [(sheet.name(cells[0], line, 1), sheet.name(cells[1], line, 2), line) for line, cells in sheet.body(len(title))]
 
 
-def _plan_place(sheet: Sheet, roster: Roster, line: int, cells: List[str]) -> Tuple[int, int]:
-    return _known(sheet, roster, cells[0], line, 1, 1), _known(sheet, roster, cells[1], line, 2, 2)
+def _plan_of_json(path: str) -> NamedPairs:
+    with open(path, "rb") as file:
+        data = file.read(MOST_BYTES)
+    try:
+        plan = json.loads(data.decode("utf-8-sig"))
+        pairs, form = list(plan["pairs"]), plan.get("format", FORMAT)
+    except (ValueError, RecursionError, KeyError, TypeError, AttributeError) as fault:
+        raise RosterFault(path, f"no plan with pairs in JSON: {fault}") from fault
+    if form not in range(1, FORMAT + 1):
+        raise RosterFault(path, f"format {form} of a plan in JSON, where 1 to {FORMAT} can be read")
+    return [(*_pair_of_json(path, pair, number), number) for number, pair in enumerate(pairs, 1)]
 
 
-def _known(sheet: Sheet, roster: Roster, cell: str, line: int, side: int, column: int) -> int:
-    """The number of a person (side 1) or an object that the roster must have."""
-    name = sheet.name(cell, line, column)
+def _pair_of_json(path: str, pair: Any, number: int) -> Tuple[str, str]:
+    person, object_ = (pair.get(key) if isinstance(pair, dict) else None for key in ("person", "object"))
+    if not isinstance(person, str) or not isinstance(object_, str) or not (person and object_):
+        raise RosterFault(path, "a person and an object are needed, each a text", number)
+    return unicodedata.normalize("NFC", person), unicodedata.normalize("NFC", object_)
+
+
+def known(sheet: Sheet, roster: Roster, cell: str, line: int, side: int, column: int) -> int:
+    """The number of a person (side 1) or an object that the roster must have, by a cell."""
+    return _known(sheet.path, roster, sheet.name(cell, line, column), line, side, column)
+
+
+def _known(path: str, roster: Roster, name: str, line: int, side: int, column: int) -> int:
+    """The number of a person (side 1) or an object that the roster must have, by name."""
     numbers = roster.person_numbers if side == 1 else roster.object_numbers
     if name not in numbers:
-        sheet.refuse(f"the roster has no {'person' if side == 1 else 'object'} {quoted(name)}", line, column)
+        near = like(name, list(numbers))
+        hint = f": did you mean {' or '.join(map(quoted, near))}?" if near else ""
+        raise RosterFault(path, f"the roster has no {'person' if side == 1 else 'object'} {quoted(name)}{hint}", line, column)
     return numbers[name]
 
 
-def _refuse_twice(place: Union[Sheet, str], roster: Roster, places: List[Tuple[int, int, int]], by_counts: bool = True) -> None:
+def _refuse_twice(path: str, roster: Roster, places: List[Tuple[int, int, int]], by_counts: bool = True) -> None:
     """Refuses a name that stands more often than it may, if counts are to be kept, and a pair that stands twice."""
-    path = place if isinstance(place, str) else place.path
     for column, names, most in ((1, roster.persons, roster.tasks_of), (2, roster.objects, roster.places_of)) if by_counts else ():
         lines: Dict[int, List[int]] = {}
         for found in places:
@@ -446,11 +492,12 @@ def _refuse_twice(place: Union[Sheet, str], roster: Roster, places: List[Tuple[i
             before = lines.setdefault(number, [])
             if len(before) == most(number):
                 often = "a second time" if before[:1] and most(number) == 1 else f"more than {most(number)} times"
-                after = f", after line {before[0]}" if before else ""
+                after = f", after {unit_of(path)} {before[0]}" if before else ""
                 raise RosterFault(path, f"{quoted(names[number])} {often}{after}", found[2], column)
             before.append(found[2])
     pairs: Dict[Tuple[int, int], int] = {}
     for person, object_, line in places:
         first = pairs.setdefault((person, object_), line)
         if first != line:
-            raise RosterFault(path, f"the pair {roster.persons[person]}, {roster.objects[object_]} a second time, after line {first}", line)
+            named = f"the pair {roster.persons[person]}, {roster.objects[object_]}"
+            raise RosterFault(path, f"{named} a second time, after {unit_of(path)} {first}", line)

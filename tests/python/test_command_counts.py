@@ -135,7 +135,7 @@ class Refusals(Runs):
 
     def test_two_of_a_group(self):
         self.file("f.csv", "a,b\nAda,early Mon\nBen,late Mon\nAda,late Mon\n")
-        text = "f.csv, line 4: Ada has late Mon and, on line 2, early Mon: two of day Mon"
+        text = "f.csv, line 4: Ada has late Mon and, in line 2, early Mon: two of day Mon"
         self.refused(3, text, *RULES, "--fixed", "f.csv")
         self.refused(3, text, *RULES, "--compare", "f.csv")
 

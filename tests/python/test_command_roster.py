@@ -159,7 +159,7 @@ class InOneGo(Folder):
     def read(self, path, words, bulk):
         with contextlib.ExitStack() as patches:
             if not bulk:
-                patches.enter_context(mock.patch("nushbaret._costs.Costs._take_plain", return_value=False))
+                patches.enter_context(mock.patch("nushbaret._costs.Costs.take_plain", return_value=False))
                 patches.enter_context(mock.patch("nushbaret._roster.Lines.take_all", return_value=False))
             try:
                 roster = read_roster(path, *words)

@@ -90,7 +90,7 @@ class Refused(unittest.TestCase):
         with self.assertRaises(nushbaret.Infeasible) as caught:
             nushbaret.solve([[1, 5, None], [2, 6, None], [3, 7, None]])
         self.assertEqual((caught.exception.rows, caught.exception.columns), ([0, 1, 2], [0, 1]))
-        with self.assertRaisesRegex(ValueError, "columns 1 may go to no row"):
+        with self.assertRaisesRegex(ValueError, "column 1 may go to no row"):
             nushbaret.solve([[1, None], [2, None], [3, None]])
 
     def test_pairs(self):
@@ -104,7 +104,7 @@ class Refused(unittest.TestCase):
         self.refused(ValueError, "row 1, column 0: the cost is beyond", solve, 2, 2, [0, 1], [1, 0], [1, MOST + 1])
         self.refused(ValueError, "-1 rows", solve, -1, 2, [], [], [])
         self.refused(ValueError, "8193 rows", solve, 8193, 2, [], [], [])
-        self.refused(nushbaret.Infeasible, "rows 0 may have no column", solve, 2, 2, [], [], [])
+        self.refused(nushbaret.Infeasible, "row 0 may have no column", solve, 2, 2, [], [], [])
         self.assertEqual(solve(1, 1, [0, 0], [0, 0], [5, 3], maximize=True).cost, 3)
 
     def test_first_prices(self):

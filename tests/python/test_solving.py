@@ -224,7 +224,7 @@ class Results(unittest.TestCase):
         again = pickle.loads(pickle.dumps(caught.exception))
         self.assertEqual((again.rows, again.columns, str(again)), ([0, 1], [0], str(caught.exception)))
         self.assertEqual(again.groups, [([0, 1], [0]), ([2], [])])
-        self.assertEqual(str(again), "cost matrix is infeasible: rows 0, 1 may have columns 0 only (the first of 2 groups)")
+        self.assertEqual(str(again), "cost matrix is infeasible: rows 0, 1 may have column 0 only (the first of 2 groups)")
 
     def test_eight_threads(self):
         draw, wrong = drawing(7), []
