@@ -19,7 +19,15 @@ ONE_AT_MOST = Bounds(0, 1)
 class Shortage(NamedTuple):
     """Least counts that can't be met. If `of_columns` is false, these rows must have `wanted` columns and can have no more than `had`: as
     many as `columns` take at most, and for each of `once`, a row and some columns, one of these. If it is true, these columns must have
-    `wanted` rows and can have no more than `had`: as many as `rows` take at most, and for each of `once` one."""
+    `wanted` rows and can have no more than `had`: as many as `rows` take at most, and for each of `once` one.
+
+    >>> import nushbaret
+    >>> try:
+    ...     nushbaret.assign_counts([[4, 1], [2, 3]], (0, 1), (2, 2))
+    ... except nushbaret.Infeasible as short:
+    ...     print(short.shortages[0].columns, short.shortages[0].wanted, short.shortages[0].had)
+    [0, 1] 4 2
+    """
 
     of_columns: bool
     rows: List[int]
@@ -94,11 +102,15 @@ class CountsResult:
         By how many each row, or column, misses its least count; those that meet it aren't there.
     maximize : bool
         Whether this is the greatest sum, not the least.
+
+    >>> import nushbaret
+    >>> result = nushbaret.assign_counts([[4, 1, 3], [2, 0, 5]], (1, 2), 1)
+    >>> result.rows, result.columns, result.cost
+    ([0, 1, 1], [2, 0, 1], 5)
     """
 
     def __init__(self, problem: Problem, counted: Counted, pairs: List[Pair]):
-        self._problem = problem
-        self._found = pairs
+        self._labels, self._found = problem.labels, pairs
         costs = _costs_of(counted, pairs)
         total = sum(costs)
         self._costs = [in_unit(-cost if problem.maximize else cost, problem.places) for cost in costs]
@@ -114,9 +126,10 @@ class CountsResult:
 
     @cached_property
     def pairs(self) -> List[Tuple[Any, Any]]:
-        if self._problem.labels is None:
+        """The pairs, by the labels of a DataFrame, or else by numbers."""
+        if self._labels is None:
             return list(self._found)
-        rows, columns = self._problem.labels
+        rows, columns = self._labels
         return [(rows[row], columns[column]) for row, column in self._found]
 
     def to_frame(self) -> Any:
@@ -126,6 +139,12 @@ class CountsResult:
         -------
         pandas.DataFrame
             With columns row, column and cost: by labels if the costs were a DataFrame, else by numbers.
+
+        >>> import nushbaret
+        >>> print(nushbaret.assign_counts([[4, 1]], 2, 1).to_frame())  # doctest: +SKIP
+           row  column  cost
+        0    0       0     4
+        1    0       1     1
         """
         import pandas  # type: ignore
         rows, columns = zip(*self.pairs) if self.pairs else ((), ())
@@ -294,6 +313,11 @@ def assign_counts(costs: Any, row_counts: Any = None, column_counts: Any = None,
     Rows and columns become as many nodes as they count at most, and what counts once needs two more where a plan would break it; the
     library takes 8192 nodes of each side. It proves each plan of nodes best, and each shortage. How nodes stand for counts is tested,
     not proved.
+
+    >>> import nushbaret
+    >>> shifts = [[4, 1, 3, 2], [2, 3, 5, 1]]
+    >>> nushbaret.assign_counts(shifts, (2, 3), (1, 2), column_groups=["Mon", "Mon", "Tue", "Tue"]).pairs
+    [(0, 1), (0, 2), (1, 0), (1, 3)]
     """
     if row_counts is None and column_counts is None:
         raise TypeError("row_counts and column_counts are both missing: give one, or call solve")

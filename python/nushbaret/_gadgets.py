@@ -82,17 +82,25 @@ class TooLarge(ValueError):
 def trimmed(counted: Counted) -> Trimmed:
     """The counts without what can't be used; TooLarge if the rest alone needs too many nodes."""
     columns = _cut(counted.column_bounds, Counter(counted.columns))
-    held: Dict[Unit, int] = {}
-    of_rows: Dict[int, int] = Counter()
-    for unit, column in zip(counted.units(), counted.columns):
-        of_rows[unit[0]] += unit not in held
-        if unit[1] < counted.n_groups:
-            held[unit] = held.get(unit, 0) + columns[column].most
+    of_rows, held = Counter(counted.rows), _places_of_units(counted, columns)
+    if held:
+        of_rows.subtract(row for row, group in counted.units() if group < counted.n_groups)
+        of_rows.update(row for row, _ in held)
     rows = _cut(counted.row_bounds, of_rows)
     copies, places = (sum(bound.most for bound in bounds) for bounds in (rows, columns))
     if max(copies, places) > MOST_PERSONS:
         raise TooLarge(copies, places, 0, max(copies, places))
     return Trimmed(rows, columns, held)
+
+
+def _places_of_units(counted: Counted, columns: List[Bounds]) -> Dict[Unit, int]:
+    """How many places each unit has, of the groups that were given."""
+    held: Dict[Unit, int] = {}
+    if counted.n_groups:
+        for unit, column in zip(counted.units(), counted.columns):
+            if unit[1] < counted.n_groups:
+                held[unit] = held.get(unit, 0) + columns[column].most
+    return held
 
 
 def _cut(bounds: List[Bounds], most: Dict[int, int]) -> List[Bounds]:
@@ -251,16 +259,26 @@ class _Builder:
         n_rows, n_columns = self.sizes(shape, len(self.gadgets))
         copies, places = len(self.rows.owners), len(self.columns.owners)
         lists = _Lists()
-        for place, (unit, column) in enumerate(zip(self.counted.units(), self.counted.columns)):
-            number = self.gadgets.get(unit)
-            own = self.rows.nodes[unit[0]] if number is None else range(copies + number, copies + number + 1)
-            lists.add(own, self.columns.nodes[column], place)
+        self._list_pairs(lists)
         for (row, _), number in self.gadgets.items():
             entry = range(places + number, places + number + 1)
             lists.add(self.rows.nodes[row], entry)
             lists.add(range(copies + number, copies + number + 1), entry)
         self._fill(lists, shape, range(copies + len(self.gadgets), n_rows), range(places + len(self.gadgets), n_columns))
         return Nodes(self.rows.owners + [row for row, _ in self.gadgets], self.columns.owners, n_rows, n_columns, lists)
+
+    def _list_pairs(self, lists: _Lists) -> None:
+        """Lists the copies of each row, or its gadget, with the places of columns."""
+        copies, rows, columns, gadgets = len(self.rows.owners), self.rows.nodes, self.columns.nodes, self.gadgets
+        for place, (unit, column) in enumerate(zip(self.counted.units(), self.counted.columns)):
+            number = gadgets.get(unit) if gadgets else None
+            own, ends = rows[unit[0]] if number is None else range(copies + number, copies + number + 1), columns[column]
+            if len(own) == len(ends) == 1:
+                lists.rows.append(own[0])
+                lists.columns.append(ends[0])
+                lists.places.append(place)
+            else:
+                lists.add(own, ends, place)
 
     def _fill(self, lists: _Lists, shape: _Shape, row_fillers: range, column_fillers: range) -> None:
         """Lists what may stay out with fillers. The last ones of each side may be matched with nodes that must be, but are missed."""

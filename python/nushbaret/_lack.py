@@ -6,7 +6,7 @@ augmenting paths (Ford and Fulkerson 1956). What the searches that fail have rea
 from array import array
 from bisect import bisect_left
 from collections import deque
-from typing import Any, Dict, Iterator, List, NamedTuple, Optional, Set, Tuple
+from typing import Any, Dict, Iterator, List, NamedTuple, Optional, Set, Tuple, Type
 
 from ._gadgets import Bounds, Counted, Pair, Served, Unit
 from ._infeasible import Group, prove_short
@@ -40,9 +40,6 @@ class _Flow:
 
     def __init__(self, counted: Counted):
         self.counted, self.first_column = counted, len(counted.row_bounds)
-        self.lists = [array("H") for _ in counted.row_bounds]
-        for row, column in zip(counted.rows, counted.columns):
-            self.lists[row].append(column)
         self.taken: Dict[Unit, int] = {}
         self.of_rows: List[Set[int]] = [set() for _ in counted.row_bounds]
         self.of_columns: List[Set[int]] = [set() for _ in counted.column_bounds]
@@ -127,6 +124,12 @@ class _Flow:
 class _RowsFlow(_Flow):
     """Rows need columns: a row takes one of a unit that has none. Where a column is full, a unit that has it takes another of its group, or
     its row takes one of another group."""
+
+    def __init__(self, counted: Counted):
+        super().__init__(counted)
+        self.lists = [array("H") for _ in counted.row_bounds]
+        for row, column in zip(counted.rows, counted.columns):
+            self.lists[row].append(column)
 
     def near(self, vertex: Any) -> Iterator[_Step]:
         if isinstance(vertex, tuple):
@@ -254,15 +257,18 @@ def _part(start: Any, seen: Set[Any], links: Dict[Any, List[Any]], back: Dict[An
 def lacks_of(counted: Counted) -> Tuple[List[Lack], Served]:
     """What is short, each group proved by the library, and how much of the least counts can be met. Nothing is short where there is a
     plan."""
-    of_rows, some = _side_of(_RowsFlow(counted), 0, counted.row_bounds)
-    of_columns, more = _side_of(_ColumnsFlow(counted), len(counted.row_bounds), counted.column_bounds)
+    of_rows, some = _side_of(_RowsFlow, counted, 0, counted.row_bounds)
+    of_columns, more = _side_of(_ColumnsFlow, counted, len(counted.row_bounds), counted.column_bounds)
     for lack in some + more:
         _prove(counted, lack)
     return some + more, Served(of_rows, of_columns)
 
 
-def _side_of(flow: _Flow, begin: int, bounds: List[Bounds]) -> Tuple[int, List[Lack]]:
+def _side_of(kind: Type[_Flow], counted: Counted, begin: int, bounds: List[Bounds]) -> Tuple[int, List[Lack]]:
     """How much of the least counts of one side can be met, and what is short there."""
+    if not any(bound.least for bound in bounds):
+        return 0, []
+    flow = kind(counted)
     served = flow.fill(begin, bounds)
     lacks = flow.lacks()
     if served + sum(lack.wanted - lack.had for lack in lacks) != sum(bound.least for bound in bounds):

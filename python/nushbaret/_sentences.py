@@ -8,6 +8,10 @@ from ._lack import Lack
 from ._roster import Roster
 
 
+# So many objects are listed even where they are all of their groups.
+MOST_LISTED = 6
+
+
 def sentence_of(roster: Roster, problem: Counted, lack: Lack) -> str:
     """What a planner reads of a group that is short."""
     return _of_objects(roster, problem, lack) if lack.of_columns else _of_persons(roster, problem, lack)
@@ -43,15 +47,17 @@ def _few(lack: Lack) -> str:
 
 
 def _objects(roster: Roster, problem: Counted, objects: List[int]) -> str:
-    """Objects with their least counts, and their groups where all are in one."""
+    """Objects with their least counts, and their groups where all are in one. Many that are whole groups aren't listed."""
     names = _with_counts(roster.objects, objects, {object_: problem.column_bounds[object_].least for object_ in objects})
-    text = f"{counted(len(objects), roster.titles[1])} ({names})"
+    count = counted(len(objects), roster.titles[1])
     groups = sorted({problem.group_of[object_] for object_ in objects})
     if roster.groups is None or groups[-1] >= problem.n_groups:
-        return text
-    if len(groups) == 1:
-        return f"{text} of {roster.groups.title} {roster.groups.names[groups[0]]}"
-    return f"{text} of {named(groups, roster.groups.title, roster.groups.names)}"
+        return f"{count} ({names})"
+    of_groups = (f"{roster.groups.title} {roster.groups.names[groups[0]]}" if len(groups) == 1
+                 else named(groups, roster.groups.title, roster.groups.names))
+    if len(objects) > MOST_LISTED and len(objects) == sum(group in groups for group in problem.group_of):
+        return f"all {count} of {of_groups}"
+    return f"{count} ({names}) of {of_groups}"
 
 
 def _with_counts(names: List[str], numbers: List[int], counts: Dict[int, int]) -> str:

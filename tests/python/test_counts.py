@@ -213,6 +213,7 @@ class Words(unittest.TestCase):
         partial = nushbaret.assign_counts([[1, None], [2, 3]], 2, (0, 3), partial=True)
         self.assertEqual((partial.cost, partial.missing_rows, partial.missing_columns), (6, {0: 1}, {}))
         self.assertEqual(repr(partial), "<nushbaret.CountsResult: cost 6, 3 pairs>")
+        self.assertEqual(pickle.loads(pickle.dumps(partial)).pairs, partial.pairs)
 
     def test_refusals(self):
         cases = [
@@ -250,6 +251,7 @@ class Words(unittest.TestCase):
         result = nushbaret.assign_counts(numpy.array(self.COSTS), numpy.array([[1, 2], [1, 1]]), numpy.ones(3, int), numpy.array([0, 0, 1]))
         self.assertEqual((result.rows.tolist(), result.columns.tolist(), result.cost), ([0, 0, 1], [1, 2, 0], 6))
         self.assertIsInstance(result.rows, numpy.ndarray)
+        self.assertEqual(pickle.loads(pickle.dumps(result)).pairs, result.pairs)
 
     @unittest.skipUnless(pandas, "needs pandas")
     def test_frames(self):

@@ -7,9 +7,11 @@ import re
 import sys
 import unittest
 from array import array
+from unittest import mock
 
 sys.path.insert(0, str(pathlib.Path(__file__).resolve().parents[2] / "python"))
 
+from nushbaret import _sentences
 from nushbaret._answer import Wish, sentence
 from nushbaret._by_counts import answer_by_counts
 from nushbaret._roster import Groups, Roster
@@ -162,7 +164,8 @@ class Sentences(unittest.TestCase):
         found = 0
         for number, case in enumerate(drawings(5, 1300)):
             roster = case.roster()
-            answer = answer_by_counts(roster, Wish((), case.maximize))
+            with mock.patch.object(_sentences, "MOST_LISTED", number % 2 * 9):
+                answer = answer_by_counts(roster, Wish((), case.maximize))
             found += bool(answer.groups)
             for short in answer.groups:
                 text = sentence(roster, short, False)
@@ -173,10 +176,11 @@ class Sentences(unittest.TestCase):
     def judge(self, case, text):
         allowed = case.pairs()
         about_objects = re.match(r"(?:nobody can take the|\d+ (?:person|people) \(.*?\) can take at most (\d+) of the) (\d+) places? that must "
-                                 r"be filled at \d+ objects? \(((?:o\d+(?: \(\d+\))?(?:, )?)+)\)(?: of day g\d| of \d+ days \(.*?\))?: (.*)", text)
+                                 r"be filled at (?:\d+ objects? \(((?:o\d+(?: \(\d+\))?(?:, )?)+)\)|all \d+ objects?)"
+                                 r"(?: of day (g\d)| of \d+ days \((.*?)\))?: (.*)", text)
         if about_objects:
-            most, wanted, names, rest = about_objects.groups()
-            least = self.counts(names)
+            most, wanted, names, *days, rest = about_objects.groups()
+            least = self.counts(names) if names else self.of_days(case, "".join(filter(None, days)))
             self.assertEqual(sum(least.values()), int(wanted))
             rules = self.rules(rest.rpartition(": ")[0])
             pairs = [(person, object_) for person, object_ in allowed if object_ in least]
@@ -198,6 +202,11 @@ class Sentences(unittest.TestCase):
             self.assertTrue(is_named or (caps[person] if about_objects else least[object_]) is not None, f"p{person} may have o{object_}")
         self.assertEqual(self.most(case, pairs, caps, least, once), int(most or 0))
         self.assertLess(int(most or 0), int(wanted))
+
+    def of_days(self, case, days):
+        """The least counts of all objects of some days."""
+        bounds = case.bounds()[1]
+        return {object_: bounds[object_][0] for day in re.findall(r"g(\d)", days) for object_ in case.groups[int(day)]}
 
     def counts(self, names):
         return {int(number): int(count or 1) for number, count in re.findall(r"[po](\d+)(?: \((\d+)\))?", names)}
