@@ -8,7 +8,7 @@ from ._answer import Answer, Plan, counted, left_out
 from ._days import STYLE as DAYS_STYLE, by_days
 from ._groups import order_of
 from ._roster import Roster
-from ._texts import Note, Report, notes_of
+from ._texts import Note, Report, notes_of, persons_at
 
 MOST_CELLS = 250_000
 # Up to so many cells persons and objects that are in no pair and in no short group are drawn as well.
@@ -259,17 +259,15 @@ def _cell(roster: Roster, cost: Optional[int], fixed: Optional[bool], span: Tupl
 
 
 def _list(roster: Roster, plan: Plan) -> Iterator[str]:
-    """The plan: a row for each person with all of its own, and then for each object of several places."""
+    """The plan: a row for each person with all of its own, and then, if any object may have several, for each object."""
     own: Dict[int, List[Tuple[str, str]]] = {}
-    at: Dict[int, List[str]] = {}
     for pair in plan.pairs:
         own.setdefault(pair.person, []).append((roster.objects[pair.object], roster.shown(pair.cost)))
-        if roster.places_of(pair.object) > 1:
-            at.setdefault(pair.object, []).append(roster.persons[pair.person])
     yield from _table(list(roster.titles), [
         [roster.persons[person]] + ["\n".join(texts) for texts in zip(*pairs)] for person, pairs in own.items()])
+    at = persons_at(roster, plan)
     if at:
-        yield from _table([roster.titles[1], roster.titles[0]], [[roster.objects[number], ", ".join(at[number])] for number in sorted(at)])
+        yield from _table([roster.titles[1], roster.titles[0]], [[roster.objects[object_], ", ".join(who)] for object_, who in at])
 
 
 def _table(titles: List[str], rows: List[List[str]]) -> Iterator[str]:

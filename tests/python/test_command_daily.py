@@ -4,7 +4,6 @@ import os
 import signal
 import subprocess
 import sys
-import time
 import unittest
 from unittest import mock
 
@@ -40,7 +39,7 @@ class Shown(Daily):
         self.assertEqual(self.run_words("r.csv", "--plans", "1000")[1].count("plan "), 5)
         self.file("c.csv", "a,b\nnight,2\nearly,0\n")
         self.assertTrue(self.run_words("r.csv", "--places", "c.csv", "--plans", "2")[1].endswith(
-            "at night: Ada, Cleo\nplan 2: 8, 3 more\n  there Ada: late, 1\n  there Ben: night, 5\n"))
+            "at late: Ben\nat night: Ada, Cleo\nplan 2: 8, 3 more\n  there Ada: late, 1\n  there Ben: night, 5\n"))
         self.file("w.csv", ",x,y\nAda,1,2\nBen,2,2\nCleo,9,9\n")
         self.assertIn("plan 3: 10, 7 more\n  there Ben: nothing\n  there Cleo: y, 9\n", self.run_words("w.csv", "--plans", "3")[1])
         self.refused(2, "'1' is no number from 2 to 1000", "r.csv", "--plans", "1")
@@ -135,13 +134,14 @@ class Paper(Daily):
 
 class Faults(Daily):
     def test_interrupted(self):
-        self.file("r.csv", test_command.square(700))
-        ended = subprocess.Popen([sys.executable, "-m", "nushbaret", "r.csv", "--output", "p.csv", "--plans", "900"], stdout=subprocess.PIPE,
+        os.mkfifo("pipe.csv")
+        ended = subprocess.Popen([sys.executable, "-m", "nushbaret", "pipe.csv", "--output", "p.csv"], stdout=subprocess.PIPE,
                                  stderr=subprocess.PIPE, env={**os.environ, "PYTHONPATH": str(TOP / "python")})
-        time.sleep(0.7)
-        ended.send_signal(signal.SIGINT)
-        out, err = ended.communicate()
-        self.assertEqual((ended.returncode, out, err, os.listdir()), (-signal.SIGINT, b"", b"", ["r.csv"]))
+        # Opening the pipe waits until the command reads it.
+        with open("pipe.csv", "wb"):
+            ended.send_signal(signal.SIGINT)
+            out, err = ended.communicate()
+        self.assertEqual((ended.returncode, out, err, sorted(os.listdir())), (-signal.SIGINT, b"", b"", ["pipe.csv", "r.csv"]))
 
     def test_interrupted_while_writing(self):
         for force in ((), ("--force",)):
