@@ -278,7 +278,8 @@ def _lines_of(text: str) -> Iterator[str]:
     while begin < len(text):
         end = text.find("\n", begin + PIECE) + 1 or len(text)
         piece = text[begin:end]
-        yield from re.findall("[^\r\n]*(?:\r\n?|\n)|[^\r\n]+", piece) if any(map(piece.__contains__, OTHER_ENDS)) else piece.splitlines(True)
+        is_plain = not any(map(piece.__contains__, OTHER_ENDS))
+        yield from piece.splitlines(True) if is_plain else re.findall("[^\r\n]*(?:\r\n?|\n)|[^\r\n]+", piece)
         begin = end
 
 
