@@ -4,6 +4,7 @@ import os
 import signal
 import subprocess
 import sys
+import time
 import unittest
 from unittest import mock
 
@@ -137,11 +138,20 @@ class Faults(Daily):
         os.mkfifo("pipe.csv")
         ended = subprocess.Popen([sys.executable, "-m", "nushbaret", "pipe.csv", "--output", "p.csv"], stdout=subprocess.PIPE,
                                  stderr=subprocess.PIPE, env={**os.environ, "PYTHONPATH": str(TOP / "python")})
-        # Opening the pipe waits until the command reads it.
-        with open("pipe.csv", "wb"):
-            ended.send_signal(signal.SIGINT)
-            out, err = ended.communicate()
+        pipe = self.opened("pipe.csv", ended)
+        ended.send_signal(signal.SIGINT)
+        out, err = ended.communicate()
+        os.close(pipe)
         self.assertEqual((ended.returncode, out, err, sorted(os.listdir())), (-signal.SIGINT, b"", b"", ["pipe.csv", "r.csv"]))
+
+    def opened(self, pipe, ended):
+        """A pipe to a command that has begun to read it."""
+        while ended.poll() is None:
+            try:
+                return os.open(pipe, os.O_WRONLY | os.O_NONBLOCK)
+            except OSError:
+                time.sleep(0.01)
+        self.fail(ended.communicate())
 
     def test_interrupted_while_writing(self):
         for force in ((), ("--force",)):
