@@ -117,7 +117,7 @@ def _cell_text(value: Any, comma: bool) -> str:
 
 
 class Sheet:
-    """The records of a CSV file: UTF-8 or UTF-16, with `;`, TAB or `,` between cells, whichever its first line has most of. Or those of
+    """The records of a CSV file: UTF-8 or UTF-16, with `;`, TAB or `,` between cells, the one that its first line has most of. Or those of
     a workbook, `.xlsx`. Rows above the titles may be skipped.
 
     Raises `OSError` where the file can't be read, and `RosterFault` where it is no text or is too long.

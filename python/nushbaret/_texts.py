@@ -171,15 +171,19 @@ def _difference(report: Report, plan: Plan, other: Plan, name: str, mark: str = 
 
 
 def _there(roster: Roster, plan: Plan, pairs: Sequence[Pair]) -> List[str]:
-    """What each person has in another plan that it hasn't in the plan; or that it has nothing there."""
-    own = {(pair.person, pair.object) for pair in plan.pairs}
-    lines: Dict[int, List[str]] = {person: [f"there {roster.persons[person]}: nothing"]
-                                   for person in {pair.person for pair in plan.pairs} - {pair.person for pair in pairs}}
+    """What each person has in another plan that it hasn't in the plan; that it has nothing there; and where names count, what it hasn't."""
+    own, others = ({(pair.person, pair.object) for pair in those} for those in (plan.pairs, pairs))
+    some = {person for person, _ in others}
+    lines: Dict[int, List[str]] = {}
     for pair in pairs:
         if (pair.person, pair.object) not in own:
-            line = f"there {roster.persons[pair.person]}: {roster.objects[pair.object]}, {roster.shown(pair.cost)}"
-            lines.setdefault(pair.person, []).append(line)
-    return [line for person in sorted(lines) for line in lines[person]]
+            lines.setdefault(pair.person, []).append(f"{roster.objects[pair.object]}, {roster.shown(pair.cost)}")
+    for pair in plan.pairs:
+        if pair.person not in some:
+            lines[pair.person] = ["nothing"]
+        elif roster.ruled and (pair.person, pair.object) not in others:
+            lines.setdefault(pair.person, []).append(f"not {roster.objects[pair.object]}")
+    return [f"there {roster.persons[person]}: {text}" for person in sorted(lines) for text in lines[person]]
 
 
 class Change(NamedTuple):

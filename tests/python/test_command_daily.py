@@ -4,6 +4,7 @@ import os
 import signal
 import subprocess
 import sys
+import time
 import unittest
 from unittest import mock
 
@@ -39,7 +40,8 @@ class Shown(Daily):
         self.assertEqual(self.run_words("r.csv", "--plans", "1000")[1].count("plan "), 5)
         self.file("c.csv", "a,b\nnight,2\nearly,0\n")
         self.assertTrue(self.run_words("r.csv", "--places", "c.csv", "--plans", "2")[1].endswith(
-            "at late: Ben\nat night: Ada, Cleo\nplan 2: 8, 3 more\n  there Ada: late, 1\n  there Ben: night, 5\n"))
+            "at late: Ben\nat night: Ada, Cleo\nplan 2: 8, 3 more\n  there Ada: late, 1\n  there Ada: not night\n"
+            "  there Ben: night, 5\n  there Ben: not late\n"))
         self.file("w.csv", ",x,y\nAda,1,2\nBen,2,2\nCleo,9,9\n")
         self.assertIn("plan 3: 10, 7 more\n  there Ben: nothing\n  there Cleo: y, 9\n", self.run_words("w.csv", "--plans", "3")[1])
         self.refused(2, "'1' is no number from 2 to 1000", "r.csv", "--plans", "1")
@@ -137,11 +139,20 @@ class Faults(Daily):
         os.mkfifo("pipe.csv")
         ended = subprocess.Popen([sys.executable, "-m", "nushbaret", "pipe.csv", "--output", "p.csv"], stdout=subprocess.PIPE,
                                  stderr=subprocess.PIPE, env={**os.environ, "PYTHONPATH": str(TOP / "python")})
-        # Opening the pipe waits until the command reads it.
-        with open("pipe.csv", "wb"):
-            ended.send_signal(signal.SIGINT)
-            out, err = ended.communicate()
+        pipe = self.opened("pipe.csv", ended)
+        ended.send_signal(signal.SIGINT)
+        out, err = ended.communicate()
+        os.close(pipe)
         self.assertEqual((ended.returncode, out, err, sorted(os.listdir())), (-signal.SIGINT, b"", b"", ["pipe.csv", "r.csv"]))
+
+    def opened(self, pipe, ended):
+        """A pipe to a command that has begun to read it."""
+        while ended.poll() is None:
+            try:
+                return os.open(pipe, os.O_WRONLY | os.O_NONBLOCK)
+            except OSError:
+                time.sleep(0.01)
+        self.fail(ended.communicate())
 
     def test_interrupted_while_writing(self):
         for force in ((), ("--force",)):
