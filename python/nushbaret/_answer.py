@@ -20,7 +20,7 @@ class Pair(NamedTuple):
 
 
 class Short(NamedTuple):
-    """Why there is no plan. Where `of_objects` is false these persons want `wanted` and can have no more than `had`, of these objects
+    """Why there is no plan. Where `of_objects` is false these persons need `wanted` and can have no more than `had`, of these objects
     alone, and of those in `once` one for each pair; where it is true it is the other way round."""
 
     persons: List[int]
@@ -34,7 +34,7 @@ class Short(NamedTuple):
 class Plan(NamedTuple):
     """Pairs in the order of the persons, their cost, who and what gets less than it should, and the rent of each object that isn't
     fixed, where nobody counts several times. Costs and rents are in the roster's units. `swaps` are the groups that could change places
-    at no cost, not told where changes are weighed; `next_cost` is that of the best other plan, where it was asked for and is told."""
+    at no cost, none where changes are weighed; `next_cost` is that of the best other plan, where it was asked for and there is one."""
 
     pairs: List[Pair]
     cost: int
@@ -65,7 +65,7 @@ class Wish(NamedTuple):
     others: bool = False
 
 
-def nodes_beside(roster: Roster, fixed: Sequence[PlanLine]) -> Nodes:
+def nodes_around(roster: Roster, fixed: Sequence[PlanLine]) -> Nodes:
     """What is left to solve around the fixed pairs."""
     tasks, places = [roster.tasks_of(person) for person in range(len(roster.persons))], [
         roster.places_of(object_) for object_ in range(len(roster.objects))]
@@ -82,7 +82,7 @@ def nodes_beside(roster: Roster, fixed: Sequence[PlanLine]) -> Nodes:
 
 def answer_of(roster: Roster, wish: Wish) -> Answer:
     """The answer to a roster; ValueError where it is too large for the library."""
-    nodes = nodes_beside(roster, wish.fixed)
+    nodes = nodes_around(roster, wish.fixed)
     costs = least_costs(nodes, wish.maximize)
     if wish.kept is not None and wish.change:
         costs = changed(costs, nodes.edges, wish.kept, wish.change)
@@ -189,7 +189,7 @@ class Out(NamedTuple):
 
 
 def left_out(roster: Roster, plan: Plan) -> List[Out]:
-    """Who gets less than it should, and what has places left, as far as there are such."""
+    """Who gets less than it should, and what has places left, as far as there are any."""
     had, used = Counter(pair.person for pair in plan.pairs), Counter(pair.object for pair in plan.pairs)
     without = [_part_of(roster.persons[number], had[number], roster.tasks_of(number)) for number in plan.without]
     unused = [_part_of(roster.objects[number], used[number], roster.places_of(number)) for number in plan.unused]
@@ -236,7 +236,7 @@ def sentence(roster: Roster, short: Short, some_fixed: bool) -> str:
     else:
         said = (f"{named(short.persons, person, roster.persons)} can take {_only(short.objects, object_, roster.objects)}: "
                 + _advice_on_persons(roster, short))
-    return "beside the fixed pairs, " + said if some_fixed else said
+    return "around the fixed pairs, " + said if some_fixed else said
 
 
 def _sentence_of_counts(roster: Roster, short: Short) -> str:
@@ -246,8 +246,8 @@ def _sentence_of_counts(roster: Roster, short: Short) -> str:
         many, few = named(short.objects, object_, roster.objects), _once(short.persons, short.once, roster.persons)
     else:
         many, few = named(short.persons, person, roster.persons), _once(short.objects, short.once, roster.objects)
-    want = "wants" if len(short.objects if short.of_objects else short.persons) == 1 else "want"
-    return f"{many} {want} {short.wanted}, and no more than {short.had} can be had{few}: {short.wanted - short.had} too few"
+    need = "needs" if len(short.objects if short.of_objects else short.persons) == 1 else "need"
+    return f"{many} {need} {short.wanted}, and no more than {short.had} can be had{few}: {short.wanted - short.had} too few"
 
 
 def _once(numbers: List[int], once: List[int], names: List[str]) -> str:

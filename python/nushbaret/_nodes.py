@@ -1,13 +1,13 @@
 """The problem of single nodes that stands for one where names count several times, and all of its best plans.
 
-A person of several tasks, and an object of several places, has a node for each. Where such two may meet, the pair gets two nodes
+A person of several tasks, and an object of several places, has a node for each. Where two of these may meet, the pair gets two nodes
 of its own, joined with each other: the person's nodes reach the one at the pair's cost, and the other reaches the object's nodes
 at 0. So a pair counts at most once.
 
 The best plans are those along pairs whose reduced cost is 0, in which nobody stays out but whose dual is 0. Of these one has the
 fewest changes from an earlier plan. Two of them differ by rounds of pairs that cost nothing, each in one of them: so a pair that
 is in some best plan and not in all stands, as an arrow from the object to its person where it is in this plan and the other way
-where it isn't, in a round of such arrows. What stays out is held by one vertex on each side.
+where it isn't, in a round of these arrows. What stays out is held by one vertex on each side.
 """
 from array import array
 from collections import Counter, deque
@@ -75,7 +75,7 @@ def _judge(listed: Listed) -> None:
                  for person, object_ in zip(listed.persons, listed.objects))
     size = max(rows, columns) + joined
     if size > MOST_PERSONS:
-        raise ValueError(f"{rows} tasks and {columns} places want {size} nodes, {joined} of them for pairs of a person with several "
+        raise ValueError(f"{rows} tasks and {columns} places need {size} nodes, {joined} of them for pairs of a person with several "
                          f"tasks and an object with several places: at most {MOST_PERSONS} can be had")
 
 
@@ -118,7 +118,7 @@ def _add(nodes: Nodes, rows: range, columns: range, cost: int, pair: Pair) -> No
 
 def least_costs(nodes: Nodes, maximize: bool) -> List[int]:
     """Costs of which the best plans have the least sum. Where pairs have nodes of their own, none is below 0: as every plan has as many
-    pairs, the best ones stay the best, and such a node gains nothing where its pair isn't made."""
+    pairs, the best ones stay the best, and a node of a pair gains nothing where its pair isn't made."""
     costs = [-cost for cost in nodes.costs] if maximize else list(nodes.costs)
     if not nodes.joined:
         return costs

@@ -82,14 +82,14 @@ def frame_of(roster: Roster, answer: Answer) -> Frame:
     blocks = []
     row = column = 0
     for short in answer.groups:
-        below, behind = row + len(short.persons), column + len(short.objects)
+        below, after = row + len(short.persons), column + len(short.objects)
         if not short.objects:
             blocks.append(Block(row, below, 0, columns))
         elif not short.persons:
-            blocks.append(Block(0, rows, column, behind))
+            blocks.append(Block(0, rows, column, after))
         else:
-            blocks.append(Block(row, below, column, behind))
-        row, column = below, behind
+            blocks.append(Block(row, below, column, after))
+        row, column = below, after
     return Frame(persons + other_persons, objects + other_objects, len(persons), len(objects), blocks)
 
 

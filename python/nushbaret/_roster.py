@@ -31,7 +31,7 @@ SAVE = "save the sheet as 'CSV UTF-8'"
 
 
 class RosterFault(ValueError):
-    """What is wrong in a file, and where: line and column from 1, as far as there is such a place."""
+    """What is wrong in a file, and where: line and column from 1, as far as there is a place."""
 
     def __init__(self, path: str, text: str, line: Optional[int] = None, column: Optional[int] = None) -> None:
         self.path, self.text, self.line, self.column = path, text, line, column
@@ -66,7 +66,7 @@ class WorkbookFault(Exception):
 def _workbook_rows(path: str, comma: bool) -> List[List[str]]:
     """The rows of a workbook's first sheet, all of one length, as a CSV file would have them; with `comma` numbers have a decimal comma."""
     try:
-        import openpyxl  # type: ignore
+        import openpyxl
     except ImportError:
         raise WorkbookFault(f"an Excel workbook is read where openpyxl is installed; elsewhere {SAVE}") from None
     try:
@@ -122,7 +122,7 @@ class Sheet:
         self.has_bom = data.startswith(BOMS)
         self.text = self._decoded(data)
         first = re.split("[\r\n]", self.text.lstrip("\r\n"), maxsplit=1)[0]
-        # Spreadsheets write such a line ahead of the title to name the separator.
+        # Spreadsheets write this line ahead of the title to name the separator.
         self.has_hint = re.fullmatch('"?sep=.?"?', first, re.IGNORECASE) is not None
         hinted = first.strip('"')[4:]
         self.separator = hinted if self.has_hint and hinted in SEPARATORS and hinted else separator_of(first)
@@ -169,7 +169,7 @@ class Sheet:
         next(records)
         for line, cells in records:
             if len(cells) < width or any(cells[width:]):
-                hint = " (a comma inside of a cell wants quotes)" if len(cells) > width and self.separator == "," else ""
+                hint = " (a comma inside a cell needs quotes)" if len(cells) > width and self.separator == "," else ""
                 self.refuse(f"{len(cells)} cells, where the title line has {width}{hint}", line)
             yield line, cells[:width]
 
@@ -426,9 +426,9 @@ def _read_lines(sheet: Sheet, costs: Costs) -> Read:
     line, title = sheet.title()
     if len(title) != 3:
         fourth = f" ({quoted(title[3])} is a fourth column)" if len(title) > 3 else ""
-        sheet.refuse(f"{len(title)} titles, where a person, an object and a cost are wanted{fourth}", line)
+        sheet.refuse(f"{len(title)} titles, where a person, an object and a cost are needed{fourth}", line)
     if looks_like_number(title[2]):
-        sheet.refuse(f"a title line is wanted first, and {quoted(title[2])} is a number", line, 3)
+        sheet.refuse(f"a title line must come first, and {quoted(title[2])} is a number", line, 3)
     first, second, third = (sheet.name(cell, line, column) if cell else TITLES[column - 1] for column, cell in enumerate(title, 1))
     persons, objects = Names(sheet, "persons"), Names(sheet, "objects")
     of_persons, of_objects = array("q"), array("q")
@@ -442,16 +442,16 @@ def _read_lines(sheet: Sheet, costs: Costs) -> Read:
         of_persons.append(person)
         of_objects.append(object_)
     if not lines:
-        sheet.refuse("no line behind the title", line)
+        sheet.refuse("no line after the title", line)
     return (first, second, third), persons, objects, of_persons, of_objects
 
 
 def _read_matrix(sheet: Sheet, costs: Costs) -> Read:
     line, title = sheet.title()
     if looks_like_number(title[0]):
-        sheet.refuse(f"names are wanted in the first line and the first column, and {quoted(title[0])} is a number", line, 1)
+        sheet.refuse(f"the first line and the first column must have names, and {quoted(title[0])} is a number", line, 1)
     if len(title) < 2:
-        sheet.refuse("no object beside the first column", line)
+        sheet.refuse("no object after the first column", line)
     persons, objects = Names(sheet, "persons"), Names(sheet, "objects")
     of_persons, of_objects = array("q"), array("q")
     for column, name in enumerate(title[1:], 2):
@@ -464,7 +464,7 @@ def _read_matrix(sheet: Sheet, costs: Costs) -> Read:
                 of_persons.append(person)
                 of_objects.append(column - 2)
     if not persons.list:
-        sheet.refuse("no line behind the title", line)
+        sheet.refuse("no line after the title", line)
     return TITLES, persons, objects, of_persons, of_objects
 
 
@@ -485,9 +485,9 @@ def read_counts(path: str, roster: Roster, of_objects: bool) -> Dict[int, int]:
     sheet = Sheet(path)
     line, title = sheet.title()
     if len(title) < 2:
-        sheet.refuse("a name and how many it takes are wanted in each line", line)
+        sheet.refuse("each line must have a name and how many it takes", line)
     if looks_like_number(title[1]):
-        sheet.refuse(f"a title line is wanted first, and {quoted(title[1])} is a number", line, 2)
+        sheet.refuse(f"a title line must come first, and {quoted(title[1])} is a number", line, 2)
     counts: Dict[int, int] = {}
     for line, cells in sheet.body(len(title)):
         number = _known(sheet, roster, cells[0], line, 2 if of_objects else 1, 1)
@@ -516,9 +516,10 @@ def read_plan(path: str, roster: Roster) -> List[PlanLine]:
 
 
 class OldPlan(NamedTuple):
-    """An earlier plan: its pairs by names, those that the roster allows, the names that the roster doesn't have, and the pairs of known
-    names that it forbids, each with its line."""
+    """An earlier plan, by the file's name: its pairs by names, those that the roster allows, the names that the roster doesn't have, and
+    the pairs of known names that it forbids, each with its line."""
 
+    path: str
     pairs: List[Tuple[str, str]]
     known: List[PlanLine]
     gone: List[str]
@@ -545,7 +546,7 @@ def read_old_plan(path: str, roster: Roster) -> OldPlan:
     _refuse_twice(path, roster, places)
     costs = roster.costs_of({(person, object_) for person, object_, _ in places})
     known = [PlanLine(person, object_, line, costs[person, object_]) for person, object_, line in places if (person, object_) in costs]
-    return OldPlan([(person, object_) for person, object_, _ in named], known, list(gone),
+    return OldPlan(path, [(person, object_) for person, object_, _ in named], known, list(gone),
                    [place for place in places if place[:2] not in costs])
 
 
@@ -562,9 +563,9 @@ def _plan_of_json(path: str) -> List[Tuple[str, str, int]]:
 def _plan_cells(sheet: Sheet, roster: Roster) -> Iterator[Tuple[int, List[str]]]:
     line, title = sheet.title()
     if len(title) < 2:
-        sheet.refuse("a person and an object are wanted in each line", line)
+        sheet.refuse("each line must have a person and an object", line)
     if title[0] in roster.person_numbers and title[1] in roster.object_numbers:
-        sheet.refuse(f"a title line is wanted first, and {title[0]}, {title[1]} is a pair", line)
+        sheet.refuse(f"a title line must come first, and {title[0]}, {title[1]} is a pair", line)
     return sheet.body(len(title))
 
 

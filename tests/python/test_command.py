@@ -19,13 +19,15 @@ sys.path.insert(0, str(TOP / "python"))
 
 from nushbaret import _command as command, _library as library
 from nushbaret._answer import Short, listed, plural, sentence
+from nushbaret._files import OutputFault, write_file
 from nushbaret._roster import read_roster
+from nushbaret._words import parser_of
 
 NIGHTS = ("person,shift,hours\nAda,early,1\nBen,night,2\nBen,weekend,3\nCleo,night,2\nDan,night,1\nDan,weekend,5\n"
           "Ada,late,2\nAda,office,1\n")
 SENTENCE = ("3 people (Ben, Cleo, Dan) can take only 2 shifts between them (night, weekend): "
             "allow one of them another, or leave one out")
-OTHERS = "other plans are as good: --others tells who could change places\n"
+OTHERS = "other plans are as good: --others shows who could change places\n"
 SQUARE = ",early,late,night\nAda,4,1,3\nBen,2,0,5\nCleo,3,2,2\n"
 
 
@@ -112,7 +114,7 @@ class Plans(Runs):
             self.assertEqual(command.main(["r.csv"]), 0)
         self.assertEqual(err.getvalue(), "2 nurses, 3 shifts, 3 pairs\n" + alike)
         self.file("r.csv", "," + ",".join(f"x{number},X{number}" for number in range(22)) + "\nAda" + ",1" * 44 + "\n")
-        self.assertTrue(self.run_words("r.csv")[2].endswith("r.csv: and 2 more such names\n"))
+        self.assertTrue(self.run_words("r.csv")[2].endswith("r.csv: and 2 more of these names\n"))
 
     def test_bom(self):
         for encoding, bom in (("utf-8", ""), ("utf-8-sig", "\ufeff"), ("utf-16", "\ufeff")):
@@ -167,7 +169,7 @@ class Plans(Runs):
                     "r.csv", "--keep", "old.csv", "--change-cost", "1")
         self.run_words("r.csv", "--keep", "old.csv", "--change-cost", "1", "--output", "p.json")
         self.assertIn("p.json: 0 of 3 pairs changed", self.run_words("r.csv", "--keep", "p.json", "--change-cost", "1")[1])
-        self.refused(2, "--change-cost wants --keep", "r.csv", "--change-cost", "1")
+        self.refused(2, "--change-cost needs --keep", "r.csv", "--change-cost", "1")
         for cost, text in (("-1", "'-1' is no cost from 0 on"), ("x", "'x' is no cost"), ("0.5", "more decimal places than the roster's 0")):
             self.refused(3, text, "r.csv", "--keep", "old.csv", f"--change-cost={cost}")
         for content, text in (("a,b\nAda,x\nAda,y\n", "old.csv, line 3, column 1: 'Ada' a second time, after line 2"), ("", "an empty file")):
@@ -208,7 +210,7 @@ class Plans(Runs):
         self.expect(0, "least cost: 12\nAda: day, 1; night, 5\nBen: night, 4\nCleo: night, 2\nat night: Ada, Ben, Cleo\n", "",
                     "r.csv", "--places", "c.csv", "--tasks", "t.csv")
         self.file("t.csv", "nurse,tasks\nAda,3\nBen,0\nCleo,0\nDan,0\n")
-        self.expect(1, "1 person (Ada) wants 3, and no more than 2 can be had (day, night once): 1 too few\n"
+        self.expect(1, "1 person (Ada) needs 3, and no more than 2 can be had (day, night once): 1 too few\n"
                     "least cost of 2 pairs: 6\nAda: day, 1; night, 5\nat night: Ada\nwithout: Ada (2 of 3)\nunused: night (1 of 3)\n", "",
                     "r.csv", "--places", "c.csv", "--tasks", "t.csv", "--as-many-as-can")
         self.file("f.csv", "a,b\nAda,night\nBen,night\n")
@@ -235,9 +237,9 @@ class Plans(Runs):
                               ("a,b\nlate,-1\n", "c.csv, line 2, column 2: '-1' is no whole number from 0 to 8192"),
                               ("a,b\nlate,1.5\n", "c.csv, line 2, column 2: '1.5' is no whole number"),
                               ("a,b\nlate,8193\n", "c.csv, line 2, column 2: '8193' is no whole number"),
-                              ("late,2\n", "c.csv, line 1, column 2: a title line is wanted first"),
-                              ("late\n", "c.csv, line 1: a name and how many it takes are wanted"),
-                              ("a,b\nearly,8000\nlate,8000\n", "3 tasks and 16001 places want 16001 nodes")):
+                              ("late,2\n", "c.csv, line 1, column 2: a title line must come first"),
+                              ("late\n", "c.csv, line 1: each line must have a name and how many it takes"),
+                              ("a,b\nearly,8000\nlate,8000\n", "3 tasks and 16001 places need 16001 nodes")):
             self.file("c.csv", content)
             self.refused(3, text, "r.csv", "--places", "c.csv")
         self.file("c.csv", "a,b\nlate,1\n")
@@ -348,7 +350,7 @@ class NoPlans(Runs):
         self.file("r.csv", ",x,y\nAda,1,2\nBen,1,\n")
         self.file("f.csv", "a,b\nAda,x\n")
         status, out, _ = self.run_words("r.csv", "--fixed", "f.csv")
-        self.assertEqual((status, out.split(":")[0]), (1, "beside the fixed pairs, 1 person (Ben) can take no object"))
+        self.assertEqual((status, out.split(":")[0]), (1, "around the fixed pairs, 1 person (Ben) can take no object"))
 
     def test_many_names_are_cut(self):
         names = [f"p{number}" for number in range(30)]
@@ -455,8 +457,8 @@ class Outputs(Runs):
 
     def test_output_that_comes_meanwhile(self):
         self.file("p.csv", "old")
-        with self.assertRaises(command.OutputFault):
-            command.write_file("p.csv", "new", False)
+        with self.assertRaises(OutputFault):
+            write_file("p.csv", "new", False)
         self.assertEqual(self.read("p.csv"), "old")
 
     def test_page(self):
@@ -573,7 +575,7 @@ class Statuses(Runs):
                 self.refused(2, "usage: nushbaret", *words)
         status, out, _ = self.run_words("--help")
         self.assertEqual(status, 0)
-        for option in command._parser()._option_string_actions:
+        for option in parser_of()._option_string_actions:
             self.assertIn(option, out)
 
     def test_refused_plans(self):

@@ -181,14 +181,14 @@ class Refusals(Folder):
         self.refusal("", None, None, "an empty file")
         self.refusal("\n,,\n", None, None, "an empty file")
         self.refusal("a,b,c\n", 1, None, "Say --lines or --matrix")
-        self.refusal("a,b,c\n", 1, None, "no line behind the title", form="lines")
-        self.refusal(",b,c\n", 1, None, "no line behind the title")
+        self.refusal("a,b,c\n", 1, None, "no line after the title", form="lines")
+        self.refusal(",b,c\n", 1, None, "no line after the title")
         self.refusal("a\nAda\n", 1, None, "no object")
         self.refusal("a,b,c\nAda,x\n", 2, None, "2 cells, where the title line has 3", form="lines")
         self.refusal("a,b,c\nAda,x,2,50\n", 2, None, "4 cells, where the title line has 3 (a comma")
         self.refusal(",x,y\nAda,1\n", 2, None, "2 cells")
-        self.refusal("Ada,early,2.5\nBen,late,1\n", 1, 3, "a title line is wanted")
-        self.refusal("1,2,3,4\n5,6,7,8\n", 1, 1, "names are wanted")
+        self.refusal("Ada,early,2.5\nBen,late,1\n", 1, 3, "a title line must come first")
+        self.refusal("1,2,3,4\n5,6,7,8\n", 1, 1, "must have names")
         self.refusal("a,b\nAda,x\n", 1, None, "2 titles", form="lines")
 
     def test_bytes(self):
@@ -221,7 +221,7 @@ class Plans(Folder):
             ("a,b\nAda,early\nAda,late\n", 3, 1, "'Ada' a second time, after line 2"),
             ("a,b\nAda,early\nBen,early\n", 3, 2, "'early' a second time, after line 2"),
             ("a,b\nBen,late\n", 2, None, "Ben, late is a forbidden pair"),
-            ("Ada,early\nBen,late\n", 1, None, "a title line is wanted"), ("a\nAda\n", 1, None, "a person and an object"),
+            ("Ada,early\nBen,late\n", 1, None, "a title line must come first"), ("a\nAda\n", 1, None, "a person and an object"),
             ("a,b\nAda,\n", 2, 2, "an empty name"), ("", None, None, "an empty file"),
         ]
         for content, line, column, text in cases:
