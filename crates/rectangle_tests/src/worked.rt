@@ -3,7 +3,7 @@ use super::helpers::{
     Came, prices_from, rectangle, solved, solved_from, solved_with_dummies, tried,
 };
 use assign_core::{Cost, Object, Person, Sense};
-use rectangles::{dummies_change_nothing, filled_up, persons_of_a_hall_set};
+use rectangles::{filled_up, persons_of_a_hall_set, proofs_hold_without_dummies};
 use std::alloc::{AllocError, Global};
 use std::test::Fail;
 use test_helpers::{Pair, first_prices};
@@ -159,7 +159,7 @@ fn costs_of_square(alloc: Global) -> Result<(Option<Cost>, Option<Cost>), AllocE
 
 #[test]
 fn the_square_with_dummies(rt: HostRuntime) -> Result<(), Fail> {
-    dummies_change_nothing();
+    proofs_hold_without_dummies();
     persons_of_a_hall_set();
     assert_eq!(rt; costs_of_square(rt.alloc())?, (Some(0), Some(2)));
     Ok(())

@@ -9,6 +9,6 @@ mod sparse;
 mod total;
 
 pub use filled::{filled_up, of_first};
-pub use law::{dummies_change_nothing, persons_of_a_hall_set};
+pub use law::{persons_of_a_hall_set, proofs_hold_without_dummies};
 pub use sparse::sparse_among;
 pub use total::total_of_first;

@@ -8,7 +8,7 @@ ghost use Rattle.augmenting_paths.specs.Among.{IsDecidedAmong, IsProofAmong};
 use super::solve::{solve_paths, solve_paths_from};
 use assign_core::{Outcome, Prices};
 use augmenting_paths::{try_paths_among, try_paths_among_from};
-use rectangles::{dummies_change_nothing, filled_up, of_first};
+use rectangles::{filled_up, of_first, proofs_hold_without_dummies};
 use scaled_values::{Scaled, scale};
 use std::alloc::{AllocError, Global};
 use std::sync::Arc;
@@ -38,7 +38,7 @@ fn of_square(
 {
     // These calls show the prover that it is a problem, and what the square's outcome proves.
     let _persons = scaled.n();
-    dummies_change_nothing();
+    proofs_hold_without_dummies();
     of_first(alloc, outcome, n)
 }
 

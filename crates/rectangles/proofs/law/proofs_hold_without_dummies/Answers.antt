@@ -1,5 +1,5 @@
 use Rattle.rectangles.proofs.Squares.{certificate_of_filled, hall_of_filled, proof_of_filled}
-use Rattle.rectangles.proofs.law.dummies_change_nothing.Goals as goal
+use Rattle.rectangles.proofs.law.proofs_hold_without_dummies.Goals as goal
 
 pub returns-clause-certificate : goal.returns-clause-certificate
 returns-clause-certificate c = certificate_of_filled
