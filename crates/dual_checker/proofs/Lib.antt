@@ -10,3 +10,4 @@ pub mod HallMarking
 pub mod HallFirsts
 pub mod HallDifferences
 pub mod HallFaults
+pub mod Reading

@@ -4,6 +4,7 @@
 mod among;
 mod checker;
 mod confirm;
+mod cost_rows;
 mod counts;
 mod hall;
 mod hall_lists;
@@ -17,6 +18,7 @@ mod verdict;
 pub use among::{VerdictAmong, check_among, one_verdict_among};
 pub use checker::check;
 pub use confirm::{confirm_best, confirm_best_among, confirm_hall, confirms};
+pub use cost_rows::{CostRow, CostRows};
 pub use hall::check_hall;
 pub use hall_verdict::{HallVerdict, one_hall_verdict};
 pub use verdict::{Verdict, one_verdict};
