@@ -6,4 +6,6 @@ pub mod HallVerdicts
 pub mod HallSets
 pub mod Confirmed
 pub mod Listings
+pub mod CostRow
 pub mod Sources
+pub mod Floors

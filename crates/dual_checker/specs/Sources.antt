@@ -1,10 +1,8 @@
 -- Rows from a list of costs or from a problem.
 use Rattle.std.specs.Prelude.{◌≡◌, ℕ, ◌*◌, ◌≤◌, List, length, take, All}
 use Rattle.assign_core.specs.declared.numbers.TheConstants.{MOST_PERSONS}
-use Rattle.assign_core.specs.Dense.{row_from, rows_cut}
+use Rattle.assign_core.specs.Dense.{rows_cut}
 use Rattle.assign_core.specs.Rows.{Listing, IsAmong, IsCost, IsSize}
-use Rattle.dual_checker.specs.declared.cost_rows.CostRow.{CostRow}
-use Rattle.dual_checker.specs.declared.cost_rows.CostRow.TheVariants.{Full, Pairs}
 use Rattle.dual_checker.specs.declared.cost_rows.Source.{Source}
 use Rattle.dual_checker.specs.declared.cost_rows.Source.TheVariants.{Costs, Rows}
 
@@ -23,13 +21,3 @@ pub record AreGiven (n m : ℕ) (source : Source) : Type 0 where
   pub few : n ≤ MOST_PERSONS
   pub objects : IsSize m
   pub given : IsGiven n m source
-
--- the row as a list of pairs
-abbrev pub listing_of : CostRow → Listing
-listing_of (Full costs) = row_from 1 costs.now
-listing_of (Pairs pairs) = pairs.now
-
--- a list of costs has one for each of m objects
-abbrev pub IsFull : ℕ → CostRow → Type 0
-IsFull m (Full costs) = length costs.now ≡ m
-IsFull m (Pairs pairs) = Unit {0}

@@ -4,19 +4,11 @@ ghost use Rattle.assign_core.specs.Numbered.{IsNumber};
 ghost use Rattle.assign_core.specs.Rows.{IsAmong, IsCost, IsRow, IsSize, listed_in, row_of};
 ghost use Rattle.assign_core.specs.Dense.{row_from, rows_cut};
 ghost use Rattle.dual_checker.specs.Listings.{AreListings};
-ghost use Rattle.dual_checker.specs.Sources.{IsFull, listing_of};
+ghost use Rattle.dual_checker.specs.CostRow.{IsFull, listing_of};
 
+use super::cost_row::CostRow;
 use assign_core::{Cost, Object, Person, Problem};
 use std::marker::Model;
-
-/// What a person lists.
-#[derive(Clone, Copy)]
-pub enum CostRow<'a> {
-    /// The costs to objects 1, 2, .., if the person lists each object.
-    Full(&'a [Cost]),
-    /// The listed objects, rising, each with its cost.
-    Pairs(&'a [(Object, Cost)]),
-}
 
 // Where the rows are.
 #[derive(Clone, Copy)]
@@ -128,6 +120,7 @@ impl<'a> CostRows<'a> {
         ensures row { listing_of result ≡ row_of self.now.rows person }
         ensures rule { IsRow self.now.m (listing_of result) }
         ensures full { IsFull self.now.m result }
+        ensures size { IsSize self.now.m }
     {
         match self.source {
             Source::Costs(costs) => CostRow::Full(part(costs, person.place(), self.m as usize)),

@@ -3,9 +3,12 @@
 
 mod among;
 mod checker;
+mod clear;
 mod confirm;
+mod cost_row;
 mod cost_rows;
 mod counts;
+mod floors;
 mod hall;
 mod hall_lists;
 mod hall_marks;
@@ -17,8 +20,9 @@ mod verdict;
 
 pub use among::{VerdictAmong, check_among, one_verdict_among};
 pub use checker::check;
-pub use confirm::{confirm_best, confirm_best_among, confirm_hall, confirms};
-pub use cost_rows::{CostRow, CostRows};
-pub use hall::check_hall;
+pub use confirm::{confirm_best, confirm_best_among, confirm_hall, confirm_hall_among, confirms};
+pub use cost_row::CostRow;
+pub use cost_rows::CostRows;
+pub use hall::{check_hall, check_hall_among};
 pub use hall_verdict::{HallVerdict, one_hall_verdict};
 pub use verdict::{Verdict, one_verdict};

@@ -8,8 +8,8 @@ pub returns-then-not-is_number : goal.returns-then-not-is_number
 returns-then-not-is_number c =
     let object : c.object.inside.0 ≡ c.args.object = c.object.view_is in
     sym (no_cost c.args.costs.now c.args.object (λ h.
-        let yes = c.is_number.ensures.1 (subst (IsNumber (length c.args.costs.now)) (sym object) h) in
-        let no = c.if-not-is_number.true in cc))
+    let yes = c.is_number.ensures.1 (subst (IsNumber (length c.args.costs.now)) (sym object) h) in
+    let no = c.if-not-is_number.true in cc))
 
 pub returns : goal.returns
 returns c =

@@ -1,4 +1,4 @@
-use Rattle.std.proofs.Common.{◌≡◌, ℕ, length, arith, ap, sym, subst, ◌∙◌, rules, refl}
+use Rattle.std.proofs.Common.{◌≡◌, ap, sym, subst, ◌∙◌, refl}
 use Rattle.assign_core.specs.Numbered.{IsNumber}
 use Rattle.assign_core.specs.Rows.{listed_in}
 use Rattle.dual_checker.proofs.Reading.{cut_fits, cut_shown, no_row, persons_shown}
@@ -10,9 +10,9 @@ returns-then-not-is_number c =
     let same = persons_shown i.n i.m i.source c.args.self.now c.self.invariant c.self.view_is in
     let person : c.person.inside.0 ≡ c.args.person = c.person.view_is in
     sym (no_row c.args.self.now.rows c.args.person c.args.object (λ h.
-        let inside : IsNumber i.n c.person.inside.0 = subst (IsNumber i.n) (sym person) (subst (λ k. IsNumber k c.args.person) (sym same) h) in
-        let yes = c.is_number.ensures.1 inside in
-        let no = c.if-not-is_number.true in cc))
+    let inside : IsNumber i.n c.person.inside.0 = subst (IsNumber i.n) (sym person) (subst (λ k. IsNumber k c.args.person) (sym same) h) in
+    let yes = c.is_number.ensures.1 inside in
+    let no = c.if-not-is_number.true in cc))
 
 pub part-requires : goal.part-requires
 part-requires c =

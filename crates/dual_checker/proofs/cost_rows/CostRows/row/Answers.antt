@@ -1,5 +1,5 @@
 use Rattle.std.proofs.Common.{arith, ◌∙◌}
-use Rattle.dual_checker.proofs.Reading.{cut_fits, cut_long, cut_shown, front_shown, persons_shown, row_rule}
+use Rattle.dual_checker.proofs.Reading.{cut_fits, cut_long, cut_shown, front_shown, listings_shown, persons_shown, row_rule}
 use Rattle.assign_core.specs.Dense.{row_from}
 use Rattle.dual_checker.proofs.cost_rows.CostRows.row.Goals as goal
 
@@ -34,3 +34,13 @@ returns-in-Rows-clause-rule c =
     let same = persons_shown i.n i.m i.source c.args.self.now c.self.invariant c.self.view_is in
     let front = front_shown i.n i.m i.source c.args.self.now c.self.invariant c.self.view_is c.in-Rows.problem c.in-Rows.is c.args.person (omega (arith, c.requires.last)) in
     row_rule i.n i.m i.source c.args.self.now c.self.invariant c.self.view_is c.args.person c.row.result.now c.requires (c.row.ensures.row ∙ front)
+
+pub returns-in-Costs-clause-size : goal.returns-in-Costs-clause-size
+returns-in-Costs-clause-size c =
+    let i = c.self.inside in
+    (listings_shown i.n i.m i.source c.args.self.now c.self.invariant c.self.view_is).objects
+
+pub returns-in-Rows-clause-size : goal.returns-in-Rows-clause-size
+returns-in-Rows-clause-size c =
+    let i = c.self.inside in
+    (listings_shown i.n i.m i.source c.args.self.now c.self.invariant c.self.view_is).objects
