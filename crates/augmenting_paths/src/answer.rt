@@ -30,24 +30,23 @@ fn whole_price<W: Number>(price: W, owner: Option<u16>) -> i64 {
     price.to_wide() / 4
 }
 
-// The prices of the market in whole costs.
-fn whole_prices<W: Number>(alloc: Global, market: &Market<W>) -> Result<Vec<i64>, AllocError> {
-    let mut prices = Vec::with_capacity(alloc, market.prices.len())?;
+// The least price in whole costs, if it is below 0.
+fn least_below<W: Number>(market: &Market<W>) -> i64 {
+    let mut least = 0i64;
     for (price, owner) in market.prices.iter().zip(&market.owners) {
-        prices.push(whole_price(*price, *owner))?;
+        least = least.min(whole_price(*price, *owner));
     }
-    Ok(prices)
+    least
 }
 
 // The prices in the unit of a problem with so many objects, raised so that the least is at least 0:
 // only the differences matter for the proof.
 fn prices_of<W: Number>(alloc: Global, market: &Market<W>) -> Result<Vec<Price>, AllocError> {
-    let whole = whole_prices(alloc, market)?;
-    let least = Price::from(whole.iter().copied().min().unwrap_or(0).min(0));
-    let step = Price::from(place_at(whole.len())) + 1;
-    let mut prices = Vec::with_capacity(alloc, whole.len())?;
-    for price in &whole {
-        let raised = Price::from(*price).wrapping_sub(least);
+    let least = Price::from(least_below(market));
+    let step = Price::from(place_at(market.prices.len())) + 1;
+    let mut prices = Vec::with_capacity(alloc, market.prices.len())?;
+    for (price, owner) in market.prices.iter().zip(&market.owners) {
+        let raised = Price::from(whole_price(*price, *owner)).wrapping_sub(least);
         prices.push(raised.wrapping_mul(step))?;
     }
     Ok(prices)
@@ -151,8 +150,8 @@ pub fn hall_of<W: Number>(
         (λ outcome. (sense : Sense) → IsProofAmong sense rows.now.m rows.now.rows outcome)) }
 {
     let persons = persons_of(alloc, rows.persons(), search)?;
-    let objects = passed_of(alloc, rows.objects(), search)?;
-    confirm_hall_among(alloc, rows, persons, objects)
+    let passed = passed_of(alloc, rows.objects(), search)?;
+    confirm_hall_among(alloc, rows, persons, passed)
 }
 
 // All persons.

@@ -1,5 +1,5 @@
 // Passes of a search, in 32 bits and in 64.
-ghost use Rattle.std.specs.Prelude.{IfOk, IfSome};
+ghost use Rattle.std.specs.Prelude.{◌≡◌, None, IfOk, IfSome};
 ghost use Rattle.assign_core.specs.Outcomes.{IsProofAmong};
 
 use super::answer::{best_of, hall_of, hall_of_all};
@@ -121,6 +121,17 @@ struct Narrowed {
     prices: Option<Vec<i64>>,
 }
 
+impl Narrowed {
+    fn none() -> Narrowed
+        ensures { result.found ≡ None }
+    {
+        Narrowed {
+            found: None,
+            prices: None,
+        }
+    }
+}
+
 // The result of a run in 32 bits. Shifted costs have other best assignments, but the same Hall
 // sets.
 fn result_of(
@@ -147,7 +158,7 @@ fn result_of(
     Ok(Narrowed { found, prices })
 }
 
-// The pass in 32 bits. Shifted costs don't have the ties of first prices, so it leaves these to the
+// The pass in 32 bits, from first prices too. These fit shifted costs badly, and are left to the
 // pass in 64 bits.
 fn narrow<O: Observer>(
     alloc: Global,
@@ -160,21 +171,17 @@ fn narrow<O: Observer>(
     ensures { IfOk result (λ n. IfSome n.found (IsProofAmong sense rows.now.m rows.now.rows)) }
 {
     let (matrix, shift) = copy.into_parts();
+    let mut found = None;
     if let Some(first) = first {
         if shift > 0 {
-            return Ok(Narrowed {
-                found: None,
-                prices: None,
-            });
+            return Ok(Narrowed::none());
         }
         telling.begin(Pass::Narrow);
-        let found = started(alloc, rows, sense, &matrix, first, telling)?;
-        if found.is_some() {
-            return Ok(Narrowed {
-                found,
-                prices: None,
-            });
-        }
+        found = started(alloc, rows, sense, &matrix, first, telling)?;
+    }
+    if found.is_some() {
+        let prices = None;
+        return Ok(Narrowed { found, prices });
     }
     telling.begin(Pass::Narrow);
     let run = run_cold(alloc, &matrix, telling)?;
@@ -229,19 +236,25 @@ fn widened<O: Observer>(
     answer_of(alloc, rows, sense, &run)
 }
 
-/// Searches for a proof by shortest augmenting paths: an optimal assignment with prices that prove
-/// it, or a Hall set. `None` if the result is no proof, which is not known to happen.
+/// Searches for a proof by shortest augmenting paths (Jonker and Volgenant, A shortest augmenting
+/// path algorithm for dense and sparse linear assignment problems, 1987): an optimal assignment of
+/// all persons, with prices that prove it, or a Hall set. `None` if the result is no proof, which is
+/// not known to happen. Where there are more persons than objects, all persons are a Hall set.
 ///
-/// `copy` is that of these rows under this sense: with another one the search finds nothing. The
-/// search runs in 32 bits, with costs shifted to the right where they don't fit, and goes on in 64
-/// bits where costs were shifted, a distance left the range of 32 bits, or the checkers refuse the
-/// result.
+/// `copy` is that of these rows under this sense; with another one the search finds nothing. The
+/// search runs in 32 bits, on costs shifted to the right where they don't fit. It goes on in 64 bits
+/// where costs were shifted or a distance left the range of 32 bits, and begins again there if the
+/// checkers refuse the result. Distances of every problem fit 64 bits.
 ///
 /// The prices of an optimal assignment are multiples of `m + 1` at which each person has slackness
-/// 0. In a square the time is at most that of some times `n` searches over all listed pairs and of
-/// two auctions' bids, and mostly far less. First prices are used by their differences, cut to fit
-/// and rounded down to multiples of `m + 1`. If few persons can be matched at them, or the searches
-/// for the others turn out long, the usual prices are used instead. None of this is proved.
+/// 0. First prices are used by their differences, cut to fit and rounded down to multiples of
+/// `m + 1`. If few persons can be matched at them, or the searches for the others turn out long, the
+/// search begins again without them. In a square the time is at most that of some times `n`
+/// searches over all listed pairs and of some auctions' bids, and mostly far less. None of this is
+/// proved.
+///
+/// Beside the copy the search takes 8 bytes a listed pair at most, once the copy is dropped, and
+/// some 50 bytes a person and an object.
 ///
 /// # Errors
 /// `AllocError` if memory is refused.
