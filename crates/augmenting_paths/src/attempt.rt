@@ -6,7 +6,7 @@ use super::matrix::Matrix;
 use super::number::Number;
 use super::observer::{Observer, Telling};
 use super::path::{raise, walk_back};
-use super::plan::{Plan, plan_of, started_plan};
+use super::plan::{Plan, plan_of, refined_plan, started_plan};
 use super::prices::usual_prices;
 use super::search::{End, Search};
 use super::settling::{Base, base_of, settle};
@@ -81,9 +81,10 @@ fn auction<W: Number, O: Observer>(
     matrix: &Matrix<W>,
     market: &mut Market<W>,
     plan: Plan,
+    first_eps: i64,
     telling: &mut Telling<'_, O>,
 ) {
-    let mut eps = spread_of(matrix) / EPS_DIVISOR;
+    let mut eps = first_eps;
     for _phase in 0..PHASES {
         if eps >= 4 {
             market.release_all();
@@ -152,23 +153,27 @@ pub fn run_cold<W: Number, O: Observer>(
     matrix: &Matrix<W>,
     telling: &mut Telling<'_, O>,
 ) -> Result<Run<W>, AllocError> {
-    let plan = plan_of(matrix);
     let market = Market::new(alloc, cold_prices(alloc, matrix)?, matrix.persons)?;
-    let run = bid_and_search(alloc, matrix, market, plan, telling)?;
-    match run.end {
-        Some(End::Long) => run_after_auction(alloc, matrix, plan, telling),
-        _ => Ok(run),
+    let run = bid_and_search(alloc, matrix, market, plan_of(matrix), telling)?;
+    if let Some(End::Long) = run.end {
+        let prices = cold_prices(alloc, matrix)?;
+        let eps = spread_of(matrix) / EPS_DIVISOR;
+        return run_after_auction(alloc, matrix, prices, eps, telling);
     }
+    Ok(run)
 }
 
+// A run from the prices of an auction, which begins at these prices and this slackness.
 fn run_after_auction<W: Number, O: Observer>(
     alloc: Global,
     matrix: &Matrix<W>,
-    plan: Plan,
+    prices: Vec<W>,
+    eps: i64,
     telling: &mut Telling<'_, O>,
 ) -> Result<Run<W>, AllocError> {
-    let mut market = Market::new(alloc, cold_prices(alloc, matrix)?, matrix.persons)?;
-    auction(matrix, &mut market, plan, telling);
+    let plan = plan_of(matrix);
+    let mut market = Market::new(alloc, prices, matrix.persons)?;
+    auction(matrix, &mut market, plan, eps, telling);
     bid_and_search(alloc, matrix, market, plan.to_the_end(), telling)
 }
 
@@ -213,19 +218,28 @@ pub fn run_started<W: Number, O: Observer>(
     Ok(Some(bid_and_search(alloc, matrix, market, plan, telling)?))
 }
 
-// A run from the prices of a pass in fewer bits, at which no object is owned yet.
+// A run from the prices of a pass whose costs differ by less than `eps` from the ones here. With as
+// many objects as persons an auction goes on from there if many persons are left or the searches
+// turn out long.
 pub fn run_refined<W: Number, O: Observer>(
     alloc: Global,
     matrix: &Matrix<W>,
     prices: Vec<W>,
+    eps: i64,
     telling: &mut Telling<'_, O>,
 ) -> Result<Option<Run<W>>, AllocError> {
-    let market = Market::new(alloc, prices, matrix.persons)?;
-    let run = bid_and_search(alloc, matrix, market, plan_of(matrix), telling)?;
+    let mut begun = Vec::with_capacity(alloc, prices.len())?;
+    begun.extend_from_slice(prices.as_slice())?;
+    let market = Market::new(alloc, begun, matrix.persons)?;
+    let run = bid_and_search(alloc, matrix, market, refined_plan(matrix), telling)?;
     if matrix.persons < matrix.objects {
         let price = W::of(0);
         let dear = unowned_above(alloc, &run.market, price.minus(W::of(1)))?;
         return settled(alloc, matrix, run, &Base { price, dear });
+    }
+    if let Some(End::Long) = run.end {
+        let eps = eps / EPS_DIVISOR;
+        return Ok(Some(run_after_auction(alloc, matrix, prices, eps, telling)?));
     }
     Ok(Some(run))
 }

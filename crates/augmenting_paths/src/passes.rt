@@ -194,6 +194,7 @@ fn refined<O: Observer>(
     rows: &CostRows<'_>,
     sense: Sense,
     matrix: &Matrix<i64>,
+    span: Span,
     first: Option<&[Price]>,
     prices: Option<Vec<i64>>,
     telling: &mut Telling<'_, O>,
@@ -207,7 +208,8 @@ fn refined<O: Observer>(
     match prices {
         Some(prices) => {
             telling.begin(Pass::Refined);
-            let run = run_refined(alloc, matrix, prices, telling)?;
+            let eps = 4i64.wrapping_shl(span.shift());
+            let run = run_refined(alloc, matrix, prices, eps, telling)?;
             answer_if_any(alloc, rows, sense, run)
         }
         None => Ok(None),
@@ -227,7 +229,7 @@ fn widened<O: Observer>(
     ensures { IfOk result (λ found. IfSome found (IsProofAmong sense rows.now.m rows.now.rows)) }
 {
     let matrix: Matrix<i64> = Scale::new(span, sense, 0).copy_of(alloc, rows)?;
-    let found = refined(alloc, rows, sense, &matrix, first, prices, telling)?;
+    let found = refined(alloc, rows, sense, &matrix, span, first, prices, telling)?;
     if found.is_some() {
         return Ok(found);
     }

@@ -99,6 +99,20 @@ pub fn started_plan<W: Number>(matrix: &Matrix<W>) -> Plan {
     }
 }
 
+// The plan from the prices of a pass with less exact costs. It tries little, since an auction from
+// there is as good if they are far from fitting.
+pub fn refined_plan<W: Number>(matrix: &Matrix<W>) -> Plan {
+    let plan = plan_of(matrix);
+    if matrix.persons < matrix.objects {
+        return plan;
+    }
+    let most_scans = (matrix.persons as usize).saturating_mul(8);
+    Plan {
+        most_scans: most_scans.min(plan.most_scans),
+        ..plan
+    }
+}
+
 // The most looks at pairs for lowering the prices of unowned objects, if `pairs` are listed.
 pub fn most_looks(pairs: usize) -> usize {
     pairs / 16 + 64
