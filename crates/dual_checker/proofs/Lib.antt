@@ -11,5 +11,5 @@ pub mod HallFirsts
 pub mod HallDifferences
 pub mod HallFaults
 pub mod Reading
-pub mod Clearing
+pub mod RoundedSums
 pub mod RowPlaces

@@ -17,7 +17,7 @@ use Rattle.assign_core.proofs.RowLemmas.{IsRow-row_of, row_of-index, row_of-take
 use Rattle.dual_checker.specs.declared.cost_rows.Source.{Source}
 use Rattle.dual_checker.specs.declared.cost_rows.Source.TheVariants.{Costs, Rows}
 use Rattle.dual_checker.specs.Listings.{AreListings, Listings}
-use Rattle.dual_checker.specs.Sources.{AreGiven, IsGiven, rows_from}
+use Rattle.dual_checker.specs.inside.Sources.{AreGiven, IsGiven, rows_from}
 use denote.Bor.{Bor}
 
 -- the part of the costs that is person i + 1's

@@ -6,7 +6,8 @@ use Rattle.assign_core.specs.Rows.{IsSize}
 use Rattle.assign_core.proofs.DenseRows.{length-row_from, row_from-index}
 use Rattle.dual_checker.specs.declared.cost_row.CostRow.{CostRow}
 use Rattle.dual_checker.specs.declared.cost_row.CostRow.TheVariants.{Full, Pairs}
-use Rattle.dual_checker.specs.CostRow.{HasNumbers, IsFull, listing_of}
+use Rattle.dual_checker.specs.CostRow.{IsFull, listing_of}
+use Rattle.dual_checker.specs.inside.Places.{HasNumbers}
 use denote.Bor.{Bor}
 
 -- the objects of one of the rows can be numbered

@@ -1,6 +1,5 @@
 -- What a person lists.
-use Rattle.std.specs.Prelude.{◌≡◌, ℕ, ◌≤◌, length}
-use Rattle.assign_core.specs.declared.numbers.TheConstants.{MOST_PERSONS}
+use Rattle.std.specs.Prelude.{◌≡◌, ℕ, length}
 use Rattle.assign_core.specs.Dense.{row_from}
 use Rattle.assign_core.specs.Rows.{Listing}
 use Rattle.dual_checker.specs.declared.cost_row.CostRow.{CostRow}
@@ -15,8 +14,3 @@ listing_of (Pairs pairs) = pairs.now
 abbrev pub IsFull : ℕ → CostRow → Type 0
 IsFull m (Full costs) = length costs.now ≡ m
 IsFull m (Pairs pairs) = Unit {0}
-
--- the objects of a list of costs can be numbered
-abbrev pub HasNumbers : CostRow → Type 0
-HasNumbers (Full costs) = length costs.now ≤ MOST_PERSONS
-HasNumbers (Pairs pairs) = Unit {0}

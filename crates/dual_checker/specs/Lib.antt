@@ -7,5 +7,4 @@ pub mod HallSets
 pub mod Confirmed
 pub mod Listings
 pub mod CostRow
-pub mod Sources
-pub mod Floors
+pub mod inside

@@ -76,10 +76,10 @@ fn first_dear(counts: &[u16], prices: &[Price]) -> Option<Object>
     None
 }
 
-// The first fault. There are a count and a floor for each object; the counts are 0 at first.
+// The first fault. There are a count and a rounded price for each object; the counts are 0 at first.
 fn first_fault_among(
     counts: &mut [u16],
-    floors: &mut [i64],
+    rounded: &mut [i64],
     rows: &CostRows<'_>,
     sense: Sense,
     objects: &[Object],
@@ -87,10 +87,10 @@ fn first_fault_among(
 ) -> VerdictAmong
     requires size { IsSize rows.now.m }
     requires counts { counts.old ≡ replicate rows.now.m 0 }
-    requires floors { length floors.old ≡ rows.now.m }
+    requires rounded { length rounded.old ≡ rows.now.m }
     ensures { IsVerdictAmong sense rows.now.m rows.now.rows objects.now prices.now result }
 {
-    let fault = first_fault(counts, floors, rows, sense, objects, prices);
+    let fault = first_fault(counts, rounded, rows, sense, objects, prices);
     if fault != Verdict::Yes {
         return VerdictAmong::Usual(fault);
     }
@@ -126,7 +126,7 @@ pub fn check_among(
 {
     let m = rows.objects() as usize;
     let mut counts = vec![in alloc; 0u16; m]?;
-    let mut floors = vec![in alloc; 0i64; m]?;
-    let (counts, floors) = (counts.as_mut_slice(), floors.as_mut_slice());
-    Ok(first_fault_among(counts, floors, rows, sense, objects, prices))
+    let mut rounded = vec![in alloc; 0i64; m]?;
+    let (counts, rounded) = (counts.as_mut_slice(), rounded.as_mut_slice());
+    Ok(first_fault_among(counts, rounded, rows, sense, objects, prices))
 }

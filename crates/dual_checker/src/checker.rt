@@ -7,26 +7,26 @@ ghost use Rattle.dual_checker.specs.Verdicts.{IsFault, IsVerdict};
 
 use super::cost_rows::CostRows;
 use super::counts::first_given_twice;
-use super::floors::set_floors;
 use super::listed::first_unlisted;
 use super::priced::first_out_of_range;
+use super::rounded::set_rounded;
 use super::slack::first_short;
 use super::verdict::Verdict;
 use assign_core::{Object, Price, Problem, Sense};
 use std::alloc::{AllocError, Global};
 
-// The first fault of the persons' objects and the objects' prices. There are a count and a floor
-// for each object; the counts are 0 at first.
+// The first fault of the persons' objects and the objects' prices. There are a count and a
+// rounded price for each object; the counts are 0 at first.
 pub fn first_fault(
     counts: &mut [u16],
-    floors: &mut [i64],
+    rounded: &mut [i64],
     rows: &CostRows<'_>,
     sense: Sense,
     objects: &[Object],
     prices: &[Price],
 ) -> Verdict
     requires counts { counts.old ≡ replicate rows.now.m 0 }
-    requires floors { length floors.old ≡ rows.now.m }
+    requires rounded { length rounded.old ≡ rows.now.m }
     ensures fault { IsFault sense rows.now.m rows.now.rows objects.now prices.now result }
     ensures counts { result ≡ Verdict.Yes → AreCounts counts.new objects.now }
     ensures long { length counts.new ≡ rows.now.m }
@@ -44,8 +44,8 @@ pub fn first_fault(
     if let Some(object) = first_out_of_range(prices) {
         return Verdict::PriceRange(object);
     }
-    set_floors(floors, prices);
-    if let Some((person, object)) = first_short(rows, sense, objects, prices, floors) {
+    set_rounded(rounded, prices);
+    if let Some((person, object)) = first_short(rows, sense, objects, prices, rounded) {
         return Verdict::Slack(person, object);
     }
     Verdict::Yes
@@ -83,7 +83,7 @@ pub fn check(
     let n = problem.n();
     let rows = CostRows::first(problem, n, n);
     let mut counts = vec![in alloc; 0u16; n as usize]?;
-    let mut floors = vec![in alloc; 0i64; n as usize]?;
-    let (counts, floors) = (counts.as_mut_slice(), floors.as_mut_slice());
-    Ok(first_fault(counts, floors, &rows, sense, objects, prices))
+    let mut rounded = vec![in alloc; 0i64; n as usize]?;
+    let (counts, rounded) = (counts.as_mut_slice(), rounded.as_mut_slice());
+    Ok(first_fault(counts, rounded, &rows, sense, objects, prices))
 }

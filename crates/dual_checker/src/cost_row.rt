@@ -1,6 +1,7 @@
 // What a person lists.
 ghost use Rattle.std.specs.Prelude.{◌≡◌, ◌<◌, length, slice_index_or};
-ghost use Rattle.dual_checker.specs.CostRow.{HasNumbers, listing_of};
+ghost use Rattle.dual_checker.specs.CostRow.{listing_of};
+ghost use Rattle.dual_checker.specs.inside.Places.{HasNumbers};
 
 use assign_core::{Cost, Object};
 

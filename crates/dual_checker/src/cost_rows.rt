@@ -33,7 +33,7 @@ impl<'a> Model for CostRows<'a> {
 
     ghost Value = { Listings };
 
-    ghost use Rattle.dual_checker.specs.Sources.{AreGiven, rows_from};
+    ghost use Rattle.dual_checker.specs.inside.Sources.{AreGiven, rows_from};
 
     ghost view = { λ r. record { m = r.m; rows = rows_from r.n r.m r.source } };
 

@@ -3,19 +3,19 @@
 
 mod among;
 mod checker;
-mod clear;
 mod confirm;
 mod cost_row;
 mod cost_rows;
 mod counts;
-mod floors;
 mod hall;
 mod hall_lists;
 mod hall_marks;
 mod hall_verdict;
 mod listed;
 mod priced;
+mod rounded;
 mod slack;
+mod sums;
 mod verdict;
 
 pub use among::{VerdictAmong, check_among, one_verdict_among};

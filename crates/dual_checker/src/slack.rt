@@ -8,11 +8,11 @@ ghost use Rattle.assign_core.specs.Slackness.{AllSlack, HasSlack};
 ghost use Rattle.dual_checker.specs.Faults.{BreaksSlack, BreaksSlackOf, IsFirst, IsShort};
 ghost use Rattle.assign_core.specs.Assignment.{AreListed};
 ghost use Rattle.dual_checker.specs.CostRow.{IsFull, listing_of};
-ghost use Rattle.dual_checker.specs.Floors.{AreFloors};
+ghost use Rattle.dual_checker.specs.inside.Rounded.{AreRounded};
 
-use super::clear::is_clear;
 use super::cost_row::{CostRow, listed, pair_at};
 use super::cost_rows::CostRows;
+use super::sums::shows_slack;
 use assign_core::{Cost, GREATEST_COST, MOST_PERSONS, Object, Person, Price, Sense};
 
 // An object's price.
@@ -78,7 +78,7 @@ fn first_of_row(
     row: CostRow<'_>,
     sense: Sense,
     prices: &[Price],
-    floors: &[i64],
+    rounded: &[i64],
     own: Object,
     cost: Cost,
 ) -> Option<Object>
@@ -86,14 +86,14 @@ fn first_of_row(
     requires row { IsRow (length prices.now) (listing_of row) }
     requires full { IsFull (length prices.now) row }
     requires in_range { All IsPrice prices.now }
-    requires floors { AreFloors floors.now prices.now }
+    requires rounded { AreRounded rounded.now prices.now }
     requires number { IsNumber (length prices.now) own }
     requires cost { cost ≡ listed_or_zero (listing_of row) own }
     ensures { let benefits = benefit_row sense (length prices.now) (listing_of row.entry) in
         MatchOption result (HasSlack (pos 1) prices.now benefits own)
         (λ k. IsFirst (BreaksSlack (pos 1) prices.now benefits own) (length prices.now) k) }
 {
-    if is_clear(row, sense, prices, floors, own, cost) {
+    if shows_slack(row, sense, prices, rounded, own, cost) {
         return None;
     }
     let own_worth = worth(sense, prices.len() as u16, cost, price_at(prices, own));
@@ -106,13 +106,13 @@ pub fn first_short(
     sense: Sense,
     objects: &[Object],
     prices: &[Price],
-    floors: &[i64],
+    rounded: &[i64],
 ) -> Option<(Person, Object)>
     requires long { length objects.now ≡ length rows.now.rows }
     requires priced { length prices.now ≡ rows.now.m }
     requires listed { AreListed rows.now.rows objects.now }
     requires in_range { All IsPrice prices.now }
-    requires floors { AreFloors floors.now prices.now }
+    requires rounded { AreRounded rounded.now prices.now }
     ensures { let m = rows.now.m in
         MatchOption result
         (AllSlack (pos 1) prices.now (map (benefit_row sense m) rows.now.rows) objects.now)
@@ -126,7 +126,7 @@ pub fn first_short(
         let person = Person(i as u16 + 1);
         let cost = own_cost(rows, person, *object);
         let row = rows.row(person);
-        if let Some(other) = first_of_row(row, sense, prices, floors, *object, cost) {
+        if let Some(other) = first_of_row(row, sense, prices, rounded, *object, cost) {
             return Some((person, other));
         }
     }

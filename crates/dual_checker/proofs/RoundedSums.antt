@@ -1,4 +1,4 @@
--- Sums of costs and floors that show slackness 1.
+-- Sums of costs and rounded prices that show slackness 1.
 use Rattle.std.proofs.Common.{◌≡◌, ℕ, ℤ, pos, neg_ℤ, zero, suc, ◌+◌, ◌+ℤ◌, ◌*ℤ◌, ◌≤ℤ◌, ◌<◌, ◌≤◌, List, length, get_or, set, arith, ap, sym, subst, ◌∙◌, inl, inr, add-one, IsTrue, false}
 use Rattle.std.specs.List.{All}
 use Rattle.std.proofs.lemmas.Bool.{cases_lt}
@@ -19,8 +19,8 @@ use Rattle.assign_core.proofs.DenseRows.{length-row_from, row_from-index}
 use Rattle.assign_core.proofs.Duality.{benefit_value}
 use Rattle.assign_core.proofs.NumberedLemmas.{numbered-next}
 use Rattle.assign_core.proofs.Products.{distributes, opposite, steps_below}
-use Rattle.dual_checker.specs.declared.floors.TheConstants.{MOST_FLOOR}
-use Rattle.dual_checker.specs.Floors.{AreFloors, IsFloor, IsLeastSum, minimised}
+use Rattle.dual_checker.specs.declared.rounded.TheConstants.{MOST_ROUNDED}
+use Rattle.dual_checker.specs.inside.Rounded.{AreRounded, IsRounded, IsLeastSum, minimised}
 
 -- products with the same factor keep the order
 products_ordered : (s : ℕ) (a b : ℤ) → a ≤ℤ b → (pos s *ℤ a) ≤ℤ (pos s *ℤ b)
@@ -40,29 +40,29 @@ benefit_low Max m cost =
     omega (arith, ints)
 
 -- one entry, of which the sum isn't below that of the own object
-clear_entry : (sense : Sense) (m : ℕ) (cost price floor own_cost own_price own_floor : ℤ) → own_price ≤ℤ ((pos (m + 1) *ℤ own_floor) +ℤ pos 1) →
-    (pos (m + 1) *ℤ floor) ≤ℤ price → (minimised sense own_cost +ℤ own_floor) ≤ℤ (minimised sense cost +ℤ floor) →
+worth_by_sums : (sense : Sense) (m : ℕ) (cost price rounded own_cost own_price own_rounded : ℤ) → own_price ≤ℤ ((pos (m + 1) *ℤ own_rounded) +ℤ pos 1) →
+    (pos (m + 1) *ℤ rounded) ≤ℤ price → (minimised sense own_cost +ℤ own_rounded) ≤ℤ (minimised sense cost +ℤ rounded) →
     (benefit sense m cost +ℤ own_price) ≤ℤ (benefit sense m own_cost +ℤ price +ℤ pos 1)
-clear_entry sense m cost price floor own_cost own_price own_floor near below least =
+worth_by_sums sense m cost price rounded own_cost own_price own_rounded near below least =
     let own = benefit_low sense m own_cost in
     let that = benefit_low sense m cost in
-    let x = distributes (pos (m + 1)) (minimised sense own_cost) own_floor in
-    let y = distributes (pos (m + 1)) (minimised sense cost) floor in
-    let z = products_ordered (m + 1) (minimised sense own_cost +ℤ own_floor) (minimised sense cost +ℤ floor) least in
+    let x = distributes (pos (m + 1)) (minimised sense own_cost) own_rounded in
+    let y = distributes (pos (m + 1)) (minimised sense cost) rounded in
+    let z = products_ordered (m + 1) (minimised sense own_cost +ℤ own_rounded) (minimised sense cost +ℤ rounded) least in
     omega (arith, ints)
 
 -- a row whose least sum isn't below that of the own object
-pub clear_row : (sense : Sense) (floors prices : List ℤ) (row : Listing) (own : ℕ) (cost least : ℤ) → AreFloors floors prices → IsRow (length prices) row → cost ≡ listed_or_zero row own →
-    price_of prices own ≤ℤ ((pos (length prices + 1) *ℤ price_of floors own) +ℤ pos 1) → IsLeastSum sense floors row least → (minimised sense cost +ℤ price_of floors own) ≤ℤ least →
+pub slack_by_sums : (sense : Sense) (rounded prices : List ℤ) (row : Listing) (own : ℕ) (cost least : ℤ) → AreRounded rounded prices → IsRow (length prices) row → cost ≡ listed_or_zero row own →
+    price_of prices own ≤ℤ ((pos (length prices + 1) *ℤ price_of rounded own) +ℤ pos 1) → IsLeastSum sense rounded row least → (minimised sense cost +ℤ price_of rounded own) ≤ℤ least →
     HasSlack (pos 1) prices (benefit_row sense (length prices) row) own
-clear_row sense floors prices row own cost least f r is near sums under =
+slack_by_sums sense rounded prices row own cost least f r is near sums under =
     let m : ℕ = length prices in
     let value : listed_or_zero (benefit_row sense m row) own ≡ benefit sense m (listed_or_zero row own) = benefit_value sense m row own in
     All-map (IsWorth (pos 1) prices (benefit_row sense m row) own) (λ e. (e.0, benefit sense m e.1)) row (λ k d lt.
     let e : ℕ × ℤ = get_or row k d in
     let sum = sums k d lt in
     let below = f.below e.0 (r.within k d lt) in
-    let entry = clear_entry sense m e.1 (price_of prices e.0) (price_of floors e.0) cost (price_of prices own) (price_of floors own) near below (omega (arith, ints)) in
+    let entry = worth_by_sums sense m e.1 (price_of prices e.0) (price_of rounded e.0) cost (price_of prices own) (price_of rounded own) near below (omega (arith, ints)) in
     rw (value, sym is) entry)
 
 -- a test that holds, and one that doesn't
@@ -80,15 +80,15 @@ least_more P i before after sum h low under is k below = elim (cases_lt k i) [
 ]
 
 -- the sums by place are those of the row
-pub sums_of_full : (sense : Sense) (floors costs : List ℤ) (least : ℤ) →
-    ((k : ℕ) → k < length costs → least ≤ℤ (minimised sense (get_or costs k (pos 0)) +ℤ get_or floors k (pos 0))) → IsLeastSum sense floors (row_from 1 costs) least
-sums_of_full sense floors costs least h k d lt =
+pub sums_of_full : (sense : Sense) (rounded costs : List ℤ) (least : ℤ) →
+    ((k : ℕ) → k < length costs → least ≤ℤ (minimised sense (get_or costs k (pos 0)) +ℤ get_or rounded k (pos 0))) → IsLeastSum sense rounded (row_from 1 costs) least
+sums_of_full sense rounded costs least h k d lt =
     let below : k < length costs = let e = length-row_from 1 costs in omega arith in
     let at = row_from-index 1 k costs d (pos 0) below in
     let object : 1 + k ≡ k + 1 = omega arith in
-    let floor = ap (price_of floors) object ∙ numbered-next floors k (pos 0) in
+    let rounded = ap (price_of rounded) object ∙ numbered-next rounded k (pos 0) in
     let here = h k below in
-    rw at (rw floor here)
+    rw at (rw rounded here)
 
 -- the costs of a full row are in range
 pub costs_of_full : (m : ℕ) (costs : List ℤ) → IsRow m (row_from 1 costs) → All IsCost costs
@@ -97,40 +97,40 @@ costs_of_full m costs r = All-from_get_or IsCost costs (pos 0) (λ k lt.
     let at = row_from-index 1 k costs (0, pos 0) (pos 0) lt in
     subst (λ e. IsCost e.1) at (r.costs k (0, pos 0) below))
 
--- a floor as a price
+-- a rounded price in the unit of prices
 pub record IsWhole (price : ℤ) : Type 0 where
   pub least : pos 0 ≤ℤ price
-  pub greatest : price ≤ℤ (pos (MOST_PERSONS + 1) *ℤ MOST_FLOOR)
+  pub greatest : price ≤ℤ (pos (MOST_PERSONS + 1) *ℤ MOST_ROUNDED)
 
-pub whole_range : (n : ℕ) (floor : ℤ) → n ≤ MOST_PERSONS → IsFloor floor → IsWhole (pos (n + 1) *ℤ floor)
-whole_range n floor few f =
+pub whole_range : (n : ℕ) (rounded : ℤ) → n ≤ MOST_PERSONS → IsRounded rounded → IsWhole (pos (n + 1) *ℤ rounded)
+whole_range n rounded few f =
     let none = *ℤ-zero (pos (n + 1)) in
-    let some = products_ordered (n + 1) (pos 0) floor f.least in
+    let some = products_ordered (n + 1) (pos 0) rounded f.least in
     record {
       least = omega (arith, ints);
-      greatest = steps_below (n + 1) (MOST_PERSONS + 1) floor MOST_FLOOR (omega arith) f.least f.greatest;
+      greatest = steps_below (n + 1) (MOST_PERSONS + 1) rounded MOST_ROUNDED (omega arith) f.least f.greatest;
     }
 
--- a floor of one of m prices
-pub record IsFloorOf (m : ℕ) (price floor : ℤ) : Type 0 where
-  pub range : IsFloor floor
-  pub below : (pos (m + 1) *ℤ floor) ≤ℤ price
+-- a price among m objects, rounded down
+pub record IsRoundedOf (m : ℕ) (price rounded : ℤ) : Type 0 where
+  pub range : IsRounded rounded
+  pub below : (pos (m + 1) *ℤ rounded) ≤ℤ price
 
-pub one_floor : (m : ℕ) (floors prices : List ℤ) (i : ℕ) (floor : ℤ) → i < length floors →
-    ((k : ℕ) → k < i → IsFloorOf m (get_or prices k (pos 0)) (get_or floors k (pos 0))) → IsFloorOf m (get_or prices i (pos 0)) floor →
-    (k : ℕ) → k < i + 1 → IsFloorOf m (get_or prices k (pos 0)) (get_or (set floors i floor) k (pos 0))
-one_floor m floors prices i floor lt before here k below = elim (cases_lt k i) [
-  | inl low ↦ rw (get_or-set_other floors i k floor (pos 0) (λ e. absurd (omega arith))) (before k low)
-  | inr high ↦ let same : k ≡ i = omega arith in rw (same, get_or-set_same floors i floor (pos 0) lt) here
+pub one_rounded : (m : ℕ) (rounded prices : List ℤ) (i : ℕ) (value : ℤ) → i < length rounded →
+    ((k : ℕ) → k < i → IsRoundedOf m (get_or prices k (pos 0)) (get_or rounded k (pos 0))) → IsRoundedOf m (get_or prices i (pos 0)) value →
+    (k : ℕ) → k < i + 1 → IsRoundedOf m (get_or prices k (pos 0)) (get_or (set rounded i value) k (pos 0))
+one_rounded m rounded prices i value lt before here k below = elim (cases_lt k i) [
+  | inl low ↦ rw (get_or-set_other rounded i k value (pos 0) (λ e. absurd (omega arith))) (before k low)
+  | inr high ↦ let same : k ≡ i = omega arith in rw (same, get_or-set_same rounded i value (pos 0) lt) here
 ]
 
-pub floors_from : (floors prices : List ℤ) (i : ℕ) → length floors ≡ length prices → length prices ≤ i →
-    ((k : ℕ) → k < i → IsFloorOf (length prices) (get_or prices k (pos 0)) (get_or floors k (pos 0))) → AreFloors floors prices
-floors_from floors prices i long end h = record {
+pub rounded_from : (rounded prices : List ℤ) (i : ℕ) → length rounded ≡ length prices → length prices ≤ i →
+    ((k : ℕ) → k < i → IsRoundedOf (length prices) (get_or prices k (pos 0)) (get_or rounded k (pos 0))) → AreRounded rounded prices
+rounded_from rounded prices i long end h = record {
   long = long;
-  each = All-from_get_or IsFloor floors (pos 0) (λ k lt. (h k (omega arith)).range);
+  each = All-from_get_or IsRounded rounded (pos 0) (λ k lt. (h k (omega arith)).range);
   below = λ k number. by_place k number.first number.last;
 } where
-  by_place : (k : ℕ) → 0 < k → k ≤ length prices → (pos (length prices + 1) *ℤ price_of floors k) ≤ℤ price_of prices k
+  by_place : (k : ℕ) → 0 < k → k ≤ length prices → (pos (length prices + 1) *ℤ price_of rounded k) ≤ℤ price_of prices k
   by_place zero some last = absurd (omega arith)
   by_place (suc k) some last = (h k (omega arith)).below
