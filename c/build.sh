@@ -1,6 +1,6 @@
 #!/usr/bin/env bash
 # Proves the library for C and builds it: c/out/libnushbaret.a and c/out/libnushbaret.so, in which only the names of
-# exports.map can be seen. Programs ask at run time for the SONAME, libnushbaret.so.2 by the first number of VERSION: a
+# exports.map can be seen. Programs ask at run time for the SONAME, libnushbaret.so.3 by the first number of VERSION: a
 # link of this name stands next to it. Needs the kit, and cc with the binutils that it uses.
 #     c/build.sh [gate] [--target aarch64]
 # With `--target aarch64` it builds the same for 64-bit ARM in c/out/aarch64, by aarch64-linux-gnu-gcc and with the heap of

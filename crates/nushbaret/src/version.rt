@@ -8,7 +8,7 @@ use release_version::VERSION;
 #[unsafe(no_mangle)]
 pub extern "C" fn nushbaret_version(room: &mut [u8]) -> usize
     ensures long { result ≡ 5 }
-    ensures text { 5 < length room.old → room.new ≡ codes "2.0.0" ++ 0 ∷ drop 6 room.old }
+    ensures text { 5 < length room.old → room.new ≡ codes "3.0.0" ++ 0 ∷ drop 6 room.old }
     ensures short { length room.old ≤ 5 → room.new ≡ room.old }
 {
     if room.len() > 5 {
