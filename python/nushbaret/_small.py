@@ -1,0 +1,119 @@
+"""SciPy's call on small arrays of NumPy's, by a shorter way: there most time goes to the steps in Python."""
+import math
+from typing import Any, Dict, Optional, Tuple
+
+from . import _exact as exact, _library as library
+from ._library import FEW, MOST_PERSONS
+
+# Beyond such powers of two the double that rounds is none.
+MOST_SHIFT = 900
+BITS = 39
+# With more costs the library's second call would take longer than to look at reduced costs.
+MOST_COSTS = 2**12
+
+
+class SmallArrays:
+    """What is needed of NumPy is kept here, so that it isn't looked up each time.
+
+    Doubles are rounded to 39 bits of the greatest, and solved. Then each pair of the plan is made one unit dearer. Where the plan is
+    still best, any other plan that has q other pairs is at least q units dearer than it for the rounded costs; and rounding changed the
+    two plans' difference by at most q units. So it is best for the doubles themselves."""
+
+    def __init__(self, numpy: Any):
+        self.numpy, self.array = numpy, numpy.ndarray
+        self.int64, self.float64 = numpy.dtype(numpy.int64), numpy.dtype(numpy.float64)
+        self.add, self.subtract = numpy.add, numpy.subtract
+        # Numbers from 0 on come out of an array that has -1, 0, 1 ..
+        self.from_zero = numpy.arange(-1, MOST_PERSONS).take
+        self.adders: Dict[int, Tuple[Any, Any]] = {}
+
+    def assignment(self, costs: Any, maximize: bool) -> Optional[Tuple[Any, Any]]:
+        """Rows and columns of a best assignment. None if the costs aren't a small array of 64-bit integers or floats, all finite, or if
+        this way finds no answer to them: then the longer way finds one, or says what is wrong."""
+        if type(costs) is not self.array or costs.ndim != 2:
+            return None
+        n, m = costs.shape
+        if n <= m:
+            return self._assignment(costs, n, m, maximize)
+        found = self._assignment(costs.T, m, n, maximize)
+        if found is None:
+            return None
+        rows = found[1]
+        columns = rows.argsort()
+        return rows.take(columns), columns
+
+    def _assignment(self, costs: Any, n: int, m: int, maximize: bool) -> Optional[Tuple[Any, Any]]:
+        if not n or n * m > MOST_COSTS or m > MOST_PERSONS or not costs.flags.aligned:
+            return None
+        rooms = library.rooms_for(n, m)
+        try:
+            room = rooms.pop()
+        except IndexError:
+            room = library.Room(self.numpy, n, m)
+        sense = room.maximized if maximize else room.minimized
+        if costs.dtype is self.int64:
+            lent = costs.tobytes() if n * m <= FEW else room.held(costs.ravel())
+            is_best = not room.call(sense, *room.sizes, lent, *room.rest)
+        elif costs.dtype is self.float64:
+            is_best = self._of_doubles(costs, room, sense, -1 if maximize else 1)
+        else:
+            return None
+        if not is_best:
+            return None
+        found = room.rows.copy(), self.from_zero(room.objects)
+        rooms.append(room)
+        return found
+
+    def _of_doubles(self, costs: Any, room: library.Room, sense: Any, dearer: int) -> bool:
+        """Whether the room has a plan that is best for doubles."""
+        # Reading them in their order in memory is faster.
+        seen = costs if costs.flags.c_contiguous else costs.T
+        item = seen.item
+        # Where the first isn't whole, no look at the others is needed.
+        if item(0).is_integer():
+            whole = exact.whole_numbers(self.numpy, costs.ravel())
+            if whole is not None:
+                lent = whole.tobytes() if whole.size <= FEW else room.held(whole)
+                return not room.call(sense, *room.sizes, lent, *room.rest)
+        most = max(item(seen.argmax()), -item(seen.argmin()))
+        if not 0 < most < math.inf:
+            return False
+        lent = self._scaled(costs, room, BITS - math.frexp(most)[1])
+        if lent is None or room.call(sense, *room.sizes, lent, *room.rest):
+            return False
+        objects = room.objects.tobytes()
+        room.flat[self.add(room.before, room.objects)] += dearer
+        return not room.call(sense, *room.sizes, lent, *room.rest) and room.objects.tobytes() == objects
+
+    def _scaled(self, costs: Any, room: library.Room, shift: int) -> Any:
+        """The costs times 2**shift, rounded to the nearest whole numbers."""
+        adder = self.adders.get(shift) or self._adder(shift)
+        if adder is None:
+            return None
+        if room.doubles is None:
+            room.hold_doubles(self.numpy, costs.shape)
+        self.add(costs, adder[0], room.doubles)
+        self.subtract(room.numbers, adder[1], room.numbers)
+        return room.own
+
+    def _adder(self, shift: int) -> Optional[Tuple[Any, Any]]:
+        """A double whose last place is 2**-shift, so that what is added to it is rounded there, and its bits, to be subtracted from those
+        of the sum; None if there is no such double."""
+        if not -MOST_SHIFT < shift < MOST_SHIFT:
+            return None
+        adder = self.numpy.array(1.5 * 2.0**(52 - shift))
+        self.adders[shift] = adder, adder.view(self.int64)
+        return self.adders[shift]
+
+
+_small: Optional[SmallArrays] = None
+
+
+def small_arrays() -> Optional[SmallArrays]:
+    """The shorter way, once NumPy is imported."""
+    global _small
+    if _small is None:
+        numpy = exact.loaded_numpy()
+        if numpy is not None:
+            _small = SmallArrays(numpy)
+    return _small
