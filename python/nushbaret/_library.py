@@ -32,7 +32,12 @@ PLACES = (_PACKAGE / NAME, _PACKAGE.parent.parent / "c" / "out" / NAME)
 
 
 class LibraryNotFound(OSError):
-    """The shared library is missing, or it is of another version; the text says which command builds it."""
+    """The shared library is missing, or it is of another version; the text says which command builds it.
+
+    >>> import nushbaret
+    >>> issubclass(nushbaret.LibraryNotFound, OSError)
+    True
+    """
 
 
 class Told(ctypes.Structure):
@@ -67,7 +72,7 @@ def _load() -> None:
     library.nushbaret_version(room, 32)
     found = bytes(room).split(b"\0")[0].decode()
     if found != VERSION:
-        raise LibraryNotFound(f"the library is of version {found}, {VERSION} is wanted: make it anew by c/build.sh")
+        raise LibraryNotFound(f"the library is of version {found}, and {VERSION} is needed: c/build.sh builds it again")
     for name, lists in _LISTS.items():
         call = getattr(library, f"nushbaret_{name}")
         sense = [] if name == "check_hall" else [ctypes.c_uint32]

@@ -73,8 +73,10 @@ def _judge_size(n_rows: int, n_columns: int) -> None:
 
 
 def _rows_of_any(costs: Any, manner: exact.Manner) -> List[Any]:
-    if manner.doubles and (not hasattr(costs, "__len__") or isinstance(costs, (dict, set, frozenset))):
-        float(costs)
+    if manner.doubles and (not hasattr(costs, "__len__") or isinstance(costs, (dict, set, frozenset)) or hasattr(costs, "tocsr")):
+        # SciPy takes a sparse matrix with items for a list.
+        if costs is not None and not (hasattr(costs, "tocsr") and hasattr(costs, "__getitem__")):
+            float(costs)
         raise ValueError("expected a matrix (2-D array), got a 0 array")
     try:
         rows = [row if hasattr(row, "__len__") else list(row) for row in costs]
