@@ -41,7 +41,7 @@ def _most(problem: Problem) -> float:
 
 def is_extreme(problem: Problem) -> bool:
     """Whether the greatest cost is so small or so great that a unit, or a sum, may be no double."""
-    return abs(math.frexp(_most(problem))[1]) > 850
+    return not -850 < math.frexp(_most(problem))[1] < 1000
 
 
 def as_list(problem: Problem) -> Problem:
@@ -112,8 +112,10 @@ def kept(level: "Level", most: int) -> Tuple[Any, Any, Any]:
         slack = numpy.subtract(block, duals, room[:len(block)])
         found.append(compare(slack, bounds[begin:begin + height]).ravel().nonzero()[0] + begin * asked.m)
     places = numpy.concatenate(found)
-    persons, objects = numpy.divmod(places, asked.m)
-    return (persons + 1).astype(numpy.uint16), (objects + 1).astype(numpy.uint16), places
+    starts = numpy.arange(0, (asked.n + 1) * asked.m, asked.m)
+    counts = numpy.diff(numpy.searchsorted(places, starts))
+    persons = numpy.repeat(numpy.arange(1, asked.n + 1, dtype=numpy.uint16), counts)
+    return persons, (places - numpy.repeat(starts[:-1] - 1, counts)).astype(numpy.uint16), places
 
 
 def taken_off(numpy: Any, level: "Level", pairs: "Pairs") -> Any:
@@ -163,31 +165,33 @@ class _Doubles:
         self.n, self.m = level.asked.n, level.asked.m
         self.pairs = pairs
         self.costs = _costs_at(self.numpy, problem, level, pairs)
+        self.taken, self.shift = taken_off(self.numpy, level, self.pairs), level.shift
         self.levels: List[Tuple[Any, int]] = []
         self.high, self.low = self.costs, self.numpy.zeros(1)
-        self.loose = 0.0 if self.doubles else 2.0**-53 * float(self.numpy.abs(self.costs).max())
-        self._take_off(level)
+        self.most = size_of(self.costs)
+        self.loose = 0.0 if self.doubles else 2.0**-53 * self.most
 
-    def _take_off(self, level: "Level") -> None:
-        taken = taken_off(self.numpy, level, self.pairs)
-        self.levels.append((taken, level.shift))
-        self.shift = level.shift
-        self.high, lower = _sum(self.high, -self.numpy.ldexp(taken.astype(self.numpy.float64), -level.shift))
+    def _take_off(self, taken: Any, shift: int) -> None:
+        self.levels.append((taken, shift))
+        self.high, lower = _sum(self.high, -self.numpy.ldexp(taken.astype(self.numpy.float64), -shift))
         lower, lost = _sum(lower, self.low)
         self.high, self.low = _sum(self.high, lower)
         self.loose += float(self.numpy.abs(lost).max())
 
     def objects(self) -> Any:
-        """The objects of a best plan; None where only exact numbers of any size can tell."""
+        """The objects of a best plan; None where only exact numbers of any size can show it."""
         from . import _levels as levels
         numpy = self.numpy
+        whole = self._plainly() if self.doubles else None
         while True:
-            whole = self._whole() if self.doubles else None
+            if whole is None:
+                self._take_off(self.taken, self.shift)
+                whole = self._whole() if self.doubles else None
             if whole is not None:
                 return finish(numpy, self.n, self.m, self.pairs, whole)
             if len(self.costs) < MANY:
                 return None
-            most = float(numpy.abs(self.high).max())
+            most = size_of(self.high)
             shift = levels.BITS - math.frexp(most)[1]
             if not most or abs(shift) > MOST_SHIFT or self.loose * 2.0**shift > CLOSE:
                 return None
@@ -198,13 +202,27 @@ class _Doubles:
             if levels.is_only_plan(level, kept_):
                 return answer.objects
             self._keep(kept_)
-            self._take_off(level)
+            self.taken, self.shift = taken_off(numpy, level, self.pairs), shift
 
     def _keep(self, pairs: "Pairs") -> None:
         places = pairs.places
         self.pairs, self.costs, self.high = pairs, self.costs[places], self.high[places]
         self.low = self.low[places] if self.low.size > 1 else self.low
         self.levels = [(taken[places], shift) for taken, shift in self.levels]
+
+    def _plainly(self) -> Any:
+        """What the first level left as whole numbers of one unit, exactly, where costs and what was taken off are such too; else None."""
+        numpy = self.numpy
+        grid = MOST_BITS - math.frexp(max(self.most, math.ldexp(size_of(self.taken), -self.shift)))[1]
+        if grid < self.shift:
+            return None
+        scaled = numpy.ldexp(self.costs, grid)
+        left = scaled.astype(numpy.int64)
+        # A smaller power may make a small cost 0.
+        if not (left == scaled).all() or grid < 0 and not (numpy.ldexp(scaled, -grid) == self.costs).all():
+            return None
+        left -= self.taken << grid - self.shift
+        return left
 
     def _whole(self) -> Any:
         """What is left as whole numbers of one unit, exactly; None where these would have too many bits."""
@@ -214,7 +232,7 @@ class _Doubles:
         last = numpy.frexp((whole & -whole).astype(numpy.float64))[1] - 1
         grid = int(numpy.where(whole == 0, self.shift, 53 - powers - last).max())
         grid = max(grid, self.shift)
-        if grid - self.shift + (3 * self.n + 5).bit_length() > MOST_BITS:
+        if grid + math.frexp(size_of(self.high))[1] > MOST_BITS:
             return None
         up = powers.astype(numpy.int64) - 53 + grid
         left = numpy.where(up >= 0, _shifted(numpy, whole, up), whole >> numpy.minimum(numpy.maximum(-up, 0), 63))
@@ -235,10 +253,16 @@ def _sum(first: Any, second: Any) -> Tuple[Any, Any]:
     return whole, first - (whole - part) + (second - part)
 
 
+def _zeros(whole: int) -> int:
+    """How many bits at the end of a whole number are 0; none where it is 0."""
+    return max((whole & -whole).bit_length() - 1, 0)
+
+
 def finish(numpy: Any, n: int, m: int, pairs: "Pairs", left: Any) -> Any:
     """The objects of a best plan along some pairs, at whole costs of less than 62 bits."""
     from . import _levels as levels
     while True:
+        left = left >> _zeros(int(numpy.bitwise_or.reduce(left)))
         shift = max(0, max(int(left.max()).bit_length(), int(left.min()).bit_length()) - levels.BITS)
         costs = left + (1 << shift >> 1) >> shift if shift else left
         asked = proved.Given(n, m, pairs.persons, pairs.objects, costs)

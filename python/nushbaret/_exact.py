@@ -20,6 +20,7 @@ FORBID = "forbid"
 _PLAIN = frozenset((int, float, bool, type(None)))
 # Doubles that are whole stay so below this; a greater one may print as another whole number.
 _MOST_WHOLE = 2.0**53
+_SAMPLE = 32
 
 # What a place in a list of costs is called, for messages.
 Where = Callable[[int], str]
@@ -382,7 +383,7 @@ def _rounded_array(numpy: Any, flat: Any, forbidden: Any, manner: Manner) -> Cos
 def whole_numbers(numpy: Any, flat: Any) -> Any:
     """Floats as whole numbers of 64 bits; None where one isn't whole or is too great."""
     # Mostly the first ones show that not all are whole.
-    if flat.size > FEW and whole_numbers(numpy, flat[:FEW]) is None:
+    if flat.size > FEW and whole_numbers(numpy, flat[:_SAMPLE]) is None:
         return None
     # With such a sum of squares none is beyond 2**53, and none is infinite or NaN.
     if not (flat.dot(flat) <= 2.0**105 if flat.size <= FEW else size_of(flat) < _MOST_WHOLE):
@@ -396,9 +397,10 @@ def whole_numbers(numpy: Any, flat: Any) -> Any:
 def _least_places(numpy: Any, flat: Any, most: int) -> Optional[int]:
     """The least power of ten that makes all whole; None where that is beyond 10**most, or some are too great. Two decimals of at most 15
     digits are never one float, so that equality after the division shows the decimal that a float prints as."""
-    if flat.size and numpy.abs(flat).max() > GREATEST_COST:
+    if size_of(flat) > GREATEST_COST:
         return None
-    if flat.size > FEW and _least_places(numpy, flat[:FEW], most) is None:
+    # Mostly the first ones show that this is beyond it.
+    if flat.size > _SAMPLE and _least_places(numpy, flat[:_SAMPLE], most) is None:
         return None
     left = flat
     for places in range(most + 1):

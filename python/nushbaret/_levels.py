@@ -10,7 +10,9 @@ Where columns may stay unused, what a plan pays for its columns' duals v isn't t
 whose dual is below -n units. So the next level's costs keep max(v, -(2 n + 2)) of it.
 
 The lists here are as the library takes them: persons and objects from 1 on, dummies among them. Costs count in their own unit."""
+import functools
 import math
+import operator
 from array import array
 from itertools import repeat
 from typing import Any, Dict, List, NamedTuple, Optional, Sequence, Tuple, Union
@@ -283,6 +285,9 @@ def exact_left(level: Level, ratios: Sequence[Ratio], persons: Sequence[int], ob
 def finish(n: int, m: int, persons: Any, objects: Any, left: List[int]) -> Any:
     """The objects of a best plan along some pairs, at whole costs of any size."""
     while True:
+        bits = functools.reduce(operator.or_, left)
+        zeros = max((bits & -bits).bit_length() - 1, 0)
+        left = [value >> zeros for value in left] if zeros else left
         shift = max(0, max(max(left).bit_length(), min(left).bit_length()) - BITS)
         half = 1 << shift >> 1
         asked = proved.Given(n, m, persons, objects, array("q", [(value + half) >> shift for value in left]))

@@ -63,8 +63,6 @@ class Result:
     rows: Any
     #: The column of each of `rows`.
     columns: Any
-    #: The exact sum of the costs: an int, a Decimal where costs have decimal places, or a Fraction where one was given.
-    cost: Number
     #: Whether this is the greatest sum, not the least.
     maximize: bool
 
@@ -72,12 +70,10 @@ class Result:
         rows, columns = rows_and_columns(problem, answer)
         pairs = proved.pairs_of(problem, answer) if problem.arrays else (rows, columns)
         pairs = list(pairs[0]), list(pairs[1])
-        ratios = [problem.ratio(cost) for cost in costs_of_pairs(problem, list(zip(*pairs)))]
         # Without its lists the problem is small.
         shape = problem._replace(costs=None, persons=None, objects=None, numpy=None, arrays=None)
         self.__dict__.update(rows=rows, columns=columns, maximize=problem.maximize, _source=source, _shape=shape, _answer=answer,
-                             _pairs=pairs, _ratios=ratios, _as_arrays=problem.arrays is not None)
-        self.__dict__["cost"] = self._sum_of(ratios)
+                             _pairs=pairs, _costs=costs_of_pairs(problem, list(zip(*pairs))), _as_arrays=problem.arrays is not None)
 
     def __setattr__(self, name: str, value: Any) -> None:
         raise AttributeError(f"a result's {name} can't be set")
@@ -93,6 +89,16 @@ class Result:
 
     def __repr__(self) -> str:
         return f"<nushbaret.Result: cost {self.cost}, {len(self.rows)} pairs>"
+
+    @cached_property
+    def _ratios(self) -> List[Ratio]:
+        """The costs of the pairs, as they were at the call."""
+        return [self._shape.ratio(cost) for cost in self._costs]
+
+    @cached_property
+    def cost(self) -> Number:
+        """The exact sum of the costs: an int, a Decimal where costs have decimal places, or a Fraction where one was given."""
+        return self._sum_of(self._ratios)
 
     def _sum_of(self, ratios: Sequence[Ratio]) -> Number:
         """The exact sum of some costs of the problem."""

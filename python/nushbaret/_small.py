@@ -1,5 +1,6 @@
 """SciPy's call on small arrays of NumPy's, by a shorter way: there most time goes to the steps in Python."""
 import math
+from itertools import chain
 from typing import Any, Dict, Optional, Tuple
 
 from . import _exact as exact, _library as library
@@ -9,7 +10,7 @@ from ._library import FEW, MOST_PERSONS
 MOST_SHIFT = 900
 BITS = 39
 # With more costs the library's second call would take longer than to look at reduced costs.
-MOST_COSTS = 2**12
+MOST_COSTS = 2**14
 
 
 class SmallArrays:
@@ -41,6 +42,15 @@ class SmallArrays:
         rows = found[1]
         columns = rows.argsort()
         return rows.take(columns), columns
+
+    def of_rows(self, rows: Any, maximize: bool) -> Optional[Tuple[Any, Any]]:
+        """As `assignment`, for a list of lists of floats; the answer is of lists."""
+        if type(rows) is not list or not rows or {list} != set(map(type, rows)) or len(rows) * len(rows[0]) > MOST_COSTS:
+            return None
+        if {len(rows[0])} != set(map(len, rows)) or {float} != set(map(type, chain.from_iterable(rows))):
+            return None
+        found = self.assignment(self.numpy.array(rows), maximize)
+        return found and (found[0].tolist(), found[1].tolist())
 
     def _assignment(self, costs: Any, n: int, m: int, maximize: bool) -> Optional[Tuple[Any, Any]]:
         if not n or n * m > MOST_COSTS or m > MOST_PERSONS or not costs.flags.aligned:

@@ -203,7 +203,7 @@ def linear_sum_assignment(cost_matrix: Any, maximize: bool = False, *, missing: 
     ([0, 1, 2], [1, 0, 2])
     """
     arrays = small_arrays()
-    found = arrays and arrays.assignment(cost_matrix, maximize)
+    found = arrays and (arrays.assignment(cost_matrix, maximize) or arrays.of_rows(cost_matrix, maximize))
     if found:
         return found
     with library.limited(timeout):
