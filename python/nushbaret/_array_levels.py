@@ -112,10 +112,23 @@ def kept(level: "Level", most: int) -> Tuple[Any, Any, Any]:
         slack = numpy.subtract(block, duals, room[:len(block)])
         found.append(compare(slack, bounds[begin:begin + height]).ravel().nonzero()[0] + begin * asked.m)
     places = numpy.concatenate(found)
+    if len(places) < 8 * asked.n:
+        persons, objects = numpy.divmod(places, asked.m)
+        return (persons + 1).astype(numpy.uint16), (objects + 1).astype(numpy.uint16), places
     starts = numpy.arange(0, (asked.n + 1) * asked.m, asked.m)
     counts = numpy.diff(numpy.searchsorted(places, starts))
     persons = numpy.repeat(numpy.arange(1, asked.n + 1, dtype=numpy.uint16), counts)
     return persons, (places - numpy.repeat(starts[:-1] - 1, counts)).astype(numpy.uint16), places
+
+
+def changes(level: "Level", pairs: "Pairs") -> Tuple[List[int], List[int]]:
+    """Who takes an object, and from whom, where that isn't the person's own; 0 for an unused object."""
+    numpy = _module(level.asked)
+    own, owner = numpy.zeros(level.asked.n + 1, numpy.uint16), numpy.zeros(level.asked.m + 1, numpy.uint16)
+    own[1:] = level.objects
+    owner[own[1:]] = numpy.arange(1, level.asked.n + 1)
+    other = own[pairs.persons] != pairs.objects
+    return pairs.persons[other].tolist(), owner[pairs.objects[other]].tolist()
 
 
 def taken_off(numpy: Any, level: "Level", pairs: "Pairs") -> Any:

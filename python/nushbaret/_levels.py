@@ -132,32 +132,36 @@ def is_only_plan(level: Level, pairs: Pairs) -> bool:
         return True
     if len(pairs.persons) > (MOST_CHANGES + 1) * n:
         return False
-    own, persons, objects = list(level.objects), pairs.persons.tolist(), pairs.objects.tolist()
-    owner = [0] * (m + 1)
-    for person, item in enumerate(own, 1):
-        owner[item] = person
-    leads: List[List[int]] = [[] for _ in range(n + 1)]
-    for person, item in zip(persons, objects):
-        if own[person - 1] != item:
-            leads[person].append(owner[item])
+    begins, ends = arrays.changes(level, pairs) if hasattr(pairs.persons, "dtype") else _changes(level, pairs)
     if n < m:
         of_objects = duals_as_lists(level)[1]
-        leads[0] = [person for person, item in enumerate(own, 1) if of_objects[item] >= -2 * n - 2]
-    return _has_no_round(leads)
+        left = [person for person, item in enumerate(level.objects, 1) if of_objects[item] >= -2 * n - 2]
+        begins, ends = begins + [0] * len(left), ends + left
+    return _has_no_round(begins, ends, n + 1)
 
 
-def _has_no_round(leads: List[List[int]]) -> bool:
+def _changes(level: Level, pairs: Pairs) -> Tuple[List[int], List[int]]:
+    """Who takes an object, and from whom, where that isn't the person's own; 0 for an unused object."""
+    own, owner = level.objects, [0] * (level.asked.m + 1)
+    for person, item in enumerate(own, 1):
+        owner[item] = person
+    places = [place for place, (person, item) in enumerate(zip(pairs.persons, pairs.objects)) if own[person - 1] != item]
+    return [pairs.persons[place] for place in places], [owner[pairs.objects[place]] for place in places]
+
+
+def _has_no_round(begins: List[int], ends: List[int], count: int) -> bool:
     """Whether no way along some arrows comes back to where it began (Kahn 1962)."""
-    coming = [0] * len(leads)
-    for ends in leads:
-        for end in ends:
-            coming[end] += 1
-    waiting, left = [vertex for vertex, count in enumerate(coming) if not count], len(leads)
+    coming = [0] * count
+    leads: Dict[int, List[int]] = {}
+    for begin, end in zip(begins, ends):
+        coming[end] += 1
+        leads.setdefault(begin, []).append(end)
+    waiting, left = [vertex for vertex in leads if not coming[vertex]], len(begins)
     while waiting:
-        left -= 1
         for end in leads[waiting.pop()]:
+            left -= 1
             coming[end] -= 1
-            if not coming[end]:
+            if not coming[end] and end in leads:
                 waiting.append(end)
     return not left
 

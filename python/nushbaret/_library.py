@@ -239,6 +239,8 @@ class Room:
         self.call = _calls["dense, made ready"]
         # Where the costs of each row begin, less 1.
         self.before = numpy.arange(-1, n * m - 1, m)
+        self.halves = Halves()
+        self.halves.words = numpy.frombuffer(self.words, numpy.uint64, 2 * m, _TOLD)
         self.doubles: Any = None
         self.numbers: Any = None
         self.flat: Any = None

@@ -1,24 +1,24 @@
-"""SciPy's call on small arrays of NumPy's, by a shorter way: there most time goes to the steps in Python."""
+"""SciPy's call on arrays of NumPy's that aren't large, by a shorter way: there much time goes to the steps in Python."""
 import math
 from itertools import chain
 from typing import Any, Dict, Optional, Tuple
 
-from . import _exact as exact, _library as library
+from . import _array_levels as arrays, _exact as exact, _levels as levels, _library as library, _proved as proved
 from ._library import FEW, MOST_PERSONS
+from ._problem import Problem
 
 # Beyond such powers of two the double that rounds is none.
-MOST_SHIFT = 900
-BITS = 39
+MOST_SHIFT = 850
 # With more costs the library's second call would take longer than to look at reduced costs.
-MOST_COSTS = 2**14
+SMALL = 2**14
 
 
 class SmallArrays:
     """What is needed of NumPy is kept here, so that it isn't looked up each time.
 
-    Doubles are rounded to 39 bits of the greatest, and solved. Then each pair of the plan is made one unit dearer. Where the plan is
-    still best, any other plan that has q other pairs is at least q units dearer than it for the rounded costs; and rounding changed the
-    two plans' difference by at most q units. So it is best for the doubles themselves."""
+    Doubles are rounded to 39 bits of the greatest, and solved. Of a small array each pair of the plan is then made one unit dearer. Where
+    the plan is still best, any other plan that has q other pairs is at least q units dearer than it for the rounded costs; and rounding
+    changed the two plans' difference by at most q units. So it is best for the doubles themselves."""
 
     def __init__(self, numpy: Any):
         self.numpy, self.array = numpy, numpy.ndarray
@@ -45,7 +45,7 @@ class SmallArrays:
 
     def of_rows(self, rows: Any, maximize: bool) -> Optional[Tuple[Any, Any]]:
         """As `assignment`, for a list of lists of floats; the answer is of lists."""
-        if type(rows) is not list or not rows or {list} != set(map(type, rows)) or len(rows) * len(rows[0]) > MOST_COSTS:
+        if type(rows) is not list or not rows or {list} != set(map(type, rows)) or len(rows) * len(rows[0]) > SMALL:
             return None
         if {len(rows[0])} != set(map(len, rows)) or {float} != set(map(type, chain.from_iterable(rows))):
             return None
@@ -53,7 +53,7 @@ class SmallArrays:
         return found and (found[0].tolist(), found[1].tolist())
 
     def _assignment(self, costs: Any, n: int, m: int, maximize: bool) -> Optional[Tuple[Any, Any]]:
-        if not n or n * m > MOST_COSTS or m > MOST_PERSONS or not costs.flags.aligned:
+        if not n or n * n * m >= library.LONG or m > MOST_PERSONS or not costs.flags.aligned:
             return None
         rooms = library.rooms_for(n, m)
         try:
@@ -88,12 +88,31 @@ class SmallArrays:
         most = max(item(seen.argmax()), -item(seen.argmin()))
         if not 0 < most < math.inf:
             return False
-        lent = self._scaled(costs, room, BITS - math.frexp(most)[1])
+        shift = levels.BITS - math.frexp(most)[1]
+        lent = self._scaled(costs, room, shift)
         if lent is None or room.call(sense, *room.sizes, lent, *room.rest):
             return False
+        if costs.size > SMALL:
+            return self._by_levels(costs, room, shift, dearer)
         objects = room.objects.tobytes()
         room.flat[self.add(room.before, room.objects)] += dearer
         return not room.call(sense, *room.sizes, lent, *room.rest) and room.objects.tobytes() == objects
+
+    def _by_levels(self, costs: Any, room: library.Room, shift: int, sign: int) -> bool:
+        """Whether a best plan is found from the room's, which is that of the first level."""
+        n, m = costs.shape
+        asked = proved.Given(n, m, proved.NONE, proved.NONE, room.flat)
+        answer = proved.Answer(n, m, None, room.objects, room.halves)
+        level = levels.Level(asked, room.objects, *arrays.duals_of(asked, answer, sign), shift, sign)
+        pairs = levels.kept(level, n)
+        if levels.is_only_plan(level, pairs):
+            return True
+        problem = Problem(n, m, sign < 0, costs.ravel(), raw=True, doubles=True, numpy=self.numpy)
+        objects = arrays.finer_of_doubles(problem, level, pairs)
+        if objects is None:
+            return False
+        room.objects[:] = objects
+        return True
 
     def _scaled(self, costs: Any, room: library.Room, shift: int) -> Any:
         """The costs times 2**shift, rounded to the nearest whole numbers."""
