@@ -31,8 +31,13 @@ def rounded(problem: Problem, bits: int) -> Tuple[Any, int]:
         if not shift:
             return costs, 0
         return (costs >> -shift) + (costs >> -shift - 1 & 1), shift
-    shift = bits - math.frexp(_most(problem))[1]
+    shift = shift_of(problem, bits)
     return whole_of(problem.numpy, costs, shift), shift
+
+
+def shift_of(problem: Problem, bits: int) -> int:
+    """The shift that gives the greatest of a problem's doubles so many bits."""
+    return bits - math.frexp(_most(problem))[1]
 
 
 def _most(problem: Problem) -> float:
@@ -68,7 +73,7 @@ def duals_of(asked: proved.Given, answer: proved.Answer, sign: int) -> Tuple[Any
     numpy = _module(asked)
     objects = numpy.array(answer.objects, numpy.intp)
     of_objects = numpy.zeros(asked.m + 1, numpy.int64)
-    of_objects[1:] = -_whole_prices(numpy, answer)
+    of_objects[1:] = -whole_prices(numpy, answer)
     of_persons = numpy.zeros(asked.n + 1, numpy.int64)
     if len(asked.persons):
         places = numpy.flatnonzero(objects[asked.persons.astype(numpy.intp) - 1] == asked.objects)
@@ -84,7 +89,7 @@ def _module(asked: proved.Given) -> Any:
     return sys.modules["numpy"]
 
 
-def _whole_prices(numpy: Any, answer: proved.Answer) -> Any:
+def whole_prices(numpy: Any, answer: proved.Answer) -> Any:
     """As `whole_prices`, mostly at once: the library's prices are multiples of the unit but for one number."""
     words = numpy.frombuffer(answer.halves.words, numpy.int64).reshape(-1, 2)
     low = words[:, 0]
@@ -164,8 +169,7 @@ def left_of_whole(problem: Problem, level: "Level", pairs: "Pairs") -> Any:
 
 def finer_of_doubles(problem: Problem, level: "Level", pairs: "Pairs") -> Any:
     """The objects of a best plan along pairs that a level left; None where doubles don't suffice to find it."""
-    numpy = problem.numpy
-    with numpy.errstate(all="ignore"):
+    with problem.numpy.errstate(all="ignore"):
         return _Doubles(problem, level, pairs).objects()
 
 

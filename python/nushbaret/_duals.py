@@ -21,7 +21,8 @@ class ExactPrices(NamedTuple):
 def exact_prices(problem: Problem, served: Optional[int], objects: Sequence[int]) -> Optional[ExactPrices]:
     """The exact prices of the objects in a best plan, which gives each person one of `objects`, from 1 on; None if there is no plan."""
     problem = levels.prepared(problem)
-    level = levels.first_level(problem, served)
+    with levels.quiet(problem):
+        level = levels.first_level(problem, served)
     if isinstance(level, proved.Short):
         return None
     n, m = level.asked.n, level.asked.m

@@ -10,6 +10,7 @@ Where columns may stay unused, what a plan pays for its columns' duals v isn't t
 whose dual is below -n units. So the next level's costs keep max(v, -(2 n + 2)) of it.
 
 The lists here are as the library takes them: persons and objects from 1 on, dummies among them. Costs count in their own unit."""
+import contextlib
 import functools
 import math
 import operator
@@ -17,7 +18,7 @@ from array import array
 from itertools import repeat
 from typing import Any, Dict, List, NamedTuple, Optional, Sequence, Tuple, Union
 
-from . import _array_levels as arrays, _library as library, _problem as reading, _proved as proved
+from . import _array_levels as arrays, _library as library, _pricing as pricing, _problem as reading, _proved as proved
 from ._exact import loaded_numpy
 from ._numbers import ONE, Ratio, Unit, bits_above, in_unit, rounded, unit_of
 from ._problem import Problem
@@ -52,15 +53,33 @@ class Pairs(NamedTuple):
 
 def solved(problem: Problem, served: Optional[int], prices: Any) -> Union[proved.Answer, proved.Short]:
     """The best plan of so many pairs, for costs of any size; its answer has no prices."""
-    problem = prepared(problem)
-    level = first_level(problem, served, prices)
-    if isinstance(level, proved.Short):
-        return level
-    pairs = kept(level, level.asked.n + MORE)
+    with quiet(problem):
+        return _solved(prepared(problem), served, prices)
+
+
+def quiet(problem: Problem) -> Any:
+    """A context in which NumPy says nothing of floating point."""
+    return problem.numpy.errstate(all="ignore") if problem.numpy else contextlib.nullcontext()
+
+
+def _solved(problem: Problem, served: Optional[int], prices: Any) -> Union[proved.Answer, proved.Short]:
+    priced = None if served is not None or prices is not None else pricing.first_level(problem, BITS, _most_left(problem))
+    if priced is not None:
+        level, pairs = priced
+    else:
+        found = first_level(problem, served, prices)
+        if isinstance(found, proved.Short):
+            return found
+        level, pairs = found, kept(found, found.asked.n + MORE)
     objects = level.objects
     if not is_only_plan(level, pairs):
         objects = _finer(problem, level, pairs)
     return proved.Answer(level.asked.n, level.asked.m, None, objects, None)
+
+
+def _most_left(problem: Problem) -> int:
+    """Up to how many units of reduced cost pairs are left."""
+    return min(problem.n_rows, problem.n_columns) + MORE
 
 
 def prepared(problem: Problem) -> Problem:

@@ -119,14 +119,23 @@ def answer(problem: Problem, asked: Given, first: Optional[Halves] = None) -> Un
     return None if code == "COST" else refuse(code, told)
 
 
-def best_of(asked: Given) -> Answer:
-    """The library's answer to listed pairs that hold an assignment; the sum is to be least."""
+def found(asked: Given, maximize: bool, first: Optional[Halves] = None) -> Union[Answer, Short]:
+    """The library's answer to listed pairs, whose costs are in its range."""
     n, m = asked.n, asked.m
     objects, persons, halves = array("H", bytes(2 * n)), array("H", bytes(2 * n)), Halves(m)
-    code, told = library.call("sparse", False, n, m, asked.persons, asked.objects, asked.costs, objects, persons, halves)
-    if code != "BEST":
-        raise RuntimeError(f"some pairs were found to hold a plan, and the library says otherwise: {code}")
-    return Answer(n, m, told.total, objects, halves)
+    lists = [asked.persons, asked.objects, asked.costs] + ([] if first is None else [first])
+    code, told = library.call("sparse" if first is None else "sparse_from", maximize, n, m, *lists, objects, persons, halves)
+    if code == "BEST":
+        return Answer(n, m, told.total, objects, halves)
+    return Short(persons[:told.persons], objects[:told.objects]) if code == "HALL" else refuse(code, told)
+
+
+def best_of(asked: Given) -> Answer:
+    """The library's answer to listed pairs that hold an assignment; the sum is to be least."""
+    answer_ = found(asked, False)
+    if isinstance(answer_, Short):
+        raise RuntimeError("some pairs were found to hold a plan, and the library says otherwise")
+    return answer_
 
 
 def no_pairs(problem: Problem) -> Answer:

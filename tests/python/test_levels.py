@@ -1,11 +1,14 @@
 """Costs of any size: plans, duals and verdicts are exact, beside a slow search and a Hungarian method in fractions."""
+import os
+import subprocess
 import sys
 import unittest
 from decimal import Decimal, localcontext
 from fractions import Fraction
+from unittest import mock
 
 import nushbaret
-from nushbaret import _duals, _levels
+from nushbaret import _duals, _levels, _library as library, _pricing, _small
 from drawn import KINDS, best, doubles, drawing, exactly, hungarian, proves
 
 try:
@@ -262,6 +265,43 @@ class Larger(unittest.TestCase):
     def listed(self, costs, maximize):
         from nushbaret._problem import Problem
         return Problem(len(costs), len(costs[0]), maximize, [cost for row in costs for cost in row], raw=True, doubles=True)
+
+
+@unittest.skipUnless(np, "NumPy isn't there")
+class Priced(unittest.TestCase):
+    """Large matrices, whose cheapest pairs are solved first: here small ones count as large."""
+
+    def test_beside_hungarian(self):
+        draw, rounds, whole = drawing(69), 0, 0
+        with mock.patch.object(_pricing, "LARGE", 1), mock.patch.object(_pricing, "CHEAPEST", 1), mock.patch.object(_pricing, "MOST_SHARE", 1), \
+                mock.patch.object(_small, "SMALL", 0), mock.patch.object(library, "LONG", 0):
+            for turn in range(240):
+                kind = list(KINDS)[turn % len(KINDS)]
+                n_rows, maximize = draw.randint(2, 20), draw.random() < 0.5
+                costs = doubles(draw, n_rows, draw.choice([n_rows, n_rows + 4, max(n_rows // 2, 1)]), kind)
+                with mock.patch.object(_pricing._Matrix, "answer", autospec=True, side_effect=_pricing._Matrix.answer) as asked:
+                    rows, columns = nushbaret.linear_sum_assignment(np.array(costs), maximize)
+                    result = nushbaret.solve(np.array(costs), maximize)
+                rounds += asked.call_count > 2
+                whole += not asked.call_count
+                exact = exactly(costs, False)
+                self.assertEqual(sum_of(exact, rows, columns), hungarian(exact, maximize))
+                exact = exactly(costs, True)
+                self.assertEqual(Fraction(result.cost), hungarian(exact, maximize))
+                self.assertTrue(proves(exact, result, maximize))
+        self.assertGreater(rounds, 30)
+        self.assertLess(whole, 120)
+
+    def test_memory(self):
+        """A large matrix isn't copied: one of the least size that counts as large is solved within a share of its memory."""
+        code = ("import resource, numpy as np, nushbaret\n"
+                "costs = np.random.default_rng(1).random((2048, 2048))\n"
+                "nushbaret.linear_sum_assignment(costs[:300, :300].copy())\n"
+                "before = resource.getrusage(resource.RUSAGE_SELF).ru_maxrss\n"
+                "rows, columns = nushbaret.linear_sum_assignment(costs)\n"
+                "print((resource.getrusage(resource.RUSAGE_SELF).ru_maxrss - before) * 1024 / costs.nbytes)\n")
+        told = subprocess.run([sys.executable, "-c", code], capture_output=True, text=True, check=True, env=os.environ)
+        self.assertLess(float(told.stdout), 0.75)
 
 
 class Steps(unittest.TestCase):
