@@ -162,6 +162,10 @@ def of_rows(rows: Any, length: int, manner: Manner, where: Where) -> Costs:
     packed = None if manner.decimals else _packed(rows, length)
     if packed is not None:
         return Costs(packed)
+    numpy = loaded_numpy()
+    read = _by_array(numpy, rows, length, manner, where) if numpy and length * len(rows) > FEW else None
+    if read is not None:
+        return read
     return of_list(list(chain.from_iterable(rows)), manner, where)
 
 
@@ -169,10 +173,7 @@ def of_list(values: List[Any], manner: Manner, where: Where) -> Costs:
     """The costs of a list."""
     kinds = frozenset(map(type, values))
     if _PLAIN.issuperset(kinds):
-        numpy = loaded_numpy()
-        read = _by_array(numpy, values, kinds, manner, where) if numpy and len(values) > FEW else None
-        if read is None and manner.decimals is None and not manner.doubles:
-            read = _of_plain(values.copy(), manner)
+        read = _of_plain(values.copy(), manner) if manner.decimals is None and not manner.doubles else None
         if read is not None:
             return read
     reader = _Reader(manner, where)
@@ -183,13 +184,18 @@ def of_list(values: List[Any], manner: Manner, where: Where) -> Costs:
     return _of_numbers(found, forbidden, manner)
 
 
-def _by_array(numpy: Any, values: List[Any], kinds: Any, manner: Manner, where: Where) -> Optional[Costs]:
-    """The costs of a long list of ints, floats and None, through an array; None where that would change an int."""
-    if int in kinds and any(type(value) is int and not -_MOST_WHOLE <= value <= _MOST_WHOLE for value in values):
-        return None
-    if type(None) in kinds:
-        values = [manner.forbids if value is None else value for value in values]
-    return of_array(numpy, numpy.array(values, numpy.float64), manner, where)
+def _by_array(numpy: Any, rows: Any, length: int, manner: Manner, where: Where) -> Optional[Costs]:
+    """The costs of many ints, floats and None, through an array; None where others are among them, or one is an int that is no double. An
+    array of each row is made in turn, so that Ctrl-C is heeded."""
+    doubles = numpy.empty((len(rows), length))
+    for place, row in enumerate(rows):
+        kinds = frozenset(map(type, row))
+        if not _PLAIN.issuperset(kinds):
+            return None
+        if int in kinds and any(type(value) is int and not -_MOST_WHOLE <= value <= _MOST_WHOLE for value in row):
+            return None
+        doubles[place] = [manner.forbids if value is None else value for value in row] if type(None) in kinds else row
+    return of_array(numpy, doubles, manner, where)
 
 
 def _of_numbers(found: List[Any], forbidden: List[int], manner: Manner) -> Costs:
