@@ -12,6 +12,8 @@ if TYPE_CHECKING:
 
 # So many costs are looked at together, since they stay in the processor's cache.
 BLOCK = 2**14
+# And so many at once where a copy is made, so that Ctrl-C is heeded in between.
+AT_ONCE = 2**20
 # Whole numbers of 64 bits stay below this, so that sums of two don't overflow.
 MOST_BITS = 61
 # Beyond such powers of two a factor may be no double.
@@ -63,8 +65,10 @@ def whole_of(numpy: Any, costs: Any, shift: int) -> Any:
     # Whatever is added to this double is rounded at its last place, and the bits of the sum count these places.
     adder = numpy.array(1.5 * 2.0**(52 - shift))
     found = numpy.empty(costs.shape, numpy.int64)
-    numpy.add(costs, adder, found.view(numpy.float64))
-    found -= adder.view(numpy.int64)
+    for begin in range(0, len(costs), AT_ONCE):
+        part = found[begin:begin + AT_ONCE]
+        numpy.add(costs[begin:begin + AT_ONCE], adder, part.view(numpy.float64))
+        part -= adder.view(numpy.int64)
     return found
 
 

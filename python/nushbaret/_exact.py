@@ -21,6 +21,7 @@ _PLAIN = frozenset((int, float, bool, type(None)))
 # Doubles that are whole stay so below this; a greater one may print as another whole number.
 _MOST_WHOLE = 2.0**53
 _SAMPLE = 32
+_AT_ONCE = 2**20
 
 # What a place in a list of costs is called, for messages.
 Where = Callable[[int], str]
@@ -128,9 +129,8 @@ class _Reader:
         return value
 
     def _infinite(self, place: int, value: Any) -> None:
-        if not is_nan(value) and (value < 0) == self.manner.maximize:
-            return None
-        return refuse_invalid(self.where(place), str(value).lower().replace("infinity", "inf"))
+        if is_nan(value) or (value < 0) != self.manner.maximize:
+            refuse_invalid(self.where(place), str(value).lower().replace("infinity", "inf"))
 
     def _of_numpy(self, place: int, value: Any) -> Any:
         """A float of NumPy's of another size than Python's."""
@@ -223,7 +223,7 @@ def _in_one_unit(ratios: List[Ratio], forbidden: List[int], fractions: bool) -> 
         if unit.denominator > GREATEST_COST:
             return None
     whole = [in_unit(ratio, unit) for ratio in ratios]
-    if unit != ONE and max(map(abs, whole), default=0) > GREATEST_COST:
+    if unit != ONE and max((abs(number) for number in whole), default=0) > GREATEST_COST:
         return None
     try:
         return Costs(array("q", whole), forbidden, unit, False, None, fractions)
@@ -235,7 +235,7 @@ def _to_places(value: Any, places: int, doubles: bool) -> int:
     """A number times 10**places, rounded to the nearest whole number, halves to even ones."""
     number, denominator = ratio_of(value, doubles)
     whole, rest = divmod(number * 10**places, denominator)
-    return whole + (2 * rest > denominator or 2 * rest == denominator and whole % 2 == 1)
+    return int(whole) + int(2 * rest > denominator or 2 * rest == denominator and whole % 2 == 1)
 
 
 def _packed(rows: Any, length: int) -> Optional[Numbers]:
@@ -256,7 +256,7 @@ def _pack(pack: Callable[..., None], numbers_: Numbers, place: int, row: Any) ->
     try:
         pack(numbers_, place, *row)
     except struct.error:
-        if not all(map(float.is_integer, row)) or max(map(abs, row)) >= _MOST_WHOLE:
+        if not all(map(float.is_integer, row)) or max(max(row), -min(row)) >= _MOST_WHOLE:
             raise
         pack(numbers_, place, *map(int, row))
 
@@ -348,10 +348,8 @@ def _of_float_array(numpy: Any, flat: Any, manner: Manner, where: Where) -> Cost
     if manner.decimals is not None:
         return _rounded_array(numpy, wide, forbidden, manner)
     places = None if manner.doubles and not len(forbidden) else _least_places(numpy, wide, 0 if manner.doubles else MOST_PLACES)
-    if places is not None:
-        scaled = wide * 10.0**places
-        if not wide.size or numpy.abs(scaled).max() <= GREATEST_COST:
-            return Costs(numpy.rint(scaled).astype(numpy.int64), forbidden, of_places(places), False, numpy)
+    if places is not None and size_of(wide) * 10.0**places <= GREATEST_COST:
+        return Costs(_scaled_array(numpy, wide, places), forbidden, of_places(places), False, numpy)
     return Costs(wide, forbidden, ONE, True, numpy, False, most)
 
 
@@ -377,12 +375,10 @@ def size_of(flat: Any) -> float:
 
 def _rounded_array(numpy: Any, flat: Any, forbidden: Any, manner: Manner) -> Costs:
     places = manner.decimals or 0
-    if places <= MOST_PLACES:
-        scaled = flat * 10.0**places
-        if not flat.size or numpy.abs(scaled).max() <= GREATEST_COST:
-            whole = numpy.rint(scaled).astype(numpy.int64)
-            _round_halves(numpy, flat, whole, places, manner.doubles)
-            return Costs(whole, forbidden, of_places(places), False, numpy)
+    if places <= MOST_PLACES and size_of(flat) * 10.0**places <= GREATEST_COST:
+        whole = _scaled_array(numpy, flat, places)
+        _round_halves(numpy, flat, whole, places, manner.doubles)
+        return Costs(whole, forbidden, of_places(places), False, numpy)
     return _of_numbers(flat.tolist(), forbidden, manner)
 
 
@@ -400,16 +396,31 @@ def whole_numbers(numpy: Any, flat: Any) -> Any:
     return numbers_ if numpy.logical_and.reduce(numbers_ == flat) else None
 
 
+def _scaled_array(numpy: Any, flat: Any, places: int) -> Any:
+    """Floats times 10**places, rounded to the nearest whole numbers; some at a time, so that Ctrl-C is heeded in between."""
+    whole = numpy.empty(flat.shape, numpy.int64)
+    for begin in range(0, len(flat), _AT_ONCE):
+        whole[begin:begin + _AT_ONCE] = numpy.rint(flat[begin:begin + _AT_ONCE] * 10.0**places)
+    return whole
+
+
 def _least_places(numpy: Any, flat: Any, most: int) -> Optional[int]:
     """The least power of ten that makes all whole; None where that is beyond 10**most, or some are too great. Two decimals of at most 15
     digits are never one float, so that equality after the division shows the decimal that a float prints as."""
     if size_of(flat) > GREATEST_COST:
         return None
-    # Mostly the first ones show that this is beyond it.
-    if flat.size > _SAMPLE and _least_places(numpy, flat[:_SAMPLE], most) is None:
-        return None
-    left = flat
-    for places in range(most + 1):
+    # Mostly a few of them show that this is beyond it.
+    parts = [flat[::max(len(flat) // _SAMPLE, 1)], *(flat[begin:begin + _AT_ONCE] for begin in range(0, len(flat), _AT_ONCE))]
+    places: Optional[int] = 0
+    for part in parts:
+        if places is not None:
+            places = _more_places(numpy, part, places, most)
+    return places
+
+
+def _more_places(numpy: Any, left: Any, least: int, most: int) -> Optional[int]:
+    """The least power of ten, from 10**least to 10**most, that makes some floats whole."""
+    for places in range(least, most + 1):
         power = 10.0**places
         left = left[numpy.rint(left * power) / power != left]
         if not left.size:

@@ -15,6 +15,7 @@ import functools
 import math
 import operator
 from array import array
+from fractions import Fraction
 from itertools import repeat
 from typing import Any, Dict, List, NamedTuple, Optional, Sequence, Tuple, Union
 
@@ -196,8 +197,8 @@ def _rounded(problem: Problem) -> Tuple[Problem, int]:
         costs, shift = arrays.rounded(problem, BITS)
     else:
         costs, shift = _rounded_list(problem)
-    scale = problem.unit.denominator * (1 << shift if shift >= 0 else proved.Fraction(1, 1 << -shift))
-    return problem._replace(costs=costs, unit=Unit(scale, None), raw=False, numpy=problem.numpy), shift
+    part: Any = 1 << shift if shift >= 0 else Fraction(1, 1 << -shift)
+    return problem._replace(costs=costs, unit=Unit(problem.unit.denominator * part, None), raw=False), shift
 
 
 def _rounded_list(problem: Problem) -> Tuple[Any, int]:
@@ -210,7 +211,7 @@ def _rounded_list(problem: Problem) -> Tuple[Any, int]:
         shift = BITS - math.frexp(max(max(values), -min(values)))[1]
         # A greater shift would be needed for the smallest doubles alone, which print as decimals that are further from them.
         if shift <= 1000:
-            return array("q", map(round, map(math.ldexp, values, repeat(shift)))), shift
+            return array("q", [round(math.ldexp(value, shift)) for value in values]), shift
     ratios = [problem.ratio(value) for value in values]
     shift = BITS - max((bits_above(ratio) for ratio in ratios if ratio[0]), default=BITS)
     return array("q", [rounded(ratio, shift) for ratio in ratios]), shift

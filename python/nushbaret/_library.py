@@ -162,8 +162,7 @@ def call(name: str, sense: Optional[bool], n: int, m: int, *lists: Any) -> Tuple
         words += _lend(values)
     function = _loaded()[name]
     words.append(ctypes.addressof(told))
-    number = _waited_for(lambda: (function(*words), lists, told)[0], end) if in_thread else function(*words)
-    code = CODES[number]
+    code = CODES[_waited_for(lambda: int(function(*words)), end, lists, told) if in_thread else function(*words)]
     if code == "MEMORY":
         raise MemoryError("the library was refused memory")
     return code, told
@@ -174,6 +173,7 @@ _limits = threading.local()
 # A call whose persons times pairs are so many may take long. It gets a thread of its own, so that Ctrl-C ends the wait for it.
 LONG = 2**27
 _SLICE = 0.2
+_AT_ONCE = 2**22
 
 
 @contextlib.contextmanager
@@ -203,20 +203,26 @@ def _owned(values: Any) -> Any:
     """A list that nobody else changes while the library reads it: a copy of one that is lent by the caller."""
     if isinstance(values, Lent):
         return array("q", bytes(values.held))
-    return values.copy() if hasattr(values, "flags") and not values.flags.owndata else values
+    if not hasattr(values, "flags") or values.flags.owndata:
+        return values
+    # In parts, so that Ctrl-C is heeded in between.
+    own = type(values)(values.shape, values.dtype)
+    for begin in range(0, len(values), _AT_ONCE):
+        own[begin:begin + _AT_ONCE] = values[begin:begin + _AT_ONCE]
+    return own
 
 
-def _waited_for(work: Callable[[], int], end: Optional[float]) -> int:
-    """What some work returns that a thread does. Where the wait ends early, the thread goes on and keeps all that the work needs."""
+def _waited_for(work: Callable[[], int], end: Optional[float], *lists: Any) -> int:
+    """What some work returns that a thread does. Where the wait ends early, the thread goes on, and keeps its lists until it ends."""
     look_at_time()
     found: List[int] = []
     done = threading.Event()
 
-    def run() -> None:
+    def run(*kept: Any) -> None:
         found.append(work())
         done.set()
 
-    threading.Thread(target=run, daemon=True).start()
+    threading.Thread(target=run, args=lists, daemon=True).start()
     while not done.wait(_SLICE if end is None else min(_SLICE, max(end - time.monotonic(), 0))):
         look_at_time()
     return found[0]

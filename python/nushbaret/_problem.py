@@ -113,7 +113,7 @@ def native(view: memoryview) -> memoryview:
     if kind == view.format or not view.nbytes:
         return view
     held = view.cast("B") if view.c_contiguous else memoryview(view.tobytes())
-    return held.cast(kind, list(view.shape or ()))  # type: ignore[call-overload]
+    return held.cast(kind, list(view.shape or ()))
 
 
 def _of_view(view: memoryview, manner: exact.Manner) -> Problem:

@@ -65,10 +65,19 @@ def _turned_costs(problem: Problem) -> Any:
     """The costs of a dense problem, column by column."""
     n_rows, n_columns = problem.n_rows, problem.n_columns
     if problem.numpy:
-        return problem.costs.reshape(n_rows, n_columns).T.ravel()
+        return _turned_array(problem.numpy, problem.costs.reshape(n_rows, n_columns))
     costs, turned = plain(problem.costs), array("q")
     for column in range(n_columns):
         turned.frombytes(costs[column::n_columns].tobytes())
+    return turned
+
+
+def _turned_array(numpy: Any, costs: Any) -> Any:
+    """The costs of a matrix, column by column. Some columns at a time are taken, so that Ctrl-C is heeded in between."""
+    turned = numpy.empty(costs.size, costs.dtype)
+    by_columns = turned.reshape(costs.shape[::-1])
+    for begin in range(0, len(by_columns), 64):
+        by_columns[begin:begin + 64] = costs[:, begin:begin + 64].T
     return turned
 
 

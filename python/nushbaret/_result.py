@@ -65,6 +65,12 @@ class Result:
     columns: Any
     #: Whether this is the greatest sum, not the least.
     maximize: bool
+    _source: Union[Source, Held]
+    _shape: Problem
+    _answer: proved.Answer
+    _pairs: Tuple[List[int], List[int]]
+    _costs: List[Any]
+    _as_arrays: bool
 
     def __init__(self, source: Union[Source, Held], problem: Problem, answer: proved.Answer):
         rows, columns = rows_and_columns(problem, answer)
@@ -137,7 +143,8 @@ class Result:
     @cached_property
     def _whole_duals(self) -> Tuple[proved.Duals, Unit]:
         """Whole duals in a unit. Where levels found the plan these take the costs again."""
-        unit, prices = self._shape.unit, []
+        unit = self._shape.unit
+        prices: List[int] = []
         if self._pairs[0] and self._answer.halves is None:
             prices, unit = self._exact_prices()
         elif self._pairs[0]:
@@ -147,12 +154,12 @@ class Result:
 
     def _exact_prices(self) -> exact_duals.ExactPrices:
         from ._solving import solved
-        problem, served = self._read_again(), len(self._pairs[0])
-        served_ = None if served == min(problem.n_rows, problem.n_columns) else served
-        again = solved(problem, None, served_)
+        problem, count = self._read_again(), len(self._pairs[0])
+        served = None if count == min(problem.n_rows, problem.n_columns) else count
+        again = solved(problem, None, served)
         if isinstance(again, proved.Short) or Result(self._source, problem, again).cost != self.cost:
             raise ValueError(CHANGED)
-        found = exact_duals.exact_prices(problem, served_, self._answer.objects)
+        found = exact_duals.exact_prices(problem, served, self._answer.objects)
         if found is None:
             raise ValueError(CHANGED)
         return found
@@ -198,7 +205,7 @@ class Result:
         """The problem of the call; ValueError unless the duals prove that the plan is best for its costs as they are now."""
         from ._checking import check_problem
         problem = self._read_again()
-        if not check_problem(problem, *self._pairs, self._exact_rents):
+        if not check_problem(problem, self._pairs[0], self._pairs[1], self._exact_rents):
             raise ValueError(CHANGED)
         return problem
 
@@ -281,7 +288,7 @@ class Result:
             prices = self._exact_rents
         except ValueError as fault:
             return Verdict(str(fault))
-        return check_problem(problem, *self._pairs, prices)
+        return check_problem(problem, self._pairs[0], self._pairs[1], prices)
 
     @property
     def _decimals(self) -> Optional[int]:

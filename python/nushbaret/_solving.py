@@ -1,4 +1,5 @@
 """The solving calls."""
+from fractions import Fraction
 from typing import Any, List, Optional, Sequence, Tuple, Union
 
 from . import _exact as exact, _levels as levels, _library as library, _problem as reading, _proved as proved, _source as sources
@@ -10,7 +11,7 @@ from ._source import Held, Source
 
 Start = Union[Result, Sequence[Any], None]
 Found = Union[proved.Answer, proved.Short]
-Prices = Optional[List[proved.Fraction]]
+Prices = Optional[List[Fraction]]
 
 
 def solve_served(problem: Problem, served: int, source: Optional[Source] = None) -> Optional[Result]:
@@ -169,7 +170,7 @@ def solve_sparse(n_rows: Any, n_columns: Optional[int] = None, rows: Any = None,
     elif any(value is None for value in lists):
         raise TypeError("n_rows, n_columns, rows, columns and costs are needed, or one sparse matrix")
     else:
-        source = Source(*map(sources.listed, (costs, rows, columns)), (n_rows, n_columns), manner)
+        source = Source(sources.listed(costs), sources.listed(rows), sources.listed(columns), (n_rows, n_columns), manner)
     return solve_source(source, start, partial, timeout)
 
 
