@@ -1,6 +1,16 @@
-"""`python3 -m nushbaret`: the command for rosters with names."""
+"""`nushbaret` and `python3 -m nushbaret`: the command for rosters with names."""
+import signal
 import sys
 
-from ._command import main
 
-sys.exit(main())
+def main() -> int:
+    """Runs the command over the words of the process."""
+    # Ctrl-C ends the process at once, also where the library solves, and without a traceback. Only while files are written it raises.
+    if signal.getsignal(signal.SIGINT) is signal.default_int_handler:
+        signal.signal(signal.SIGINT, signal.SIG_DFL)
+    from ._command import main as run
+    return run()
+
+
+if __name__ == "__main__":
+    sys.exit(main())

@@ -1,11 +1,14 @@
 """Answers by names: the plan of a roster, or who is short of what."""
 from collections import Counter
+from itertools import islice
 from typing import Any, Dict, List, NamedTuple, Optional, Sequence, Set, Tuple
 
-from ._infeasible import Group, Infeasible
-from ._nodes import Listed, Nodes, Swap, changed, face_of, fewest_changes, least_costs, next_best_more, nodes_of, swaps_of
+from ._groups import missing_of
+from ._infeasible import Infeasible
+from ._library import Numbers
+from ._nodes import Edges, Nodes, Swap, changed, face_of, fewest_changes, is_only_one, least_costs, nodes_without, solved, swaps_of
+from ._plans import best_plans
 from ._roster import PlanLine, Roster
-from ._solving import solve_sparse
 
 MOST_NAMES_SHOWN = 20
 
@@ -20,21 +23,23 @@ class Pair(NamedTuple):
 
 
 class Short(NamedTuple):
-    """Why there is no plan. Where `of_objects` is false these persons want `wanted` and can have no more than `had`, of these objects
-    alone, and of those in `once` one for each pair; where it is true it is the other way round."""
+    """Why there is no plan. Where `of_objects` is false these persons need `wanted` and can have no more than `had`, of these objects
+    alone; where it is true it is the other way round. `text` is the sentence that says so, where it isn't `sentence` that does."""
 
     persons: List[int]
     objects: List[int]
     of_objects: bool
     wanted: int
     had: int
-    once: List[int]
+    text: str = ""
 
 
 class Plan(NamedTuple):
     """Pairs in the order of the persons, their cost, who and what gets less than it should, and the rent of each object that isn't
-    fixed, where nobody counts several times. Costs and rents are in the roster's units. `swaps` are the groups that could change places
-    at no cost, not told where changes are weighed; `next_cost` is that of the best other plan, where it was asked for and is told."""
+    fixed, where nobody counts several times. Costs and rents are in the roster's units. `is_only_one` says that no other plan is
+    as good; where others were asked for, `swaps` are the groups that could change places at no cost, and `next_cost` is that of the best
+    other plan, if it costs more. `following` are the next plans in order, as many as were asked for. Where changes are weighed nothing is
+    said of others."""
 
     pairs: List[Pair]
     cost: int
@@ -42,7 +47,9 @@ class Plan(NamedTuple):
     unused: List[int]
     rents: Dict[int, int]
     swaps: Sequence[Swap] = ()
+    is_only_one: bool = True
     next_cost: Optional[int] = None
+    following: Sequence["Plan"] = ()
 
 
 class Answer(NamedTuple):
@@ -54,8 +61,8 @@ class Answer(NamedTuple):
 
 class Wish(NamedTuple):
     """What is asked of a roster: pairs that stand, whatever they cost; the greatest cost, not the least; where there is no plan for all
-    the fullest one; pairs to be kept where that costs nothing, or where it costs no more than `change` for each pair; the cost of the
-    best other plan."""
+    the fullest one; pairs to be kept where that costs nothing, or where it costs no more than `change` for each pair; the best other
+    plan, if it isn't as good; and so many plans in all, in order."""
 
     fixed: Sequence[PlanLine] = ()
     maximize: bool = False
@@ -63,44 +70,35 @@ class Wish(NamedTuple):
     kept: Optional[Set[Tuple[int, int]]] = None
     change: Optional[int] = None
     others: bool = False
+    plans: int = 1
 
 
-def nodes_beside(roster: Roster, fixed: Sequence[PlanLine]) -> Nodes:
+def nodes_around(roster: Roster, fixed: Sequence[PlanLine]) -> Nodes:
     """What is left to solve around the fixed pairs."""
-    tasks, places = [roster.tasks_of(person) for person in range(len(roster.persons))], [
-        roster.places_of(object_) for object_ in range(len(roster.objects))]
-    for pair in fixed:
-        tasks[pair.person] -= 1
-        places[pair.object] -= 1
-    if not fixed:
-        return nodes_of(Listed(tasks, places, roster.of_persons, roster.of_objects, roster.costs))
-    taken = {(pair.person, pair.object) for pair in fixed}
-    triples = [triple for triple in zip(roster.of_persons, roster.of_objects, roster.costs) if triple[:2] not in taken]
-    persons, objects, costs = zip(*triples) if triples else ((), (), ())
-    return nodes_of(Listed(tasks, places, persons, objects, costs))
+    if fixed:
+        return nodes_without((len(roster.persons), len(roster.objects)), [(pair.person, pair.object) for pair in fixed], roster.of_persons,
+                             roster.of_objects, roster.costs)
+    return Nodes(list(range(len(roster.persons))), list(range(len(roster.objects))), roster.of_persons, roster.of_objects, roster.costs,
+                 Edges(roster.of_persons, roster.of_objects), roster.by_persons, roster.is_full)
 
 
 def answer_of(roster: Roster, wish: Wish) -> Answer:
-    """The answer to a roster; ValueError where it is too large for the library."""
-    nodes = nodes_beside(roster, wish.fixed)
+    """The answer to a roster in which each name counts once; ValueError where it is too large for the library."""
+    nodes = nodes_around(roster, wish.fixed)
     costs = least_costs(nodes, wish.maximize)
     if wish.kept is not None and wish.change:
         costs = changed(costs, nodes.edges, wish.kept, wish.change)
     try:
-        return Answer(_plan(roster, wish, nodes, costs, _solved(nodes, costs, False)), [])
+        return Answer(_plan(roster, wish, nodes, costs, solved(nodes, costs, False)), [])
     except Infeasible as found:
         groups = shortages(nodes, found)
     if not wish.fullest:
         return Answer(None, groups)
-    return Answer(_plan(roster, wish, nodes, costs, _solved(nodes, costs, True)), groups)
+    return Answer(_plan(roster, wish, nodes, costs, solved(nodes, costs, True)), groups)
 
 
-def _solved(nodes: Nodes, costs: List[int], fullest: bool) -> Any:
-    return solve_sparse(len(nodes.of_rows), len(nodes.of_columns), nodes.rows, nodes.columns, costs, partial=fullest)
-
-
-def _plan(roster: Roster, wish: Wish, nodes: Nodes, costs: List[int], result: Any) -> Plan:
-    rents = {} if roster.counts else dict(zip(nodes.of_columns, result._rents))
+def _plan(roster: Roster, wish: Wish, nodes: Nodes, costs: Numbers, result: Any) -> Plan:
+    rents = dict(zip(nodes.of_columns, result._rents))
     if wish.kept is not None and wish.change is not None:
         return plan_of(roster, wish.fixed, nodes.pairs(result.rows, result.columns), rents)
     face, chosen = face_of(nodes, costs, result), nodes.pairs(result.rows, result.columns)
@@ -110,60 +108,33 @@ def _plan(roster: Roster, wish: Wish, nodes: Nodes, costs: List[int], result: An
         plan = plan_of(roster, wish.fixed, chosen, rents)
         if (len(plan.pairs), plan.cost) != (len(best.pairs), best.cost):
             raise RuntimeError("a plan with fewest changes was found to be as good as the best, and isn't")
-    plan = plan._replace(swaps=swaps_of(nodes, face, chosen))
-    if plan.swaps or not wish.others:
-        return plan
-    more = _more(roster, nodes, costs, chosen, result)
-    if more == 0:
+    swaps = swaps_of(nodes, face, chosen) if wish.others else []
+    plan = plan._replace(swaps=swaps, is_only_one=not swaps if wish.others else is_only_one(nodes, face, chosen))
+    is_next_shown = wish.others and plan.is_only_one
+    count = max(wish.plans - 1, int(is_next_shown))
+    # The library's first plan may be another one than that with the fewest changes.
+    ranked = best_plans(result, count + 1) if count else iter(())
+    others = (pairs for pairs in (nodes.pairs(other.rows, other.columns) for other in ranked) if pairs != chosen)
+    following = [plan_of(roster, wish.fixed, pairs, {}) for pairs in islice(others, count)]
+    return with_following(plan, following, is_next_shown)
+
+
+def with_following(plan: Plan, following: Sequence[Plan], is_next_shown: bool) -> Plan:
+    """A plan with those after it; where none is as good, the cost of the next one is known."""
+    if is_next_shown and following and following[0].cost == plan.cost:
         raise RuntimeError("no other plan was found to be as good, and then one was")
-    return plan if more is None else plan._replace(next_cost=plan.cost + more * (-1 if wish.maximize else 1))
-
-
-def _more(roster: Roster, nodes: Nodes, costs: List[int], chosen: List[Tuple[int, int]], result: Any) -> Optional[int]:
-    """How much worse the best other plan is. Nodes of one name are alike, and a plan in which they change is no other one."""
-    if roster.counts:
-        return next_best_more(nodes, costs, chosen)
-    other = result.next_best()
-    return None if other is None else other.cost - result.cost
+    return plan._replace(following=following, next_cost=following[0].cost if is_next_shown and following else None)
 
 
 def shortages(nodes: Nodes, found: Infeasible) -> List[Short]:
     """All groups that are short, by the roster's numbers."""
     of_objects = len(nodes.of_rows) > len(nodes.of_columns)
-    groups = [Group(columns, rows) if of_objects else Group(rows, columns) for rows, columns in found.groups]
-    own = nodes.of_columns if of_objects else nodes.of_rows
-    return [_short(nodes, group, of_objects) for group in _joined(groups, own)]
-
-
-def _joined(groups: List[Group], own: List[int]) -> List[Group]:
-    """The groups, in which the nodes of one owner that list nothing are one group."""
-    joined: List[Group] = []
-    alone: Dict[int, Group] = {}
-    for group in groups:
-        owner = own[group.many[0]]
-        if not group.few and owner in alone:
-            alone[owner].many.extend(group.many)
-            continue
-        joined.append(group)
-        if not group.few:
-            alone[owner] = group
-    return joined
-
-
-def _short(nodes: Nodes, group: Group, of_objects: bool) -> Short:
-    own, others = (nodes.of_columns, nodes.of_rows) if of_objects else (nodes.of_rows, nodes.of_columns)
-    many = [own[node] for node in group.many if own[node] >= 0]
-    few = [others[node] for node in group.few]
-    whole = {number for number in few if number >= 0}
-    side = 0 if of_objects else 1
-    # A pair whose other node the group doesn't hold lets one of the group have its end once.
-    bridges = [nodes.joined[~number][side] for number in few if number < 0]
-    once = sorted(number for number in bridges if number not in whole)
-    had = sum(number >= 0 for number in few) + len(once)
-    persons, objects = sorted(set(many)), sorted(whole)
-    if of_objects:
-        persons, objects = objects, persons
-    return Short(persons, objects, of_objects, len(many), had, once)
+    shorts = []
+    for rows, columns in found.groups:
+        persons, objects = [nodes.of_rows[row] for row in rows], [nodes.of_columns[column] for column in columns]
+        wanted, had = (len(objects), len(persons)) if of_objects else (len(persons), len(objects))
+        shorts.append(Short(persons, objects, of_objects, wanted, had))
+    return shorts
 
 
 def plan_of(roster: Roster, fixed: Sequence[PlanLine], chosen: List[Tuple[int, int]], rents: Dict[int, int]) -> Plan:
@@ -189,33 +160,35 @@ class Out(NamedTuple):
 
 
 def left_out(roster: Roster, plan: Plan) -> List[Out]:
-    """Who gets less than it should, and what has places left, as far as there are such."""
+    """Who gets less than it should, and what has places left, as far as there are any; with bounds what misses its least count, and who
+    and what is in no pair."""
     had, used = Counter(pair.person for pair in plan.pairs), Counter(pair.object for pair in plan.pairs)
-    without = [_part_of(roster.persons[number], had[number], roster.tasks_of(number)) for number in plan.without]
-    unused = [_part_of(roster.objects[number], used[number], roster.places_of(number)) for number in plan.unused]
-    return [out for out in (Out("without", 0, without), Out("unused", 1, unused)) if out.names]
+    by_bounds = roster.least is not None
+    without = [_part_of(roster.persons[number], had[number], 1 if by_bounds else roster.tasks_of(number)) for number in plan.without]
+    unused = [_part_of(roster.objects[number], used[number], 1 if by_bounds else roster.places_of(number)) for number in plan.unused]
+    outs = [Out("missing", side, [f"{missing.name}: {missing.had} of {missing.least}" for missing in missing_of(roster, plan.pairs)
+                                  if missing.side == side]) for side in (1, 0)]
+    return [out for out in (*outs, Out("without", 0, without), Out("unused", 1, unused)) if out.names]
 
 
 def _part_of(name: str, had: int, wanted: int) -> str:
     return name if wanted == 1 else f"{name} ({had} of {wanted})"
 
 
+# Titles are in any language, so plurals are of these words alone.
+PLURALS = {"person": "people", **{word: word + "s" for word in (
+    "object", "pair", "nurse", "doctor", "worker", "driver", "teacher", "student", "volunteer", "vehicle", "shift", "job", "task", "place",
+    "day", "room", "course", "project", "seat")}}
+
+
 def counted(count: int, word: str) -> str:
-    """A count of things, in English: 1 shift, 2 shifts, 3 people."""
+    """A count of things: 1 shift, 2 shifts, 3 people, 2 Schicht."""
     return f"{count} {word if count == 1 else plural(word)}"
 
 
 def plural(word: str) -> str:
-    """The English plural of a title; one that ends like a plural stays."""
-    if word.lower() in ("person", "people"):
-        return "people"
-    if word.endswith(("ch", "sh", "ss", "x")):
-        return word + "es"
-    if word.endswith("s"):
-        return word
-    if word.endswith("y") and word[-2:-1] not in tuple("aeiou"):
-        return word[:-1] + "ies"
-    return word + "s"
+    """The plural of a title, as far as it is known."""
+    return PLURALS.get(word, word)
 
 
 def listed(names: List[str], numbers: List[int]) -> str:
@@ -228,34 +201,15 @@ def listed(names: List[str], numbers: List[int]) -> str:
 def sentence(roster: Roster, short: Short, some_fixed: bool) -> str:
     """What a manager reads of a group that is short."""
     person, object_ = roster.titles[0], roster.titles[1]
-    if roster.counts:
-        said = _sentence_of_counts(roster, short)
-    elif short.of_objects:
+    if short.text:
+        return short.text
+    if short.of_objects:
         said = (f"{named(short.objects, object_, roster.objects)} can go to {_only(short.persons, person, roster.persons)}: "
                 + _advice_on_objects(short))
     else:
         said = (f"{named(short.persons, person, roster.persons)} can take {_only(short.objects, object_, roster.objects)}: "
                 + _advice_on_persons(roster, short))
-    return "beside the fixed pairs, " + said if some_fixed else said
-
-
-def _sentence_of_counts(roster: Roster, short: Short) -> str:
-    """The sentence where names count several times."""
-    person, object_ = roster.titles[0], roster.titles[1]
-    if short.of_objects:
-        many, few = named(short.objects, object_, roster.objects), _once(short.persons, short.once, roster.persons)
-    else:
-        many, few = named(short.persons, person, roster.persons), _once(short.objects, short.once, roster.objects)
-    want = "wants" if len(short.objects if short.of_objects else short.persons) == 1 else "want"
-    return f"{many} {want} {short.wanted}, and no more than {short.had} can be had{few}: {short.wanted - short.had} too few"
-
-
-def _once(numbers: List[int], once: List[int], names: List[str]) -> str:
-    """Where what can be had is: (night, late once)."""
-    listed_once = [f"{names[number]} " + ("once" if count == 1 else f"{count} times, once each")
-                   for number, count in sorted(Counter(once).items())]
-    parts = ([listed(names, numbers)] if numbers else []) + listed_once[:MOST_NAMES_SHOWN]
-    return f" ({', '.join(parts)})" if parts else ""
+    return "around the fixed pairs, " + said if some_fixed else said
 
 
 def named(numbers: List[int], word: str, names: List[str]) -> str:

@@ -8,13 +8,13 @@ from . import _library as library
 from ._problem import Problem
 
 
-def _named(word: str, numbers: Any, labels: Optional[List[Any]]) -> str:
-    """Some rows or columns in words, at most ten of them."""
+def numbered(kind: str, numbers: Any, labels: Optional[List[Any]] = None) -> str:
+    """Numbers or their labels, at most ten, after what they are of: row 3, rows 3, 4, no row."""
     if not len(numbers):
-        return f"no {word}"
+        return f"no {kind}"
     shown = ", ".join(str(labels[number] if labels else number) for number in list(numbers)[:10])
     more = f", .. ({len(numbers)} in all)" if len(numbers) > 10 else ""
-    return f"{word}{'s' if len(numbers) > 1 else ''} {shown}{more}"
+    return f"{kind}{'s' if len(numbers) > 1 else ''} {shown}{more}"
 
 
 class Infeasible(ValueError):
@@ -40,7 +40,7 @@ class Infeasible(ValueError):
 
     def __init__(self, groups: List[Tuple[Any, Any]], labels: Optional[Tuple[List[Any], List[Any]]] = None):
         rows, columns = groups[0]
-        first, second = _named("row", rows, labels and labels[0]), _named("column", columns, labels and labels[1])
+        first, second = numbered("row", rows, labels and labels[0]), numbered("column", columns, labels and labels[1])
         why = f"{first} may have {second}" if len(rows) > len(columns) else f"{second} may go to {first}"
         only = " only" if len(rows) and len(columns) else ""
         more = f" (the first of {len(groups)} groups)" if len(groups) > 1 else ""

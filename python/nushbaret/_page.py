@@ -5,7 +5,10 @@ from itertools import product
 from typing import Dict, Iterator, List, NamedTuple, Optional, Sequence, Set, Tuple
 
 from ._answer import Answer, Plan, counted, left_out
+from ._days import STYLE as DAYS_STYLE, by_days
+from ._groups import order_of
 from ._roster import Roster
+from ._texts import Note, Report, notes_of
 
 MOST_CELLS = 250_000
 # Up to so many cells persons and objects that are in no pair and in no short group are drawn as well.
@@ -72,24 +75,28 @@ class Frame(NamedTuple):
 
 def frame_of(roster: Roster, answer: Answer) -> Frame:
     """The short groups first, so that each one's cells stand in one block; then all others, or those in pairs where all are too many.
-    Who can have nothing at all has the whole row framed, or the whole column."""
-    persons = [number for short in answer.groups for number in short.persons]
-    objects = [number for short in answer.groups for number in short.objects]
+    Who can have nothing at all has the whole row framed, or the whole column. Groups that share names aren't framed."""
+    persons = list(dict.fromkeys(number for short in answer.groups for number in short.persons))
+    objects = list(dict.fromkeys(number for short in answer.groups for number in short.objects))
     other_persons, other_objects = _others(roster, answer, set(persons), set(objects))
-    if not roster.is_matrix:
+    if roster.groups is not None:
+        other_objects.sort(key=order_of(roster).__getitem__)
+    elif not roster.is_matrix:
         other_objects.sort(key=lambda number: natural(roster.objects[number]))
     rows, columns = len(persons) + len(other_persons), len(objects) + len(other_objects)
     blocks = []
     row = column = 0
-    for short in answer.groups:
-        below, behind = row + len(short.persons), column + len(short.objects)
+    are_apart = len(persons) == sum(len(short.persons) for short in answer.groups) and len(objects) == sum(
+        len(short.objects) for short in answer.groups)
+    for short in answer.groups if are_apart else ():
+        below, after = row + len(short.persons), column + len(short.objects)
         if not short.objects:
             blocks.append(Block(row, below, 0, columns))
         elif not short.persons:
-            blocks.append(Block(0, rows, column, behind))
+            blocks.append(Block(0, rows, column, after))
         else:
-            blocks.append(Block(row, below, column, behind))
-        row, column = below, behind
+            blocks.append(Block(row, below, column, after))
+        row, column = below, after
     return Frame(persons + other_persons, objects + other_objects, len(persons), len(objects), blocks)
 
 
@@ -107,27 +114,29 @@ def natural(name: str) -> List[Tuple[int, int, str]]:
     return [(0, int(part), "") if part.isdecimal() else (1, 0, part.casefold()) for part in re.findall("[0-9]{1,30}|[^0-9]+", name)]
 
 
-def page(roster: Roster, answer: Answer, heading: str, lines: List[str]) -> str:
+def page(report: Report, heading: str, lines: List[str]) -> str:
     """The page of an answer: the lines, the plan as a list, who stays out, and the matrix with the chosen cells and the short groups
     framed.
 
     Of a matrix of more than 20000 cells only the persons and objects of the plan and of the short groups are drawn; where even these
     have more than 250000 cells none is, and the page says so.
     """
-    return "".join(_parts(roster, answer, heading, lines))
+    return "".join(_parts(report, heading, lines))
 
 
-def _parts(roster: Roster, answer: Answer, heading: str, lines: List[str]) -> Iterator[str]:
+def _parts(report: Report, heading: str, lines: List[str]) -> Iterator[str]:
+    roster, answer = report.roster, report.answer
     yield (
         '<!DOCTYPE html>\n<html lang="en">\n<head>\n<meta charset="utf-8">\n'
         "<meta http-equiv=\"Content-Security-Policy\" content=\"default-src 'none'; style-src 'unsafe-inline'\">\n"
-        f"<title>{escape(heading)}</title>\n<style>{STYLE}{_shades()}</style>\n</head>\n<body>\n<h1>{escape(heading)}</h1>\n")
+        f"<title>{escape(heading)}</title>\n<style>{STYLE}{DAYS_STYLE}{_shades()}</style>\n</head>\n<body>\n<h1>{escape(heading)}</h1>\n")
     for place, line in enumerate(lines):
         kind = ' class="short"' if place < len(answer.groups) else ""
         yield f"<p{kind}>{escape(line)}</p>\n"
     if answer.plan is not None:
-        yield from _list(roster, answer.plan)
+        yield from by_days(roster, answer.plan) if roster.groups is not None else _list(roster, answer.plan)
         yield from _folded(roster, answer.plan)
+        yield from _notes(notes_of(report, answer.plan))
     frame = frame_of(roster, answer)
     if len(frame.persons) * len(frame.objects) > MOST_CELLS:
         yield f"<p>The matrix has more than {MOST_CELLS} cells and isn't drawn.</p>\n"
@@ -144,7 +153,7 @@ def _shades() -> str:
 
 def _matrix(roster: Roster, answer: Answer, frame: Frame) -> Iterator[str]:
     chosen = {} if answer.plan is None else {(pair.person, pair.object): pair.fixed for pair in answer.plan.pairs}
-    costs = _costs_by_person(roster)
+    costs = costs_by_person(roster)
     span = (min(roster.costs, default=0), max(roster.costs, default=0))
     edges = _edges(frame)
     yield '<div class="matrix"><table>\n<thead><tr><th></th>'
@@ -163,7 +172,7 @@ def _matrix(roster: Roster, answer: Answer, frame: Frame) -> Iterator[str]:
         yield "<p>Who and what is in no pair isn't drawn.</p>\n"
 
 
-def _costs_by_person(roster: Roster) -> List[Dict[int, int]]:
+def costs_by_person(roster: Roster) -> List[Dict[int, int]]:
     costs: List[Dict[int, int]] = [{} for _ in roster.persons]
     for person, object_, cost in zip(roster.of_persons, roster.of_objects, roster.costs):
         costs[person][object_] = cost
@@ -220,6 +229,14 @@ def _table(titles: List[str], rows: List[List[str]]) -> Iterator[str]:
     for row in rows:
         yield "<tr>" + "".join(f"<td>{escape(cell)}</td>" for cell in row) + "</tr>\n"
     yield "</tbody>\n</table>\n"
+
+
+def _notes(notes: List[Note]) -> Iterator[str]:
+    """What there is to say of the plan."""
+    for note in notes:
+        yield f"<p>{escape(note.line)}</p>\n"
+        if note.details:
+            yield "<ul>\n" + "".join(f"<li>{escape(detail)}</li>\n" for detail in note.details) + "</ul>\n"
 
 
 def _folded(roster: Roster, plan: Plan) -> Iterator[str]:

@@ -338,8 +338,12 @@ def next_best(problem: Problem, result: Result) -> Optional[Plan]:
     return None if part is None else _plan(result, ranking, part)
 
 
-def best_plans(ranking: Ranking, result: Result, count: int, timeout: Optional[float] = None) -> Iterator[Plan]:
-    """The first plans in order, so many at most."""
+def best_plans(result: Result, count: int) -> Iterator[Plan]:
+    """The first plans of a result's problem in order, so many at most."""
+    return _in_order(Ranking(result._checked(), result), result, count, None)
+
+
+def _in_order(ranking: Ranking, result: Result, count: int, timeout: Optional[float]) -> Iterator[Plan]:
     ranking.wait(ranking.whole)
     for left in range(count, 0, -1):
         with library.limited(timeout):
@@ -398,4 +402,4 @@ def k_best(costs: Any, k: int, maximize: bool = False, decimals: Optional[int] =
         problem = source.read()
         result = solve_problem(problem, None, partial, source)
         ranking = Ranking(problem, result)
-    return best_plans(ranking, result, k, timeout)
+    return _in_order(ranking, result, k, timeout)

@@ -1,192 +1,30 @@
 """Rosters and plans in CSV files and workbooks: persons, objects and costs by name.
 
 A roster is read in one of two forms, a line for each pair or a matrix; a plan is lines of a person and an object.
-Lines and columns are counted from 1, and a column is a cell of its line.
 """
-import csv
-import datetime
-import io
 import json
 import os
 import re
-import sys
 import unicodedata
 from array import array
-from decimal import Decimal
-from typing import Any, Dict, Iterator, List, NamedTuple, NoReturn, Optional, Set, Tuple, Union
+from bisect import bisect_left, bisect_right
+from itertools import compress, islice, repeat
+from operator import add, le, mul
+from typing import Any, Dict, List, NamedTuple, Optional, Sequence, Set, Tuple, cast
 
-from ._exact import MOST_PLACES
-from ._library import GREATEST_COST, MOST_PERSONS, Numbers
+from ._costs import Costs
+from ._library import MOST_PERSONS, Numbers
+from ._sheets import MOST_BYTES, RosterFault, Sheet, is_json, quoted, unit_of
 
-MOST_BYTES = 2**30
-
-SEPARATORS = ";\t,"
-WIDE_BOMS = (b"\xff\xfe", b"\xfe\xff")
-BOMS = (b"\xef\xbb\xbf", *WIDE_BOMS)
 LINES, MATRIX = "lines", "matrix"
 TITLES = ("person", "object", "cost")
-MILLION = 10**MOST_PLACES
-ZEROS = "0" * MOST_PLACES
-SAVE = "save the sheet as 'CSV UTF-8'"
+# Of plans in JSON; those before are read too.
+FORMAT = 2
 
 
-class RosterFault(ValueError):
-    """What is wrong in a file, and where: line and column from 1, as far as there is such a place."""
-
-    def __init__(self, path: str, text: str, line: Optional[int] = None, column: Optional[int] = None) -> None:
-        self.path, self.text, self.line, self.column = path, text, line, column
-        place = path
-        if line is not None:
-            place += f", line {line}"
-        if column is not None:
-            place += f", column {column}"
-        super().__init__(f"{place}: {text}")
-
-
-def quoted(cell: str) -> str:
-    """A cell as a message shows it: in quotes, on one line, and not too long."""
-    return repr(cell if len(cell) <= 40 else cell[:37] + "...")
-
-
-def _held(path: str) -> bytes:
-    """What a file holds, or standard input where the path is `-`; no more than one byte too many."""
-    if path == "-":
-        return sys.stdin.buffer.read(MOST_BYTES + 1)
-    with open(path, "rb") as file:
-        return file.read(MOST_BYTES + 1)
-
-
-# The first sheet of an Excel workbook, where openpyxl is installed.
-
-
-class WorkbookFault(Exception):
-    """Why a workbook can't be read."""
-
-
-def _workbook_rows(path: str, comma: bool) -> List[List[str]]:
-    """The rows of a workbook's first sheet, all of one length, as a CSV file would have them; with `comma` numbers have a decimal comma."""
-    try:
-        import openpyxl  # type: ignore
-    except ImportError:
-        raise WorkbookFault(f"an Excel workbook is read where openpyxl is installed; elsewhere {SAVE}") from None
-    try:
-        book = openpyxl.load_workbook(path, read_only=True, data_only=True)
-        rows = [[_cell_text(value, comma) for value in row] for row in book.worksheets[0].iter_rows(values_only=True)]
-        book.close()
-    except OSError:
-        raise
-    except Exception as fault:
-        # openpyxl lets pass whatever the parsers beneath it raise.
-        raise WorkbookFault(f"no workbook that openpyxl reads ({fault}): {SAVE}") from fault
-    width = max(map(len, rows), default=0)
-    return [row + [""] * (width - len(row)) for row in rows]
-
-
-def _cell_text(value: Any, comma: bool) -> str:
-    """A cell as a spreadsheet shows it: numbers with up to 15 digits."""
-    if value is None:
-        return ""
-    if isinstance(value, float):
-        shown = format(value, ".15g")
-        return shown.replace(".", ",") if comma else shown
-    if isinstance(value, datetime.datetime) and value.time() == datetime.time():
-        return value.date().isoformat()
-    return str(value)
-
-
-class Sheet:
-    """The records of a CSV file: UTF-8 or UTF-16, with `;`, TAB or `,` between cells, whichever its first line has most of. Or those of
-    a workbook, `.xlsx`.
-
-    Raises `OSError` where the file can't be read, and `RosterFault` where it is no text or is too long.
-    """
-
-    def __init__(self, path: str, comma: bool = False) -> None:
-        self.path = "standard input" if path == "-" else path
-        self.rows: Optional[List[List[str]]] = None
-        if os.path.splitext(path)[1].lower() == ".xlsx":
-            self._take_workbook(path, comma)
-        else:
-            self._take_text(_held(path))
-
-    def _take_workbook(self, path: str, comma: bool) -> None:
-        self.has_bom, self.separator = False, ";" if comma else ","
-        try:
-            self.rows = _workbook_rows(path, comma)
-        except WorkbookFault as fault:
-            self.refuse(str(fault))
-
-    def _take_text(self, data: bytes) -> None:
-        if len(data) > MOST_BYTES:
-            self.refuse(f"longer than {MOST_BYTES} bytes")
-        self.has_bom = data.startswith(BOMS)
-        self.text = self._decoded(data)
-        first = re.split("[\r\n]", self.text.lstrip("\r\n"), maxsplit=1)[0]
-        # Spreadsheets write such a line ahead of the title to name the separator.
-        self.has_hint = re.fullmatch('"?sep=.?"?', first, re.IGNORECASE) is not None
-        hinted = first.strip('"')[4:]
-        self.separator = hinted if self.has_hint and hinted in SEPARATORS and hinted else separator_of(first)
-
-    def _decoded(self, data: bytes) -> str:
-        wide = data.startswith(WIDE_BOMS)
-        try:
-            return data.decode("utf-16" if wide else "utf-8-sig")
-        except UnicodeDecodeError as error:
-            self.refuse("bytes that are no UTF-8: save the file as 'CSV UTF-8'", data.count(b"\n", 0, error.start) + 1)
-
-    def refuse(self, text: str, line: Optional[int] = None, column: Optional[int] = None) -> NoReturn:
-        """Raises the fault of this file."""
-        raise RosterFault(self.path, text, line, column)
-
-    def records(self) -> Iterator[Tuple[int, List[str]]]:
-        """The records that aren't empty, each with the number of its first line; cells without the white space around them."""
-        if self.rows is not None:
-            stripped = ([cell.strip() for cell in cells] for cells in self.rows)
-            yield from ((line, cells) for line, cells in enumerate(stripped, 1) if any(cells))
-            return
-        reader = csv.reader(io.StringIO(self.text, newline=""), delimiter=self.separator, strict=True)
-        line = 1
-        try:
-            for cells in reader:
-                cells = [cell.strip() for cell in cells]
-                if any(cells) and not (self.has_hint and line == 1):
-                    yield line, cells
-                line = reader.line_num + 1
-        except csv.Error as error:
-            self.refuse(f"no CSV: {error}", line)
-
-    def title(self) -> Tuple[int, List[str]]:
-        """The first record, without empty cells at its end."""
-        for line, cells in self.records():
-            while not cells[-1]:
-                cells.pop()
-            return line, cells
-        self.refuse("an empty file")
-
-    def body(self, width: int) -> Iterator[Tuple[int, List[str]]]:
-        """The records after the title, each of `width` cells."""
-        records = self.records()
-        next(records)
-        for line, cells in records:
-            if len(cells) < width or any(cells[width:]):
-                hint = " (a comma inside of a cell wants quotes)" if len(cells) > width and self.separator == "," else ""
-                self.refuse(f"{len(cells)} cells, where the title line has {width}{hint}", line)
-            yield line, cells[:width]
-
-    def name(self, cell: str, line: int, column: int) -> str:
-        """A cell as a name; letters with accents are one name however they are written."""
-        if not cell:
-            self.refuse("an empty name", line, column)
-        if not cell.isprintable() and any(unicodedata.category(letter) == "Cc" for letter in cell):
-            self.refuse(f"a line break or another control character in the name {quoted(cell)}", line, column)
-        return unicodedata.normalize("NFC", cell)
-
-
-def separator_of(first: str) -> str:
-    """What stands most between the cells of a first line; `,` where nothing does."""
-    bare = re.sub('"[^"]*"', "", first)
-    most = max(SEPARATORS, key=bare.count)
-    return most if most in bare else ","
+def is_plain(name: str) -> bool:
+    """Whether a cell is a name as it stands."""
+    return name.isprintable() and name != "" and unicodedata.is_normalized("NFC", name)
 
 
 class Names:
@@ -196,6 +34,8 @@ class Names:
         self._sheet, self._kind = sheet, kind
         self.list: List[str] = []
         self.numbers: Dict[str, int] = {}
+        # The numbers of cells with what stands around the names.
+        self._cells: Dict[str, int] = {}
 
     def number(self, cell: str, line: int, column: int) -> int:
         """The number of a name, a new one where it is new."""
@@ -216,6 +56,18 @@ class Names:
             self._sheet.refuse(f"the name {quoted(cell)} a second time (list it once; {hint} says how many it takes)", line, column)
         return number
 
+    def known(self, cells: Sequence[str]) -> Optional[List[int]]:
+        """The numbers of names, also of new ones; None, and no new number, where any may be refused."""
+        found = list(map(self._cells.get, cells))
+        if None in found:
+            new = [cell for cell in dict.fromkeys(cells) if cell not in self._cells]
+            if len(self.list) + len(new) > MOST_PERSONS or not all(map(is_plain, map(str.strip, new))):
+                return None
+            for cell in new:
+                self._cells[cell] = self.number(cell.strip(), 0, 0)
+            found = list(map(self._cells.get, cells))
+        return cast(List[int], found)
+
     def _add(self, name: str, line: int, column: int) -> int:
         if len(self.list) == MOST_PERSONS:
             self._sheet.refuse(f"more than {MOST_PERSONS} {self._kind}", line, column)
@@ -224,91 +76,26 @@ class Names:
         return len(self.list) - 1
 
 
-class Costs:
-    """Costs as they are read, exactly, in millionths until it is known how many places are used."""
-
-    def __init__(self, sheet: Sheet, decimals: Optional[int], comma: bool, rounds: Optional[int] = None) -> None:
-        self._sheet, self._comma, self._rounds = sheet, comma, rounds
-        self._given = decimals if rounds is None else rounds
-        self._most = MOST_PLACES if decimals is None else decimals
-        self.rounded = False
-        point = "," if comma else r"\."
-        # Sign, whole part without leading zeros, decimal places without trailing zeros; at least one digit.
-        self._plain = re.compile(rf"([+-]?)(?={point}?[0-9])0*([0-9]*)(?:{point}([0-9]*?)0*)?")
-        self._millionths = array("q")
-        self._places = 0
-        self._greatest, self._greatest_place = 0, (0, 0)
-
-    def take(self, cell: str, line: int, column: int) -> None:
-        """Takes a cell, or refuses it."""
-        found = self._plain.fullmatch(cell) or self._plain.fullmatch(self._without_power(cell))
-        if found is None:
-            self._sheet.refuse(f"{quoted(cell)} is no number{self._hint(cell)}", line, column)
-        sign, whole, part = found.groups("")
-        if self._rounds is not None and len(part) > self._rounds:
-            whole, part = self._round(whole, part, self._rounds)
-        if len(part) > self._places:
-            self._more_places(cell, len(part), line, column)
-        size = int(whole[:20] + part + ZEROS[len(part):])
-        if size > self._greatest:
-            if size > GREATEST_COST * MILLION:
-                self._out_of_range(0, line, column)
-            self._greatest, self._greatest_place = size, (line, column)
-        self._millionths.append(-size if sign == "-" else size)
-
-    def _round(self, whole: str, part: str, places: int) -> Tuple[str, str]:
-        """The whole part and so many decimal places of a cell, rounded to the nearest, halves to even ones."""
-        self.rounded = True
-        number, rest = int("0" + whole[:20] + part[:places]), part[places:]
-        number += rest > "5" or rest == "5" and number % 2
-        digits = str(number).zfill(places + 1)
-        return digits[:len(digits) - places], digits[len(digits) - places:]
-
-    def _without_power(self, cell: str) -> str:
-        """A cell such as 1.2E+03 as a plain number, and any other as it is."""
-        point, other = (",", ".") if self._comma else (".", ",")
-        if other in cell or re.fullmatch(r"[+-]?[0-9]+(?:[.,][0-9]*)?[eE][+-]?[0-9]{1,2}", cell) is None:
-            return cell
-        return format(Decimal(cell.replace(",", ".")), "f").replace(".", point)
-
-    def _more_places(self, cell: str, places: int, line: int, column: int) -> None:
-        if places > self._most:
-            self._sheet.refuse(f"{quoted(cell)} has more than {self._most} decimal places", line, column)
-        self._places = places
-
-    def scaled(self) -> Tuple[int, Numbers]:
-        """How many places are used or were asked for, and the costs as whole numbers of that unit."""
-        decimals = self._places if self._given is None else self._given
-        unit = 10 ** (MOST_PLACES - decimals)
-        if self._greatest // unit > GREATEST_COST:
-            self._out_of_range(decimals, *self._greatest_place)
-        if unit == 1:
-            return decimals, self._millionths
-        return decimals, array("q", (cost // unit for cost in self._millionths))
-
-    def _hint(self, cell: str) -> str:
-        if self._comma and re.fullmatch(r"[+-]?[0-9]+\.[0-9]+", cell):
-            return " with a decimal comma"
-        if not self._comma and re.fullmatch("[+-]?[0-9]+,[0-9]+", cell):
-            return "; with --decimal-comma it may be"
-        if cell.lower() in ("x", "-", "n/a"):
-            return "; what forbids a pair is an empty cell of a matrix, or no line"
-        return ""
-
-    def _out_of_range(self, decimals: int, line: int, column: int) -> NoReturn:
-        places = f" with {decimals} decimal places" if decimals else ""
-        self._sheet.refuse(f"a cost beyond {GREATEST_COST // 10**decimals}{places}", line, column)
-
-
 # Titles, persons, objects, and the person and the object of each cost.
 Read = Tuple[Tuple[str, str, str], Names, Names, Numbers, Numbers]
+
+
+class Groups(NamedTuple):
+    """Groups of objects of which nobody takes two: their title, their names in the order of the file, and the group of each object that is
+    in one."""
+
+    title: str
+    names: List[str]
+    of_objects: Dict[int, int]
 
 
 class Roster(NamedTuple):
     """A problem by names. Pair k is of `persons[of_persons[k]]` and `objects[of_objects[k]]`, no pair twice; `costs[k]` is in
     units of 10^-decimals. `titles` are the words for a person, an object and a cost. `tasks` and `places` say of persons and of
-    objects how many they take, where it isn't one; None where nothing was said. `rounded` says whether any cost was changed by
-    rounding, `has_bom` whether the file began with a BOM, and `is_matrix` whether it is a matrix."""
+    objects how many they take at most, where it isn't one; None where nothing was said. Where bounds alone decide, `least` says of persons
+    and of objects how many they take at least, where it isn't 0. `rounded` says whether any cost was changed by
+    rounding, `has_bom` whether the file began with a BOM, `is_matrix` whether it is a matrix, and `by_persons`
+    whether the pairs stand person by person. `sheets` are those of a workbook, first the one that was read."""
 
     persons: List[str]
     objects: List[str]
@@ -326,6 +113,15 @@ class Roster(NamedTuple):
     rounded: bool = False
     has_bom: bool = False
     is_matrix: bool = False
+    by_persons: bool = False
+    least: Optional[Tuple[Dict[int, int], Dict[int, int]]] = None
+    groups: Optional[Groups] = None
+    sheets: Sequence[str] = ()
+
+    @property
+    def ruled(self) -> bool:
+        """Whether names may count several times, or there are groups."""
+        return self.counts or self.groups is not None
 
     @property
     def counts(self) -> bool:
@@ -340,10 +136,28 @@ class Roster(NamedTuple):
         """How many persons an object takes."""
         return 1 if self.places is None else self.places.get(object_, 1)
 
+    @property
+    def is_full(self) -> bool:
+        """Whether the costs are those of all pairs, person by person, objects rising."""
+        return self.is_matrix and len(self.costs) == len(self.persons) * len(self.objects)
+
     def costs_of(self, wanted: Set[Tuple[int, int]]) -> Dict[Tuple[int, int], int]:
         """The costs of those of the wanted pairs that are allowed."""
-        triples = zip(self.of_persons, self.of_objects, self.costs)
-        return {(person, object_): cost for person, object_, cost in triples if (person, object_) in wanted}
+        if self.is_full:
+            return {(person, object_): self.costs[person * len(self.objects) + object_] for person, object_ in wanted}
+        if self.by_persons:
+            places = {pair: self._place_of(*pair) for pair in wanted}
+            return {pair: self.costs[place] for pair, place in places.items() if place is not None}
+        keys = {person * MOST_PERSONS + object_ for person, object_ in wanted}
+        found = map(keys.__contains__, map(add, map(mul, self.of_persons, repeat(MOST_PERSONS)), self.of_objects))
+        triples = compress(zip(self.of_persons, self.of_objects, self.costs), found)
+        return {(person, object_): cost for person, object_, cost in triples}
+
+    def _place_of(self, person: int, object_: int) -> Optional[int]:
+        """Where a pair is in the lists, where these stand person by person; None if it is forbidden."""
+        begin, end = bisect_left(self.of_persons, person), bisect_right(self.of_persons, person)
+        own = self.of_objects[begin:end]
+        return begin + own.index(object_) if object_ in own else None
 
     def shown(self, units: int) -> str:
         """A cost or a rent as the roster writes it."""
@@ -354,8 +168,30 @@ def alike(names: List[str]) -> List[List[str]]:
     """The names that differ in case or spaces alone, together."""
     groups: Dict[str, List[str]] = {}
     for name in names:
-        groups.setdefault("".join(name.split()).casefold(), []).append(name)
+        groups.setdefault(_bare(name), []).append(name)
     return [group for group in groups.values() if len(group) > 1]
+
+
+def like(name: str, names: List[str]) -> List[str]:
+    """Names that differ from a name in case, spaces or one letter alone, those of the first kinds if there are any; three at most."""
+    bare = _bare(name)
+    found = [other for other in names if _bare(other) == bare] or [other for other in names if _is_near(_bare(other), bare)]
+    return found[:3]
+
+
+def _bare(name: str) -> str:
+    return "".join(name.split()).casefold()
+
+
+def _is_near(one: str, other: str) -> bool:
+    """Whether two differ by one letter, or by two neighbours in the other order. A digit makes another name."""
+    longer, shorter = (one, other) if len(one) >= len(other) else (other, one)
+    begin = len(os.path.commonprefix((longer, shorter)))
+    left, right = longer[begin:], shorter[begin:]
+    if len(longer) == len(shorter):
+        is_turned = left[:2] == right[1::-1] and left[2:] == right[2:] and not left[:2].isdigit()
+        return is_turned or left[1:] == right[1:] and not (left[:1] + right[:1]).isdigit()
+    return len(shorter) > 1 and left[1:] == right and not left[0].isdigit()
 
 
 def decimal_text(units: int, decimals: int, point: str) -> str:
@@ -372,24 +208,27 @@ def looks_like_number(cell: str) -> bool:
 def form_of(sheet: Sheet) -> str:
     """Which form a roster has; refused where it might be either."""
     line, title = sheet.title()
-    if len(title) != 3 or not title[0]:
+    if not _may_be_lines(sheet):
         return MATRIX
-    numbers = words = 0
+    numbers = words = twice = False
     seen: Set[str] = set()
-    twice = False
     for _, cells in sheet.body(len(title)):
         twice = twice or cells[0] in seen
         seen.add(cells[0])
-        if not cells[1] or looks_like_number(cells[1]):
-            numbers += 1
-        else:
-            words += 1
-    if words and not numbers or twice and not words:
+        is_number = not cells[1] or looks_like_number(cells[1])
+        numbers, words = numbers or is_number, words or not is_number
+    if are_lines(numbers, words, twice):
         return LINES
     sheet.refuse("lines of pairs, or a matrix of two objects? Say --lines or --matrix", line)
 
 
-def read_roster(path: str, form: Optional[str], decimals: Optional[int], comma: bool, rounds: Optional[int] = None) -> Roster:
+def are_lines(numbers: bool, words: bool, twice: bool) -> bool:
+    """Whether three columns are lines: the second has words alone, or numbers alone and a person stands twice."""
+    return words and not numbers or twice and not words
+
+
+def read_roster(path: str, form: Optional[str], decimals: Optional[int], comma: bool, rounds: Optional[int] = None,
+                sheet_name: Optional[str] = None, skipped: int = 0) -> Roster:
     """Reads a roster.
 
     Parameters
@@ -404,6 +243,10 @@ def read_roster(path: str, form: Optional[str], decimals: Optional[int], comma: 
         Whether costs are written with a decimal comma.
     rounds : int or None
         To how many decimal places costs are rounded, in place of `decimals`; None: they are taken exactly.
+    sheet_name : str or None
+        Which sheet of a workbook is read; None: the first.
+    skipped : int
+        How many rows above the titles aren't read.
 
     Raises
     ------
@@ -412,60 +255,124 @@ def read_roster(path: str, form: Optional[str], decimals: Optional[int], comma: 
     OSError
         Where the file can't be read.
     """
-    sheet = Sheet(path, comma)
+    sheet = Sheet(path, comma, sheet_name, skipped)
     costs = Costs(sheet, decimals, comma, rounds)
-    is_matrix = (form or form_of(sheet)) == MATRIX
-    read = _read_matrix if is_matrix else _read_lines
+    is_matrix = form == MATRIX or form is None and not _may_be_lines(sheet)
+    read = _read_matrix if is_matrix else _read_lines if form else _read_sure_lines
     titles, persons, objects, of_persons, of_objects = read(sheet, costs)
     used, scaled = costs.scaled()
     return Roster(persons.list, objects.list, persons.numbers, objects.numbers, of_persons, of_objects, scaled,
-                  used, titles, sheet.separator, comma, rounded=costs.rounded, has_bom=sheet.has_bom, is_matrix=is_matrix)
+                  used, titles, sheet.separator, comma, rounded=costs.rounded, has_bom=sheet.has_bom, is_matrix=is_matrix,
+                  sheets=sheet.sheets, by_persons=is_matrix or all(map(le, of_persons, islice(of_persons, 1, None))))
+
+
+def _may_be_lines(sheet: Sheet) -> bool:
+    _, title = sheet.title()
+    return len(title) == 3 and title[0] != ""
+
+
+def _read_sure_lines(sheet: Sheet, costs: Costs) -> Read:
+    """Reads lines, unless they might be a matrix as well: that is refused before any other fault."""
+    try:
+        read = _read_lines(sheet, costs)
+    except RosterFault:
+        form_of(sheet)
+        raise
+    _, persons, objects, of_persons, _ = read
+    found = set(map(looks_like_number, objects.list))
+    if not are_lines(True in found, False in found, len(of_persons) > len(persons.list)):
+        form_of(sheet)
+    return read
 
 
 def _read_lines(sheet: Sheet, costs: Costs) -> Read:
     line, title = sheet.title()
     if len(title) != 3:
         fourth = f" ({quoted(title[3])} is a fourth column)" if len(title) > 3 else ""
-        sheet.refuse(f"{len(title)} titles, where a person, an object and a cost are wanted{fourth}", line)
+        sheet.refuse(f"{len(title)} titles, where a person, an object and a cost are needed{fourth}", line)
     if looks_like_number(title[2]):
-        sheet.refuse(f"a title line is wanted first, and {quoted(title[2])} is a number", line, 3)
+        sheet.refuse(f"a title line must come first, and {quoted(title[2])} is a number", line, 3)
     first, second, third = (sheet.name(cell, line, column) if cell else TITLES[column - 1] for column, cell in enumerate(title, 1))
-    persons, objects = Names(sheet, "persons"), Names(sheet, "objects")
-    of_persons, of_objects = array("q"), array("q")
-    lines: Dict[Tuple[int, int], int] = {}
-    for line, (person_name, object_name, cost) in sheet.body(3):
-        person, object_ = persons.number(person_name, line, 1), objects.number(object_name, line, 2)
-        before = lines.setdefault((person, object_), line)
-        if before != line:
-            sheet.refuse(f"the pair {person_name}, {object_name} a second time, after line {before}", line)
-        costs.take(cost, line, 3)
-        of_persons.append(person)
-        of_objects.append(object_)
-    if not lines:
-        sheet.refuse("no line behind the title", line)
-    return (first, second, third), persons, objects, of_persons, of_objects
+    reading = Lines(sheet, costs)
+    try:
+        for lines, columns in sheet.blocks(3):
+            if not reading.take_all(lines, *columns):
+                reading.take_each(lines, *columns)
+    finally:
+        reading.refuse_twice()
+    if not reading.of_persons:
+        sheet.refuse("no line after the title", line)
+    return (first, second, third), reading.persons, reading.objects, reading.of_persons, reading.of_objects
+
+
+class Lines:
+    """The lines of a roster, as they are read."""
+
+    def __init__(self, sheet: Sheet, costs: Costs) -> None:
+        self._sheet, self._costs = sheet, costs
+        self.persons, self.objects = Names(sheet, "persons"), Names(sheet, "objects")
+        self.of_persons, self.of_objects = array("H"), array("H")
+        self._pairs = array("q")
+
+    def take_all(self, lines: Sequence[int], persons: Sequence[str], objects: Sequence[str], costs: Sequence[str]) -> bool:
+        """Takes many lines in one go, if all names are known or plain, and all costs are. Otherwise takes none."""
+        of_persons = self.persons.known(persons)
+        of_objects = None if of_persons is None else self.objects.known(objects)
+        if of_persons is None or of_objects is None or not self._costs.take_plain(costs, lines, repeat(3)):
+            return False
+        self._pairs.extend(map(add, map(mul, of_persons, repeat(MOST_PERSONS)), of_objects))
+        self.of_persons.extend(of_persons)
+        self.of_objects.extend(of_objects)
+        return True
+
+    def take_each(self, lines: Sequence[int], persons: Sequence[str], objects: Sequence[str], costs: Sequence[str]) -> None:
+        """Takes lines one by one, up to the first that is refused."""
+        for line, *cells in zip(lines, persons, objects, costs):
+            person_name, object_name, cost = map(str.strip, cells)
+            if not (person_name or object_name or cost):
+                continue
+            person, object_ = self.persons.number(person_name, line, 1), self.objects.number(object_name, line, 2)
+            self._pairs.append(person * MOST_PERSONS + object_)
+            self._costs.take(cost, line, 3)
+            self.of_persons.append(person)
+            self.of_objects.append(object_)
+
+    def refuse_twice(self) -> None:
+        """Refuses the first pair of those taken that stands twice."""
+        if len(set(self._pairs)) == len(self._pairs):
+            return
+        lines: Dict[int, int] = {}
+        for pair, (line, cells) in zip(self._pairs, self._sheet.body(3)):
+            before = lines.setdefault(pair, line)
+            if before != line:
+                self._sheet.refuse(f"the pair {cells[0]}, {cells[1]} a second time, after line {before}", line)
 
 
 def _read_matrix(sheet: Sheet, costs: Costs) -> Read:
     line, title = sheet.title()
     if looks_like_number(title[0]):
-        sheet.refuse(f"names are wanted in the first line and the first column, and {quoted(title[0])} is a number", line, 1)
+        sheet.refuse(f"the first line and the first column must have names, and {quoted(title[0])} is a number", line, 1)
     if len(title) < 2:
-        sheet.refuse("no object beside the first column", line)
+        sheet.refuse("no object after the first column", line)
     persons, objects = Names(sheet, "persons"), Names(sheet, "objects")
-    of_persons, of_objects = array("q"), array("q")
+    of_persons, of_objects = array("H"), array("H")
     for column, name in enumerate(title[1:], 2):
         objects.once(name, line, column)
+    all_objects, all_columns = array("H", range(len(title) - 1)), range(2, len(title) + 1)
     for line, cells in sheet.body(len(title)):
-        person = persons.once(cells[0], line, 1)
-        for column, cell in enumerate(cells[1:], 2):
-            if cell:
-                costs.take(cell, line, column)
-                of_persons.append(person)
-                of_objects.append(column - 2)
+        person = persons.once(cells.pop(0), line, 1)
+        own = all_objects
+        columns: Sequence[int] = all_columns
+        if "" in cells:
+            own, columns = array("H", compress(all_objects, cells)), list(compress(all_columns, cells))
+            cells = list(filter(None, cells))
+        costs.take_all(cells, repeat(line), columns)
+        of_persons.extend(array("H", (person,)) * len(own))
+        of_objects.extend(own)
     if not persons.list:
-        sheet.refuse("no line behind the title", line)
-    return TITLES, persons, objects, of_persons, of_objects
+        sheet.refuse("no line after the title", line)
+    corner = sheet.name(title[0], line, 1) if title[0] else TITLES[0]
+    return (corner, *TITLES[1:]), persons, objects, of_persons, of_objects
 
 
 class PlanLine(NamedTuple):
@@ -477,125 +384,120 @@ class PlanLine(NamedTuple):
     cost: int
 
 
-def read_counts(path: str, roster: Roster, of_objects: bool) -> Dict[int, int]:
-    """Reads how many each object, or each person, takes: a title line, and lines of a name and a whole number.
-
-    Raises `RosterFault` for the first name that the roster doesn't have or that stands twice, or count that is none from 0 to 8192.
-    """
-    sheet = Sheet(path)
-    line, title = sheet.title()
-    if len(title) < 2:
-        sheet.refuse("a name and how many it takes are wanted in each line", line)
-    if looks_like_number(title[1]):
-        sheet.refuse(f"a title line is wanted first, and {quoted(title[1])} is a number", line, 2)
-    counts: Dict[int, int] = {}
-    for line, cells in sheet.body(len(title)):
-        number = _known(sheet, roster, cells[0], line, 2 if of_objects else 1, 1)
-        if number in counts:
-            sheet.refuse(f"the name {quoted(cells[0])} a second time", line, 1)
-        if re.fullmatch("[0-9]{1,9}", cells[1]) is None or int(cells[1]) > MOST_PERSONS:
-            sheet.refuse(f"{quoted(cells[1])} is no whole number from 0 to {MOST_PERSONS}", line, 2)
-        counts[number] = int(cells[1])
-    return counts
-
-
 def read_plan(path: str, roster: Roster) -> List[PlanLine]:
-    """Reads pairs that are to stand: a title line, and lines of a person and an object; further cells aren't read.
+    """Reads pairs that are to stand: a title line, and lines of a person and an object, of which further cells aren't read; or a plan in
+    JSON.
 
     Raises `RosterFault` for the first name that the roster doesn't have, then for the first name that stands more often than it may,
     then for the first pair that the roster forbids; and `OSError` where the file can't be read.
     """
-    sheet = Sheet(path)
-    places = [(*_plan_place(sheet, roster, line, cells), line) for line, cells in _plan_cells(sheet, roster)]
-    _refuse_twice(sheet, roster, places)
+    places = [(_known(path, roster, person, line, 1, 1), _known(path, roster, object_, line, 2, 2), line)
+              for person, object_, line in _named_pairs(path, roster)]
+    _refuse_twice(path, roster, places)
     costs = roster.costs_of({(person, object_) for person, object_, _ in places})
     for person, object_, line in places:
         if (person, object_) not in costs:
-            sheet.refuse(f"{roster.persons[person]}, {roster.objects[object_]} is a forbidden pair", line)
+            raise RosterFault(path, f"{roster.persons[person]}, {roster.objects[object_]} is a forbidden pair", line)
     return [PlanLine(person, object_, line, costs[person, object_]) for person, object_, line in places]
 
 
 class OldPlan(NamedTuple):
-    """An earlier plan: its pairs by names, those that the roster allows, the names that the roster doesn't have, and the pairs of known
-    names that it forbids, each with its line."""
+    """An earlier plan, by the file's name: its pairs by names, those that the roster allows, the names that the roster doesn't have, and
+    the pairs of known names that it forbids, each with its line."""
 
+    path: str
     pairs: List[Tuple[str, str]]
     known: List[PlanLine]
     gone: List[str]
     forbidden: List[Tuple[int, int, int]]
 
 
-def read_old_plan(path: str, roster: Roster) -> OldPlan:
-    """Reads an earlier plan, a CSV file as `read_plan` reads it or a plan in JSON. Its names may be gone, and its pairs forbidden.
+def read_old_plan(path: str, roster: Roster, by_counts: bool = True) -> OldPlan:
+    """Reads an earlier plan, as `read_plan` does. Its names may be gone, and its pairs forbidden.
 
-    Raises `RosterFault` for the first name that stands more often than it may.
+    Raises `RosterFault` for the first name that stands more often than it may, if counts are to be kept, and for a pair that stands twice.
     """
-    if os.path.splitext(path)[1].lower() == ".json":
-        named = _plan_of_json(path)
-    else:
-        sheet = Sheet(path)
-        named = [(sheet.name(cells[0], line, 1), sheet.name(cells[1], line, 2), line) for line, cells in _plan_cells(sheet, roster)]
+    named = _named_pairs(path, roster)
     gone: Dict[str, None] = {}
     places = []
     for person, object_, line in named:
-        gone.update({person: None} if person not in roster.person_numbers else {})
-        gone.update({object_: None} if object_ not in roster.object_numbers else {})
+        gone.update({} if person in roster.person_numbers else {person: None})
+        gone.update({} if object_ in roster.object_numbers else {object_: None})
         if person in roster.person_numbers and object_ in roster.object_numbers:
             places.append((roster.person_numbers[person], roster.object_numbers[object_], line))
-    _refuse_twice(path, roster, places)
+    _refuse_twice(path, roster, places, by_counts)
     costs = roster.costs_of({(person, object_) for person, object_, _ in places})
     known = [PlanLine(person, object_, line, costs[person, object_]) for person, object_, line in places if (person, object_) in costs]
-    return OldPlan([(person, object_) for person, object_, _ in named], known, list(gone),
+    return OldPlan(path, [(person, object_) for person, object_, _ in named], known, list(gone),
                    [place for place in places if place[:2] not in costs])
 
 
-def _plan_of_json(path: str) -> List[Tuple[str, str, int]]:
+NamedPairs = List[Tuple[str, str, int]]
+
+
+def _named_pairs(path: str, roster: Roster) -> NamedPairs:
+    """The pairs of a plan by names, each with its line, or in JSON with its number."""
+    if is_json(path):
+        return _plan_of_json(path)
+    sheet = Sheet(path)
+    line, title = sheet.title()
+    if len(title) < 2:
+        sheet.refuse("each line must have a person and an object", line)
+    if title[0] in roster.person_numbers and title[1] in roster.object_numbers:
+        sheet.refuse(f"a title line must come first, and {title[0]}, {title[1]} is a pair", line)
+    return [(sheet.name(cells[0], line, 1), sheet.name(cells[1], line, 2), line) for line, cells in sheet.body(len(title))]
+
+
+def _plan_of_json(path: str) -> NamedPairs:
     with open(path, "rb") as file:
         data = file.read(MOST_BYTES)
     try:
         plan = json.loads(data.decode("utf-8-sig"))
-        return [(str(pair["person"]), str(pair["object"]), number) for number, pair in enumerate(plan["pairs"], 1)]
-    except (ValueError, RecursionError, KeyError, TypeError) as fault:
+        pairs, form = list(plan["pairs"]), plan.get("format", FORMAT)
+    except (ValueError, RecursionError, KeyError, TypeError, AttributeError) as fault:
         raise RosterFault(path, f"no plan with pairs in JSON: {fault}") from fault
+    if form not in range(1, FORMAT + 1):
+        raise RosterFault(path, f"format {form} of a plan in JSON, where 1 to {FORMAT} can be read")
+    return [(*_pair_of_json(path, pair, number), number) for number, pair in enumerate(pairs, 1)]
 
 
-def _plan_cells(sheet: Sheet, roster: Roster) -> Iterator[Tuple[int, List[str]]]:
-    line, title = sheet.title()
-    if len(title) < 2:
-        sheet.refuse("a person and an object are wanted in each line", line)
-    if title[0] in roster.person_numbers and title[1] in roster.object_numbers:
-        sheet.refuse(f"a title line is wanted first, and {title[0]}, {title[1]} is a pair", line)
-    return sheet.body(len(title))
+def _pair_of_json(path: str, pair: Any, number: int) -> Tuple[str, str]:
+    person, object_ = (pair.get(key) if isinstance(pair, dict) else None for key in ("person", "object"))
+    if not isinstance(person, str) or not isinstance(object_, str) or not (person and object_):
+        raise RosterFault(path, "a person and an object are needed, each a text", number)
+    return unicodedata.normalize("NFC", person), unicodedata.normalize("NFC", object_)
 
 
-def _plan_place(sheet: Sheet, roster: Roster, line: int, cells: List[str]) -> Tuple[int, int]:
-    return _known(sheet, roster, cells[0], line, 1, 1), _known(sheet, roster, cells[1], line, 2, 2)
+def known(sheet: Sheet, roster: Roster, cell: str, line: int, side: int, column: int) -> int:
+    """The number of a person (side 1) or an object that the roster must have, by a cell."""
+    return _known(sheet.path, roster, sheet.name(cell, line, column), line, side, column)
 
 
-def _known(sheet: Sheet, roster: Roster, cell: str, line: int, side: int, column: int) -> int:
-    """The number of a person (side 1) or an object that the roster must have."""
-    name = sheet.name(cell, line, column)
+def _known(path: str, roster: Roster, name: str, line: int, side: int, column: int) -> int:
+    """The number of a person (side 1) or an object that the roster must have, by name."""
     numbers = roster.person_numbers if side == 1 else roster.object_numbers
     if name not in numbers:
-        sheet.refuse(f"the roster has no {'person' if side == 1 else 'object'} {quoted(name)}", line, column)
+        near = like(name, list(numbers))
+        hint = f": did you mean {' or '.join(map(quoted, near))}?" if near else ""
+        raise RosterFault(path, f"the roster has no {'person' if side == 1 else 'object'} {quoted(name)}{hint}", line, column)
     return numbers[name]
 
 
-def _refuse_twice(place: Union[Sheet, str], roster: Roster, places: List[Tuple[int, int, int]]) -> None:
-    """Refuses a name that stands more often than it may, and a pair that stands twice."""
-    path = place if isinstance(place, str) else place.path
-    for column, names, most in ((1, roster.persons, roster.tasks_of), (2, roster.objects, roster.places_of)):
+def _refuse_twice(path: str, roster: Roster, places: List[Tuple[int, int, int]], by_counts: bool = True) -> None:
+    """Refuses a name that stands more often than it may, if counts are to be kept, and a pair that stands twice."""
+    for column, names, most in ((1, roster.persons, roster.tasks_of), (2, roster.objects, roster.places_of)) if by_counts else ():
         lines: Dict[int, List[int]] = {}
         for found in places:
             number = found[column - 1]
             before = lines.setdefault(number, [])
             if len(before) == most(number):
                 often = "a second time" if before[:1] and most(number) == 1 else f"more than {most(number)} times"
-                after = f", after line {before[0]}" if before else ""
+                after = f", after {unit_of(path)} {before[0]}" if before else ""
                 raise RosterFault(path, f"{quoted(names[number])} {often}{after}", found[2], column)
             before.append(found[2])
     pairs: Dict[Tuple[int, int], int] = {}
     for person, object_, line in places:
         first = pairs.setdefault((person, object_), line)
         if first != line:
-            raise RosterFault(path, f"the pair {roster.persons[person]}, {roster.objects[object_]} a second time, after line {first}", line)
+            named = f"the pair {roster.persons[person]}, {roster.objects[object_]}"
+            raise RosterFault(path, f"{named} a second time, after {unit_of(path)} {first}", line)

@@ -132,3 +132,37 @@ def proves(costs, result, maximize):
     if out_rows and own:
         return set(out_rows) == {max(rows)} and max(columns) == 0 and not any(out_columns)
     return max(columns, default=0) == 0 and not any(out_columns) and sum(rows) + sum(columns) == both
+
+
+def bounds(draw, number):
+    """So many counts from-to."""
+    least = [draw.choice((0, 0, 1, 2)) for _ in range(number)]
+    return [(low, low + draw.randint(0, 2)) for low in least]
+
+
+def groups(draw, number):
+    """Disjoint groups of so many columns; some columns are in none."""
+    columns = list(range(number))
+    draw.shuffle(columns)
+    cut, end = sorted((draw.randint(0, number), draw.randint(0, number)))
+    return [sorted(group) for group in (columns[:cut], columns[cut:end]) if len(group) > 1]
+
+
+def plans_by_counts(costs, row_bounds, column_bounds, own_groups):
+    """All plans that pass no greatest count and keep groups: by how much they miss least counts, their sum, and their pairs."""
+    columns = range(len(column_bounds))
+    choices = []
+    for row, (_, most) in zip(costs, row_bounds):
+        allowed = [column for column in columns if row[column] is not None]
+        choices.append([those for size in range(most + 1) for those in itertools.combinations(allowed, size)
+                        if all(len(set(those) & set(group)) < 2 for group in own_groups)])
+    for picked in itertools.product(*choices):
+        had = [0] * len(column_bounds)
+        for those in picked:
+            for column in those:
+                had[column] += 1
+        if all(count <= most for count, (_, most) in zip(had, column_bounds)):
+            missed = sum(max(0, least - len(those)) for those, (least, _) in zip(picked, row_bounds))
+            missed += sum(max(0, least - count) for count, (least, _) in zip(had, column_bounds))
+            pairs = [(row, column) for row, those in enumerate(picked) for column in those]
+            yield missed, sum(costs[row][column] for row, column in pairs), pairs

@@ -19,13 +19,15 @@ sys.path.insert(0, str(TOP / "python"))
 
 from nushbaret import _command as command, _library as library
 from nushbaret._answer import Short, listed, plural, sentence
+from nushbaret._files import OutputFault, write_file
 from nushbaret._roster import read_roster
+from nushbaret._words import parser_of
 
 NIGHTS = ("person,shift,hours\nAda,early,1\nBen,night,2\nBen,weekend,3\nCleo,night,2\nDan,night,1\nDan,weekend,5\n"
           "Ada,late,2\nAda,office,1\n")
 SENTENCE = ("3 people (Ben, Cleo, Dan) can take only 2 shifts between them (night, weekend): "
             "allow one of them another, or leave one out")
-OTHERS = "other plans are as good: --others tells who could change places\n"
+OTHERS = "other plans are as good: --others shows who could change places\n"
 SQUARE = ",early,late,night\nAda,4,1,3\nBen,2,0,5\nCleo,3,2,2\n"
 
 
@@ -112,7 +114,7 @@ class Plans(Runs):
             self.assertEqual(command.main(["r.csv"]), 0)
         self.assertEqual(err.getvalue(), "2 nurses, 3 shifts, 3 pairs\n" + alike)
         self.file("r.csv", "," + ",".join(f"x{number},X{number}" for number in range(22)) + "\nAda" + ",1" * 44 + "\n")
-        self.assertTrue(self.run_words("r.csv")[2].endswith("r.csv: and 2 more such names\n"))
+        self.assertTrue(self.run_words("r.csv")[2].endswith("r.csv: and 2 more of these names\n"))
 
     def test_bom(self):
         for encoding, bom in (("utf-8", ""), ("utf-8-sig", "\ufeff"), ("utf-16", "\ufeff")):
@@ -167,23 +169,25 @@ class Plans(Runs):
                     "r.csv", "--keep", "old.csv", "--change-cost", "1")
         self.run_words("r.csv", "--keep", "old.csv", "--change-cost", "1", "--output", "p.json")
         self.assertIn("p.json: 0 of 3 pairs changed", self.run_words("r.csv", "--keep", "p.json", "--change-cost", "1")[1])
-        self.refused(2, "--change-cost wants --keep", "r.csv", "--change-cost", "1")
+        self.refused(2, "--change-cost needs --keep", "r.csv", "--change-cost", "1")
         for cost, text in (("-1", "'-1' is no cost from 0 on"), ("x", "'x' is no cost"), ("0.5", "more decimal places than the roster's 0")):
             self.refused(3, text, "r.csv", "--keep", "old.csv", f"--change-cost={cost}")
         for content, text in (("a,b\nAda,x\nAda,y\n", "old.csv, line 3, column 1: 'Ada' a second time, after line 2"), ("", "an empty file")):
             self.file("old.csv", content)
             self.refused(3, text, "r.csv", "--keep", "old.csv")
-        for content in ("", "{", "[]", "{}", '{"pairs": [1]}', "[" * 100000):
+        for content in ("", "{", "[]", "{}", '{"pairs": 1}', "[" * 100000):
             self.file("s.json", content)
             self.refused(3, "s.json: no plan with pairs in JSON", "r.csv", "--keep", "s.json")
 
     def test_others(self):
         self.file("r.csv", SQUARE)
         unique = "no other plan is as good: the next best is"
-        self.assertTrue(self.run_words("r.csv", "--others")[1].endswith(f"Cleo: night, 2\n{unique} 6, 1 more\n"))
-        self.assertTrue(self.run_words("r.csv", "--others", "--max")[1].endswith(f"{unique} 9, 2 less\n"))
-        self.file("f.csv", "a,b\nAda,early\n")
-        self.assertTrue(self.run_words("r.csv", "--others", "--fixed", "f.csv")[1].endswith(f"{unique} 11, 5 more\n"))
+        for words, line, there in ((("--others",), "6, 1 more", ["there Ada: early, 4", "there Ben: late, 0"]),
+                                   (("--others", "--max"), "9, 2 less", ["there Ada: late, 1", "there Cleo: early, 3"]),
+                                   (("--others", "--fixed", "f.csv"), "11, 5 more", ["there Ben: night, 5", "there Cleo: late, 2"])):
+            self.file("f.csv", "a,b\nAda,early\n")
+            lines = self.run_words("r.csv", *words)[1].splitlines()
+            self.assertEqual(lines[-3:], [f"{unique} {line}", *("  " + text for text in there)])
         self.file("r.csv", "nurse,shift,hours\nAda,x,1\nAda,y,2\nBen,x,2\nBen,y,3\nCleo,z,1\nDan,v,0\nDan,w,0\n")
         self.expect(0, "least hours: 5\nAda: x, 1\nBen: y, 3\nCleo: z, 1\nDan: v, 0\nunused: w\n"
                     "could change places at no cost: 2 nurses (Ada, Ben) on 2 shifts (x, y)\n"
@@ -208,7 +212,8 @@ class Plans(Runs):
         self.expect(0, "least cost: 12\nAda: day, 1; night, 5\nBen: night, 4\nCleo: night, 2\nat night: Ada, Ben, Cleo\n", "",
                     "r.csv", "--places", "c.csv", "--tasks", "t.csv")
         self.file("t.csv", "nurse,tasks\nAda,3\nBen,0\nCleo,0\nDan,0\n")
-        self.expect(1, "1 person (Ada) wants 3, and no more than 2 can be had (day, night once): 1 too few\n"
+        self.expect(1, "Ada must take 3 objects, and can take at most 2: Ada once at each of day, night: allow others, or let Ada take one "
+                    "fewer\n"
                     "least cost of 2 pairs: 6\nAda: day, 1; night, 5\nat night: Ada\nwithout: Ada (2 of 3)\nunused: night (1 of 3)\n", "",
                     "r.csv", "--places", "c.csv", "--tasks", "t.csv", "--as-many-as-can")
         self.file("f.csv", "a,b\nAda,night\nBen,night\n")
@@ -235,9 +240,11 @@ class Plans(Runs):
                               ("a,b\nlate,-1\n", "c.csv, line 2, column 2: '-1' is no whole number from 0 to 8192"),
                               ("a,b\nlate,1.5\n", "c.csv, line 2, column 2: '1.5' is no whole number"),
                               ("a,b\nlate,8193\n", "c.csv, line 2, column 2: '8193' is no whole number"),
-                              ("late,2\n", "c.csv, line 1, column 2: a title line is wanted first"),
-                              ("late\n", "c.csv, line 1: a name and how many it takes are wanted"),
-                              ("a,b\nearly,8000\nlate,8000\n", "3 tasks and 16001 places want 16001 nodes")):
+                              ("late,2\n", "c.csv, line 1, column 2: a title line must come first"),
+                              ("late\n", "c.csv, line 1: each line must have a name and how many it takes"),
+                              ("a,b,c\nlate,1,x\n", "c.csv, line 2, column 3: 'x' is no whole number from 0 to 8192"),
+                              ("a,b,c\nlate,2,1\n", "c.csv, line 2, column 3: at least 2 and at most 1: the second number can't be less"),
+                              ("a,b\nlate,1,2,3\n", "c.csv, line 2: 4 cells, where a name and one or two numbers are needed")):
             self.file("c.csv", content)
             self.refused(3, text, "r.csv", "--places", "c.csv")
         self.file("c.csv", "a,b\nlate,1\n")
@@ -338,9 +345,9 @@ class NoPlans(Runs):
         self.file("r.csv", ",x,y\nAda,1,1\nBen,1,1\n")
         roster = read_roster("r.csv", None, None, False)
         for short, wanted in (
-                (Short([0, 1], [], False, 2, 0, []), "2 people (Ada, Ben) can take no object: allow each one, or leave them out"),
-                (Short([], [0, 1], True, 2, 0, []), "2 objects (x, y) can go to no person: allow each to somebody, or leave them open"),
-                (Short([0, 1, 1], [0], False, 3, 1, []), "3 people (Ada, Ben, Ben) can take only 1 object between them (x): "
+                (Short([0, 1], [], False, 2, 0), "2 people (Ada, Ben) can take no object: allow each one, or leave them out"),
+                (Short([], [0, 1], True, 2, 0), "2 objects (x, y) can go to no person: allow each to somebody, or leave them open"),
+                (Short([0, 1, 1], [0], False, 3, 1), "3 people (Ada, Ben, Ben) can take only 1 object between them (x): "
                  "allow 2 of them another, or leave 2 out")):
             self.assertEqual(sentence(roster, short, False), wanted)
 
@@ -348,7 +355,7 @@ class NoPlans(Runs):
         self.file("r.csv", ",x,y\nAda,1,2\nBen,1,\n")
         self.file("f.csv", "a,b\nAda,x\n")
         status, out, _ = self.run_words("r.csv", "--fixed", "f.csv")
-        self.assertEqual((status, out.split(":")[0]), (1, "beside the fixed pairs, 1 person (Ben) can take no object"))
+        self.assertEqual((status, out.split(":")[0]), (1, "around the fixed pairs, 1 person (Ben) can take no object"))
 
     def test_many_names_are_cut(self):
         names = [f"p{number}" for number in range(30)]
@@ -360,12 +367,11 @@ class NoPlans(Runs):
         self.expect(1, SENTENCE + "\np.csv isn't written: there is no plan\n", "", "r.csv",
                     "--output", "p.csv", "--output", "p.json", "--html", "page")
         self.assertEqual(sorted(os.listdir()), ["p.json", "page", "r.csv"])
-        self.assertEqual(json.loads(self.read("p.json")), {"format": 1, "sense": "min", "short": [{
+        self.assertEqual(json.loads(self.read("p.json")), {"format": 2, "sense": "min", "short": [{
             "persons": ["Ben", "Cleo", "Dan"], "objects": ["night", "weekend"], "sentence": SENTENCE}]})
 
     def test_plurals(self):
-        words = {"shift": "shifts", "shifts": "shifts", "bus": "bus", "duty": "duties", "day": "days", "box": "boxes",
-                 "branch": "branches", "Person": "people", "class": "classes"}
+        words = {"shift": "shifts", "shifts": "shifts", "day": "days", "person": "people", "Schicht": "Schicht", "Pflegekraft": "Pflegekraft"}
         self.assertEqual({word: plural(word) for word in words}, words)
 
 
@@ -455,8 +461,8 @@ class Outputs(Runs):
 
     def test_output_that_comes_meanwhile(self):
         self.file("p.csv", "old")
-        with self.assertRaises(command.OutputFault):
-            command.write_file("p.csv", "new", False)
+        with self.assertRaises(OutputFault):
+            write_file("p.csv", b"new", False)
         self.assertEqual(self.read("p.csv"), "old")
 
     def test_page(self):
@@ -573,7 +579,7 @@ class Statuses(Runs):
                 self.refused(2, "usage: nushbaret", *words)
         status, out, _ = self.run_words("--help")
         self.assertEqual(status, 0)
-        for option in command._parser()._option_string_actions:
+        for option in parser_of()._option_string_actions:
             self.assertIn(option, out)
 
     def test_refused_plans(self):
@@ -599,7 +605,7 @@ class Statuses(Runs):
         self.file("r.csv", SQUARE)
         with mock.patch.dict(library._calls, clear=True), mock.patch.object(library, "PLACES", ()):
             self.refused(4, "c/build.sh", "r.csv", "--output", "p.csv")
-        with mock.patch("nushbaret._answer.solve_sparse", side_effect=MemoryError):
+        with mock.patch("nushbaret._answer.solved", side_effect=MemoryError):
             self.refused(4, "memory refused", "r.csv", "--output", "p.csv")
 
     def program(self, *words, **options):

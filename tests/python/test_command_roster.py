@@ -1,15 +1,19 @@
 """What is read of rosters and plans in CSV files, and what is refused, with its place."""
+import contextlib
 import datetime
 import os
 import pathlib
+import random
 import sys
 import tempfile
 import unittest
+from array import array
 from unittest import mock
 
 sys.path.insert(0, str(pathlib.Path(__file__).resolve().parents[2] / "python"))
 
-from nushbaret._roster import RosterFault, Sheet, alike, form_of, read_plan, read_roster
+from nushbaret._roster import alike, form_of, read_plan, read_roster
+from nushbaret._sheets import RosterFault, Sheet
 
 try:
     import openpyxl
@@ -145,6 +149,61 @@ class Forms(Folder):
             read_roster(self.file("PK", "r.xlsx"), None, None, False)
 
 
+class InOneGo(Folder):
+    """Rows and lines of plain numbers are read in one go, with the result and the refusals of reading cell by cell."""
+
+    ODD = ("", " ", "x", "2,5", "+3", "-4", "1e3", "1.2E+2", "2.50", "-.5", "5.", ".", "+.", ".-5", "1 2", "1_0", "007", "99999999999999",
+           "-1000000000000", "0.0000001", "1.250000000", "\u0662", " 8 ", "1\t", "--1", "-", "0.000001")
+    NAMES = ("Ada", " Ada", "Zo\u00eb", "Zoe\u0308", "a\u2028b", '"A\nb"', "5", "x\x0by", "")
+
+    def read(self, path, words, bulk):
+        with contextlib.ExitStack() as patches:
+            if not bulk:
+                patches.enter_context(mock.patch("nushbaret._costs.Costs.take_plain", return_value=False))
+                patches.enter_context(mock.patch("nushbaret._roster.Lines.take_all", return_value=False))
+            try:
+                roster = read_roster(path, *words)
+            except RosterFault as fault:
+                return str(fault)
+            return {name: list(value) if isinstance(value, array) else value for name, value in roster._asdict().items()}
+
+    def content(self, draw, odd):
+        base = draw.choice((("1", "2", "44"), ("1.5", "2.25", "3.00"), ("1", "2.5", "-3.25"), ("7.10", "8.20")))
+        end = draw.choice(("\n", "\r\n", "\r"))
+
+        def name(kind, number):
+            return draw.choice(self.NAMES) if draw.random() < odd / 3 else f"{kind}{number}"
+
+        def cell():
+            return draw.choice(self.ODD) if draw.random() < odd else draw.choice(base)
+
+        persons, objects = draw.randint(1, 6), draw.randint(1, 6)
+        if draw.random() < 0.5:
+            rows = [["", *(name("o", column) for column in range(objects))]]
+            rows += [[name("p", row), *(cell() if draw.random() < 0.9 else "" for _ in range(objects))] for row in range(persons)]
+        else:
+            rows = [["a", "b", "c"], *([name("p", row), name("o", column), cell()] for row in range(persons) for column in range(objects))]
+            rows[1:] = draw.sample(rows[1:], len(rows) - 1) if draw.random() < 0.3 else rows[1:]
+        return "".join(",".join(row) + end + (end if draw.random() < 0.05 else "") for row in rows)
+
+    def test_beside_one_by_one(self):
+        draw = random.Random(5)
+        seen = {str: 0, dict: 0}
+        with mock.patch("nushbaret._sheets.BLOCK", 3), mock.patch("nushbaret._sheets.PIECE", 9):
+            for case in range(1500):
+                path = self.file(self.content(draw, draw.choice((0, 0.02, 0.1))))
+                words = draw.choice(((None, None, False), (None, 2, False), (None, None, False, 1), ("lines", None, False)))
+                with self.subTest(case=case):
+                    found = self.read(path, words, True)
+                    self.assertEqual(found, self.read(path, words, False))
+                    seen[type(found)] += 1
+        self.assertGreater(min(seen.values()), 300)
+
+    def test_a_pair_long_before(self):
+        lines = "".join(f"p{number},x,1\n" for number in range(5000))
+        self.refusal("a,b,c\n" + lines + "p7,x,1\n", 5002, None, "the pair p7, x a second time, after line 9")
+
+
 class Refusals(Folder):
     def test_numbers(self):
         for cell in ("2,5O", "", "2.5h", "1e333", "nan", "inf", "0x10", "1 000", "1,000", "--1", ".", "-", "+", "\u0662", "1_0"):
@@ -181,14 +240,14 @@ class Refusals(Folder):
         self.refusal("", None, None, "an empty file")
         self.refusal("\n,,\n", None, None, "an empty file")
         self.refusal("a,b,c\n", 1, None, "Say --lines or --matrix")
-        self.refusal("a,b,c\n", 1, None, "no line behind the title", form="lines")
-        self.refusal(",b,c\n", 1, None, "no line behind the title")
+        self.refusal("a,b,c\n", 1, None, "no line after the title", form="lines")
+        self.refusal(",b,c\n", 1, None, "no line after the title")
         self.refusal("a\nAda\n", 1, None, "no object")
         self.refusal("a,b,c\nAda,x\n", 2, None, "2 cells, where the title line has 3", form="lines")
         self.refusal("a,b,c\nAda,x,2,50\n", 2, None, "4 cells, where the title line has 3 (a comma")
         self.refusal(",x,y\nAda,1\n", 2, None, "2 cells")
-        self.refusal("Ada,early,2.5\nBen,late,1\n", 1, 3, "a title line is wanted")
-        self.refusal("1,2,3,4\n5,6,7,8\n", 1, 1, "names are wanted")
+        self.refusal("Ada,early,2.5\nBen,late,1\n", 1, 3, "a title line must come first")
+        self.refusal("1,2,3,4\n5,6,7,8\n", 1, 1, "must have names")
         self.refusal("a,b\nAda,x\n", 1, None, "2 titles", form="lines")
 
     def test_bytes(self):
@@ -221,7 +280,7 @@ class Plans(Folder):
             ("a,b\nAda,early\nAda,late\n", 3, 1, "'Ada' a second time, after line 2"),
             ("a,b\nAda,early\nBen,early\n", 3, 2, "'early' a second time, after line 2"),
             ("a,b\nBen,late\n", 2, None, "Ben, late is a forbidden pair"),
-            ("Ada,early\nBen,late\n", 1, None, "a title line is wanted"), ("a\nAda\n", 1, None, "a person and an object"),
+            ("Ada,early\nBen,late\n", 1, None, "a title line must come first"), ("a\nAda\n", 1, None, "a person and an object"),
             ("a,b\nAda,\n", 2, 2, "an empty name"), ("", None, None, "an empty file"),
         ]
         for content, line, column, text in cases:

@@ -153,6 +153,19 @@ class OtherCalls(unittest.TestCase):
             self.assertEqual(Fraction(nushbaret.compare(form, columns, maximize=maximize).worse), wanted[-1][0] - wanted[0][0])
         self.assertGreater(ties, 20)
 
+    def test_counts(self):
+        """assign_counts finds the same plan cost for costs of any size: here those of a problem, times a number, and with more added."""
+        draw = drawing(70)
+        for turn in range(60):
+            n_rows, n_columns, maximize = draw.randint(1, 4), draw.randint(1, 4), draw.random() < 0.5
+            whole = [[draw.randint(0, 9) for _ in range(n_columns)] for _ in range(n_rows)]
+            counts = ((0, 2), 1, None, maximize)
+            plain = nushbaret.assign_counts(whole, *counts, partial=True)
+            for times in 10**30, Fraction(1, 3), Decimal("1E-40"), "e200", "e-300":
+                scaled = [[float(f"{cost}{times}") if isinstance(times, str) else cost * times for cost in row] for row in whole]
+                result = nushbaret.assign_counts(scaled, *counts, partial=True)
+                self.assertEqual(Fraction(result.cost), plain.cost * Fraction(f"1{times}" if isinstance(times, str) else str(times)))
+
     def hold_bottleneck(self, form, exact, maximize, sign, wanted, n_columns):
         def worst(plan):
             return max(sign * exact[row][column] for row, column in enumerate(plan[1]) if column < n_columns)

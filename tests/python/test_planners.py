@@ -9,6 +9,7 @@ from array import array
 sys.path.insert(0, str(pathlib.Path(__file__).resolve().parents[2] / "python"))
 
 from nushbaret._answer import Wish, answer_of
+from nushbaret._by_counts import answer_by_counts
 from nushbaret._roster import Roster
 
 CASES = 500
@@ -59,7 +60,7 @@ class PlacesAndTasks(unittest.TestCase):
             maximize = draw.random() < 0.5
             roster = roster_of(len(tasks), len(places), costs, dict(enumerate(tasks)), dict(enumerate(places)))
             kept = {pair for pair in costs if draw.random() < 0.3} if draw.random() < 0.5 else None
-            answer = answer_of(roster, Wish((), maximize, True, kept))
+            answer = answer_by_counts(roster, Wish((), maximize, True, kept))
             every = plans(costs, tasks, places)
             most = max(map(len, every))
             best = min(value(pairs, costs, maximize) for pairs in every if len(pairs) == most)
@@ -115,7 +116,7 @@ class Others(unittest.TestCase):
             most, maximize = draw.choice((2, 40)), draw.random() < 0.5
             costs = {pair: cost % most for pair, cost in costs.items()}
             roster = roster_of(len(tasks), len(places), costs, dict(enumerate(tasks)), dict(enumerate(places)))
-            answer = answer_of(roster, Wish((), maximize, True, None, None, True))
+            answer = answer_by_counts(roster, Wish((), maximize, True, None, None, True))
             every = plans(costs, tasks, places)
             others = {those for those in map(lambda plan: tuple(sorted(plan)), every) if len(those) == len(answer.plan.pairs)}
             with self.subTest(case=case):

@@ -1,8 +1,7 @@
 // The version of the library.
 ghost use Rattle.std.specs.Prelude.{◌≡◌, ◌++◌, ◌∷◌, ◌<◌, ◌≤◌, codes, drop, length};
 
-// The version, as the file VERSION at the top has it.
-const VERSION: &str = "2.0.0";
+use release_version::VERSION;
 
 /// Returns the length of the version's text. Writes the text and a 0 at the beginning of the room
 /// if they fit; otherwise the room stays as it was.

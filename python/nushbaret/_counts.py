@@ -1,0 +1,329 @@
+"""Plans in which rows and columns count from so many to so many: the call."""
+import operator
+from collections import Counter
+from functools import cached_property
+from typing import Any, Collection, Dict, List, NamedTuple, Optional, Tuple
+
+from . import _source as sources
+from ._exact import manner
+from ._gadgets import Bounds, Counted, Pair, best_pairs, trimmed
+from ._infeasible import Infeasible, numbered
+from ._lack import Lack, lacks_of
+from ._numbers import Number
+from ._problem import Problem, in_whole_numbers, lists_of
+
+ONE_AT_MOST = Bounds(0, 1)
+
+
+class Shortage(NamedTuple):
+    """Least counts that can't be met. If `of_columns` is false, these rows must have `wanted` columns and can have no more than `had`: as
+    many as `columns` take at most, and for each of `once`, a row and some columns, one of these. If it is true, these columns must have
+    `wanted` rows and can have no more than `had`: as many as `rows` take at most, and for each of `once` one.
+
+    >>> import nushbaret
+    >>> try:
+    ...     nushbaret.assign_counts([[4, 1], [2, 3]], (0, 1), (2, 2))
+    ... except nushbaret.Infeasible as short:
+    ...     print(short.shortages[0].columns, short.shortages[0].wanted, short.shortages[0].had)
+    [0, 1] 4 2
+    """
+
+    of_columns: bool
+    rows: List[int]
+    columns: List[int]
+    once: List[Tuple[int, List[int]]]
+    wanted: int
+    had: int
+
+
+class CountsInfeasible(Infeasible):
+    """No plan meets all least counts, and each shortage proves it.
+
+    Attributes
+    ----------
+    shortages : list of Shortage
+        No two share rows and columns that they need.
+    groups, rows, columns
+        The rows and columns of each shortage, and those of the first one.
+    """
+
+    def __init__(self, shortages: List[Shortage]):
+        super().__init__([(sorted({*short.rows, *(row for row, _ in short.once)}), short.columns) for short in shortages])
+        self.shortages = shortages
+        more = f" (the first of {len(shortages)} groups)" if len(shortages) > 1 else ""
+        self.args = (f"counts can't be met: {_why(shortages[0])}{more}",)
+
+    def __reduce__(self) -> Tuple[Any, ...]:
+        return type(self), (self.shortages,)
+
+
+def _why(short: Shortage) -> str:
+    """A shortage in words."""
+    need, own, word = ("column", short.columns, "row") if short.of_columns else ("row", short.rows, "column")
+    others = short.rows if short.of_columns else short.columns
+    parts = [f"{short.had - len(short.once)} by the most of {numbered(word, others)}"] if others else []
+    if short.once:
+        parts.append(f"{len(short.once)} where a pair or a group counts once")
+    had = f"can have {short.had}: {', '.join(parts)}" if parts else "may have none"
+    return f"{numbered(need, own)} must have {short.wanted} {word}{'s' if short.wanted > 1 else ''}, and {had}"
+
+
+def shortages_of(counted: Counted, lacks: List[Lack]) -> List[Shortage]:
+    """What is short, where groups are lists of columns."""
+    members: Dict[Tuple[int, int], List[int]] = {}
+    wanted = {unit for lack in lacks for unit in lack.once}
+    for unit, column in zip(counted.units(), counted.columns):
+        if unit in wanted:
+            members.setdefault(unit, []).append(column)
+    found = []
+    for lack in lacks:
+        own = set(lack.columns)
+        once = [(unit[0], [column for column in members[unit] if not lack.of_columns or column in own]) for unit in lack.once]
+        found.append(Shortage(lack.of_columns, lack.rows, lack.columns, once, lack.wanted, lack.had))
+    return found
+
+
+class CountsResult:
+    """A best plan by counts.
+
+    Row `rows[k]` has column `columns[k]`, each pair once; numbers are from 0, and rows rise, then columns. They are NumPy arrays if the
+    costs are one, and lists otherwise.
+
+    Attributes
+    ----------
+    rows, columns : list of int, or NumPy array
+        The pairs.
+    cost : int, decimal.Decimal or fractions.Fraction
+        The sum of their costs, exactly.
+    pairs : list of tuple
+        The pairs by the labels of a DataFrame, or else by numbers.
+    missing_rows, missing_columns : dict
+        By how many each row, or column, misses its least count; those that meet it aren't there.
+    maximize : bool
+        Whether this is the greatest sum, not the least.
+
+    >>> import nushbaret
+    >>> result = nushbaret.assign_counts([[4, 1, 3], [2, 0, 5]], (1, 2), 1)
+    >>> result.rows, result.columns, result.cost
+    ([0, 1, 1], [2, 0, 1], 5)
+    """
+
+    def __init__(self, problem: Problem, counted: Counted, pairs: List[Pair]):
+        self._labels, self._found = problem.labels, pairs
+        costs = _costs_of(counted, pairs)
+        total = sum(costs)
+        self._costs = [problem.unit.shown(-cost if problem.maximize else cost) for cost in costs]
+        self.cost: Number = problem.unit.shown(-total if problem.maximize else total)
+        self.rows = problem.numbers([row for row, _ in pairs])
+        self.columns = problem.numbers([column for _, column in pairs])
+        self.missing_rows = missing(counted.row_bounds, Counter(row for row, _ in pairs))
+        self.missing_columns = missing(counted.column_bounds, Counter(column for _, column in pairs))
+        self.maximize = problem.maximize
+
+    def __repr__(self) -> str:
+        return f"<nushbaret.CountsResult: cost {self.cost}, {len(self._found)} pairs>"
+
+    @cached_property
+    def pairs(self) -> List[Tuple[Any, Any]]:
+        """The pairs, by the labels of a DataFrame, or else by numbers."""
+        if self._labels is None:
+            return list(self._found)
+        rows, columns = self._labels
+        return [(rows[row], columns[column]) for row, column in self._found]
+
+    def to_frame(self) -> Any:
+        """The pairs as a DataFrame of pandas, which must be installed.
+
+        Returns
+        -------
+        pandas.DataFrame
+            With columns row, column and cost: by labels if the costs were a DataFrame, else by numbers.
+
+        >>> import nushbaret
+        >>> print(nushbaret.assign_counts([[4, 1]], 2, 1).to_frame())  # doctest: +SKIP
+           row  column  cost
+        0    0       0     4
+        1    0       1     1
+        """
+        import pandas  # type: ignore
+        rows, columns = zip(*self.pairs) if self.pairs else ((), ())
+        return pandas.DataFrame({"row": list(rows), "column": list(columns), "cost": self._costs})
+
+
+def _costs_of(counted: Counted, pairs: List[Pair]) -> List[int]:
+    """The costs of some pairs."""
+    wanted = set(pairs)
+    held = {(row, column): cost for row, column, cost in zip(counted.rows, counted.columns, counted.costs) if (row, column) in wanted}
+    return [held[pair] for pair in pairs]
+
+
+def missing(bounds: List[Bounds], had: Dict[int, int]) -> Dict[int, int]:
+    """By how many the least counts are missed."""
+    return {number: bound.least - had.get(number, 0) for number, bound in enumerate(bounds) if had.get(number, 0) < bound.least}
+
+
+def planned(counted: Counted, partial: bool, kept: Optional[Collection[Pair]] = None) -> Tuple[List[Lack], Optional[List[Pair]]]:
+    """What is short, and the pairs of a best plan: None where something is short and the plan may not be partial."""
+    trimmed(counted)
+    lacks, served = lacks_of(counted)
+    if lacks and not partial:
+        return lacks, None
+    pairs = best_pairs(counted, served if lacks else None, kept)
+    _judge(counted, pairs)
+    return lacks, pairs
+
+
+def _judge(counted: Counted, pairs: List[Pair]) -> None:
+    """Whether pairs pass no greatest count, and keep groups."""
+    of_rows, of_columns = Counter(row for row, _ in pairs), Counter(column for _, column in pairs)
+    units = {(row, counted.group_of[column]) for row, column in pairs}
+    if (len(units) < len(pairs) or any(count > counted.row_bounds[row].most for row, count in of_rows.items())
+            or any(count > counted.column_bounds[column].most for column, count in of_columns.items())):
+        raise RuntimeError("a plan was found that passes a greatest count or takes two of a group")
+
+
+# What the caller says of counts and groups.
+
+
+def _is_whole(value: Any) -> bool:
+    try:
+        operator.index(value)
+    except TypeError:
+        return False
+    return True
+
+
+def _is_range(value: Any) -> bool:
+    return isinstance(value, (tuple, list)) and len(value) == 2 and all(map(_is_whole, value))
+
+
+def _bound(value: Any, where: str) -> Bounds:
+    """A count: so many exactly, or at least and at most so many."""
+    if not _is_whole(value) and not _is_range(value):
+        raise TypeError(f"{where} is {value!r}: a count is a whole number, or the least and the most")
+    least, most = (value, value) if _is_whole(value) else value
+    bound = Bounds(operator.index(least), operator.index(most))
+    if not 0 <= bound.least <= bound.most:
+        raise ValueError(f"{where} is {value!r}: the least count must be 0 or more, and the most not less than it")
+    return bound
+
+
+def bounds_of(counts: Any, number: int, what: str) -> List[Bounds]:
+    """The counts of all rows, or of all columns."""
+    if counts is None:
+        return [ONE_AT_MOST] * number
+    if _is_whole(counts) or isinstance(counts, tuple) and _is_range(counts):
+        return [_bound(counts, what)] * number
+    try:
+        values = counts.tolist() if hasattr(counts, "tolist") else list(counts)
+    except TypeError:
+        raise TypeError(f"{what} is {counts!r}: a count is a whole number, or the least and the most") from None
+    if len(values) != number:
+        raise ValueError(f"{what} has {len(values)} counts, where {number} are needed (one for all is a number, or a tuple of least and "
+                         "most)")
+    return [_bound(value, f"{what}[{place}]") for place, value in enumerate(values)]
+
+
+def groups_of(column_groups: Any, n_columns: int) -> Tuple[List[int], int]:
+    """The group of each column, and how many groups were given; columns in none come after these."""
+    given: List[Optional[int]] = [None] * n_columns
+    values = [] if column_groups is None else list(column_groups)
+    are_lists = [hasattr(value, "__iter__") and not isinstance(value, (str, bytes)) for value in values]
+    if all(are_lists):
+        count = _of_lists(values, given)
+    elif any(are_lists):
+        raise TypeError("column_groups must be lists of columns, or one label for each column")
+    else:
+        count = _of_labels(values, given)
+    return [count + column if group is None else group for column, group in enumerate(given)], count
+
+
+def _of_lists(values: List[Any], given: List[Optional[int]]) -> int:
+    for group, columns in enumerate(values):
+        for value in columns:
+            if not _is_whole(value):
+                raise TypeError(f"column_groups[{group}] has {value!r}: a column is its number")
+            column = operator.index(value)
+            if not 0 <= column < len(given):
+                raise ValueError(f"column_groups[{group}] has column {column}: it must be from 0 to {len(given) - 1}")
+            if given[column] is not None:
+                raise ValueError(f"column {column} is in column_groups[{given[column]}] and in column_groups[{group}]: groups share none")
+            given[column] = group
+    return len(values)
+
+
+def _of_labels(values: List[Any], given: List[Optional[int]]) -> int:
+    """None and NaN are no label."""
+    if len(values) != len(given):
+        raise ValueError(f"column_groups has {len(values)} labels, and there are {len(given)} columns")
+    numbers: Dict[Any, int] = {}
+    for column, label in enumerate(values):
+        if label is not None and label == label:
+            given[column] = numbers.setdefault(label, len(numbers))
+    return len(numbers)
+
+
+def _counted(problem: Problem, rows: List[Bounds], columns: List[Bounds], groups: Tuple[List[int], int]) -> Counted:
+    """The problem of counts; its costs are to be least."""
+    of_rows: List[int] = []
+    of_columns: List[int] = []
+    costs: List[int] = []
+    for row, (own, values) in enumerate(lists_of(problem)):
+        of_rows += [row] * len(own)
+        of_columns += own
+        costs += list(values)
+    return Counted(rows, columns, *groups, of_rows, of_columns, costs)
+
+
+def assign_counts(costs: Any, row_counts: Any = None, column_counts: Any = None, column_groups: Any = None, maximize: bool = False,
+                  decimals: Optional[int] = None, partial: bool = False, missing: str = "refuse") -> CountsResult:
+    """A best plan in which each row takes from so many to so many columns, and each column rows.
+
+    Each pair is made at most once, and of a group of columns a row takes at most one.
+
+    Parameters
+    ----------
+    costs : matrix
+        As in `solve`.
+    row_counts, column_counts : int, tuple or list, optional
+        How many columns a row takes, and how many rows a column: a number, exactly so many, or a tuple (least, most). One for all, or a
+        list with one for each. None is (0, 1); not both may be None.
+    column_groups : list, optional
+        Groups of columns, no two of which share any: a list of lists of column numbers, or a label for each column, None for no group.
+    maximize, decimals, missing
+        As in `solve`.
+    partial : bool, optional
+        If not all least counts can be met, misses them by as little as can be, summed over all rows and columns, and takes a plan of the
+        best sum among these, instead of raising. Greatest counts and groups are kept.
+
+    Returns
+    -------
+    CountsResult
+
+    Raises
+    ------
+    Infeasible
+        If there is no plan; `shortages` prove it. A ValueError.
+    ValueError, TypeError, MemoryError, LibraryNotFound
+        As in `solve`, or if a count or a group is none.
+
+    Notes
+    -----
+    Rows and columns become as many nodes as they count at most, and what counts once needs two more where a plan would break it; the
+    library takes 8192 nodes of each side. It proves each plan of nodes best, and each shortage. How nodes stand for counts is tested,
+    not proved.
+
+    >>> import nushbaret
+    >>> shifts = [[4, 1, 3, 2], [2, 3, 5, 1]]
+    >>> nushbaret.assign_counts(shifts, (2, 3), (1, 2), column_groups=["Mon", "Mon", "Tue", "Tue"]).pairs
+    [(0, 1), (0, 2), (1, 0), (1, 3)]
+    """
+    if row_counts is None and column_counts is None:
+        raise TypeError("row_counts and column_counts are both missing: give one, or call solve")
+    problem = in_whole_numbers(sources.problem_of(sources.lasting(costs), None, None, None, manner(maximize, decimals, missing)))
+    rows, columns = bounds_of(row_counts, problem.n_rows, "row_counts"), bounds_of(column_counts, problem.n_columns, "column_counts")
+    counted = _counted(problem, rows, columns, groups_of(column_groups, problem.n_columns))
+    lacks, pairs = planned(counted, partial)
+    if pairs is None:
+        raise CountsInfeasible(shortages_of(counted, lacks))
+    return CountsResult(problem, counted, pairs)

@@ -1,0 +1,157 @@
+"""Counts and groups of a roster: files that say how many each name takes, and of which objects nobody takes two."""
+import re
+from collections import Counter
+from typing import Dict, Iterator, List, NamedTuple, Optional, Protocol, Sequence, Tuple
+
+from ._gadgets import Bounds
+from ._library import MOST_PERSONS
+from ._roster import Groups, PlanLine, Roster, known, looks_like_number
+from ._sheets import RosterFault, Sheet, quoted, unit_of
+
+
+class Counts(NamedTuple):
+    """How many names take, by their numbers; and whether any line has two numbers."""
+
+    bounds: Dict[int, Bounds]
+    are_ranges: bool
+
+
+def read_counts(path: str, roster: Roster, of_objects: bool) -> Counts:
+    """Reads how many each object, or each person, takes: a title line, and lines of a name and one whole number, or two: at least and at
+    most.
+
+    Raises `RosterFault` for the first name that the roster doesn't have or that stands twice, number that is none from 0 to 8192, or least
+    number that is greater than the most.
+    """
+    sheet = Sheet(path)
+    line, title = sheet.title()
+    if len(title) < 2:
+        sheet.refuse("each line must have a name and how many it takes", line)
+    if looks_like_number(title[1]):
+        sheet.refuse(f"a title line must come first, and {quoted(title[1])} is a number", line, 2)
+    bounds: Dict[int, Bounds] = {}
+    are_ranges = False
+    for line, cells in _lines(sheet, len(title)):
+        number = known(sheet, roster, cells[0], line, 2 if of_objects else 1, 1)
+        if number in bounds:
+            sheet.refuse(f"the name {quoted(cells[0])} a second time", line, 1)
+        least = _count(sheet, cells[1], line, 2)
+        most = _count(sheet, cells[2], line, 3) if cells[2] else least
+        if least > most:
+            sheet.refuse(f"at least {least} and at most {most}: the second number can't be less", line, 3)
+        bounds[number] = Bounds(least, most)
+        are_ranges = are_ranges or bool(cells[2])
+    return Counts(bounds, are_ranges)
+
+
+def _lines(sheet: Sheet, width: int) -> Iterator[Tuple[int, List[str]]]:
+    """The lines after the title, each with a name and room for two numbers."""
+    records = sheet.records()
+    next(records)
+    for line, cells in records:
+        if any(cells[max(width, 3):]):
+            sheet.refuse(f"{len(cells)} cells, where a name and one or two numbers are needed", line)
+        yield line, (cells + ["", ""])[:3]
+
+
+def _count(sheet: Sheet, cell: str, line: int, column: int) -> int:
+    if re.fullmatch("[0-9]{1,9}", cell) is None or int(cell) > MOST_PERSONS:
+        sheet.refuse(f"{quoted(cell)} is no whole number from 0 to {MOST_PERSONS}", line, column)
+    return int(cell)
+
+
+def read_groups(path: str, roster: Roster) -> Groups:
+    """Reads groups of objects of which nobody takes two: a title line, and lines of an object and its group.
+
+    Raises `RosterFault` for the first object that the roster doesn't have or that stands twice.
+    """
+    sheet = Sheet(path)
+    line, title = sheet.title()
+    if len(title) < 2:
+        sheet.refuse("each line must have an object and its group", line)
+    if title[0] in roster.object_numbers:
+        sheet.refuse(f"a title line must come first, and {quoted(title[0])} is an object", line, 1)
+    numbers: Dict[str, int] = {}
+    groups = Groups(title[1], [], {})
+    lines: Dict[int, int] = {}
+    for line, cells in sheet.body(len(title)):
+        object_ = known(sheet, roster, cells[0], line, 2, 1)
+        name = sheet.name(cells[1], line, 2)
+        if object_ in lines:
+            where = f"in {groups.names[groups.of_objects[object_]]}, since line {lines[object_]}"
+            sheet.refuse(f"{quoted(cells[0])} a second time: it is {where}", line, 1)
+        lines[object_] = line
+        groups.of_objects[object_] = numbers.setdefault(name, len(numbers))
+        groups.names.extend(list(numbers)[len(groups.names):])
+    if not lines:
+        sheet.refuse("no line after the title", line)
+    return groups
+
+
+def with_rules(roster: Roster, tasks: Optional[Counts], places: Optional[Counts], groups: Optional[Groups]) -> Roster:
+    """The roster with counts and groups. Where any line has two numbers bounds alone decide."""
+    most = [None if counts is None else {number: bound.most for number, bound in counts.bounds.items()} for counts in (tasks, places)]
+    least = None
+    if any(counts is not None and counts.are_ranges for counts in (tasks, places)):
+        of_persons, of_objects = ({number: bound.least for number, bound in counts.bounds.items()} if counts else {}
+                                  for counts in (tasks, places))
+        least = of_persons, of_objects
+    return roster._replace(tasks=most[0], places=most[1], least=least, groups=groups)
+
+
+def refuse_two_of_a_group(path: str, roster: Roster, pairs: Sequence[PlanLine]) -> None:
+    """Refuses a plan in which a person has two objects of one group."""
+    groups = roster.groups
+    if groups is None:
+        return
+    first: Dict[Tuple[int, int], PlanLine] = {}
+    for pair in pairs:
+        group = groups.of_objects.get(pair.object)
+        before = None if group is None else first.setdefault((pair.person, group), pair)
+        if group is not None and before is not None and before is not pair:
+            raise RosterFault(path, f"{roster.persons[pair.person]} has {roster.objects[pair.object]} and, in {unit_of(path)} {before.line}, "
+                              f"{roster.objects[before.object]}: two of {groups.title} {groups.names[group]}", pair.line)
+
+
+class Paired(Protocol):
+    """A person and an object, by number."""
+
+    @property
+    def person(self) -> int: ...
+
+    @property
+    def object(self) -> int: ...
+
+
+def order_of(roster: Roster) -> List[int]:
+    """A rank for each object: by the groups in the order of their file, then those in none."""
+    last = 0 if roster.groups is None else len(roster.groups.names)
+    held = {} if roster.groups is None else roster.groups.of_objects
+    order = sorted(range(len(roster.objects)), key=lambda object_: (held.get(object_, last), object_))
+    ranks = [0] * len(order)
+    for rank, object_ in enumerate(order):
+        ranks[object_] = rank
+    return ranks
+
+
+class Missing(NamedTuple):
+    """A person (side 0) or an object (side 1) that has fewer than it must."""
+
+    side: int
+    name: str
+    number: int
+    had: int
+    least: int
+
+
+def missing_of(roster: Roster, pairs: Sequence[Paired]) -> List[Missing]:
+    """Which least counts are missed: of objects in the order of groups, then of persons. Without bounds none."""
+    if roster.least is None:
+        return []
+    ranks = order_of(roster)
+    had, used = Counter(pair.person for pair in pairs), Counter(pair.object for pair in pairs)
+    of_persons, of_objects = roster.least
+    objects = sorted((number for number, least in of_objects.items() if used[number] < least), key=ranks.__getitem__)
+    persons = sorted(number for number, least in of_persons.items() if had[number] < least)
+    return ([Missing(1, roster.objects[number], number, used[number], of_objects[number]) for number in objects]
+            + [Missing(0, roster.persons[number], number, had[number], of_persons[number]) for number in persons])

@@ -1,0 +1,248 @@
+"""What the command says: lines for people, and the plan as CSV."""
+import csv
+import io
+from typing import Dict, List, NamedTuple, Optional, Sequence
+
+from ._answer import MOST_NAMES_SHOWN, Answer, Pair, Plan, counted, left_out, named, sentence
+from ._groups import order_of
+from ._roster import OldPlan, PlanLine, Roster, alike, like
+from ._sheets import SEPARATORS, quoted
+from ._words import Options
+
+
+class Fair(NamedTuple):
+    """What --fair says: the dearest pair that isn't fixed, if any pair is needed, and the plan of the least cost, with its dearest pair."""
+
+    pair: Optional[Pair]
+    best: Plan
+    best_pair: Pair
+
+
+class Report(NamedTuple):
+    """All that is said of a run: what was asked for, the answer, the plans that were read, and what fairness costs."""
+
+    options: Options
+    roster: Roster
+    answer: Answer
+    kept: Optional[OldPlan] = None
+    hand: Optional[OldPlan] = None
+    fair: Optional[Fair] = None
+
+
+class Note(NamedTuple):
+    """A line on the plan, and what it is about, one by one."""
+
+    line: str
+    details: Sequence[str] = ()
+
+
+def read_lines(path: str, roster: Roster, on_terminal: bool) -> List[str]:
+    """What standard error says of a roster: on a terminal how much was read, and always which names are hardly two."""
+    lines = []
+    if on_terminal:
+        persons, objects = counted(len(roster.persons), roster.titles[0]), counted(len(roster.objects), roster.titles[1])
+        lines.append(f"{persons}, {objects}, {counted(len(roster.costs), 'pair')}")
+    if len(roster.sheets) > 1:
+        lines.append(f"{path}: the sheet {quoted(roster.sheets[0])} was read, of {len(roster.sheets)}: --sheet reads another")
+    groups = alike(roster.persons) + alike(roster.objects)
+    lines += [f"{path}: {', '.join(map(quoted, group))} differ in case or spaces alone" for group in groups[:MOST_NAMES_SHOWN]]
+    if len(groups) > MOST_NAMES_SHOWN:
+        lines.append(f"{path}: and {len(groups) - MOST_NAMES_SHOWN} more of these names")
+    return lines
+
+
+def gone_line(plan: OldPlan, roster: Roster) -> str:
+    """What an earlier plan has and the roster has no more, or under another name."""
+    names = roster.persons + roster.objects
+    near = [like(name, names) if len(plan.gone) <= MOST_NAMES_SHOWN else [] for name in plan.gone]
+    shown = [name + (f" (did you mean {' or '.join(those)}?)" if those else "") for name, those in zip(plan.gone, near)]
+    return f"{plan.path}: the roster has no {', '.join(shown)}"
+
+
+def first_lines(report: Report) -> List[str]:
+    """A sentence for each group that is short, and the cost of the plan."""
+    roster, answer, fair = report.roster, report.answer, report.fair
+    lines = [sentence(roster, short, bool(report.options.fixed)) for short in answer.groups]
+    if answer.plan is not None:
+        which = "greatest" if report.options.max else "least"
+        fullest = f" of {len(answer.plan.pairs)} pairs" if answer.groups else ""
+        bound = _bound(report, fair) if fair else ""
+        lines.append(f"{which} {roster.titles[2]}{fullest}{bound}: {roster.shown(answer.plan.cost)}")
+        chosen = sum(not pair.fixed for pair in answer.plan.pairs)
+        if roster.rounded:
+            lines.append(f"costs were rounded: another plan may be better for the exact ones, by {roster.shown(chosen)} at most")
+    return lines
+
+
+def _bound(report: Report, fair: Fair) -> str:
+    """What no pair costs more than."""
+    if fair.pair is None:
+        return " with no pair"
+    return f" with no pair {'below' if report.options.max else 'above'} {report.roster.shown(fair.pair.cost)}"
+
+
+def printed(report: Report) -> List[str]:
+    """The plan by names, who and what stays out, and what there is to say of it."""
+    plan = report.answer.plan
+    if plan is None:
+        return []
+    lines = rows_of(report.roster, plan) + [f"{out.how}: {', '.join(out.names)}" for out in left_out(report.roster, plan)]
+    for note in notes_of(report, plan):
+        lines += [note.line, *("  " + detail for detail in note.details)]
+    return lines
+
+
+def notes_of(report: Report, plan: Plan) -> List[Note]:
+    """Other plans, the rents, and how the plan compares with plans that were read."""
+    roster, options = report.roster, report.options
+    notes = [fairness(report, report.fair)] if report.fair else []
+    notes += others(report, plan)
+    notes += [_difference(report, plan, other, f"plan {number}") for number, other in enumerate(plan.following, 2)] if options.plans > 1 else []
+    if options.rents:
+        notes += [Note(f"rent of {roster.objects[number]}: {roster.shown(rent)}") for number, rent in plan.rents.items()]
+    notes += [changes(roster, plan, report.kept)] if report.kept else []
+    return notes + ([compared(report, plan, report.hand)] if report.hand else [])
+
+
+def rows_of(roster: Roster, plan: Plan) -> List[str]:
+    """Each person with all of its own, then each object of several places with all of its own."""
+    own: Dict[int, List[str]] = {}
+    for pair in plan.pairs:
+        text = f"{roster.objects[pair.object]}, {roster.shown(pair.cost)}" + (" (fixed)" if pair.fixed else "")
+        own.setdefault(pair.person, []).append(text)
+    lines = [f"{roster.persons[person]}{_times(roster, len(texts))}: {'; '.join(texts)}" for person, texts in own.items()]
+    ranks = order_of(roster)
+    for object_ in sorted(range(len(roster.objects)), key=ranks.__getitem__):
+        who = [roster.persons[pair.person] for pair in plan.pairs if pair.object == object_] if roster.places_of(object_) > 1 else []
+        if who:
+            lines.append(f"at {roster.objects[object_]}{_times(roster, len(who))}: {', '.join(who)}")
+    return lines
+
+
+def _times(roster: Roster, count: int) -> str:
+    """How often a name is used, where that isn't once and isn't what its count says."""
+    return f" ({count})" if count != 1 and (roster.least is not None or roster.groups is not None) else ""
+
+
+def pair_text(roster: Roster, pair: Pair) -> str:
+    """A pair in a line."""
+    return f"{roster.persons[pair.person]}, {roster.objects[pair.object]}, {roster.shown(pair.cost)}"
+
+
+def fairness(report: Report, fair: Fair) -> Note:
+    """Which pair is the dearest, and what fairness costs."""
+    roster, maximize = report.roster, report.options.max
+    kind, which = ("cheapest", "greatest") if maximize else ("dearest", "least")
+    best = f"the {which} {roster.titles[2]} is {roster.shown(fair.best.cost)}, with {pair_text(roster, fair.best_pair)}"
+    if fair.pair is None:
+        return Note(f"no pair is needed; {best}")
+    if fair.best_pair.cost == fair.pair.cost:
+        return Note(f"{kind} pair: {pair_text(roster, fair.pair)}; this is also the {which} {roster.titles[2]} of all")
+    return Note(f"{kind} pair: {pair_text(roster, fair.pair)}; {best}")
+
+
+def others(report: Report, plan: Plan) -> List[Note]:
+    """That there are other best plans, and where it is asked for, who could change places, or the next best plan."""
+    roster, options = report.roster, report.options
+    if not options.others:
+        is_shown = not plan.is_only_one and not options.keep and options.plans < 2 and not options.fair
+        return [Note("other plans are as good: --others shows who could change places")] if is_shown else []
+    if plan.swaps:
+        return [Note(f"could change places at no cost: {named(swap.persons, roster.titles[0], roster.persons)} "
+                     f"on {named(swap.objects, roster.titles[1], roster.objects)}") for swap in plan.swaps]
+    if not plan.following:
+        return [Note("no other plan is as good")]
+    return [_difference(report, plan, plan.following[0], "no other plan is as good: the next best is", " ")]
+
+
+def _difference(report: Report, plan: Plan, other: Plan, name: str, mark: str = ": ") -> Note:
+    """Another plan: its cost, and where it differs."""
+    roster = report.roster
+    more = abs(other.cost - plan.cost)
+    cost = f"{roster.shown(other.cost)}, " + (f"{roster.shown(more)} {'less' if report.options.max else 'more'}" if more else "as good")
+    return Note(f"{name}{mark}{cost}", _there(roster, plan, other.pairs))
+
+
+def _there(roster: Roster, plan: Plan, pairs: Sequence[Pair]) -> List[str]:
+    """What each person has in another plan that it hasn't in the plan; or that it has nothing there."""
+    own = {(pair.person, pair.object) for pair in plan.pairs}
+    lines: Dict[int, List[str]] = {person: [f"there {roster.persons[person]}: nothing"]
+                                   for person in {pair.person for pair in plan.pairs} - {pair.person for pair in pairs}}
+    for pair in pairs:
+        if (pair.person, pair.object) not in own:
+            line = f"there {roster.persons[pair.person]}: {roster.objects[pair.object]}, {roster.shown(pair.cost)}"
+            lines.setdefault(pair.person, []).append(line)
+    return [line for person in sorted(lines) for line in lines[person]]
+
+
+class Change(NamedTuple):
+    """A pair that the kept plan doesn't have, and what its person has there and no more."""
+
+    pair: Pair
+    before: List[str]
+
+
+def changes_of(roster: Roster, plan: Plan, kept: OldPlan) -> List[Change]:
+    """The pairs that the kept plan doesn't have."""
+    before = set(kept.pairs)
+    now = {(roster.persons[pair.person], roster.objects[pair.object]) for pair in plan.pairs}
+    new = [pair for pair in plan.pairs if (roster.persons[pair.person], roster.objects[pair.object]) not in before]
+    left: Dict[str, List[str]] = {}
+    for person, object_ in kept.pairs:
+        if (person, object_) not in now:
+            left.setdefault(person, []).append(object_)
+    return [Change(pair, left.get(roster.persons[pair.person], [])) for pair in new]
+
+
+def changes(roster: Roster, plan: Plan, kept: OldPlan) -> Note:
+    """How many pairs the kept plan didn't have, and what these persons had there."""
+    new = changes_of(roster, plan, kept)
+    return Note(f"{kept.path}: {len(new)} of {len(plan.pairs)} pairs changed", [
+        f"{roster.persons[change.pair.person]}: {roster.objects[change.pair.object]}"
+        + (f", before {', '.join(change.before)}" if change.before else "") for change in new])
+
+
+def worse_by(report: Report, plan: Plan, hand: OldPlan) -> int:
+    """By how much a plan made by hand is worse than the best."""
+    cost = sum(pair.cost for pair in hand.known)
+    return plan.cost - cost if report.options.max else cost - plan.cost
+
+
+def is_comparable(roster: Roster, plan: Plan, hand: OldPlan) -> bool:
+    """Whether a plan made by hand is as full as the best."""
+    return len(hand.known) == len(plan.pairs) or not hand.gone and roster.least is not None
+
+
+def only_there(plan: Plan, hand: OldPlan) -> List[PlanLine]:
+    """The pairs of a plan made by hand that the best doesn't have."""
+    own = {(pair.person, pair.object) for pair in plan.pairs}
+    return [pair for pair in sorted(hand.known) if (pair.person, pair.object) not in own]
+
+
+def compared(report: Report, plan: Plan, hand: OldPlan) -> Note:
+    """By how much a plan made by hand is worse than the best, and where the two differ."""
+    roster, more, cost = report.roster, worse_by(report, plan, hand), sum(pair.cost for pair in hand.known)
+    if not is_comparable(roster, plan, hand):
+        line = f"{roster.shown(cost)} for {len(hand.known)} pairs that the roster allows, where {len(plan.pairs)} can be"
+    elif more == 0:
+        line = f"{roster.shown(cost)}, as good as the best"
+    else:
+        line = f"{roster.shown(cost)}, {roster.shown(more)} {'less' if report.options.max else 'more'} than the best"
+    return Note(f"{hand.path}: {line}", [
+        f"there {roster.persons[pair.person]}: {roster.objects[pair.object]}, {roster.shown(pair.cost)}" for pair in only_there(plan, hand)])
+
+
+def as_csv(roster: Roster, plan: Plan) -> str:
+    """The pairs as a roster of lines, with the titles, the separator and the decimal mark of the roster that was read."""
+    text = io.StringIO()
+    text.write("\ufeff" if roster.has_bom else "")
+    writer = csv.writer(text, delimiter=roster.separator, lineterminator="\n")
+    # Readers take the separator from the title line, so no other may seem to be there.
+    csv.writer(text, delimiter=roster.separator, lineterminator="\n", quoting=_title_quoting(roster)).writerow(roster.titles)
+    for pair in plan.pairs:
+        writer.writerow((roster.persons[pair.person], roster.objects[pair.object], roster.shown(pair.cost)))
+    return text.getvalue()
+
+
+def _title_quoting(roster: Roster) -> int:
+    return csv.QUOTE_ALL if any(mark in title for mark in SEPARATORS for title in roster.titles) else csv.QUOTE_MINIMAL

@@ -1,0 +1,208 @@
+"""The words of the command: one table of options, from which the parser and the help come."""
+import argparse
+import os
+from typing import Any, Callable, Dict, List, NamedTuple, NoReturn, Optional, Sequence, Tuple
+
+from ._exact import MOST_PLACES
+from ._files import KINDS, Output
+from ._library import VERSION
+from ._roster import LINES, MATRIX
+
+NAME = "nushbaret"
+MOST_PLANS = 1000
+SUMMARY = "Find the plan of least cost for a roster of names in a CSV file, or who is short of what."
+STATUSES = ("Status 0: a plan; 1: there is none; 2: these words are refused; 3: a file's content is; 4: a file can't be read or written, an "
+            "output exists, the library isn't there, or memory was refused. Ctrl-C: 130.")
+ROSTER = ("a CSV file (- is standard input) or an .xlsx workbook, with a title line: a person, an object and a cost in each line, or a "
+          "matrix with names in the first line and column, where an empty cell forbids a pair")
+
+
+class Value(NamedTuple):
+    """What stands after an option: how the help calls it; a file, and with which ends of its name; or one of some words. `read` makes it
+    of the word."""
+
+    name: str
+    is_file: bool = False
+    ends: Tuple[str, ...] = ()
+    choices: Tuple[str, ...] = ()
+    read: Callable[[str], Any] = str
+
+
+class Option(NamedTuple):
+    """An option: its word; what it does, in the words of the help; the section of the help; the field of Options that it sets; what
+    stands after it, None for nothing; what it sets where nothing does; whether it may stand several times; and what is set where it
+    doesn't stand. Of the options of one `choice` only one may stand."""
+
+    word: str
+    help: str
+    section: str
+    field: str
+    value: Optional[Value] = None
+    sets: Any = True
+    repeats: bool = False
+    choice: str = ""
+    default: Any = None
+
+
+class Options(NamedTuple):
+    """What was asked for: the roster, and a field for each option."""
+
+    roster: str
+    form: Optional[str]
+    decimals: Optional[int]
+    round: Optional[int]
+    decimal_comma: bool
+    places: Optional[str]
+    tasks: Optional[str]
+    groups: Optional[str]
+    sheet: Optional[str]
+    skip_rows: int
+    max: bool
+    fair: bool
+    fixed: Optional[str]
+    as_many_as_can: bool
+    keep: Optional[str]
+    change_cost: Optional[str]
+    compare: Optional[str]
+    others: bool
+    plans: int
+    rents: bool
+    print: Optional[str]
+    outputs: Sequence[Output]
+    force: bool
+
+
+def _output(path: str) -> Output:
+    kind = os.path.splitext(path)[1][1:].lower()
+    if kind not in KINDS:
+        raise argparse.ArgumentTypeError(f"{path!r} ends in none of .csv, .json, .html and .xlsx")
+    return Output(path, kind)
+
+
+def _page(path: str) -> Output:
+    return Output(path, "html")
+
+
+def _number(least: int, most: int) -> Callable[[str], int]:
+    """What reads a whole number of a range."""
+    def read(word: str) -> int:
+        if not (word.isascii() and word.isdigit() and len(word) < 10 and least <= int(word) <= most):
+            raise argparse.ArgumentTypeError(f"{word!r} is no number from {least} to {most}")
+        return int(word)
+    return read
+
+
+PLACES = tuple(map(str, range(MOST_PLACES + 1)))
+COUNT_OF_PLACES = Value("K", choices=PLACES, read=_number(0, MOST_PLACES))
+PLAN = Value("PLAN", True, (".csv", ".json", ".xlsx"))
+COUNTS = Value("FILE.csv", True, (".csv", ".xlsx"))
+
+READING, COUNTING, PLANNING, SHOWING, WRITING = "The roster", "Counts", "The plan", "What is printed", "What is written"
+SECTIONS = (READING, COUNTING, PLANNING, SHOWING, WRITING)
+
+OPTIONS = (
+    Option("--lines", "the roster has lines", READING, "form", sets=LINES, choice="form"),
+    Option("--matrix", "the roster is a matrix", READING, "form", sets=MATRIX, choice="form"),
+    Option("--decimals", f"costs have at most K decimal places, 0 to {MOST_PLACES} (else as many as the roster uses)", READING, "decimals",
+           COUNT_OF_PLACES, choice="places"),
+    Option("--round", "round costs to K decimal places, and say by how much that may matter", READING, "round", COUNT_OF_PLACES,
+           choice="places"),
+    Option("--decimal-comma", "costs are written as 2,50", READING, "decimal_comma"),
+    Option("--sheet", "read this sheet of a workbook (else the first)", READING, "sheet", Value("NAME")),
+    Option("--skip-rows", "skip so many rows above the titles", READING, "skip_rows", Value("K", read=_number(0, 10**6)), default=0),
+    Option("--places", "lines of an object and how many persons it takes (else one): a number, or at least and at most", COUNTING, "places",
+           COUNTS),
+    Option("--tasks", "lines of a person and how many objects it takes (else one): a number, or at least and at most", COUNTING, "tasks",
+           COUNTS),
+    Option("--groups", "lines of an object and its group: nobody takes two objects of one group", COUNTING, "groups", COUNTS),
+    Option("--max", "find the plan of greatest cost", PLANNING, "max"),
+    Option("--fair", "make the dearest pair as cheap as possible, and then the sum", PLANNING, "fair"),
+    Option("--fixed", "keep the pairs of this plan (.csv or .json)", PLANNING, "fixed", PLAN),
+    Option("--as-many-as-can", "where there is no plan for all, find the fullest", PLANNING, "as_many_as_can"),
+    Option("--keep", "of all best plans take one with the fewest changes from this one (.csv or .json)", PLANNING, "keep", PLAN),
+    Option("--change-cost", "weigh each change from the kept plan as a cost of C", PLANNING, "change_cost", Value("C")),
+    Option("--compare", "show by how much this plan is worse than the best", SHOWING, "compare", PLAN),
+    Option("--others", "show who could change places at no cost, or the next best plan", SHOWING, "others"),
+    Option("--plans", f"show the K best plans, 2 to {MOST_PLANS}: each as what differs from the first", SHOWING, "plans",
+           Value("K", read=_number(2, MOST_PLANS)), default=1),
+    Option("--rents", "print the rents of the objects too", SHOWING, "rents"),
+    Option("--print", "write the plan to standard output as csv or json, and what is printed else to standard error", SHOWING, "print",
+           Value("KIND", choices=("csv", "json"))),
+    Option("--output", "write the plan as .csv, .json, .html or .xlsx; may be given several times", WRITING, "outputs",
+           Value("FILE", True, tuple("." + kind for kind in KINDS), read=_output), repeats=True),
+    Option("--html", "draw the plan as a page", WRITING, "outputs", Value("FILE", True, (".html",), read=_page), repeats=True),
+    Option("--force", "overwrite an output that exists", WRITING, "force"),
+)
+
+
+def parser_of(options: Sequence[Option] = OPTIONS) -> argparse.ArgumentParser:
+    """The parser of a table of options."""
+    parser = argparse.ArgumentParser(prog=NAME, allow_abbrev=False, description=SUMMARY, epilog=STATUSES)
+    parser.add_argument("roster", metavar="ROSTER", help=ROSTER)
+    parser.add_argument("--version", action="version", version=f"{NAME} {VERSION}")
+    sections = {name: parser.add_argument_group(name) for name in SECTIONS}
+    choices: Dict[str, Any] = {}
+    for option in options:
+        place = sections[option.section]
+        if option.choice and option.choice not in choices:
+            choices[option.choice] = place.add_mutually_exclusive_group()
+        _add(choices[option.choice] if option.choice else place, option)
+    return parser
+
+
+def _add(place: Any, option: Option) -> None:
+    """Adds an option to a group of the parser."""
+    if option.value is None:
+        default = False if option.sets is True else None
+        place.add_argument(option.word, dest=option.field, action="store_const", const=option.sets, default=default, help=option.help)
+        return
+    # A word that isn't one of the choices is refused by argparse; numbers refuse their own.
+    choices = option.value.choices if option.value.read is str and option.value.choices else None
+    place.add_argument(option.word, dest=option.field, metavar=option.value.name, type=option.value.read, choices=choices, help=option.help,
+                       action="append" if option.repeats else "store", default=[] if option.repeats else option.default)
+
+
+def read_words(words: Optional[Sequence[str]]) -> Options:
+    """The options of a command line. Words that are refused, and `--help`, end by `SystemExit`."""
+    parser = parser_of()
+    options = Options(**vars(parser.parse_args(words)))
+    _judge(options, parser.error)
+    return options
+
+
+def _judge(options: Options, refuse: Callable[[str], NoReturn]) -> None:
+    """Refuses options that don't go together."""
+    if options.change_cost is not None and not options.keep:
+        refuse("--change-cost needs --keep")
+    if options.others and options.change_cost is not None:
+        refuse("--others compares costs alone: not with --change-cost")
+    if options.plans > 1 and options.change_cost is not None:
+        refuse("--plans compares costs alone: not with --change-cost")
+    if options.fair:
+        _judge_fair(options, refuse)
+    if options.print and any(output.is_standard for output in options.outputs):
+        refuse("standard output takes one thing: --print, or an output")
+    if options.rents and (options.places or options.tasks or options.groups):
+        refuse("--rents are of single places and tasks: not with --places, --tasks or --groups")
+    _judge_files(options, refuse)
+
+
+def _judge_fair(options: Options, refuse: Callable[[str], NoReturn]) -> None:
+    """Refuses what is of all pairs, where --fair leaves the dear ones out."""
+    for word, is_given in (("--others", options.others), ("--plans", options.plans > 1), ("--compare", options.compare),
+                           ("--change-cost", options.change_cost), ("--rents", options.rents)):
+        if is_given:
+            refuse(f"{word} is of the least sum of all pairs: not with --fair")
+
+
+def _judge_files(options: Options, refuse: Callable[[str], NoReturn]) -> None:
+    read = [options.roster] + [getattr(options, option.field) for option in OPTIONS
+                               if option.value is not None and option.value.is_file and not option.repeats]
+    if "-" in read[1:]:
+        refuse("only the roster can come from standard input")
+    seen = {os.path.realpath(path) for path in read if path}
+    for output in options.outputs:
+        place = os.path.realpath(output.path)
+        if place in seen:
+            refuse(f"{output.path} is named twice, or is read too")
+        seen.add(place)

@@ -1,0 +1,154 @@
+"""The command with bounds and groups: what is printed, written and drawn, and what is refused."""
+import json
+import pathlib
+import sys
+import unittest
+
+sys.path.insert(0, str(pathlib.Path(__file__).resolve().parents[2] / "python"))
+
+from test_command import OTHERS, Runs
+
+WEEK = ("nurse,shift,hours\nAda,early Mon,1\nAda,late Mon,2\nAda,early Tue,3\nBen,early Mon,2\nBen,late Mon,1\nBen,early Tue,2\n"
+        "Cleo,late Mon,5\nCleo,early Tue,1\nCleo,office,4\n")
+PLACES = "shift,at least,at most\nearly Mon,1,2\nlate Mon,1,2\nearly Tue,1,2\n"
+TASKS = "nurse,at least,at most\nAda,1,2\nBen,1,3\nCleo,0,2\n"
+DAYS = "shift,day\nearly Tue,Tue\nearly Mon,Mon\nlate Mon,Mon\n"
+RULES = ("r.csv", "--places", "p.csv", "--tasks", "t.csv", "--groups", "g.csv")
+
+
+class Week(Runs):
+    def setUp(self):
+        super().setUp()
+        for name, content in (("r.csv", WEEK), ("p.csv", PLACES), ("t.csv", TASKS), ("g.csv", DAYS)):
+            self.file(name, content)
+
+    def test_bounds_and_days(self):
+        self.expect(0, "least hours: 3\nAda: early Mon, 1\nBen: late Mon, 1\nCleo: early Tue, 1\nat early Tue: Cleo\nat early Mon: Ada\n"
+                    "at late Mon: Ben\nunused: office\n", "", *RULES)
+        status, out, _ = self.run_words(*RULES, "--max", "--output", "m.csv", "--output", "m.json")
+        self.assertEqual((status, out.splitlines()[0]), (0, "greatest hours: 18"))
+        self.assertEqual(self.read("m.csv"), "nurse,shift,hours\nAda,early Tue,3\nAda,late Mon,2\nBen,early Tue,2\nBen,early Mon,2\n"
+                         "Cleo,late Mon,5\nCleo,office,4\n")
+        pairs = json.loads(self.read("m.json"))["pairs"]
+        self.assertEqual([pair.get("group") for pair in pairs], ["Tue", "Mon", "Tue", "Mon", "Mon", None])
+
+    def test_one_number_is_exact_beside_two(self):
+        self.file("p.csv", "shift,at least,at most\nearly Mon,2\nlate Mon,0,1\n")
+        self.expect(0, "least hours: 3\nAda: early Mon, 1\nBen: early Mon, 2\nat early Mon (2): Ada, Ben\nwithout: Cleo\n"
+                    "unused: late Mon, early Tue, office\n", "", "r.csv", "--places", "p.csv")
+
+    def test_groups_with_single_numbers(self):
+        """The smaller side gets all."""
+        self.file("t.csv", "nurse,tasks\nAda,2\nBen,2\nCleo,0\n")
+        self.file("p.csv", "shift,places\nearly Tue,2\noffice,0\n")
+        self.expect(0, "least hours: 7\nAda (2): early Tue, 3; early Mon, 1\nBen (2): early Tue, 2; late Mon, 1\n"
+                    "at early Tue (2): Ada, Ben\n", "", *RULES)
+        self.file("g.csv", "shift,day\nearly Tue,all\nearly Mon,all\nlate Mon,all\n")
+        self.expect(1, "Ada must take 2 shifts, and can take at most 1: Ada at most one of day all: allow others, or let Ada take one fewer\n"
+                    "Ben must take 2 shifts, and can take at most 1: Ben at most one of day all: allow others, or let Ben take one fewer\n"
+                    "least hours of 2 pairs: 2\nAda: early Mon, 1\nBen: late Mon, 1\nwithout: Ada (1 of 2), Ben (1 of 2)\n"
+                    "unused: early Tue (0 of 2)\n", "", *RULES, "--as-many-as-can")
+
+    def test_as_many_as_can(self):
+        self.file("p.csv", "shift,at least,at most\nearly Mon,2,2\nlate Mon,2,2\nearly Tue,1,2\n")
+        short = ("3 nurses (Ada, Ben, Cleo) can take at most 3 of the 4 places that must be filled at 2 shifts (early Mon (2), late Mon (2)) of "
+                 "day Mon: Ada, Ben, Cleo at most one each of day Mon: allow others there, or fill one fewer")
+        self.expect(1, short + "\n", "", *RULES)
+        status, out, _ = self.run_words(*RULES, "--as-many-as-can", "--output", "p.json", "--html", "p.html")
+        self.assertEqual(status, 1)
+        plan = json.loads(self.read("p.json"))
+        self.assertEqual(plan["short"], [{"persons": ["Ada", "Ben", "Cleo"], "objects": ["early Mon", "late Mon"], "needed": 4, "possible": 3,
+                                          "sentence": short}])
+        self.assertEqual(len(plan["missing"]), 1)
+        lack = plan["missing"][0]
+        self.assertEqual((lack["had"], lack["least"]), (1, 2))
+        self.assertIn(f"missing: {lack['object']}: 1 of 2\n", out)
+        self.assertIn("<em>1 of 2</em>", self.read("p.html"))
+
+    def test_keep_fixed_and_compare(self):
+        self.file("k.csv", "a,b\nAda,late Mon\nBen,early Mon\nCleo,early Tue\n")
+        self.assertIn("k.csv: 2 of 3 pairs changed\n", self.run_words(*RULES, "--keep", "k.csv")[1])
+        self.file("sick.csv", TASKS.replace("Ben,1,3", "Ben,0,0"))
+        self.assertIn("k.csv: 1 of 3 pairs changed\n  Ada: early Mon\n", self.run_words("r.csv", *RULES[1:3], "--tasks", "sick.csv", "--keep", "k.csv")[1])
+        self.assertIn("k.csv: 0 of 3 pairs changed\n", self.run_words(*RULES, "--keep", "k.csv", "--change-cost", "2")[1])
+        self.expect(0, "least hours: 5\nAda: late Mon, 2 (fixed)\nBen: early Mon, 2 (fixed)\nCleo: early Tue, 1 (fixed)\nat early Tue: Cleo\n"
+                    "at early Mon: Ben\nat late Mon: Ada\nunused: office\n", "", *RULES, "--fixed", "k.csv")
+        self.assertIn("k.csv: 5, 2 more than the best\n", self.run_words(*RULES, "--compare", "k.csv")[1])
+        self.file("f.csv", "a,b\nBen,early Mon\nCleo,late Mon\n")
+        self.file("t.csv", TASKS.replace("Ada,1,2", "Ada,2,2"))
+        self.file("g.csv", DAYS.replace("early Tue,Tue", "early Tue,Mon"))
+        self.expect(1, "around the fixed pairs, Ada must take 2 shifts, and can take at most 1: Ada at most one of day Mon: allow others, or let "
+                    "Ada take one fewer\n", "", *RULES, "--fixed", "f.csv")
+
+    def test_others(self):
+        self.assertIn("no other plan is as good: the next best is 4, 1 more\n", self.run_words(*RULES, "--others")[1])
+        self.file("r.csv", WEEK.replace("Ben,early Mon,2", "Ben,early Mon,1").replace("Ada,late Mon,2", "Ada,late Mon,1"))
+        self.assertIn(OTHERS, self.run_words(*RULES)[1])
+        self.assertIn("could change places at no cost: 2 nurses (Ada, Ben) on 2 shifts (early Mon, late Mon)\n",
+                      self.run_words(*RULES, "--others")[1])
+
+    def test_page_by_days(self):
+        self.run_words(*RULES, "--html", "p.html")
+        page = self.read("p.html")
+        self.assertIn('<thead><tr><th scope="col">nurse</th><th scope="col">Tue</th><th scope="col">Mon</th><th scope="col"></th></tr>', page)
+        self.assertIn('<tr><th scope="row">Ada</th><td></td><td>early</td><td></td></tr>', page)
+        self.assertIn('<tr><th scope="row">early</th><td>Cleo</td><td>Ada</td><td></td></tr>', page)
+        self.assertIn('<tr><th scope="row">office</th><td></td><td></td><td></td></tr>', page)
+
+    def test_many_days_stand_in_several_tables(self):
+        self.file("r.csv", "a,b,c\n" + "".join(f"Ada,early {day},1\n" for day in range(1, 32)))
+        self.file("t.csv", "a,least,most\nAda,20,31\n")
+        self.file("g.csv", "b,day\n" + "".join(f"early {day},{day}\n" for day in range(1, 32)))
+        self.run_words("r.csv", "--tasks", "t.csv", "--groups", "g.csv", "--html", "p.html")
+        page = self.read("p.html")
+        for caption in ("day 1 to 8", "day 9 to 16", "day 17 to 24", "day 25 to 31"):
+            self.assertEqual(page.count(f"<caption>{caption}</caption>"), 2)
+
+    def test_labels_stay_apart(self):
+        """A group's name isn't left out where two objects would look the same."""
+        self.file("r.csv", "a,b,c\nAda,Mon early,1\nBen,early-Mon,1\nCleo,Mon,1\n")
+        self.file("g.csv", "b,day\nMon early,Mon\nearly-Mon,Mon\nMon,Mon\n")
+        self.run_words("r.csv", "--groups", "g.csv", "--html", "p.html")
+        for cell in ("Mon early", "early-Mon", "Mon"):
+            self.assertIn(f"<td>{cell}</td>", self.read("p.html"))
+
+
+class Refusals(Runs):
+    def setUp(self):
+        super().setUp()
+        for name, content in (("r.csv", WEEK), ("p.csv", PLACES), ("t.csv", TASKS), ("g.csv", DAYS)):
+            self.file(name, content)
+
+    def test_groups(self):
+        for content, text in (
+                ("a,b\nnoon,Mon\n", "g.csv, line 2, column 1: the roster has no object 'noon'"),
+                ("a,b\nearly Mon,Mon\nearly Mon,Tue\n", "g.csv, line 3, column 1: 'early Mon' a second time: it is in Mon, since line 2"),
+                ("a,b\nearly Mon,\n", "g.csv, line 2, column 2: an empty name"),
+                ("a\nearly Mon\n", "g.csv, line 1: each line must have an object and its group"),
+                ("early Mon,Mon\n", "g.csv, line 1, column 1: a title line must come first, and 'early Mon' is an object"),
+                ("a,b\n", "g.csv, line 1: no line after the title")):
+            self.file("g.csv", content)
+            with self.subTest(content=content):
+                self.refused(3, text, "r.csv", "--groups", "g.csv")
+        self.refused(4, "none.csv", "r.csv", "--groups", "none.csv")
+        self.refused(2, "--rents are of single places and tasks: not with --places, --tasks or --groups", "r.csv", "--groups", "g.csv", "--rents")
+
+    def test_two_of_a_group(self):
+        self.file("f.csv", "a,b\nAda,early Mon\nBen,late Mon\nAda,late Mon\n")
+        text = "f.csv, line 4: Ada has late Mon and, in line 2, early Mon: two of day Mon"
+        self.refused(3, text, *RULES, "--fixed", "f.csv")
+        self.refused(3, text, *RULES, "--compare", "f.csv")
+
+    def test_compare_with_less_than_must_be(self):
+        self.file("h.csv", "a,b\nAda,early Mon\nCleo,early Tue\n")
+        self.refused(3, "h.csv: 2 too few, where none must be: late Mon: 0 of 1, Ben: 0 of 1", *RULES, "--compare", "h.csv")
+
+    def test_too_many_nodes(self):
+        self.file("r.csv", "nurse,shift,hours\n" + "".join(f"p{person},o{number},1\n" for person in range(100) for number in range(100)))
+        self.file("t.csv", "nurse,least,most\n" + "".join(f"p{person},0,90\n" for person in range(100)))
+        self.refused(3, "r.csv: 9000 shifts that nurses may take, 100 places at shifts and 0 rules of at most one need 9000 nodes, and 8192 can "
+                     "be had: lower the greatest counts, forbid more pairs, or split the problem, as by weeks", "r.csv", "--tasks", "t.csv")
+
+
+if __name__ == "__main__":
+    unittest.main()
