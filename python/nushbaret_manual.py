@@ -5,6 +5,8 @@ from typing import Iterable, Iterator, List, NamedTuple, Tuple
 from nushbaret import _words as words
 from nushbaret._library import VERSION
 
+# The variables that the command looks at.
+VARIABLES = [("NUSHBARET_DEBUG", "If it is set, a fault of the command itself shows where it comes from.")]
 EXAMPLES = """
 The costs of nurses and shifts, one pair in each line of roster.csv:
 
@@ -89,5 +91,7 @@ def command_page() -> str:
     lines += [".SH DESCRIPTION", escaped(words.SUMMARY), *option_lines([ARGUMENT]), ".SH OPTIONS", *option_lines(GENERAL)]
     for section in words.SECTIONS:
         lines += [f'.SS "{escaped(section)}"', *option_lines(option_entries(section))]
-    lines += [".SH EXIT STATUS", escaped(words.STATUSES), ".SH EXAMPLES", *_examples()]
+    lines += [".SH EXIT STATUS", escaped(words.STATUSES), ".SH ENVIRONMENT"]
+    lines += [line for name, text in VARIABLES for line in (".TP", f"\\fB{name}\\fR", escaped(text))]
+    lines += [".SH EXAMPLES", *_examples()]
     return "\n".join([*lines, ".SH SEE ALSO", "\\fBnushbaret\\fR(3), \\fBauction_cli\\fR(1)", ""])

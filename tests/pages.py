@@ -9,7 +9,7 @@ virtual environment, they are shown as not run. With --text it runs nothing, and
 Then it looks at the text of all pages: links and names of files that lead nowhere, lines of more than 100 characters,
 sentences of more than 35 words, and words that docs/CONTRIBUTING.md lists to avoid. Tables, code and quoted output are
 exempt. It compares docs/DEFINITIONS.md with what docs/definitions.py makes, whose sentences come from the sources. The
-doc comments of crates and the comments of their specs avoid the same words. And it looks for each block below
+doc comments of crates, the comments of their specs, and comments and texts of the Python command avoid the same words. And it looks for each block below
 `# Example` in the documentation of calls, and for each block that docs/CALLING.md shows other crates, among the lines
 of crates/calling, which the gate proves. Prints what is wrong, and ends with status 1 then.
 """
@@ -20,6 +20,7 @@ import re
 import subprocess
 import sys
 import tempfile
+import tokenize
 
 TOP = os.path.dirname(os.path.dirname(os.path.abspath(__file__)))
 PROGRAM = os.path.join(TOP, "crates/auction_cli/out/auction_cli")
@@ -29,6 +30,9 @@ RELEASED = re.compile(r"\brelease/|\bplanner\b")
 GENERATED = "docs/DEFINITIONS.md"
 # The sources whose comments avoid the same words, the beginning of these comments, and code in them.
 COMMENTS = {"crates/*/src/**/*.rt": re.compile(r"\s*//[/!]"), "crates/*/specs/**/*.antt": re.compile(r"\s*--")}
+# The modules of the command for rosters.
+COMMAND = ("answer", "by_counts", "command", "costs", "days", "exchanges", "fair", "files", "gadgets", "groups", "json", "lack", "nodes",
+           "page", "ranked", "roster", "sentences", "sheets", "texts", "words", "workbook")
 QUOTED = re.compile(r"```.*?```|`[^`\n]*`", re.DOTALL)
 # The crate of examples, and the section of a page that shows some of them.
 EXAMPLES = "crates/calling/src"
@@ -208,6 +212,17 @@ def look_at_comments(words_to_avoid, told):
                 told.append(f"{name}:{text.count(chr(10), 0, word.start()) + 1}: avoid '{' '.join(word[0].split())}'")
 
 
+def look_at_command(words_to_avoid, told):
+    """Looks for words to avoid in the comments and texts of the Python command."""
+    for module in COMMAND:
+        name = f"python/nushbaret/_{module}.py"
+        with open(os.path.join(TOP, name), "rb") as file:
+            for token in tokenize.tokenize(file.readline):
+                if token.type in (tokenize.COMMENT, tokenize.STRING, getattr(tokenize, "FSTRING_MIDDLE", None)):
+                    for word in words_to_avoid.finditer(QUOTED.sub("", token.string)):
+                        told.append(f"{name}:{token.start[0]}: avoid '{word[0]}'")
+
+
 def look_at_generated(told):
     """Compares the generated page with what its script makes of the sources."""
     sys.dont_write_bytecode = True
@@ -272,6 +287,7 @@ def look_at_text(told):
         if page != GENERATED:
             look_at_sentences(page, words_to_avoid, told)
     look_at_comments(words_to_avoid, told)
+    look_at_command(words_to_avoid, told)
     look_at_generated(told)
     look_at_examples(told)
 

@@ -75,11 +75,9 @@ class Wish(NamedTuple):
 
 def nodes_around(roster: Roster, fixed: Sequence[PlanLine]) -> Nodes:
     """What is left to solve around the fixed pairs."""
-    if fixed:
-        return nodes_without((len(roster.persons), len(roster.objects)), [(pair.person, pair.object) for pair in fixed], roster.of_persons,
-                             roster.of_objects, roster.costs)
-    return Nodes(list(range(len(roster.persons))), list(range(len(roster.objects))), roster.of_persons, roster.of_objects, roster.costs,
-                 Edges(roster.of_persons, roster.of_objects), roster.by_persons, roster.is_full)
+    nodes = Nodes(list(range(len(roster.persons))), list(range(len(roster.objects))), roster.of_persons, roster.of_objects, roster.costs,
+                  Edges(roster.of_persons, roster.of_objects), roster.by_persons, roster.is_full)
+    return nodes_without(nodes, [(pair.person, pair.object) for pair in fixed]) if fixed else nodes
 
 
 def answer_of(roster: Roster, wish: Wish) -> Answer:

@@ -110,7 +110,8 @@ def _report(options: Options, roster: Roster) -> Report:
 
 def _read(options: Options) -> Roster:
     """The roster, with how many each name takes."""
-    roster = read_roster(options.roster, options.form, options.decimals, options.decimal_comma, options.round, options.sheet, options.skip_rows)
+    roster = read_roster(options.roster, options.form, options.decimals, options.decimal_comma, options.round, options.sheet,
+                         options.skip_rows)
     for line in read_lines(options.roster, roster, sys.stderr is not None and sys.stderr.isatty()):
         _say(line)
     tasks = read_counts(options.tasks, roster, False) if options.tasks else None

@@ -3,7 +3,7 @@ from html import escape
 from typing import Dict, Iterator, List, NamedTuple, Optional, Sequence, Tuple
 
 from ._answer import Plan
-from ._groups import missing_of
+from ._groups import missing_of, order_of
 from ._roster import Groups, Roster
 
 # So many days fit on a sheet of paper side by side.
@@ -19,7 +19,9 @@ STYLE = """
 @media print {
 .days { font-size: 10px; width: 100% }
 .days td, .days th { min-width: 0; overflow-wrap: anywhere }
-.days thead { display: table-header-group }
+.days thead { display: table-header-group; break-after: avoid }
+.days caption { break-after: avoid }
+.days tbody tr:first-child { break-before: avoid }
 }
 """
 
@@ -102,10 +104,11 @@ def _by_objects(roster: Roster, plan: Plan, labels: List[str], days: _Days) -> L
         if missing.side == 1:
             who.setdefault(missing.number, []).append(f"<em>{missing.had} of {missing.least}</em>")
     rows: Dict[str, Dict[Optional[int], List[str]]] = {}
-    for number, label in enumerate(labels):
+    ranks = order_of(roster)
+    for number in sorted(range(len(labels)), key=ranks.__getitem__):
         group = _group(roster, number)
         if group in days.groups:
-            rows.setdefault(label, {})[group] = who.get(number, [])
+            rows.setdefault(labels[number], {})[group] = who.get(number, [])
     return [(label, ["\n".join(row.get(group, [])) for group in days.groups]) for label, row in rows.items()]
 
 

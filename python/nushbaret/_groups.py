@@ -124,10 +124,9 @@ class Paired(Protocol):
 
 
 def order_of(roster: Roster) -> List[int]:
-    """A rank for each object: by the groups in the order of their file, then those in none."""
-    last = 0 if roster.groups is None else len(roster.groups.names)
+    """A rank for each object: by groups and objects in the order of their file, then those in none."""
     held = {} if roster.groups is None else roster.groups.of_objects
-    order = sorted(range(len(roster.objects)), key=lambda object_: (held.get(object_, last), object_))
+    order = sorted(held, key=held.__getitem__) + [object_ for object_ in range(len(roster.objects)) if object_ not in held]
     ranks = [0] * len(order)
     for rank, object_ in enumerate(order):
         ranks[object_] = rank

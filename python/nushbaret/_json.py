@@ -77,8 +77,10 @@ def _outside(roster: Roster, plan: Plan) -> Content:
     if roster.least is not None:
         content["missing"] = [{("person", "object")[missing.side]: missing.name, "had": missing.had, "least": missing.least}
                               for missing in missing_of(roster, plan.pairs)]
-    content["without"] = [{"person": roster.persons[number], "had": had[number], "most": roster.tasks_of(number)} for number in plan.without]
-    content["unused"] = [{"object": roster.objects[number], "had": used[number], "most": roster.places_of(number)} for number in plan.unused]
+    content["without"] = [{"person": roster.persons[person], "had": had[person], "most": roster.tasks_of(person)}
+                          for person in plan.without]
+    content["unused"] = [{"object": roster.objects[object_], "had": used[object_], "most": roster.places_of(object_)}
+                         for object_ in plan.unused]
     return content
 
 

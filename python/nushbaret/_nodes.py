@@ -53,17 +53,18 @@ class Nodes(NamedTuple):
         return sorted((self.of_rows[row], self.of_columns[column]) for row, column in zip(rows, columns))
 
 
-def nodes_without(counts: Tuple[int, int], fixed: Collection[Pair], persons: Numbers, objects: Numbers, costs: Numbers) -> Nodes:
-    """The nodes of so many persons and objects without those of fixed pairs."""
-    of_sides = []
-    for side, count in enumerate(counts):
+def nodes_without(nodes: Nodes, fixed: Collection[Pair]) -> Nodes:
+    """The nodes without those of fixed pairs, where each stands for the name of its number. A whole matrix stays one."""
+    sides = []
+    for side, numbers, count in ((0, nodes.rows, len(nodes.of_rows)), (1, nodes.columns, len(nodes.of_columns))):
         taken = {pair[side] for pair in fixed}
-        of_sides.append([number for number in range(count) if number not in taken])
-    row_of, column_of = ({number: node for node, number in enumerate(own)} for own in of_sides)
-    triples = [triple for triple in zip(persons, objects, costs) if triple[0] in row_of and triple[1] in column_of]
-    own_persons, own_objects = (array("H", [triple[side] for triple in triples]) for side in range(2))
-    return Nodes(of_sides[0], of_sides[1], array("H", map(row_of.__getitem__, own_persons)), array("H", map(column_of.__getitem__, own_objects)),
-                 array("q", [triple[2] for triple in triples]), Edges(own_persons, own_objects))
+        left = [number for number in range(count) if number not in taken]
+        places = {number: place for place, number in enumerate(left)}
+        sides.append((numbers, left, places))
+    kept = bytes(row in sides[0][2] and column in sides[1][2] for row, column in zip(nodes.rows, nodes.columns))
+    own = [array("H", compress(numbers, kept)) for numbers, _, _ in sides]
+    rows, columns = (array("H", map(places.__getitem__, numbers)) for numbers, (_, _, places) in zip(own, sides))
+    return Nodes(sides[0][1], sides[1][1], rows, columns, array("q", compress(nodes.costs, kept)), Edges(*own), nodes.by_rows, nodes.is_full)
 
 
 def least_costs(nodes: Nodes, maximize: bool) -> Numbers:

@@ -8,20 +8,25 @@ from ._answer import Answer, Plan, counted, left_out
 from ._days import STYLE as DAYS_STYLE, by_days
 from ._groups import order_of
 from ._roster import Roster
-from ._texts import Note, Report, notes_of
+from ._texts import Note, Report, notes_of, persons_at
 
 MOST_CELLS = 250_000
 # Up to so many cells persons and objects that are in no pair and in no short group are drawn as well.
 MOST_WHOLE_CELLS = 20_000
 SHADES = ("#f7fbff", "#e3eef9", "#cfe1f2", "#b5d4e9", "#93c3df", "#6daed5", "#4b97c9", "#2f7ebc", "#1864aa")
 FIRST_DARK = 6
+# A sheet of paper, in pixels of CSS at the size of print: its width, a letter's and a line's; the most for a person's name and an object's.
+SHEET_WIDTH = 960
+LETTER, LINE, MARGIN = 6, 13, 10
+MOST_NAME_WIDTH = 180
+MOST_HEADING_HEIGHT = 120
 
 STYLE = """
 body { font: 15px/1.4 sans-serif; margin: 2em; color: #1b1b1b; background: #fff }
 table { border-collapse: collapse; margin: 1em 0 }
 th, td { border: 1px solid #d0d0d0; padding: .15em .45em; white-space: nowrap }
-.matrix { overflow: auto; max-height: 85vh }
-.matrix table { margin: 0; border-collapse: separate; border-spacing: 0 }
+.matrix { overflow: auto; max-height: 85vh; white-space: nowrap }
+.matrix table { display: inline-table; vertical-align: top; margin: 0; border-collapse: separate; border-spacing: 0 }
 .matrix th, .matrix td { border-width: 0 1px 1px 0 }
 .matrix thead th { border-top-width: 1px }
 .matrix th:first-child { border-left-width: 1px }
@@ -33,6 +38,7 @@ th, td { border: 1px solid #d0d0d0; padding: .15em .45em; white-space: nowrap }
 .matrix thead th:first-child { left: 0; z-index: 3 }
 .plan td { vertical-align: top; white-space: pre-line }
 .plan td:nth-child(3) { text-align: right; font-variant-numeric: tabular-nums }
+.matrix tr.part, p.paper { display: none }
 details { margin: .5em 0 }
 summary { cursor: pointer }
 td.none { background: repeating-linear-gradient(45deg, #fff, #fff 4px, #eee 4px, #eee 6px) }
@@ -47,8 +53,17 @@ p.short { color: #b00020; font-weight: bold }
 @page { size: landscape; margin: 1cm }
 @media print {
 body { margin: 0; print-color-adjust: exact; -webkit-print-color-adjust: exact }
-.matrix { overflow: visible; max-height: none; font-size: 9px; break-inside: avoid }
+.matrix { overflow: visible; max-height: none; font-size: 9px }
+.matrix table { display: table; margin-bottom: 1em; break-inside: avoid }
 .matrix th { position: static }
+.matrix tbody th { white-space: normal; overflow-wrap: anywhere; max-width: 180px }
+.matrix thead tr:last-child th { padding: .3em .15em }
+.matrix thead th span { max-height: 120px; white-space: normal; overflow-wrap: anywhere }
+.matrix tr.part { display: table-row }
+.matrix tr.part th { text-align: left; font-size: 11px }
+.plan td { white-space: pre-wrap; overflow-wrap: anywhere }
+details { display: none }
+p.paper { display: block }
 tr { break-inside: avoid }
 }
 """
@@ -121,10 +136,10 @@ def page(report: Report, heading: str, lines: List[str]) -> str:
     Of a matrix of more than 20000 cells only the persons and objects of the plan and of the short groups are drawn; where even these
     have more than 250000 cells none is, and the page says so.
     """
-    return "".join(_parts(report, heading, lines))
+    return "".join(_pieces(report, heading, lines))
 
 
-def _parts(report: Report, heading: str, lines: List[str]) -> Iterator[str]:
+def _pieces(report: Report, heading: str, lines: List[str]) -> Iterator[str]:
     roster, answer = report.roster, report.answer
     yield (
         '<!DOCTYPE html>\n<html lang="en">\n<head>\n<meta charset="utf-8">\n'
@@ -156,20 +171,55 @@ def _matrix(roster: Roster, answer: Answer, frame: Frame) -> Iterator[str]:
     costs = costs_by_person(roster)
     span = (min(roster.costs, default=0), max(roster.costs, default=0))
     edges = _edges(frame)
-    yield '<div class="matrix"><table>\n<thead><tr><th></th>'
-    for column, object_ in enumerate(frame.objects):
-        yield _heading("col", f"<span>{escape(roster.objects[object_])}</span>", column < frame.short_objects)
-    yield "</tr></thead>\n<tbody>\n"
-    for row, person in enumerate(frame.persons):
-        yield "<tr>" + _heading("row", escape(roster.persons[person]), row < frame.short_persons)
-        yield from (
-            _cell(roster, costs[person].get(object_), chosen.get((person, object_)), span, edges.get((row, column), ()))
-            for column, object_ in enumerate(frame.objects))
-        yield "</tr>\n"
-    yield "</tbody>\n</table></div>\n"
+    yield '<div class="matrix">'
+    for columns, name in named_parts(roster, frame):
+        yield f"<table>\n<thead>{name}<tr><th></th>"
+        for column in columns:
+            yield _heading("col", f"<span>{escape(roster.objects[frame.objects[column]])}</span>", column < frame.short_objects)
+        yield "</tr></thead>\n<tbody>\n"
+        for row, person in enumerate(frame.persons):
+            yield "<tr>" + _heading("row", escape(roster.persons[person]), row < frame.short_persons)
+            yield from (_cell(roster, costs[person].get(frame.objects[column]), chosen.get((person, frame.objects[column])), span,
+                              edges.get((row, column), ())) for column in columns)
+            yield "</tr>\n"
+        yield "</tbody>\n</table>"
+    yield "</div>\n"
     yield "<p>Darker cells cost more, hatched ones are forbidden; the plan's are outlined, the fixed ones twice.</p>\n"
     if len(frame.persons) < len(roster.persons) or len(frame.objects) < len(roster.objects):
         yield "<p>Who and what is in no pair isn't drawn.</p>\n"
+
+
+def named_parts(roster: Roster, frame: Frame) -> List[Tuple[range, str]]:
+    """The columns in parts that each fit on a sheet of paper, with a line that names each part there, if there are several."""
+    parts = _parts(roster, frame)
+    if len(parts) < 2:
+        return [(part, "") for part in parts]
+    names = [(roster.objects[frame.objects[part[0]]], roster.objects[frame.objects[part[-1]]]) for part in parts]
+    return [(part, f'<tr class="part"><th colspan="{len(part) + 1}">{escape(f"{first} to {last} (part {number} of {len(parts)})")}</th></tr>')
+            for number, (part, (first, last)) in enumerate(zip(parts, names), 1)]
+
+
+def _parts(roster: Roster, frame: Frame) -> List[range]:
+    """As many columns at a time as fit on a sheet next to the names of persons; in parts of about one width."""
+    names = max(len(roster.persons[person]) for person in frame.persons)
+    room = SHEET_WIDTH - MARGIN - min(LETTER * names, MOST_NAME_WIDTH)
+    cost = MARGIN + LETTER * max(len(roster.shown(cost)) for cost in (min(roster.costs, default=0), max(roster.costs, default=0)))
+    lines = [-(-LETTER * len(roster.objects[object_]) // MOST_HEADING_HEIGHT) for object_ in frame.objects]
+    widths = [max(cost, LINE * count + 4) for count in lines]
+    parts = _filled(widths, room)
+    even = _filled(widths, min(room, sum(widths) // len(parts) + max(widths)))
+    return even if len(even) == len(parts) else parts
+
+
+def _filled(widths: List[int], room: int) -> List[range]:
+    """Columns one after the other, in parts of at most so much room."""
+    parts, begin, width = [], 0, 0
+    for column, own in enumerate(widths):
+        if column > begin and width + own > room:
+            parts.append(range(begin, column))
+            begin, width = column, 0
+        width += own
+    return [*parts, range(begin, len(widths))]
 
 
 def costs_by_person(roster: Roster) -> List[Dict[int, int]]:
@@ -209,17 +259,15 @@ def _cell(roster: Roster, cost: Optional[int], fixed: Optional[bool], span: Tupl
 
 
 def _list(roster: Roster, plan: Plan) -> Iterator[str]:
-    """The plan: a row for each person with all of its own, and then for each object of several places."""
+    """The plan: a row for each person with all of its own, and then, if any object may have several, for each object."""
     own: Dict[int, List[Tuple[str, str]]] = {}
-    at: Dict[int, List[str]] = {}
     for pair in plan.pairs:
         own.setdefault(pair.person, []).append((roster.objects[pair.object], roster.shown(pair.cost)))
-        if roster.places_of(pair.object) > 1:
-            at.setdefault(pair.object, []).append(roster.persons[pair.person])
     yield from _table(list(roster.titles), [
         [roster.persons[person]] + ["\n".join(texts) for texts in zip(*pairs)] for person, pairs in own.items()])
+    at = persons_at(roster, plan)
     if at:
-        yield from _table([roster.titles[1], roster.titles[0]], [[roster.objects[number], ", ".join(at[number])] for number in sorted(at)])
+        yield from _table([roster.titles[1], roster.titles[0]], [[roster.objects[object_], ", ".join(who)] for object_, who in at])
 
 
 def _table(titles: List[str], rows: List[List[str]]) -> Iterator[str]:
@@ -243,4 +291,7 @@ def _folded(roster: Roster, plan: Plan) -> Iterator[str]:
     """Who gets less than it should, and what has places left, under their count."""
     for out in left_out(roster, plan):
         title = f"{out.how}: {counted(len(out.names), roster.titles[out.side])}"
-        yield f"<details><summary>{escape(title)}</summary><p>{escape(', '.join(out.names))}</p></details>\n"
+        names = escape(", ".join(out.names))
+        # On paper nothing can be unfolded.
+        yield f"<details><summary>{escape(title)}</summary><p>{names}</p></details>\n"
+        yield f'<p class="paper">{escape(title)}: {names}</p>\n'

@@ -117,7 +117,7 @@ def _cell_text(value: Any, comma: bool) -> str:
 
 
 class Sheet:
-    """The records of a CSV file: UTF-8 or UTF-16, with `;`, TAB or `,` between cells, whichever its first line has most of. Or those of
+    """The records of a CSV file: UTF-8 or UTF-16, with `;`, TAB or `,` between cells, the one that its first line has most of. Or those of
     a workbook, `.xlsx`. Rows above the titles may be skipped.
 
     Raises `OSError` where the file can't be read, and `RosterFault` where it is no text or is too long.
@@ -278,7 +278,8 @@ def _lines_of(text: str) -> Iterator[str]:
     while begin < len(text):
         end = text.find("\n", begin + PIECE) + 1 or len(text)
         piece = text[begin:end]
-        yield from re.findall("[^\r\n]*(?:\r\n?|\n)|[^\r\n]+", piece) if any(map(piece.__contains__, OTHER_ENDS)) else piece.splitlines(True)
+        is_plain = not any(map(piece.__contains__, OTHER_ENDS))
+        yield from piece.splitlines(True) if is_plain else re.findall("[^\r\n]*(?:\r\n?|\n)|[^\r\n]+", piece)
         begin = end
 
 

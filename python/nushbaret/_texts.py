@@ -1,7 +1,7 @@
 """What the command says: lines for people, and the plan as CSV."""
 import csv
 import io
-from typing import Dict, List, NamedTuple, Optional, Sequence
+from typing import Dict, List, NamedTuple, Optional, Sequence, Tuple
 
 from ._answer import MOST_NAMES_SHOWN, Answer, Pair, Plan, counted, left_out, named, sentence
 from ._groups import order_of
@@ -97,7 +97,8 @@ def notes_of(report: Report, plan: Plan) -> List[Note]:
     roster, options = report.roster, report.options
     notes = [fairness(report, report.fair)] if report.fair else []
     notes += others(report, plan)
-    notes += [_difference(report, plan, other, f"plan {number}") for number, other in enumerate(plan.following, 2)] if options.plans > 1 else []
+    if options.plans > 1:
+        notes += [_difference(report, plan, other, f"plan {number}") for number, other in enumerate(plan.following, 2)]
     if options.rents:
         notes += [Note(f"rent of {roster.objects[number]}: {roster.shown(rent)}") for number, rent in plan.rents.items()]
     notes += [changes(roster, plan, report.kept)] if report.kept else []
@@ -105,18 +106,24 @@ def notes_of(report: Report, plan: Plan) -> List[Note]:
 
 
 def rows_of(roster: Roster, plan: Plan) -> List[str]:
-    """Each person with all of its own, then each object of several places with all of its own."""
+    """Each person with all of its own, then, if any object may have several, each object with all of its own."""
     own: Dict[int, List[str]] = {}
     for pair in plan.pairs:
         text = f"{roster.objects[pair.object]}, {roster.shown(pair.cost)}" + (" (fixed)" if pair.fixed else "")
         own.setdefault(pair.person, []).append(text)
     lines = [f"{roster.persons[person]}{_times(roster, len(texts))}: {'; '.join(texts)}" for person, texts in own.items()]
+    return lines + [f"at {roster.objects[object_]}{_times(roster, len(who))}: {', '.join(who)}" for object_, who in persons_at(roster, plan)]
+
+
+def persons_at(roster: Roster, plan: Plan) -> List[Tuple[int, List[str]]]:
+    """Who is at each object that is in a pair, in the roster's order, or the groups'; nothing where no object may have several."""
+    if all(roster.places_of(object_) <= 1 for object_ in range(len(roster.objects))):
+        return []
+    who: Dict[int, List[str]] = {}
+    for pair in plan.pairs:
+        who.setdefault(pair.object, []).append(roster.persons[pair.person])
     ranks = order_of(roster)
-    for object_ in sorted(range(len(roster.objects)), key=ranks.__getitem__):
-        who = [roster.persons[pair.person] for pair in plan.pairs if pair.object == object_] if roster.places_of(object_) > 1 else []
-        if who:
-            lines.append(f"at {roster.objects[object_]}{_times(roster, len(who))}: {', '.join(who)}")
-    return lines
+    return sorted(who.items(), key=lambda those: ranks[those[0]])
 
 
 def _times(roster: Roster, count: int) -> str:
@@ -164,15 +171,19 @@ def _difference(report: Report, plan: Plan, other: Plan, name: str, mark: str = 
 
 
 def _there(roster: Roster, plan: Plan, pairs: Sequence[Pair]) -> List[str]:
-    """What each person has in another plan that it hasn't in the plan; or that it has nothing there."""
-    own = {(pair.person, pair.object) for pair in plan.pairs}
-    lines: Dict[int, List[str]] = {person: [f"there {roster.persons[person]}: nothing"]
-                                   for person in {pair.person for pair in plan.pairs} - {pair.person for pair in pairs}}
+    """What each person has in another plan that it hasn't in the plan; that it has nothing there; and where names count, what it hasn't."""
+    own, others = ({(pair.person, pair.object) for pair in those} for those in (plan.pairs, pairs))
+    some = {person for person, _ in others}
+    lines: Dict[int, List[str]] = {}
     for pair in pairs:
         if (pair.person, pair.object) not in own:
-            line = f"there {roster.persons[pair.person]}: {roster.objects[pair.object]}, {roster.shown(pair.cost)}"
-            lines.setdefault(pair.person, []).append(line)
-    return [line for person in sorted(lines) for line in lines[person]]
+            lines.setdefault(pair.person, []).append(f"{roster.objects[pair.object]}, {roster.shown(pair.cost)}")
+    for pair in plan.pairs:
+        if pair.person not in some:
+            lines[pair.person] = ["nothing"]
+        elif roster.ruled and (pair.person, pair.object) not in others:
+            lines.setdefault(pair.person, []).append(f"not {roster.objects[pair.object]}")
+    return [f"there {roster.persons[person]}: {text}" for person in sorted(lines) for text in lines[person]]
 
 
 class Change(NamedTuple):

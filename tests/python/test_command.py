@@ -206,15 +206,15 @@ class Plans(Runs):
     def test_places(self):
         self.file("r.csv", ",day,night\nAda,1,5\nBen,2,4\nCleo,3,2\nDan,1,1\n")
         self.file("c.csv", "shift,places\nnight,3\n")
-        self.expect(0, "least cost: 8\nAda: day, 1\nBen: night, 4\nCleo: night, 2\nDan: night, 1\nat night: Ben, Cleo, Dan\n", "",
+        self.expect(0, "least cost: 8\nAda: day, 1\nBen: night, 4\nCleo: night, 2\nDan: night, 1\nat day: Ada\nat night: Ben, Cleo, Dan\n", "",
                     "r.csv", "--places", "c.csv")
         self.file("t.csv", "nurse,tasks\nAda,2\nDan,0\n")
-        self.expect(0, "least cost: 12\nAda: day, 1; night, 5\nBen: night, 4\nCleo: night, 2\nat night: Ada, Ben, Cleo\n", "",
+        self.expect(0, "least cost: 12\nAda: day, 1; night, 5\nBen: night, 4\nCleo: night, 2\nat day: Ada\nat night: Ada, Ben, Cleo\n", "",
                     "r.csv", "--places", "c.csv", "--tasks", "t.csv")
         self.file("t.csv", "nurse,tasks\nAda,3\nBen,0\nCleo,0\nDan,0\n")
         self.expect(1, "Ada must take 3 objects, and can take at most 2: Ada once at each of day, night: allow others, or let Ada take one "
                     "fewer\n"
-                    "least cost of 2 pairs: 6\nAda: day, 1; night, 5\nat night: Ada\nwithout: Ada (2 of 3)\nunused: night (1 of 3)\n", "",
+                    "least cost of 2 pairs: 6\nAda: day, 1; night, 5\nat day: Ada\nat night: Ada\nwithout: Ada (2 of 3)\nunused: night (1 of 3)\n", "",
                     "r.csv", "--places", "c.csv", "--tasks", "t.csv", "--as-many-as-can")
         self.file("f.csv", "a,b\nAda,night\nBen,night\n")
         self.assertIn("Ada: night, 5 (fixed)", self.run_words("r.csv", "--places", "c.csv", "--fixed", "f.csv")[1])
@@ -505,8 +505,9 @@ class Outputs(Runs):
         self.file("t.csv", "a,b\nAda,2\n")
         self.run_words("r.csv", "--places", "c.csv", "--tasks", "t.csv", "--html", "p.html")
         page = parsed(self.read("p.html"))
-        self.assertEqual([cell for cell, _ in page.cells[:8]], ["Ada", "S10\nS2", "1\n2", "Ben", "S2", "4", "S2", "Ada, Ben"])
-        self.assertEqual([cell for cell, _ in page.cells[8:]], ["", "2", "1", "9", "4", ""])
+        self.assertEqual([cell for cell, _ in page.cells[:10]],
+                         ["Ada", "S10\nS2", "1\n2", "Ben", "S2", "4", "S10", "Ada", "S2", "Ada, Ben"])
+        self.assertEqual([cell for cell, _ in page.cells[10:]], ["", "2", "1", "9", "4", ""])
         self.assertIn("<details><summary>unused: 1 shift</summary><p>S1</p></details>", self.read("p.html"))
 
     def test_wide_page(self):
@@ -543,7 +544,7 @@ class Page(HTMLParser):
         self.tags.add(tag)
         named = dict(attributes)
         for name in named:
-            assert name in ("class", "scope", "lang", "charset", "http-equiv", "content"), name
+            assert name in ("class", "scope", "colspan", "lang", "charset", "http-equiv", "content"), name
         if tag != "meta":
             self.open.append((tag, (named.get("class") or "").split()))
         if tag == "td":

@@ -42,11 +42,11 @@ class Week(Runs):
         self.file("t.csv", "nurse,tasks\nAda,2\nBen,2\nCleo,0\n")
         self.file("p.csv", "shift,places\nearly Tue,2\noffice,0\n")
         self.expect(0, "least hours: 7\nAda (2): early Tue, 3; early Mon, 1\nBen (2): early Tue, 2; late Mon, 1\n"
-                    "at early Tue (2): Ada, Ben\n", "", *RULES)
+                    "at early Tue (2): Ada, Ben\nat early Mon: Ada\nat late Mon: Ben\n", "", *RULES)
         self.file("g.csv", "shift,day\nearly Tue,all\nearly Mon,all\nlate Mon,all\n")
         self.expect(1, "Ada must take 2 shifts, and can take at most 1: Ada at most one of day all: allow others, or let Ada take one fewer\n"
                     "Ben must take 2 shifts, and can take at most 1: Ben at most one of day all: allow others, or let Ben take one fewer\n"
-                    "least hours of 2 pairs: 2\nAda: early Mon, 1\nBen: late Mon, 1\nwithout: Ada (1 of 2), Ben (1 of 2)\n"
+                    "least hours of 2 pairs: 2\nAda: early Mon, 1\nBen: late Mon, 1\nat early Mon: Ada\nat late Mon: Ben\nwithout: Ada (1 of 2), Ben (1 of 2)\n"
                     "unused: early Tue (0 of 2)\n", "", *RULES, "--as-many-as-can")
 
     def test_as_many_as_can(self):

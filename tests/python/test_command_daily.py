@@ -11,6 +11,8 @@ from unittest import mock
 import test_command
 from test_command import SQUARE, TOP, Runs
 
+from nushbaret._page import _filled
+
 try:
     import openpyxl
 except ImportError:
@@ -38,7 +40,8 @@ class Shown(Daily):
         self.assertEqual(self.run_words("r.csv", "--plans", "1000")[1].count("plan "), 5)
         self.file("c.csv", "a,b\nnight,2\nearly,0\n")
         self.assertTrue(self.run_words("r.csv", "--places", "c.csv", "--plans", "2")[1].endswith(
-            "at night: Ada, Cleo\nplan 2: 8, 3 more\n  there Ada: late, 1\n  there Ben: night, 5\n"))
+            "at late: Ben\nat night: Ada, Cleo\nplan 2: 8, 3 more\n  there Ada: late, 1\n  there Ada: not night\n"
+            "  there Ben: night, 5\n  there Ben: not late\n"))
         self.file("w.csv", ",x,y\nAda,1,2\nBen,2,2\nCleo,9,9\n")
         self.assertIn("plan 3: 10, 7 more\n  there Ben: nothing\n  there Cleo: y, 9\n", self.run_words("w.csv", "--plans", "3")[1])
         self.refused(2, "'1' is no number from 2 to 1000", "r.csv", "--plans", "1")
@@ -102,15 +105,54 @@ class Shown(Daily):
         self.assertEqual(json.loads(self.read("s.json"))["unused"], [{"object": "night", "had": 2, "most": 3}])
 
 
+class Paper(Daily):
+    def test_a_wide_matrix_in_parts(self):
+        self.file("w.csv", test_command.square(50))
+        self.run_words("w.csv", "--html", "p.html")
+        text = self.read("p.html")
+        page = test_command.parsed(text)
+        self.assertEqual(len(page.cells), 50 * 50 + 3 * 50)
+        self.assertEqual(text.count('<th scope="row">p49</th>'), 2)
+        self.assertEqual([text.count(f"(part {number} of 2)</th>") for number in (1, 2, 3)], [1, 1, 0])
+        self.run_words("r.csv", "--html", "q.html")
+        self.assertNotIn("(part ", self.read("q.html"))
+
+    def test_parts_fit(self):
+        for widths, room in (([10] * 95, 300), ([10, 400, 10, 10], 300), ([290] * 3, 300), ([7, 30] * 40, 100)):
+            parts = _filled(widths, room)
+            self.assertEqual([column for part in parts for column in part], list(range(len(widths))))
+            for part in parts:
+                self.assertTrue(len(part) == 1 or sum(widths[column] for column in part) <= room)
+
+    def test_lists_are_unfolded(self):
+        self.file("w.csv", ",x,y,z\nAda,5,1,4\n")
+        self.run_words("w.csv", "--html", "p.html")
+        text = self.read("p.html")
+        self.assertIn("<details><summary>unused: 2 objects</summary><p>x, z</p></details>\n<p class=\"paper\">unused: 2 objects: x, z</p>", text)
+        screen, paper = text.split("@media print", 1)
+        self.assertIn("p.paper { display: none }", screen)
+        self.assertIn("details { display: none }\np.paper { display: block }", paper)
+
+
 class Faults(Daily):
     def test_interrupted(self):
-        self.file("r.csv", test_command.square(700))
-        ended = subprocess.Popen([sys.executable, "-m", "nushbaret", "r.csv", "--output", "p.csv", "--plans", "900"], stdout=subprocess.PIPE,
+        os.mkfifo("pipe.csv")
+        ended = subprocess.Popen([sys.executable, "-m", "nushbaret", "pipe.csv", "--output", "p.csv"], stdout=subprocess.PIPE,
                                  stderr=subprocess.PIPE, env={**os.environ, "PYTHONPATH": str(TOP / "python")})
-        time.sleep(0.7)
+        pipe = self.opened("pipe.csv", ended)
         ended.send_signal(signal.SIGINT)
         out, err = ended.communicate()
-        self.assertEqual((ended.returncode, out, err, os.listdir()), (-signal.SIGINT, b"", b"", ["r.csv"]))
+        os.close(pipe)
+        self.assertEqual((ended.returncode, out, err, sorted(os.listdir())), (-signal.SIGINT, b"", b"", ["pipe.csv", "r.csv"]))
+
+    def opened(self, pipe, ended):
+        """A pipe to a command that has begun to read it."""
+        while ended.poll() is None:
+            try:
+                return os.open(pipe, os.O_WRONLY | os.O_NONBLOCK)
+            except OSError:
+                time.sleep(0.01)
+        self.fail(ended.communicate())
 
     def test_interrupted_while_writing(self):
         for force in ((), ("--force",)):
