@@ -60,7 +60,7 @@ class Package(unittest.TestCase):
         self.assertIn("linear assignment problem", told["Keywords"].split(","))
         self.assertIn("Operating System :: POSIX :: Linux", told.get_all("Classifier"))
         self.assertEqual(told["Description-Content-Type"], "text/markdown")
-        self.assertIn("For rosters\nwith names there is a command (ROSTERS.md).", told.get_payload())
+        self.assertIn("For rosters with names there is a command\n(ROSTERS.md).", told.get_payload())
         self.assertNotRegex(told.get_payload(), r"\]\((?!https?:)")
 
     def test_sources(self):
