@@ -35,12 +35,13 @@ shows() {
 
 # The library for ARM: its names, the calls under emulation, and the worked example over the shared library.
 on_arm() {
-    local built=$top/c/out/aarch64 cc=aarch64-linux-gnu-gcc
+    local built=$top/c/out/aarch64 cc=aarch64-linux-gnu-gcc emulated
+    emulated=(qemu-aarch64 -L "$(dirname "$(dirname "$("$cc" -print-file-name=libc.so.6)")")")
     run 'header for ARM' python3 "$top/tests/door/header.py" "$built"
-    run 'ARM: build' "$cc" "${c99[@]}" "${flags[@]}" -static "$calls" "$built/libnushbaret.a" "${wrapped[@]}" -o "$work/calls_on_arm"
-    run 'ARM' qemu-aarch64 "$work/calls_on_arm"
+    run 'ARM: build' "$cc" "${c99[@]}" "${flags[@]}" "$calls" "$built/libnushbaret.a" "${wrapped[@]}" -o "$work/calls_on_arm"
+    run 'ARM' "${emulated[@]}" "$work/calls_on_arm"
     run 'example for ARM: build' "$cc" -std=c99 -pedantic "${flags[@]}" "$top/c/example.c" -L"$built" -lnushbaret -Wl,-rpath,"$built" -o "$work/example_on_arm"
-    shows 'example for ARM' qemu-aarch64 -L "$(dirname "$(dirname "$("$cc" -print-file-name=libc.so.6)")")" "$work/example_on_arm"
+    shows 'example for ARM' "${emulated[@]}" "$work/example_on_arm"
 }
 
 # Without the compiler for ARM the build says in one sentence where it is.
