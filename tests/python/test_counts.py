@@ -258,6 +258,12 @@ class Words(unittest.TestCase):
                 nushbaret.assign_counts(self.COSTS, *words)
             self.assertEqual(str(caught.exception), text)
 
+    def test_timeout(self):
+        draw = random.Random(2)
+        costs = [[draw.randint(1, 10**6) for _ in range(93)] for _ in range(100)]
+        with self.assertRaises(TimeoutError):
+            nushbaret.assign_counts(costs, (18, 20), (18, 22), timeout=0)
+
     def test_too_many_nodes(self):
         costs = [[1] * 100 for _ in range(100)]
         helps = "can be had: lower the greatest counts, forbid more pairs, or split the problem, as by weeks"
@@ -282,6 +288,10 @@ class Words(unittest.TestCase):
         result = nushbaret.assign_counts(frame, pandas.Series([2, 1], frame.index), 1, groups)
         self.assertEqual(result.pairs, [("Ada", "late"), ("Ada", "office"), ("Ben", "early")])
         self.assertEqual(result.to_frame().values.tolist(), [["Ada", "late", 1], ["Ada", "office", 3], ["Ben", "early", 2]])
+        with self.assertRaises(nushbaret.Infeasible) as caught:
+            nushbaret.assign_counts(frame, (0, 1), [3, 0, 0])
+        self.assertEqual(str(pickle.loads(pickle.dumps(caught.exception))),
+                         "counts can't be met: column early must have 3 rows, and can have 2: 2 where a pair or a group counts once")
 
 
 if __name__ == "__main__":
