@@ -276,9 +276,9 @@ static void rectangle_starts(void) {
     memset(first, 0, sizeof first);
     first[0].low = 63, first[1].low = 9, first[3].low = 18;
     WANT(nushbaret_solve(&problem, &answer) == NUSHBARET_BEST && answer.told.total == 0);
-    WANT(prices[0].low == 28 && prices[1].low == 0 && prices[2].low == 1 && prices[3].low == 19);
+    WANT(prices[0].low == 27 && prices[1].low == 0 && prices[2].low == 0 && prices[3].low == 18);
     problem.first = NULL;
-    WANT(nushbaret_solve(&problem, &answer) == NUSHBARET_BEST && prices[3].low != 19);
+    WANT(nushbaret_solve(&problem, &answer) == NUSHBARET_BEST && prices[3].low != 18);
 }
 
 /* First prices at which an object is dear that nobody wants: it is cheap in the answer. */
@@ -613,6 +613,18 @@ static void refusals(void) {
     refused(c, NUSHBARET_HALL, check_hall, "check_hall");
 }
 
+/* Where the first growth is refused, the lists are still judged first. */
+static void faults_before_memory(void) {
+    struct call c = two(NUSHBARET_MIN, 1, 2, 3, 5);
+    c.is_from = 1, c.first[1].high = 55;
+    growths = 0, refuse_at = 1;
+    WANT(solve(&c) == NUSHBARET_PRICE && c.told.place == 1);
+    c.costs[3] = NUSHBARET_GREATEST_COST + 1;
+    growths = 0;
+    WANT(solve(&c) == NUSHBARET_COST && c.told.place == 3);
+    refuse_at = 0;
+}
+
 /* Persons and objects at costs i * j, whose searches are long. */
 enum { WIDE = 300 };
 static int64_t wide_costs[WIDE * WIDE];
@@ -728,6 +740,7 @@ int main(void) {
     verdicts();
     dear();
     refusals();
+    faults_before_memory();
     full_size();
     longest_sides();
     on_its_stack();

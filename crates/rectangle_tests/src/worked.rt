@@ -99,16 +99,15 @@ const FIVE: [Pair; 15] = [
     (3, 5, 100),
 ];
 
-// What is owned stands 1 above.
 #[test]
 fn first_prices_that_fit_are_kept(rt: HostRuntime) -> Result<(), Fail> {
     let alloc = rt.alloc();
     let first = first_prices(alloc, 5, &[42, 6, 0, 12, 0])?;
     let prices = prices_from(alloc, 3, 5, &FIVE, Sense::Min, first)?;
-    assert_eq!(rt; prices.as_slice(), [19, 0, 1, 13, 0].as_slice());
+    assert_eq!(rt; prices.as_slice(), [18, 0, 0, 12, 0].as_slice());
     let first = first_prices(alloc, 5, &[48, 6, 0, 24, 0])?;
     let prices = prices_from(alloc, 3, 5, &FIVE, Sense::Min, first)?;
-    assert_eq!(rt; prices.as_slice(), [19, 0, 1, 25, 0].as_slice());
+    assert_eq!(rt; prices.as_slice(), [18, 0, 0, 24, 0].as_slice());
     Ok(())
 }
 
