@@ -68,18 +68,16 @@ class Result:
     _source: Union[Source, Held]
     _shape: Problem
     _answer: proved.Answer
-    _pairs: Tuple[List[int], List[int]]
     _costs: List[Any]
     _as_arrays: bool
 
     def __init__(self, source: Union[Source, Held], problem: Problem, answer: proved.Answer):
         rows, columns = rows_and_columns(problem, answer)
-        pairs = proved.pairs_of(problem, answer) if problem.arrays else (rows, columns)
-        pairs = list(pairs[0]), list(pairs[1])
+        costs = costs_of_pairs(problem, rows, columns)
         # Without its lists the problem is small.
         shape = problem._replace(costs=None, persons=None, objects=None, numpy=None, arrays=None)
         self.__dict__.update(rows=rows, columns=columns, maximize=problem.maximize, _source=source, _shape=shape, _answer=answer,
-                             _pairs=pairs, _costs=costs_of_pairs(problem, list(zip(*pairs))), _as_arrays=problem.arrays is not None)
+                             _costs=costs, _as_arrays=problem.arrays is not None)
 
     def __setattr__(self, name: str, value: Any) -> None:
         raise AttributeError(f"a result's {name} can't be set")
@@ -95,6 +93,11 @@ class Result:
 
     def __repr__(self) -> str:
         return f"<nushbaret.Result: cost {self.cost}, {len(self.rows)} pairs>"
+
+    @cached_property
+    def _pairs(self) -> Tuple[List[int], List[int]]:
+        """Rows and columns of the pairs, which nobody can change."""
+        return proved.pairs_of(self._shape, self._answer)
 
     @cached_property
     def _ratios(self) -> List[Ratio]:
@@ -135,7 +138,7 @@ class Result:
         problem = self._source.read()
         if (problem.n_rows, problem.n_columns) != (self._shape.n_rows, self._shape.n_columns):
             raise ValueError(CHANGED)
-        now = costs_of_pairs(problem, list(zip(*self._pairs)))
+        now = costs_of_pairs(problem, *self._pairs)
         if None in now or [Fraction(*problem.ratio(cost)) for cost in now] != [Fraction(*ratio) for ratio in self._ratios]:
             raise ValueError(CHANGED)
         return problem
