@@ -84,21 +84,24 @@ class Result(Lasting):
     _source: Union[Source, Held]
     _shape: Problem
     _answer: proved.Answer
-    _pairs: Tuple[List[int], List[int]]
     _costs: List[Any]
     _as_arrays: bool
 
     def __init__(self, source: Union[Source, Held], problem: Problem, answer: proved.Answer):
         rows, columns = rows_and_columns(problem, answer)
-        pairs = proved.pairs_of(problem, answer) if problem.arrays else (rows, columns)
-        pairs = list(pairs[0]), list(pairs[1])
+        costs = costs_of_pairs(problem, rows, columns)
         # Without its lists the problem is small.
         shape = problem._replace(costs=None, persons=None, objects=None, numpy=None, arrays=None)
         self.__dict__.update(rows=rows, columns=columns, maximize=problem.maximize, _source=source, _shape=shape, _answer=answer,
-                             _pairs=pairs, _costs=costs_of_pairs(problem, list(zip(*pairs))), _as_arrays=problem.arrays is not None)
+                             _costs=costs, _as_arrays=problem.arrays is not None)
 
     def __repr__(self) -> str:
         return f"<nushbaret.Result: cost {self.cost}, {len(self.rows)} pairs>"
+
+    @cached_property
+    def _pairs(self) -> Tuple[List[int], List[int]]:
+        """Rows and columns of the pairs, which nobody can change."""
+        return proved.pairs_of(self._shape, self._answer)
 
     @cached_property
     def _ratios(self) -> List[Ratio]:
@@ -139,7 +142,7 @@ class Result(Lasting):
         problem = self._source.read()
         if (problem.n_rows, problem.n_columns) != (self._shape.n_rows, self._shape.n_columns):
             raise ValueError(CHANGED)
-        now = costs_of_pairs(problem, list(zip(*self._pairs)))
+        now = costs_of_pairs(problem, *self._pairs)
         if None in now or [Fraction(*problem.ratio(cost)) for cost in now] != [Fraction(*ratio) for ratio in self._ratios]:
             raise ValueError(CHANGED)
         return problem
