@@ -1,9 +1,9 @@
-/* Times calls of the library for C beside plain Rust (bench/plain/paths.rs as a library): processor time of this
-   thread, the least of so many calls in turns. What both find is compared. A call judges its lists and builds a problem
-   of them before it solves; what that takes is told too, by a call of nushbaret_check, which does so as well.
-     door text TIMES FORM [alone]   a problem from standard input, dense or sparse: seconds of the library, of plain Rust
-                                (0 with the word alone: it isn't called), and of the check
-     door drawn N COUNT TIMES   so many dense problems of N persons, costs 1..1000: the same
+/* Times calls of the library for C, plain Rust (bench/plain/paths.rs as a library) and plain C (bench/plain/lapjv.c):
+   processor time of this thread, the least of so many calls in turns. What they find is compared. Each line ends with four
+   numbers: seconds of the library, of plain Rust, of plain C, and of a check of the library's answer. 0: it wasn't called.
+     door text TIMES FORM [alone]   a problem from standard input, dense or sparse; with the word alone the library alone
+     door drawn N M MOST COUNT TIMES [alone]   so many dense problems of N persons and M objects, costs 1..MOST
+     door memory N M MOST       the greatest memory of a call and of a check, next to the caller's lists, as shares of the costs
      door starts TIMES          N = 2000, costs 1..1000: cold, then from the prices of the same problem, of one with one
                                 row drawn anew, and with more and more of them; seconds
      door neighbours TIMES      N = 1000, six drawn problems each: cold, then from the prices before one row in 200, 50, 30
@@ -13,14 +13,19 @@
      door wide                  three equal objects with first prices 0, 0 and 10^21, and prices 1, 5 and 7: seconds
      door rectangle N M EACH MOST TIMES   N persons with EACH pairs of M objects, costs 1..MOST: cold, then from the prices of the
                                 same problem and of ones with rows drawn anew, and from prices that tell nothing; seconds */
-#define _POSIX_C_SOURCE 200809L
+#define _DEFAULT_SOURCE
 #include "../c/nushbaret.h"
 #include <stdio.h>
 #include <stdlib.h>
 #include <string.h>
+#include <sys/mman.h>
+#include <sys/types.h>
+#include <sys/wait.h>
 #include <time.h>
+#include <unistd.h>
 
 extern int64_t plain_dense(size_t n, const int64_t *costs, uint16_t *columns);
+extern int64_t plain_c(size_t n, size_t m, const int64_t *costs, uint16_t *columns);
 extern int64_t plain_sparse(size_t n, size_t pairs, const uint16_t *of_rows, const uint16_t *of_columns,
     const int64_t *costs, uint16_t *columns);
 
@@ -71,22 +76,38 @@ static double proved(struct problem *p, const struct nushbaret_price *first) {
     return begin;
 }
 
-static double plain(struct problem *p) {
+static void same(const struct problem *p, int64_t total) {
+    if (total == p->total) return;
+    fprintf(stderr, "other sums: %lld and %lld\n", (long long)p->total, (long long)total);
+    exit(5);
+}
+
+/* The seconds of plain Rust, which takes squares alone. */
+static double by_rust(struct problem *p) {
     double begin = now();
     int64_t total;
+    if (p->given.n != p->given.m) return 0;
     if (p->given.persons != NULL)
         total = plain_sparse(p->given.n, p->given.count, p->of_persons, p->of_objects, p->costs, p->answer.objects);
     else
         total = plain_dense(p->given.n, p->costs, p->answer.objects);
     begin = now() - begin;
-    if (total != p->total) {
-        fprintf(stderr, "other sums: %lld and %lld\n", (long long)p->total, (long long)total);
-        exit(5);
-    }
+    same(p, total);
     return begin;
 }
 
-/* The seconds of a check of what was found, which builds the problem too. */
+/* The seconds of plain C, which takes full rows alone. */
+static double by_c(struct problem *p) {
+    double begin = now();
+    int64_t total;
+    if (p->given.persons != NULL) return 0;
+    total = plain_c(p->given.n, p->given.m, p->costs, p->answer.objects);
+    begin = now() - begin;
+    same(p, total);
+    return begin;
+}
+
+/* The seconds of a check of what was found. */
 static double checked(struct problem *p) {
     double begin = now();
     nushbaret_verify(&p->given, &p->answer);
@@ -150,18 +171,25 @@ static struct problem read_text(int is_sparse) {
 
 static uint64_t state = 7;
 
+static int64_t next(void) {
+    state = state * UINT64_C(6364136223846793005) + UINT64_C(1442695040888963407);
+    return (int64_t)(state >> 33);
+}
+
 static void draw(int64_t *costs, size_t count, int64_t most) {
     while (count-- > 0) {
-        state = state * UINT64_C(6364136223846793005) + UINT64_C(1442695040888963407);
-        *costs++ = 1 + (int64_t)(state >> 33) % most;
+        int64_t drawn = next();
+        if (most > INT64_C(1) << 31) drawn = drawn << 31 | next();
+        *costs++ = 1 + drawn % most;
     }
 }
 
-static void tell(const char *what, double seconds, double beside, double check) {
-    printf("%s %.6f %.6f %.6f\n", what, seconds, beside, check);
+/* Seconds of the library, of what stands next to it, and of a check. */
+static void tell(const char *what, double seconds, double rust, double c, double check) {
+    printf("%s %.6f %.6f %.6f %.6f\n", what, seconds, rust, c, check);
 }
 
-/* Cold, from first prices, and a check, in turns: the least of each. */
+/* From first prices, cold, and a check, in turns: the least of each. */
 static void tell_start(const char *name, struct problem *p, const struct nushbaret_price *first, int times) {
     double cold = 1e9, warm = 1e9, check = 1e9;
     int turn;
@@ -173,7 +201,7 @@ static void tell_start(const char *name, struct problem *p, const struct nushbar
         if (total != p->total) exit(5);
         less(&check, checked(p));
     }
-    tell(name, warm, cold, check);
+    tell(name, warm, cold, 0, check);
 }
 
 /* The objects that a person of a sparse problem lists: one of each of `each` equal parts. */
@@ -268,8 +296,8 @@ static void wide(void) {
     struct nushbaret_price odd[3] = {{1, 0}, {5, 0}, {7, 0}};
     size_t k;
     for (k = 0; k < 9; k++) p.costs[k] = 2;
-    tell("0, 0, 10^21", proved(&p, far), 0, 0);
-    tell("1, 5, 7", proved(&p, odd), 0, 0);
+    tell("0, 0, 10^21", proved(&p, far), 0, 0, 0);
+    tell("1, 5, 7", proved(&p, odd), 0, 0, 0);
     for (k = 0; k < 3; k++)
         if (p.answer.prices[k].low % 4 != 0 || p.answer.prices[k].high != 0 || p.total != 6) exit(5);
 }
@@ -293,34 +321,107 @@ static void rectangle(size_t n, size_t m, size_t each, int64_t most, int times) 
     }
 }
 
+/* The least seconds of each, over several turns. */
+struct least {
+    double library, rust, c, check;
+};
+
+/* Adds a turn of a problem to its seconds; the library alone is called where `alone` says so. */
+static void take_turn(struct problem *p, int alone, struct least *spent) {
+    spent->library += proved(p, NULL);
+    spent->check += checked(p);
+    if (alone) return;
+    spent->rust += by_rust(p);
+    spent->c += by_c(p);
+}
+
+static void keep(struct least *least, const struct least *spent) {
+    less(&least->library, spent->library), less(&least->rust, spent->rust);
+    less(&least->c, spent->c), less(&least->check, spent->check);
+}
+
+static void text(int times, int is_sparse, int alone) {
+    struct least least = {1e9, 1e9, 1e9, 1e9};
+    struct problem p = read_text(is_sparse);
+    while (times-- > 0) {
+        struct least spent = {0, 0, 0, 0};
+        take_turn(&p, alone, &spent);
+        keep(&least, &spent);
+    }
+    tell("text", least.library, least.rust, least.c, least.check);
+}
+
+static void drawn(size_t n, size_t m, int64_t most, int count, int times, int alone) {
+    struct least least = {1e9, 1e9, 1e9, 1e9};
+    struct problem p = problem(n, m, n * m, 0);
+    while (times-- > 0) {
+        struct least spent = {0, 0, 0, 0};
+        int k;
+        state = 7;
+        for (k = 0; k < count; k++) {
+            draw(p.costs, p.given.count, most);
+            take_turn(&p, alone, &spent);
+        }
+        keep(&least, &spent);
+    }
+    tell("drawn", least.library, least.rust, least.c, least.check);
+}
+
+/* What this process holds and the most that it held, in KB. */
+static long held(const char *name) {
+    FILE *file = fopen("/proc/self/status", "r");
+    char line[256];
+    long found = 0;
+    while (file != NULL && fgets(line, sizeof line, file) != NULL)
+        if (strncmp(line, name, strlen(name)) == 0) found = atol(line + strlen(name));
+    if (file != NULL) fclose(file);
+    return found;
+}
+
+/* The greatest memory of a call, in a process of its own, as a share of the costs. */
+static double share_held(struct problem *p, int checks) {
+    double bytes = (double)p->given.count * 8, share = 0;
+    int ends[2];
+    pid_t child;
+    if (pipe(ends) != 0 || (child = fork()) < 0) exit(4);
+    if (child == 0) {
+        long before = held("VmRSS:");
+        if (checks) nushbaret_verify(&p->given, &p->answer);
+        else proved(p, NULL);
+        share = (double)(held("VmHWM:") - before) * 1024 / bytes;
+        _exit(write(ends[1], &share, sizeof share) != sizeof share);
+    }
+    if (read(ends[0], &share, sizeof share) != sizeof share || waitpid(child, NULL, 0) != child) exit(4);
+    close(ends[0]), close(ends[1]);
+    return share;
+}
+
+static void *shared(size_t bytes) {
+    void *block = mmap(NULL, bytes, PROT_READ | PROT_WRITE, MAP_SHARED | MAP_ANONYMOUS, -1, 0);
+    if (block == MAP_FAILED) exit(4);
+    return block;
+}
+
+static void memory(size_t n, size_t m, int64_t most) {
+    struct problem p = problem(n, m, n * m, 0);
+    double solving, checking;
+    draw(p.costs, p.given.count, most);
+    /* The process that solves writes the answer for the one that checks it. */
+    p.answer.objects = (uint16_t *)shared(n * 2), p.answer.persons = (uint16_t *)shared(n * 2);
+    p.answer.prices = (struct nushbaret_price *)shared(m * sizeof *p.answer.prices);
+    solving = share_held(&p, 0), checking = share_held(&p, 1);
+    if (nushbaret_verify(&p.given, &p.answer) != NUSHBARET_BEST) exit(5);
+    tell("memory", solving, 0, 0, checking);
+}
+
 int main(int argc, char **argv) {
-    double least = 1e9, beside = 1e9, check = 1e9;
     const char *what = argc > 1 ? argv[1] : "";
     if (strcmp(what, "text") == 0 && argc > 3) {
-        struct problem p = read_text(strcmp(argv[3], "sparse") == 0);
-        int turn;
-        for (turn = 0; turn < atoi(argv[2]); turn++) {
-            less(&least, proved(&p, NULL));
-            less(&check, checked(&p));
-            less(&beside, argc > 4 ? 0 : plain(&p));
-        }
-        tell("text", least, beside, check);
-    } else if (strcmp(what, "drawn") == 0 && argc > 4) {
-        size_t n = (size_t)atoi(argv[2]), k, count = (size_t)atoi(argv[3]);
-        struct problem p = problem(n, n, n * n, 0);
-        int turn;
-        for (turn = 0; turn < atoi(argv[4]); turn++) {
-            double seconds = 0, others = 0, checks = 0;
-            state = 7;
-            for (k = 0; k < count; k++) {
-                draw(p.costs, p.given.count, 1000);
-                seconds += proved(&p, NULL);
-                checks += checked(&p);
-                others += plain(&p);
-            }
-            less(&least, seconds), less(&beside, others), less(&check, checks);
-        }
-        tell("drawn", least, beside, check);
+        text(atoi(argv[2]), strcmp(argv[3], "sparse") == 0, argc > 4);
+    } else if (strcmp(what, "drawn") == 0 && argc > 6) {
+        drawn((size_t)atoi(argv[2]), (size_t)atoi(argv[3]), atol(argv[4]), atoi(argv[5]), atoi(argv[6]), argc > 7);
+    } else if (strcmp(what, "memory") == 0 && argc > 4) {
+        memory((size_t)atoi(argv[2]), (size_t)atoi(argv[3]), atol(argv[4]));
     } else if (strcmp(what, "starts") == 0 && argc > 2) {
         starts(atoi(argv[2]));
     } else if (strcmp(what, "neighbours") == 0 && argc > 2) {

@@ -1,13 +1,13 @@
 #!/usr/bin/env python3
-"""Measures shortest paths by the library for C: the solve alone beside plain Rust of Jonker and Volgenant's method, and beside
-`auction_cli solve` in rounds and with one worker; starts from first prices; and calls from C, on squares and rectangles.
+"""Measures shortest paths by the library for C: whole calls next to those of an earlier release, and to plain Rust and plain C of
+Jonker and Volgenant's method; `auction_cli solve` in rounds and with one worker; starts from first prices; squares and rectangles.
 
 Run it at the top of the repository after c/build.sh and `rt run` in crates/auction_cli: bench/paths.py [PROGRAM
-[kinds | large | starts | neighbours | poor | calls | rectangles | whole]]. It writes its inputs below bench/out and needs rustc and cc. Calls and plain Rust take turns in one
-process (bench/door.c), and of each the least processor time counts. Of a call, where the solve alone is wanted, the time of a
-check is taken off, which builds the same problem. Of the program it is that of the whole run, on one processor, less that
-of reading the same text with a word too many behind it. A run of more than LIMIT seconds is cut off,
-one of more than a second isn't repeated. Whole runs by shortest paths are told last.
+[shares | kinds | large | starts | neighbours | poor | calls | rectangles | memory | whole]]. It writes its inputs below bench/out and
+needs rustc, cc and the repository's history, which has the release. Calls, plain Rust and plain C take turns in one process
+(bench/door.c), one process for each library in turns; of each the least processor time counts. Of the program it is that of the
+whole run, on one processor, less that of reading the same text with a word too many at its end. A run of more than LIMIT seconds
+is cut off, one of more than a second isn't repeated. Whole runs by shortest paths come last.
 """
 import collections
 import os
@@ -18,23 +18,40 @@ from measure import HERE, OUT, PEAK, PROGRAM, build
 
 LIMIT = 10
 TIMES = 5
-DOOR, KINDS, LIBRARY = (os.path.join(OUT, name) for name in ("door", "kinds", "libplain_paths.so"))
+# The release that this library is compared with, and its commit.
+RELEASE, COMMIT = "nushbaret-2.0.0-linux-x86_64", "66db371"
+DOOR, EARLIER, KINDS, LIBRARY, PLAIN_C = (os.path.join(OUT, name) for name in ("door", "door_earlier", "kinds", "libplain_paths.so", "lapjv.o"))
 DENSE = ("to_10", "to_1000", "to_million", "equal_rows", "all_equal", "like_rows", "products", "dear_column", "two_costs",
          "dear_marks", "dummy_rows", "dummy_columns", "few_rows")
 SPARSE = (("pairs=5", 8192), ("pairs=10", 8192), ("pairs=50", 8192), ("contested=50", 1000), ("contested=50", 8192),
           ("contested=1000", 1000), ("contested=1000", 8192))
 RECTANGLES = ((80, 3000, 3000), (20, 8000, 8000), (1000, 2000, 2000), (1000, 1100, 1100), (1, 8192, 8192), (500, 4000, 10))
+# Persons, objects, the greatest cost, and the number of calls.
+DRAWN = ((8, 8, 1000, 1000), *((n, n, most, 1) for n, most in ((1000, 1000), (2000, 1000), (4000, 1000), (4000, 10**6), (4000, 10**12), (8192, 1000),
+         (8192, 10**6), (8192, 10**12))), (1000, 2000, 10**6, 1), (3000, 4000, 10**6, 1), (80, 3000, 10**6, 1), (20, 8000, 10**6, 1))
 ROUNDS = ["--mode", "rounds"]
 WORKER = ["--mode", "workers", "--workers", "1"]
 PATHS = ["--method", "paths"]
+
+
+def unpack_release():
+    """The archive of the earlier release."""
+    folder = os.path.join(OUT, "release")
+    os.makedirs(folder, exist_ok=True)
+    packed = subprocess.run(["git", "show", f"{COMMIT}:release/{RELEASE}.tar.gz"], cwd=HERE, stdout=subprocess.PIPE, check=True).stdout
+    subprocess.run(["tar", "-xz", "-C", folder], input=packed, check=True)
+    found = [os.path.join(at, "libnushbaret.a") for at, _, files in os.walk(folder) if "libnushbaret.a" in files]
+    return found[0]
 
 
 def build_door():
     build(kinds=KINDS)
     plain = os.path.join(HERE, "plain", "paths.rs")
     subprocess.run(["rustc", "--edition", "2024", "-O", "-C", "target-cpu=x86-64-v2", "--crate-type", "cdylib", "-o", LIBRARY, plain], check=True)
-    archive = os.path.join(HERE, "..", "c", "out", "libnushbaret.a")
-    subprocess.run(["cc", "-std=c99", "-O2", "-Wall", "-Wextra", "-o", DOOR, os.path.join(HERE, "door.c"), archive, LIBRARY, f"-Wl,-rpath,{OUT}"], check=True)
+    subprocess.run(["cc", "-std=c99", "-O3", "-march=x86-64-v2", "-Wall", "-Wextra", "-c", "-o", PLAIN_C, os.path.join(HERE, "plain", "lapjv.c")], check=True)
+    for program, archive in ((DOOR, os.path.join(HERE, "..", "c", "out", "libnushbaret.a")), (EARLIER, unpack_release())):
+        subprocess.run(["cc", "-std=c99", "-O2", "-Wall", "-Wextra", "-o", program, os.path.join(HERE, "door.c"), PLAIN_C, archive, LIBRARY,
+                        f"-Wl,-rpath,{OUT}"], check=True)
 
 
 def text_of(kind, n):
@@ -45,12 +62,22 @@ def text_of(kind, n):
     return path
 
 
-def door(*words, stdin=None):
-    """Seconds of the library, of what stands beside it, and of a check, by name."""
-    told = subprocess.run([DOOR, *map(str, words)], stdin=stdin, stdout=subprocess.PIPE, check=True, text=True).stdout
+def door(*words, stdin=None, program=DOOR):
+    """Seconds of the library, of plain Rust, of plain C, and of a check, by name."""
+    told = subprocess.run([program, *map(str, words)], stdin=stdin, stdout=subprocess.PIPE, check=True, text=True).stdout
     for line in told.splitlines():
-        name, *numbers = line.rsplit(" ", 3)
+        name, *numbers = line.rsplit(" ", 4)
         yield name, [float(number) for number in numbers]
+
+
+def both(words_of, path=None):
+    """The least of each number of a line of this library, and of the earlier one, in turns of one call each."""
+    least = {}
+    for program in (DOOR, EARLIER) * TIMES:
+        with open(path or os.devnull) as file:
+            [(_, numbers)] = door(*words_of, stdin=file, program=program)
+        least[program] = [min(pair) for pair in zip(least.get(program, numbers), numbers)]
+    return least[DOOR], least[EARLIER]
 
 
 def spent(words, path, statuses, limit=LIMIT):
@@ -84,25 +111,24 @@ def told(seconds):
     return f"over {LIMIT}" if seconds is None else f"{seconds:.4f}"
 
 
-def kind(name, n, calls=TIMES, runs=TIMES, words_of_door=()):
+def ratio(seconds, beside):
+    return f"{seconds / beside:.2f}" if beside else ""
+
+
+def kind(name, n, runs=TIMES, words_of_door=()):
     sparse = "=" in name
     path = text_of(name, n)
     bad = os.path.join(OUT, "bad.txt")
     with open(path, "rb") as source, open(bad, "wb") as file:
         file.write(source.read() + b"x\n")
-    with open(path) as file:
-        [(_, (call, plain, check))] = door("text", calls, "sparse" if sparse else "dense", *words_of_door, stdin=file)
-    paths = max(call - check, 0.0001)
+    (call, rust, c, _), (earlier, *_) = both(("text", 1, "sparse" if sparse else "dense", *words_of_door), path)
     words = ["--sparse"] if sparse else []
     rounds, worker = (alone([*words, *mode], path, bad, runs) for mode in (ROUNDS, WORKER))
-    best = min((seconds for seconds in (rounds, worker) if seconds is not None), default=None)
-    beside = "" if best is None else f"{paths / best:.2f}"
-    ratio = f"{paths / plain:.2f}" if plain else ""
-    print(f"| {name}, n = {n} | {call:.4f} | {paths:.4f} | {plain:.4f} | {ratio} | {told(rounds)} | {told(worker)} | {beside} |", flush=True)
+    print(f"| {name}, n = {n} | {call:.4f} | {ratio(call, earlier)} | {ratio(call, rust)} | {ratio(call, c)} | {told(rounds)} | {told(worker)} |", flush=True)
 
 
 def kinds():
-    print("| kind | call | paths | plain | ratio | rounds | one worker | ratio to the better |")
+    print("| kind | call | of the earlier release | of plain Rust | of plain C | rounds | one worker |")
     for name in DENSE:
         kind(name, 1000)
     for name, n in SPARSE:
@@ -112,48 +138,61 @@ def kinds():
 def large():
     # Plain Rust takes minutes for the products.
     for name in DENSE:
-        kind(name, 4000, TIMES, 1, ["alone"] if name == "products" else ())
+        kind(name, 4000, 1, ["alone"] if name == "products" else ())
+
+
+def shares():
+    """Calls on drawn costs as shares of the earlier release's, and next to plain Rust and plain C."""
+    print("| problem | call | of the earlier release | of plain Rust | of plain C | check, of the earlier release |")
+    for n, m, most, count in DRAWN:
+        (call, rust, c, check), (earlier, _, _, checked) = both(("drawn", n, m, most, count, 1))
+        print(f"| {n} x {m}, costs to {most}, {count} calls | {call:.4f} | {ratio(call, earlier)} | {ratio(call, rust)} | {ratio(call, c)} | {ratio(check, checked)} |", flush=True)
+
+
+def memory():
+    """The greatest memory of one call, as a share of the caller's list, by both libraries."""
+    for most in (1000, 10**6, 10**12):
+        for name, program in (("this", DOOR), ("the earlier release", EARLIER)):
+            [(_, (solving, _, _, checking))] = door("memory", 4000, 4000, most, program=program)
+            print(f"4000 x 4000, costs to {most}, {name}: {solving:.2f} of the list for a call, {checking:.2f} for a check", flush=True)
 
 
 def starts():
-    for name, (warm, cold, check) in door("starts", TIMES):
-        ratio = (warm - check) / (cold - check)
-        print(f"from first prices, {name}: {warm - check:.4f} s alone, {ratio:.2f} of {cold - check:.4f} s cold; calls {warm:.4f} and {cold:.4f} s", flush=True)
-    for name, (seconds, _, _) in door("wide"):
+    for name, (warm, cold, *_) in door("starts", TIMES):
+        print(f"from first prices, {name}: {warm:.4f} s, {warm / cold:.2f} of {cold:.4f} s cold", flush=True)
+    for name, (seconds, *_) in door("wide"):
         print(f"first prices {name} of three equal objects: {seconds:.6f} s", flush=True)
 
 
 def neighbours():
-    """Calls from the prices of a neighbour beside cold ones, six drawn problems each."""
+    """Calls from the prices of a neighbour next to cold ones, six drawn problems each."""
     ratios = collections.defaultdict(list)
-    for name, (warm, cold, check) in door("neighbours", TIMES):
-        ratios[name].append((warm - check) / (cold - check))
+    for name, (warm, cold, *_) in door("neighbours", TIMES):
+        ratios[name].append(warm / cold)
     for name, those in ratios.items():
         print(f"from a neighbour's prices, {name}: {' '.join(f'{ratio:.2f}' for ratio in those)}", flush=True)
 
 
 def poor():
-    """First prices that tell nothing: a call from them beside a cold one."""
+    """First prices that tell nothing: a call from them next to a cold one."""
     print("| kind | drawn | drawn up to 10^21 | one of 10^21 | turned round |")
     for name in DENSE:
         with open(text_of(name, 1000)) as file:
-            ratios = [f"{warm / cold:.2f}" for _, (warm, cold, _) in door("poor", TIMES, stdin=file)]
+            ratios = [f"{warm / cold:.2f}" for _, (warm, cold, *_) in door("poor", TIMES, stdin=file)]
         print(f"| {name} | {' | '.join(ratios)} |", flush=True)
 
 
 def calls():
-    for n, count, times in ((8, 1000, TIMES), (2000, 1, TIMES), (8192, 1, 1)):
-        [(_, (call, plain, check))] = door("drawn", n, count, times)
-        print(f"{count} problems of n = {n} from C: {call:.4f} s, {call - check:.4f} s without a check; plain {plain:.4f} s, {call / plain:.2f}", flush=True)
+    for n, times in ((8, TIMES), (2000, TIMES), (8192, 1)):
         program = min(spent(PATHS, text_of("to_1000", n), (0,), 120) for _ in range(times))
         print(f"the program on one problem of n = {n}, reading and printing included: {program:.4f} s", flush=True)
 
 
 def rectangles():
-    """Calls on n persons, each with so many pairs, and m objects: cold, and from first prices; what building and checking take too."""
+    """Calls on n persons, each with so many pairs, and m objects: from first prices, as shares of cold ones."""
     for n, m, each in RECTANGLES:
-        for name, (warm, cold, check) in door("rectangle", n, m, each, 10**6, TIMES):
-            print(f"{n} persons of {each} pairs, {m} objects, from first prices, {name}: {warm:.4f} s, {warm / cold:.2f} of {cold:.4f} s cold; a check {check:.4f} s", flush=True)
+        for name, (warm, cold, *_) in door("rectangle", n, m, each, 10**6, TIMES):
+            print(f"{n} persons of {each} pairs, {m} objects, from first prices, {name}: {warm:.4f} s, {warm / cold:.2f} of {cold:.4f} s cold", flush=True)
 
 
 def whole():
@@ -165,7 +204,7 @@ def whole():
 
 def main():
     build_door()
-    parts = {"kinds": kinds, "large": large, "starts": starts, "neighbours": neighbours, "poor": poor, "calls": calls, "rectangles": rectangles, "whole": whole}
+    parts = {"shares": shares, "kinds": kinds, "large": large, "starts": starts, "neighbours": neighbours, "poor": poor, "calls": calls, "rectangles": rectangles, "memory": memory, "whole": whole}
     for part in sys.argv[2:] or parts:
         parts[part]()
 

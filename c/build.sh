@@ -1,21 +1,29 @@
 #!/usr/bin/env bash
 # Proves the library for C and builds it: c/out/libnushbaret.a and c/out/libnushbaret.so, in which only the names of
-# exports.map can be seen. Programs ask at run time for the SONAME, libnushbaret.so.2 by the first number of VERSION: a
-# link of this name stands beside. Needs the kit, and cc with the binutils that it uses.
+# exports.map can be seen. Programs ask at run time for the SONAME, libnushbaret.so.3 by the first number of VERSION: a
+# link of this name stands next to it. Needs the kit, and cc with the binutils that it uses.
+#     c/build.sh [gate] [--target aarch64]
+# With `--target aarch64` it builds the same for 64-bit ARM in c/out/aarch64, by aarch64-linux-gnu-gcc and with the heap of
+# c/heap.c: the kit has one for x86-64 alone.
 #
 # With the word `gate` it stands on the crates that `rt ci` has just proved, as rt ci's own checks do, and proves the
 # library's crate alone: rt proves the crates below once more after a gate, which leaves them unstamped.
 set -euo pipefail
 top=$(cd "$(dirname "$0")/.." && pwd)
-kit=$(dirname "$(rt doc)")
-out=$top/c/out
 crate=$top/crates/nushbaret
-archive=$crate/out/libnushbaret.a
-log=$(mktemp)
-trap 'rm -f "$log"' EXIT
 
-# Proves the crate and builds it over the libraries of the crates below as they stand in their out/rlib.
-over_the_gates() {
+stop() {
+    echo "c/build.sh: $*" >&2
+    exit 1
+}
+
+usage() {
+    echo 'usage: c/build.sh [gate] [--target aarch64]' >&2
+    exit 2
+}
+
+# over_the_crates WORD..: proves the crate and builds it over the libraries of the crates below as they stand in their out/rlib.
+over_the_crates() {
     local words=(--crate-name nushbaret src/lib.rt --extern "std=$kit/rlibs/std.rlib" -L "dependency=$kit/rlibs") name
     for name in $(sed -n 's/^nushbaret staticlib: //p' "$top/crates.txt"); do
         words+=(--extern "$name=$top/crates/$name/out/rlib/$name.rlib")
@@ -23,8 +31,8 @@ over_the_gates() {
     for name in "$top"/crates/*/out/rlib; do
         words+=(-L "dependency=$name")
     done
-    words+=(--antt-project "$kit/rattle/logic/antt-project.json" --logic-built "$kit/logic_built" --links nushbaret=)
-    mkdir -p "$crate/out"
+    words+=(--antt-project "$kit/rattle/logic/antt-project.json" --logic-built "$kit/logic_built" --links nushbaret= "$@")
+    mkdir -p "$(dirname "$archive")"
     cd "$crate"
     "$kit/bin/rattle" build "${words[@]}" --crate-type staticlib --toolchain "$kit/toolchain" --backend llvm -o "$archive"
 }
@@ -34,25 +42,59 @@ waits() {
     grep --line-buffered '^rt: waiting' >&2 || true
 }
 
-case ${1-} in
-'')
-    echo "c/build.sh: proves the library for C, and each crate below that isn't proved yet. This takes some 3 minutes" \
-        "after ./prove, and up to an hour on a fresh clone. It waits for any other rt that works in these crates." >&2
-    (cd "$crate" && rt lib 2>&1) | tee "$log" | waits || { tail -20 "$log"; exit 1; }
-    ;;
-gate) (over_the_gates > "$log" 2>&1) || { tail -20 "$log"; exit 1; } ;;
-*) echo 'usage: c/build.sh [gate]'; exit 2 ;;
-esac
+# Proves the crate, and makes the archive of x86-64 or of ARM.
+prove_and_compile() {
+    local target=()
+    [ -z "$tools" ] || target=(--target aarch64-unknown-linux-gnu)
+    if [ -z "$is_gate" ]; then
+        echo "c/build.sh: proves the library for C, and each crate below that isn't proved yet. This takes some 3 minutes" \
+            "after ./prove, and up to an hour on a fresh clone. It waits for any other rt that works in these crates." >&2
+        if [ -z "$tools" ]; then
+            (cd "$crate" && rt lib 2>&1) | tee "$log" | waits || { tail -20 "$log"; exit 1; }
+            return
+        fi
+        "$top/prove" nushbaret > "$log" 2>&1 || { tail -20 "$log"; exit 1; }
+    fi
+    (over_the_crates "${target[@]}" > "$log" 2>&1) || { tail -20 "$log"; exit 1; }
+}
+
+is_gate= tools= heap= out=$top/c/out archive=$crate/out/libnushbaret.a
+while [ $# -gt 0 ]; do
+    case $1 in
+    gate) is_gate=yes ;;
+    --target)
+        [ "${2-}" = aarch64 ] || usage
+        shift
+        tools=aarch64-linux-gnu- out=$top/c/out/aarch64 archive=$crate/out/aarch64/libnushbaret.a
+        ;;
+    *) usage ;;
+    esac
+    shift
+done
+cc=cc
+[ -z "$tools" ] || cc=${tools}gcc
+type -P "$cc" > /dev/null || stop "$cc isn't here${tools:+: Debian has it in gcc-aarch64-linux-gnu}"
+type -P rt > /dev/null || stop "the Rattle kit isn't on the path (docs/RATTLE.md)"
+kit=$(dirname "$(rt doc)")
+log=$(mktemp)
+trap 'rm -f "$log"' EXIT
+prove_and_compile
 mkdir -p "$out"
 
-# One object of the archive and of what it needs of the kit's: its other names become local.
-cc -r -nostdlib -o "$out/nushbaret.o" -Wl,--whole-archive "$archive" -Wl,--no-whole-archive "$kit/c/liblibc_c.a"
-objcopy --wildcard --keep-global-symbol='nushbaret_*' "$out/nushbaret.o"
+# One object of the archive and of what it needs of the heap: its other names become local.
+if [ -z "$tools" ]; then
+    heap=$kit/c/liblibc_c.a
+else
+    heap=$out/heap.o
+    "$cc" -std=c99 -O2 -Wall -Wextra -fPIC -c "$top/c/heap.c" -o "$heap"
+fi
+"$cc" -r -nostdlib -o "$out/nushbaret.o" -Wl,--whole-archive "$archive" -Wl,--no-whole-archive "$heap"
+"${tools}objcopy" --wildcard --keep-global-symbol='nushbaret_*' "$out/nushbaret.o"
 rm -f "$out/libnushbaret.a"
-ar rcs "$out/libnushbaret.a" "$out/nushbaret.o"
+"${tools}ar" rcs "$out/libnushbaret.a" "$out/nushbaret.o"
 soname=libnushbaret.so.$(cut -d. -f1 "$top/VERSION")
-cc -shared -o "$out/libnushbaret.so" "$out/nushbaret.o" -Wl,-soname,"$soname" \
+"$cc" -shared -o "$out/libnushbaret.so" "$out/nushbaret.o" -Wl,-soname,"$soname" \
     -Wl,--version-script="$top/c/exports.map" -Wl,-z,defs -Wl,-z,now -Wl,-z,relro
 ln -sf libnushbaret.so "$out/$soname"
-rm -f "$out/nushbaret.o"
-[ "${1-}" = gate ] || echo "c/build.sh: $out has libnushbaret.a and libnushbaret.so" >&2
+rm -f "$out/nushbaret.o" "$out/heap.o"
+[ -n "$is_gate" ] || echo "c/build.sh: $out has libnushbaret.a and libnushbaret.so" >&2

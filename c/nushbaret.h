@@ -43,10 +43,11 @@
    NUSHBARET_SLACK, NUSHBARET_HALL_MISSING                                   told->person and told->object
    any other             nothing
 
-   Of several faults a call returns the first in this order: the codes from NUSHBARET_SENSE to NUSHBARET_MEMORY as they
+   Of several faults a call returns the first in this order: the codes from NUSHBARET_SENSE to NUSHBARET_PRICE as they
    are numbered; then, in nushbaret_check, those from NUSHBARET_ANSWER_LENGTH to NUSHBARET_SLACK and NUSHBARET_DEAR, and
    in nushbaret_check_hall those from NUSHBARET_HALL_RANGE to NUSHBARET_HALL_COUNT. told->place is the first place with
-   this fault. NUSHBARET_MEMORY comes only where nothing is wrong with the lists.
+   this fault. NUSHBARET_MEMORY comes only where nothing is wrong with the problem: memory was refused that the call can't
+   do without. nushbaret_check_hall may return a fault of the persons and objects before it asks for that memory.
 
    A WORKED EXAMPLE
 
@@ -70,7 +71,7 @@
 extern "C" {
 #endif
 
-#define NUSHBARET_VERSION "2.0.0"
+#define NUSHBARET_VERSION "3.0.0"
 
 /* The sense: the least sum of costs, or the greatest. */
 #define NUSHBARET_MIN 0u
@@ -92,7 +93,7 @@ enum nushbaret_code {
     NUSHBARET_OBJECT = 6,        /* of_objects[told->place] isn't from 1 to m */
     NUSHBARET_COST = 7,          /* costs[told->place] is beyond NUSHBARET_GREATEST_COST either way */
     NUSHBARET_PRICE = 8,         /* first[told->place] isn't from 0 to 10^21 */
-    NUSHBARET_MEMORY = 9,        /* memory was refused */
+    NUSHBARET_MEMORY = 9,        /* memory was refused that the call can't do without */
 
     NUSHBARET_ANSWER_LENGTH = 10, /* there aren't n objects and m prices */
     NUSHBARET_UNLISTED = 11,     /* told->person, the lowest, doesn't list its object */
@@ -135,8 +136,7 @@ int32_t nushbaret_dense(uint32_t sense, size_t n, size_t m,
     struct nushbaret_price *prices, size_t prices_count,
     struct nushbaret_told *told);
 
-/* The same, with m first prices, as those of a similar problem. The search begins at them if they fit, n is at most m, and
-   either n is at least 7/8 of m or there are 64 pairs or more for each object; elsewhere they would save no time.
+/* The same, with m first prices, as those of a similar problem. The search begins at them if they fit and n is at most m.
    Whatever they are, the answer is optimal. */
 int32_t nushbaret_dense_from(uint32_t sense, size_t n, size_t m,
     const int64_t *costs, size_t costs_count,
@@ -234,8 +234,9 @@ static inline int32_t nushbaret_solve(const struct nushbaret_problem *problem, s
         problem->costs, count, problem->first, m, answer->objects, n, answer->persons, n, answer->prices, m, &answer->told);
 }
 
-/* Checks the n objects and m prices of an answer, by nushbaret_check: NUSHBARET_BEST says that they prove each other. Only
-   told of the answer is written. */
+/* Checks the n objects and m prices of an answer, by nushbaret_check: NUSHBARET_BEST says that they prove each other. The
+   problem has a pair: with count 0 it is a sparse one, also where persons and objects are NULL. Only told of the answer is
+   written. */
 static inline int32_t nushbaret_verify(const struct nushbaret_problem *problem, struct nushbaret_answer *answer) {
     const size_t pairs = problem->persons == NULL ? 0 : problem->count;
     return nushbaret_check(problem->sense, problem->n, problem->m,

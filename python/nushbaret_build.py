@@ -1,10 +1,11 @@
-"""The build backend of the package: packs it and the shared library that c/build.sh made into a wheel. It wants nothing but Python,
-so that installing needs no network."""
+"""The build backend of the package: packs it, the shared library that c/build.sh made, and the manual's page into a wheel. It needs nothing
+but Python, so that installing needs no network."""
 import base64
 import hashlib
 import io
 import pathlib
 import re
+import sys
 import sysconfig
 import tarfile
 import zipfile
@@ -12,26 +13,44 @@ import zipfile
 TOP = pathlib.Path(__file__).resolve().parent
 PACKAGE = TOP / "nushbaret"
 NAME = "libnushbaret.so"
-LIBRARIES = (PACKAGE / NAME, TOP.parent / "c" / "out" / NAME)
+# Where the library for each machine is, after a place in the package itself, and what c/build.sh needs to make it.
+LIBRARIES = {"x86_64": (TOP.parent / "c" / "out" / NAME, ""), "aarch64": (TOP.parent / "c" / "out" / "aarch64" / NAME, " --target aarch64")}
 DAY = (2020, 1, 1, 0, 0, 0)
 # What the wheel's tag says of the machine; release/make.sh sets it to what its library is looked at for.
 PLATFORM = sysconfig.get_platform()
+# The page that describes the package: where the archive of sources has it, and in a checkout.
+DESCRIPTIONS = (TOP / "PYTHON.md", TOP.parent / "docs" / "PYTHON.md")
 
 
 def _told(word):
     """A word of pyproject.toml, where each stands once."""
-    return re.search(rf'^{word} = "(.*)"$', (TOP / "pyproject.toml").read_text(encoding="utf-8"), re.M)[1]
+    return re.search(rf'^{word} = "(.*)"$', _project(), re.M)[1]
+
+
+def _listed(word):
+    """The texts of a list of pyproject.toml."""
+    return re.findall(r'"(.*)"', re.search(rf"^{word} = \[\n(.*?)^\]", _project(), re.M | re.S)[1])
+
+
+def _project():
+    return (TOP / "pyproject.toml").read_text(encoding="utf-8")
 
 
 VERSION = _told("version")
 INFO = f"nushbaret-{VERSION}.dist-info"
+DATA = f"nushbaret-{VERSION}.data/data"
 
 
 def _library():
-    for place in LIBRARIES:
-        if place.exists():
-            return place
-    raise SystemExit(f"{NAME} isn't there: run c/build.sh at the top of the checkout first, and then install again")
+    """The library for the machine that the wheel is for."""
+    found = re.fullmatch(r"(?:linux|manylinux2014)[-_](\w+)", PLATFORM)
+    if found is None or found[1] not in LIBRARIES:
+        raise SystemExit(f"nushbaret runs on Linux for x86-64 and for 64-bit ARM, and this is {PLATFORM}: use a Linux container there")
+    place, words = LIBRARIES[found[1]]
+    for file in (PACKAGE / NAME, place):
+        if file.exists():
+            return file
+    raise SystemExit(f"{NAME} isn't there: run c/build.sh{words} at the top of the checkout first, and then install again")
 
 
 def _tag():
@@ -40,8 +59,27 @@ def _tag():
 
 
 def _metadata():
-    return (f"Metadata-Version: 2.1\nName: nushbaret\nVersion: {VERSION}\nSummary: {_told('description')}\n"
-            f"License: MIT OR Apache-2.0\nRequires-Python: {_told('requires-python')}\n")
+    fields = [("Metadata-Version", "2.1"), ("Name", "nushbaret"), ("Version", VERSION), ("Summary", _told("description")),
+              ("Keywords", ",".join(_listed("keywords"))), ("License", "MIT OR Apache-2.0"), ("Requires-Python", _told("requires-python")),
+              *(("Classifier", text) for text in _listed("classifiers")), ("Description-Content-Type", "text/markdown")]
+    return "".join(f"{name}: {text}\n" for name, text in fields) + "\n" + _description()
+
+
+def _description():
+    """The page that describes the package. Its links lead to pages that a reader of the metadata doesn't have, so their texts alone stay."""
+    for file in DESCRIPTIONS:
+        if file.exists():
+            return re.sub(r"\[([^][]+)\]\((?!https?:)[^()]*\)", r"\1", file.read_text(encoding="utf-8"))
+    return _told("description") + "\n"
+
+
+def _manual():
+    """The manual's page of the command, by its name in the folder of a prefix."""
+    if str(TOP) not in sys.path:
+        sys.path.insert(0, str(TOP))
+    import nushbaret_manual
+
+    return {"share/man/man1/nushbaret.1": nushbaret_manual.command_page().encode()}
 
 
 def _wheel_text():
@@ -56,6 +94,10 @@ def _info():
 def _sources():
     """The files of the package, without the library and what Python keeps of its own."""
     return sorted(file for file in PACKAGE.rglob("*") if file.is_file() and "__pycache__" not in file.parts and file.name != NAME)
+
+
+def _licenses():
+    return sorted(TOP.glob("LICENSE-*")) or sorted(TOP.parent.glob("LICENSE-*"))
 
 
 def _record(name, held):
@@ -97,7 +139,8 @@ prepare_metadata_for_build_editable = prepare_metadata_for_build_wheel
 def build_wheel(wheel_directory, config_settings=None, metadata_directory=None):
     held = {f"nushbaret/{file.relative_to(PACKAGE).as_posix()}": file.read_bytes() for file in _sources()}
     held[f"nushbaret/{NAME}"] = _library().read_bytes()
-    licenses = {f"{INFO}/licenses/{file.name}": file.read_bytes() for file in sorted(TOP.parent.glob("LICENSE-*"))}
+    held.update({f"{DATA}/{name}": text for name, text in _manual().items()})
+    licenses = {f"{INFO}/licenses/{file.name}": file.read_bytes() for file in _licenses()}
     return _write_wheel(wheel_directory, {**held, **_info(), **licenses})
 
 
@@ -110,7 +153,9 @@ def build_editable(wheel_directory, config_settings=None, metadata_directory=Non
 def build_sdist(sdist_directory, config_settings=None):
     """The sources with the library beside them, so that a wheel can be made of them alone."""
     front = f"nushbaret-{VERSION}"
-    files = {"pyproject.toml": TOP / "pyproject.toml", "nushbaret_build.py": TOP / "nushbaret_build.py"}
+    files = {name: TOP / name for name in ("pyproject.toml", "nushbaret_build.py", "nushbaret_manual.py")}
+    files.update({"PYTHON.md": file for file in DESCRIPTIONS if file.exists()})
+    files.update({file.name: file for file in _licenses()})
     files.update({f"nushbaret/{file.relative_to(PACKAGE).as_posix()}": file for file in _sources()})
     files[f"nushbaret/{NAME}"] = _library()
     with tarfile.open(pathlib.Path(sdist_directory) / f"{front}.tar.gz", "w:gz", format=tarfile.PAX_FORMAT) as archive:

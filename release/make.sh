@@ -1,12 +1,13 @@
 #!/usr/bin/env bash
 # Packs what has been proved and built, and proves nothing itself: release/make.sh [FOLDER]. FOLDER, which is else release/,
-# gets the program, a wheel, a tarball in the layout of a prefix, a Debian package, SOURCE and SHA256SUMS. The same
-# sources and tools give the same bytes, wherever and whenever it runs; it takes some seconds.
+# gets the program; for x86-64 and for 64-bit ARM a wheel, a tarball in the layout of a prefix, and a Debian package; SOURCE
+# and SHA256SUMS. The program is for x86-64 alone. The same sources and tools give the same bytes, wherever and whenever it
+# runs; it takes some seconds.
 #     release/make.sh --source
 # prints what SOURCE would say here.
 #
-# Wants the built program and library (./prove, rt run in crates/auction_cli and c/build.sh, or the gate), and python3,
-# git, binutils, GNU tar and gzip.
+# Needs the built program and libraries (./prove, rt run in crates/auction_cli, c/build.sh and c/build.sh --target aarch64, or
+# the gate), and python3, git, binutils, GNU tar and gzip.
 set -euo pipefail
 export LC_ALL=C SOURCE_DATE_EPOCH=0 PYTHONDONTWRITEBYTECODE=1
 umask 022
@@ -14,12 +15,19 @@ top=$(cd "$(dirname "$0")/.." && pwd)
 parts=$top/release/parts
 version=$(cat "$top/VERSION")
 major=${version%%.*}
-program=$top/crates/auction_cli/out/auction_cli
-library=$top/c/out/libnushbaret
-# What the C library must be at least: for the program, and for the library in the wheel.
-program_glibc=2.34
-wheel_glibc=2.17
-multiarch=x86_64-linux-gnu
+machines='x86_64 aarch64'
+# What the C library must be at least for the library.
+library_glibc=2.17
+
+# choose MACHINE: sets what differs between machines; there is no program where `program` is empty.
+choose() {
+    machine=$1
+    multiarch=$1-linux-gnu
+    case $1 in
+    x86_64) architecture=amd64 program=$top/crates/auction_cli/out/auction_cli library=$top/c/out/libnushbaret glibc=2.34 ;;
+    aarch64) architecture=arm64 program= library=$top/c/out/aarch64/libnushbaret glibc=$library_glibc ;;
+    esac
+}
 
 stop() {
     echo "release/make.sh: $*" >&2
@@ -28,7 +36,8 @@ stop() {
 
 # The sum of what the release is made of: the contents of the files that git knows, or of all where there is no git.
 sources() {
-    local paths=(crates c python crates.txt VERSION LICENSE-APACHE LICENSE-CRATES LICENSE-MIT release/make.sh release/parts)
+    local paths=(crates c python crates.txt VERSION LICENSE-APACHE LICENSE-CRATES LICENSE-MIT release/make.sh release/parts
+        docs/PYTHON.md)
     cd "$top"
     if [ "$(git rev-parse --show-prefix 2> /dev/null)" = '' ] && git ls-files --error-unmatch VERSION > /dev/null 2>&1; then
         git ls-files -z -- "${paths[@]}"
@@ -37,9 +46,14 @@ sources() {
     fi | sort -z | xargs -0 sha256sum | sha256sum | cut -d ' ' -f 1
 }
 
-# The first line that a tool tells of itself.
+# The first line that a tool prints about itself.
 told() {
     { "$@" 2> /dev/null || echo none; } | head -n 1
+}
+
+# The C library that the library for ARM is linked with.
+arm_library() {
+    told grep -a -o -m 1 'GNU C Library ([^)]*)[^,]*' "$(aarch64-linux-gnu-gcc -print-file-name=libc.so.6 2> /dev/null)"
 }
 
 # What a release is made of and by. Compilers, linkers and packers write bytes of it.
@@ -50,63 +64,76 @@ source_text() {
     echo "compiler: $(told cc --version)"
     echo "binutils: $(told ld --version)"
     echo "C library: $(told ldd --version)"
+    echo "for ARM: $(told aarch64-linux-gnu-gcc --version), $(told aarch64-linux-gnu-ld --version), $(arm_library)"
     echo "packers: $(told tar --version), $(told gzip --version), zlib $(told python3 -c 'import zlib; print(zlib.ZLIB_RUNTIME_VERSION)')"
 }
 
-# The newest version of the C library that a file's symbols want.
-wanted_glibc() {
-    objdump -T "$1" | sed -n 's/.*(*GLIBC_\([0-9.]*\))* .*/\1/p' | sort -V | tail -n 1
+# The newest version of the C library that a file's symbols need.
+needed_glibc() {
+    readelf -W --dyn-syms "$1" | sed -n 's/.*@GLIBC_\([0-9.]*\).*/\1/p' | sort -V | tail -n 1
 }
 
-# wants_only FILE GLIBC: stops where the file wants another library than that of C, or a newer one.
-wants_only() {
-    local libraries glibc
+# needs_only FILE GLIBC: stops where the file needs another library than that of C, or a newer one.
+needs_only() {
+    local libraries needed
     libraries=$(readelf -d "$1" | sed -n 's/.*(NEEDED).*\[\(.*\)\]/\1/p')
-    [ "$libraries" = libc.so.6 ] || stop "${1#"$top"/} wants other libraries than libc.so.6: $libraries"
-    glibc=$(wanted_glibc "$1")
-    [ "$(printf '%s\n' "$glibc" "$2" | sort -V | tail -n 1)" = "$2" ] || stop "${1#"$top"/} wants glibc $glibc, and $2 is promised"
+    [ "$libraries" = libc.so.6 ] || stop "${1#"$top"/} needs other libraries than libc.so.6: $libraries"
+    needed=$(needed_glibc "$1")
+    [ "$(printf '%s\n' "$needed" "$2" | sort -V | tail -n 1)" = "$2" ] || stop "${1#"$top"/} needs glibc $needed, and $2 is promised"
 }
 
-# Whether all is there that is to be packed, is of this version, and wants no newer C library than is promised.
-look() {
-    local file soname
-    for file in "$program" "$library.so" "$library.a"; do
-        [ -e "$file" ] || stop "${file#"$top"/} isn't there: run ./prove, rt run in crates/auction_cli, and c/build.sh first"
+# Whether the program is there, is of this version, and needs no newer C library than is promised.
+look_at_the_program() {
+    [ -e "$program" ] || stop "${program#"$top"/} isn't there: run ./prove, and rt run in crates/auction_cli first"
+    [ "$("$program" --version)" = "auction_cli $version" ] || stop "the program isn't of version $version: build it again"
+    needs_only "$program" "$glibc"
+}
+
+# The same of a machine's library, which is for this machine.
+look_at_the_library() {
+    local words='' soname
+    [ "$machine" = x86_64 ] || words=" --target $machine"
+    for file in "$library.so" "$library.a"; do
+        [ -e "$file" ] || stop "${file#"$top"/} isn't there: run c/build.sh$words first"
     done
-    [ "$("$program" --version)" = "auction_cli $version" ] || stop "the program isn't of version $version: build it anew"
     soname=$(readelf -d "$library.so" | sed -n 's/.*(SONAME).*\[\(.*\)\]/\1/p')
-    [ "$soname" = "libnushbaret.so.$major" ] || stop "the SONAME of c/out/libnushbaret.so is '$soname', not libnushbaret.so.$major: run c/build.sh"
-    grep -q "^#define NUSHBARET_VERSION \"$version\"" "$top/c/nushbaret.h" || stop "c/nushbaret.h isn't of version $version"
-    wants_only "$program" "$program_glibc"
-    wants_only "$library.so" "$wheel_glibc"
+    [ "$soname" = "libnushbaret.so.$major" ] || stop "the SONAME of ${library#"$top"/}.so is '$soname', not libnushbaret.so.$major: run c/build.sh$words"
+    readelf -h "$library.so" | sed 's/X86-64/x86_64/; s/AArch64/aarch64/' | grep "Machine:.*$machine" > /dev/null || stop "${library#"$top"/}.so is for another machine"
+    needs_only "$library.so" "$library_glibc"
 }
 
-# filled PART LIBDIR PREFIX: a file of parts/ with the places for what differs filled in. UP leads from its folder to the prefix.
+# filled PART LIBDIR PREFIX PYTHON: a file of parts/ with the places for what differs filled in. UP leads from its folder to the prefix.
 filled() {
-    local up=../../..
+    local up=../../.. program_line='/^@PROGRAM@/d'
     [ "$2" = lib ] || up=../../../..
-    sed -e "s|@VERSION@|$version|g; s|@MAJOR@|$major|g; s|@LIBDIR@|$2|g; s|@PREFIX@|$3|g; s|@UP@|$up|g; s|@GLIBC@|$program_glibc|g" "$parts/$1"
+    [ -z "$program" ] || program_line='s|^@PROGRAM@||'
+    sed -e "s|@VERSION@|$version|g; s|@MAJOR@|$major|g; s|@LIBDIR@|$2|g; s|@PREFIX@|$3|g; s|@UP@|$up|g; s|@GLIBC@|$glibc|g" \
+        -e "s|@ARCHITECTURE@|$architecture|g; s|@PYTHON@|${4-}|g" -e "$program_line" "$parts/$1"
 }
 
-# stage ROOT LIBDIR PREFIX: all but what Python wants, under a root; PREFIX is what pkg-config is told that it is.
+# stage ROOT LIBDIR PREFIX PACKAGES PYTHON: all of it under a root. PREFIX is what pkg-config shows, PACKAGES is the folder for the Python
+# package, and PYTHON runs the command.
 stage() {
     local root=$1 lib=$1/$2 share=$1/share file
-    mkdir -p "$root/bin" "$root/include" "$lib/pkgconfig" "$lib/cmake/nushbaret" "$share/man" "$share/doc/nushbaret/examples"
-    cp "$program" "$root/bin/"
+    mkdir -p "$root/bin" "$root/include" "$lib/pkgconfig" "$lib/cmake/nushbaret" "$share/man" "$share/doc/nushbaret/examples" "$root/$4"
+    [ -z "$program" ] || cp "$program" "$root/bin/"
+    filled nushbaret "$2" "$3" "$5" > "$root/bin/nushbaret"
+    cp -r "$work/wheel/nushbaret" "$root/$4/"
     cp "$top/c/nushbaret.h" "$root/include/"
     cp "$library.so" "$lib/libnushbaret.so.$major"
     ln -s "libnushbaret.so.$major" "$lib/libnushbaret.so"
+    ln -sf "$(realpath -m --relative-to="$root/$4/nushbaret" "$lib/libnushbaret.so.$major")" "$root/$4/nushbaret/libnushbaret.so"
     cp "$library.a" "$lib/"
     filled nushbaret.pc "$2" "$3" > "$lib/pkgconfig/nushbaret.pc"
     for file in nushbaret-config.cmake nushbaret-config-version.cmake; do
         filled "$file" "$2" "$3" > "$lib/cmake/nushbaret/$file"
     done
-    python3 "$parts/manual.py" "$program" "$top/c/nushbaret.h" "$version" "$share/man"
-    python3 "$parts/completions.py" "$program" "$share"
+    python3 "$parts/manual.py" "$top/c/nushbaret.h" "$version" "$share/man" ${program:+"$program"}
+    python3 "$parts/completions.py" "$share" ${program:+"$program"}
     cp "$top/c/example.c" "$share/doc/nushbaret/examples/"
     cp "$top"/LICENSE-* "$share/doc/nushbaret/"
     find "$root" -type f -exec chmod 644 {} +
-    chmod 755 "$root/bin/auction_cli"
+    chmod 755 "$root"/bin/*
 }
 
 # packed WORD..: a compressed archive on standard output, of the names on standard input; the same bytes for the same files.
@@ -116,8 +143,8 @@ packed() {
 
 # The tarball; folders aren't in it, so that unpacking leaves those of a prefix as they are.
 tarball() {
-    stage "$work/prefix" lib '${pcfiledir}/../..'
-    (cd "$work/prefix" && find . ! -type d | sed 's|^\./||' | sort | packed) > "$made/nushbaret-$version-linux-x86_64.tar.gz"
+    stage "$work/prefix" lib '${pcfiledir}/../..' lib/nushbaret '/usr/bin/env python3'
+    (cd "$work/prefix" && find . ! -type d | sed 's|^\./||' | sort | packed) > "$made/nushbaret-$version-linux-$machine.tar.gz"
 }
 
 # member FILE: a file as an archive of `ar` holds it.
@@ -129,8 +156,11 @@ member() {
 
 # The Debian package, in the same layout under /usr, where Debian has its libraries and completions.
 package() {
-    local root=$work/package share=$work/package/usr/share size
-    stage "$root/usr" "lib/$multiarch" /usr
+    local root=$work/package share=$work/package/usr/share packages=lib/python3/dist-packages size
+    stage "$root/usr" "lib/$multiarch" /usr "$packages" /usr/bin/python3
+    cp -r "$work/wheel/nushbaret-$version.dist-info" "$root/usr/$packages/"
+    rm -r "$root/usr/$packages/nushbaret-$version.dist-info"/{RECORD,licenses}
+    echo dpkg > "$root/usr/$packages/nushbaret-$version.dist-info/INSTALLER"
     mkdir -p "$share/zsh/vendor-completions"
     mv "$share"/zsh/site-functions/* "$share/zsh/vendor-completions/"
     rmdir "$share/zsh/site-functions"
@@ -140,8 +170,9 @@ package() {
     size=$(find "$root" -type f -printf '%s\n' | awk '{ kilobytes += int(($1 + 1023) / 1024) } END { print kilobytes }')
     filled control "lib/$multiarch" /usr | sed "s|@SIZE@|$size|" > "$work/control/control"
     echo 'activate-noawait ldconfig' > "$work/control/triggers"
+    install -m 755 "$parts/postinst" "$parts/prerm" "$work/control/"
     (cd "$root" && find usr -type f | sort | xargs md5sum) > "$work/control/md5sums"
-    (cd "$work/control" && printf '%s\n' . ./control ./md5sums ./triggers | packed) > "$work/control.tar.gz"
+    (cd "$work/control" && printf '%s\n' . ./control ./md5sums ./postinst ./prerm ./triggers | packed) > "$work/control.tar.gz"
     (cd "$root" && find . | sort | packed) > "$work/data.tar.gz"
     echo 2.0 > "$work/debian-binary"
     {
@@ -149,16 +180,28 @@ package() {
         member "$work/debian-binary"
         member "$work/control.tar.gz"
         member "$work/data.tar.gz"
-    } > "$made/nushbaret_${version}_amd64.deb"
+    } > "$made/nushbaret_${version}_$architecture.deb"
 }
 
-# The wheel, by the package's own backend.
+# The wheel, by the package's own backend, and what it holds in a folder.
 wheel() {
+    local name=nushbaret-$version-py3-none-manylinux2014_$machine.whl
     (cd "$top/python" && python3 -c 'import sys, nushbaret_build as build
 if build.VERSION != sys.argv[2]:
     sys.exit("release/make.sh: python/pyproject.toml is of version %s, and VERSION is %s" % (build.VERSION, sys.argv[2]))
-build.PLATFORM = "manylinux2014_x86_64"
-build.build_wheel(sys.argv[1])' "$made" "$version")
+build.PLATFORM = sys.argv[3]
+build.build_wheel(sys.argv[1])' "$made" "$version" "manylinux2014_$machine")
+    python3 -m zipfile -e "$made/$name" "$work/wheel"
+    cmp -s "$library.so" "$work/wheel/nushbaret/libnushbaret.so" || stop "python/nushbaret has a library of its own, which isn't ${library#"$top"/}.so"
+}
+
+# pack MACHINE: all that is made for it.
+pack() {
+    choose "$1"
+    rm -rf "$work"/{wheel,prefix,package,control}
+    wheel
+    tarball
+    package
 }
 
 if [ "${1-}" = --source ] && [ $# = 1 ]; then
@@ -166,7 +209,12 @@ if [ "${1-}" = --source ] && [ $# = 1 ]; then
     exit
 fi
 [ $# -le 1 ] && [[ ${1-} != -* ]] || { echo 'usage: release/make.sh [FOLDER | --source]' >&2; exit 2; }
-look
+grep -q "^#define NUSHBARET_VERSION \"$version\"" "$top/c/nushbaret.h" || stop "c/nushbaret.h isn't of version $version"
+for each in $machines; do
+    choose "$each"
+    [ -z "$program" ] || look_at_the_program
+    look_at_the_library
+done
 mkdir -p "${1:-$top/release}"
 folder=$(cd "${1:-$top/release}" && pwd)
 work=$(mktemp -d)
@@ -174,11 +222,10 @@ trap 'rm -rf "$work"' EXIT
 made=$work/made
 mkdir "$made"
 source_text > "$made/SOURCE"
-cp "$program" "$made/auction_cli"
-chmod 755 "$made/auction_cli"
-wheel
-tarball
-package
+for each in $machines; do
+    pack "$each"
+done
+install -m 755 "$top/crates/auction_cli/out/auction_cli" "$made/auction_cli"
 (cd "$made" && sha256sum -- * > "$work/SHA256SUMS")
 # What an older release left goes; then all of the new one comes.
 if [ -f "$folder/SHA256SUMS" ]; then

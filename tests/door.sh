@@ -1,13 +1,16 @@
 #!/usr/bin/env bash
 # Builds the library for C, compares its header with the crate, and calls it from C and from C++: worked and drawn
 # problems, square and not, each fault and each code, each growth refused, eight threads at a time; once more with the
-# compiler's own checks of addresses and of undefined behaviour on the C side, where cc has them. Prints what differs.
-# Needs the kit, cc with the binutils, c++ and python3: tests/door.sh [gate], with c/build.sh's word.
+# compiler's own checks of addresses and of undefined behaviour on the C side, where cc has them; and once more as built for
+# 64-bit ARM, where its compiler and qemu are. Prints what differs; the last line says what ran.
+# Needs cc with the binutils, c++ and python3, and the kit: tests/door.sh [gate], with c/build.sh's word. With the word
+# `built` it takes c/out as it stands, and needs no kit.
 set -euo pipefail
 top=$(cd "$(dirname "$0")/.." && pwd)
 work=$(mktemp -d)
 trap 'rm -rf "$work"' EXIT
 failed=0
+ran='C99, C++11'
 
 # run NAME COMMAND..: what it prints is shown where it fails.
 run() {
@@ -20,7 +23,33 @@ run() {
     fi
 }
 
-"$top/c/build.sh" "$@"
+# shows NAME COMMAND..: the worked example prints its answer.
+shows() {
+    local name=$1
+    shift
+    if [ "$("$@" 2> /dev/null)" != $'cost 3: person 1 has object 2, person 2 has object 1\nproved optimal' ]; then
+        echo "$name: another answer"
+        failed=$((failed + 1))
+    fi
+}
+
+# The library for ARM: its names, the calls under emulation, and the worked example over the shared library.
+on_arm() {
+    local built=$top/c/out/aarch64 cc=aarch64-linux-gnu-gcc emulated
+    emulated=(qemu-aarch64 -L "$(dirname "$(dirname "$("$cc" -print-file-name=libc.so.6)")")")
+    run 'header for ARM' python3 "$top/tests/door/header.py" "$built"
+    run 'ARM: build' "$cc" "${c99[@]}" "${flags[@]}" "$calls" "$built/libnushbaret.a" "${wrapped[@]}" -o "$work/calls_on_arm"
+    run 'ARM' "${emulated[@]}" "$work/calls_on_arm"
+    run 'example for ARM: build' "$cc" -std=c99 -pedantic "${flags[@]}" "$top/c/example.c" -L"$built" -lnushbaret -Wl,-rpath,"$built" -o "$work/example_on_arm"
+    shows 'example for ARM' "${emulated[@]}" "$work/example_on_arm"
+}
+
+# Without the compiler for ARM the build says in one sentence where it is.
+asks_for_its_compiler() {
+    [ "$("$top/c/build.sh" --target aarch64 2>&1)" = "c/build.sh: aarch64-linux-gnu-gcc isn't here: Debian has it in gcc-aarch64-linux-gnu" ]
+}
+
+[ "${1-}" = built ] || "$top/c/build.sh" "$@"
 archive=$top/c/out/libnushbaret.a
 run header python3 "$top/tests/door/header.py"
 
@@ -35,16 +64,26 @@ run 'C++11' "$work/calls_as_cpp"
 if echo 'int main(void) { return 0; }' | cc -fsanitize=address,undefined -x c - -o "$work/empty" 2> /dev/null; then
     run 'checked: build' cc "${c99[@]}" "${flags[@]}" -fsanitize=address,undefined -fno-sanitize-recover=all "$calls" "$archive" "${wrapped[@]}" -o "$work/checked"
     run 'checked' "$work/checked"
+    ran="$ran, under sanitizers"
 fi
 
 # The worked example, over the shared library, in C and in C++.
 run 'example in C++: build' c++ -x c++ -std=c++11 -pedantic "${flags[@]}" "$top/c/example.c" -x none "$archive" -o "$work/example_as_cpp"
 run 'example in C++' "$work/example_as_cpp"
 run 'example: build' cc -std=c99 -pedantic "${flags[@]}" "$top/c/example.c" -L"$top/c/out" -lnushbaret -Wl,-rpath,"$top/c/out" -o "$work/example"
-run 'example' "$work/example"
-wanted=$'cost 3: person 1 has object 2, person 2 has object 1\nproved optimal'
-if [ "$("$work/example" 2> /dev/null)" != "$wanted" ]; then
-    echo 'example: another answer'
-    failed=$((failed + 1))
+shows 'example' "$work/example"
+
+if ! type -P aarch64-linux-gnu-gcc > /dev/null; then
+    run 'no compiler for ARM' asks_for_its_compiler
+    ran="$ran; not on ARM: no aarch64-linux-gnu-gcc"
+elif ! type -P qemu-aarch64 > /dev/null; then
+    ran="$ran; not on ARM: no qemu-aarch64"
+elif [ "${1-}" = built ] && [ ! -e "$top/c/out/aarch64/libnushbaret.a" ]; then
+    ran="$ran; not on ARM: c/build.sh --target aarch64 hasn't run"
+else
+    [ "${1-}" = built ] || "$top/c/build.sh" "$@" --target aarch64
+    on_arm
+    ran="$ran, on ARM under qemu"
 fi
+echo "door: $ran"
 [ "$failed" = 0 ]

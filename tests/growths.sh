@@ -10,8 +10,7 @@ work=${1:-$(mktemp -d)}
 [ $# -gt 0 ] || trap 'rm -rf "$work"' EXIT
 crate=$work/crates/growths
 . "$top/programs/over_crates.sh"
-over_crates "$top" "$work" growths 'assign_core scaled_values bidder price_log auction_book async_workers' \
-    assign_core price_log scaled_values bidder hall_refuter auction_book async_workers
+over_crates "$top" "$work" growths
 (cd "$crate" && rt run -- turns > "$work/log" 2>&1) || { tail -20 "$work/log"; exit 1; }
 program=$crate/out/growths
 cc -O1 -shared -fPIC -o "$work/refuse.so" "$top/tests/refuse.c" -ldl

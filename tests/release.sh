@@ -42,6 +42,14 @@ compare_bytes() {
     fi
 }
 
+# What a release packs and isn't built here.
+unbuilt() {
+    local file
+    for file in crates/auction_cli/out/auction_cli c/out/libnushbaret.so c/out/aarch64/libnushbaret.so; do
+        [ -e "$top/$file" ] || echo "$file"
+    done | paste -s -d ' '
+}
+
 # Compares where the sources and the tools are those of the release, and says what differs where they aren't.
 compare() {
     "$top/release/make.sh" --source > "$work/SOURCE" 2> "$work/log" || fail "release/make.sh --source: $(cat "$work/log")"
@@ -49,8 +57,8 @@ compare() {
         echo "release: $(head -n 1 "$folder/SOURCE"), of other sources or tools than there are here. Of the release (<), and here (>):"
         diff "$folder/SOURCE" "$work/SOURCE" | grep '^[<>]'
         echo 'a comparison with what is built here (other sources or tools)' >> "$work/without"
-    elif [ ! -e "$top/crates/auction_cli/out/auction_cli" ] && [ ! -e "$top/c/out/libnushbaret.so" ]; then
-        echo 'a comparison with what is built here (nothing is)' >> "$work/without"
+    elif [ -n "$(unbuilt)" ]; then
+        echo "a comparison with what is built here (no $(unbuilt))" >> "$work/without"
     else
         compare_bytes
     fi

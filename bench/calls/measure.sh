@@ -11,8 +11,7 @@ work=${1:-$(mktemp -d)}
 [ $# -gt 0 ] || trap 'rm -rf "$work"' EXIT
 crate=$work/crates/calls
 . "$top/programs/over_crates.sh"
-over_crates "$top" "$work" calls 'assign_core orlib_reader scaled_values bidder auction_book rounds report' \
-    assign_core orlib_reader price_log scaled_values bidder hall_refuter report auction_book rounds
+over_crates "$top" "$work" calls
 for name in events report; do
     rustc --edition 2024 -O -C target-cpu=x86-64-v2 -o "$work/plain_$name" "$here/../plain/$name.rs"
 done

@@ -9,8 +9,7 @@ work=${1:-$(mktemp -d)}
 [ $# -gt 0 ] || trap 'rm -rf "$work"' EXIT
 crate=$work/crates/place
 . "$top/programs/over_crates.sh"
-over_crates "$top" "$work" place 'assign_core orlib_reader scaled_values auction_book async_workers' \
-    assign_core orlib_reader price_log scaled_values bidder hall_refuter auction_book async_workers
+over_crates "$top" "$work" place
 python3 "$top/examples/make_sparse_problem.py" 1000 8 1 1000 7 > "$work/sparse_1000"
 "$top/bench/crowded.sh" 1000 600 > "$work/crowded_1000"
 (cd "$crate" && rt run -- events 1 < "$work/sparse_1000" > "$work/log" 2>&1) || { tail -20 "$work/log"; exit 1; }

@@ -14,8 +14,8 @@ trap 'rm -rf "$work"' EXIT
 
 # A program over the crates of a tree.
 build() {
-    local tree=$1 place=$2 uses='assign_core orlib_reader scaled_values bidder'
-    over_crates "$tree" "$place" scan "$uses" $uses
+    local tree=$1 place=$2
+    over_crates "$tree" "$place" scan
     (cd "$place/crates/scan" && rt run < /dev/null > "$place/log" 2>&1) || { tail -5 "$place/log"; exit 1; }
 }
 

@@ -5,10 +5,10 @@
     result.columns, result.cost, result.column_duals
 
 `solve` takes a matrix, `solve_sparse` listed pairs, and `linear_sum_assignment` is SciPy's call. `assign_counts` plans where rows and
-columns count several times. `k_best` yields plans from the best
-on, and `bottleneck` makes the worst pair as good as possible. `check` and `compare` judge plans from elsewhere. Each best plan comes
-from Nushbaret's proved library, which also checks the plans after it. What this package adds is tested, not proved: how costs are
-read, dummies where some stay out, and the order of the plans after the best one.
+columns count several times. `k_best` yields plans from the best on, and `bottleneck` makes the worst pair as good as possible. `check`
+and `compare` judge plans from elsewhere. Plans are best for the costs as given, of any size. Nushbaret's proved library solves all costs
+that are up to 10**12 multiples of one unit, and proves the plan; for any others it solves rounded ones, level by level. What this
+package adds is tested, not proved: how costs are read, levels, dummies where some stay out, and the order of plans.
 """
 from ._bottleneck import bottleneck
 from ._checking import Comparison, Verdict, check, compare

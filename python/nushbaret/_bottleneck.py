@@ -1,26 +1,26 @@
 """Plans whose worst pair is as good as possible."""
-from array import array
-from typing import Any, Dict, List
+from typing import Any, Dict, List, Optional
 
-from ._checking import problem_of
+from . import _library as library, _source as sources
 from ._exact import manner
 from ._infeasible import most_served
-from ._problem import Problem, listed
+from ._problem import Problem, in_whole_numbers, kept, listed
 from ._result import Result
-from ._solving import Decimals, prove_most, solve_problem, solve_served
+from ._solving import prove_most, solve_problem, solve_served
+from ._source import Source
 
 
-def bottleneck(costs: Any, maximize: bool = False, decimals: Decimals = None, partial: bool = False,
-               missing: str = "refuse") -> Result:
+def bottleneck(costs: Any, maximize: bool = False, decimals: Optional[int] = None, partial: bool = False,
+               missing: str = "refuse", timeout: Optional[float] = None) -> Result:
     """A plan whose dearest pair is as cheap as possible, and among these one of the best sum.
 
     Parameters
     ----------
     costs : matrix
-        As in `solve`, or a sparse matrix of SciPy's.
+        As in `solve`.
     maximize : bool, optional
         Whether to find great costs: then the least pair is as great as possible.
-    decimals, partial, missing
+    decimals, partial, missing, timeout
         As in `solve`.
 
     Returns
@@ -30,37 +30,49 @@ def bottleneck(costs: Any, maximize: bool = False, decimals: Decimals = None, pa
 
     Raises
     ------
-    Infeasible, ValueError, TypeError, MemoryError, LibraryNotFound
+    Infeasible, ValueError, TypeError, TimeoutError, MemoryError, LibraryNotFound
         As in `solve`.
 
     Notes
     -----
     Solves twice; matchings find which pairs no plan needs.
+
+    >>> import nushbaret
+    >>> nushbaret.bottleneck([[0, 5], [5, 9]]).pairs
+    [(0, 1), (1, 0)]
     """
-    problem = problem_of(costs, None, None, None, manner(maximize, decimals, missing))
+    source = Source(sources.lasting(costs), None, None, None, manner(maximize, decimals, missing))
+    with library.limited(timeout):
+        return _bottleneck(source, partial)
+
+
+def _bottleneck(source: Source, partial: bool) -> Result:
+    problem = source.read()
     least = min(problem.n_rows, problem.n_columns)
     served = least if problem.persons is None else most_served(problem)
     if not served or served < least and not partial:
-        return solve_problem(problem, None, partial)
+        return solve_problem(problem, None, partial, source)
     if served < least:
         prove_most(problem, served)
-    return _best_within(listed(problem), served)
+    # Doubles are in the order of the decimals that they print as.
+    return _best_within(listed(problem if problem.numpy else in_whole_numbers(problem)), served, source)
 
 
-def _best_within(pairs: Problem, served: int) -> Result:
+def _best_within(pairs: Problem, served: int, source: Source) -> Result:
     """The best plan of so many pairs among those whose worst pair is as good as possible."""
     values = _values(pairs)
     lower, upper, fewest = values.index(_unavoidable(pairs, served, values[0])) - 1, len(values) - 1, pairs
     # The answer is mostly near the lower end, where few pairs have to be looked at.
     width, is_bounded = max(len(values) // 1024, 1), False
     while upper - lower > 1:
+        library.look_at_time()
         middle = (lower + upper) // 2 if is_bounded else min(lower + width, upper - 1)
         tried = _within(fewest, values[middle])
         if most_served(tried) == served:
             upper, fewest, is_bounded = middle, tried, True
         else:
             lower, width = middle, 2 * width
-    result = solve_served(_within(fewest, values[upper]), served)
+    result = solve_served(_within(fewest, values[upper]), served, source._replace(worst=pairs.ratio(values[upper])))
     if result is None or lower >= 0 and solve_served(_within(pairs, values[lower]), served) is not None:
         raise RuntimeError(f"{values[upper]} was found to be the worst cost that is needed, and the library says otherwise")
     return result
@@ -99,9 +111,5 @@ def _best_of_each(pairs: Problem, nodes: Any) -> List[int]:
 def _within(pairs: Problem, worst: int) -> Problem:
     """The problem without the pairs that are worse than a cost."""
     if pairs.numpy:
-        kept = pairs.costs >= worst if pairs.maximize else pairs.costs <= worst
-        return pairs._replace(costs=pairs.costs[kept], persons=pairs.persons[kept], objects=pairs.objects[kept])
-    places = [place for place, cost in enumerate(pairs.costs) if (cost >= worst if pairs.maximize else cost <= worst)]
-    costs, persons, objects = (array(held.typecode, [held[place] for place in places])
-                               for held in (pairs.costs, pairs.persons, pairs.objects))
-    return pairs._replace(costs=costs, persons=persons, objects=objects)
+        return kept(pairs, pairs.costs >= worst if pairs.maximize else pairs.costs <= worst)
+    return kept(pairs, [place for place, cost in enumerate(pairs.costs) if (cost >= worst if pairs.maximize else cost <= worst)])

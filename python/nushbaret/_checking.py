@@ -1,12 +1,15 @@
 """Plans from elsewhere, checked against a problem."""
-import operator
+import math
 from array import array
+from fractions import Fraction
 from typing import Any, List, NamedTuple, Optional, Sequence, Tuple
 
-from . import _exact as exact, _library as library, _problem as reading, _proved as proved
-from ._problem import Problem, costs_of_pairs
-from ._result import Result, in_unit
-from ._solving import Decimals, solve_problem
+from . import _array_levels as arrays, _exact as exact, _library as library, _proved as proved, _source as sources
+from ._numbers import Unit, exactly_less, in_unit, unit_of
+from ._problem import Problem, costs_of_pairs, in_whole_numbers, lists_of
+from ._result import Result, numbered
+from ._solving import solve_problem
+from ._source import Source
 
 
 class Verdict:
@@ -17,9 +20,14 @@ class Verdict:
     proved : bool
         Whether the prices prove that no plan of as many pairs is better.
     why : str
-        What is wrong with the first row or column that speaks against it; empty if nothing is.
+        What is wrong with the first row or column that speaks against it, by the labels of a DataFrame; empty if nothing is.
     row, column : int or None
-        Which row and column these are, if any.
+        Which row and column these are, from 0, if any.
+
+    >>> import nushbaret
+    >>> verdict = nushbaret.check([[1, 2], [3, 5]], columns=[0, 1], prices=[1, 0])
+    >>> bool(verdict), verdict.row, verdict.column
+    (False, 1, 0)
     """
 
     def __init__(self, why: str = "", row: Optional[int] = None, column: Optional[int] = None):
@@ -35,7 +43,12 @@ class Verdict:
 
 class Comparison(NamedTuple):
     """A plan made by hand compared with the best one: its cost, the best cost, by how much it is worse (0 or more), and the best one's
-    result."""
+    result.
+
+    >>> import nushbaret
+    >>> nushbaret.compare([[1, 2], [3, 5]], columns=[0, 1])[:3]
+    (6, 5, 1)
+    """
 
     cost: Any
     best: Any
@@ -43,25 +56,11 @@ class Comparison(NamedTuple):
     result: Result
 
 
-def problem_of(costs: Any, rows: Any, columns: Any, sizes: Optional[Tuple[int, int]], manner: exact.Manner) -> Problem:
-    """The problem of a matrix, of a sparse matrix, or of listed pairs. If sizes are given, it must have these."""
-    if (rows is None) != (columns is None):
-        raise TypeError("rows and columns of listed pairs are given together")
-    if rows is not None and sizes is not None:
-        found = reading.of_pairs(*sizes, rows, columns, costs, manner)
-    elif hasattr(costs, "tocsr"):
-        found = reading.of_sparse_matrix(costs, manner)
-    else:
-        found = reading.of_matrix(costs, manner)
-    if sizes is not None and sizes != (found.n_rows, found.n_columns):
-        raise ValueError(f"the costs have {found.n_rows} rows and {found.n_columns} columns, the plan was made for {sizes[0]} and {sizes[1]}")
-    return found
-
-
 def _pairs_of(problem: Problem, columns: Any, rows: Any) -> List[Tuple[int, int]]:
     """The pairs of a plan. Each number must be one of the problem, and no row may come twice."""
-    columns = [None if column is None else operator.index(column) for column in columns]
-    rows = range(len(columns)) if rows is None else [operator.index(row) for row in rows]
+    labels = problem.labels or (None, None)
+    columns = [None if column is None else numbered(column, labels[1]) for column in columns]
+    rows = range(len(columns)) if rows is None else [numbered(row, labels[0]) for row in rows]
     if len(rows) != len(columns):
         raise ValueError(f"there are {len(rows)} rows and {len(columns)} columns: a plan pairs them one by one")
     pairs = [(row, column) for row, column in zip(rows, columns) if column is not None]
@@ -72,12 +71,12 @@ def _pairs_of(problem: Problem, columns: Any, rows: Any) -> List[Tuple[int, int]
         if not 0 <= column < problem.n_columns:
             raise ValueError(f"row {row} of the plan has column {column}, which isn't from 0 to {problem.n_columns - 1}")
         if row in seen:
-            raise ValueError(f"row {row} stands twice in the plan")
+            raise ValueError(f"row {problem.row_name(row)} stands twice in the plan")
         seen.add(row)
     return pairs
 
 
-def check_problem(problem: Problem, rows: Sequence[int], columns: Sequence[int], prices: Any) -> Verdict:
+def check_problem(problem: Problem, rows: Sequence[int], columns: Sequence[int], prices: List[Fraction]) -> Verdict:
     """The verdict on a plan whose rows and columns are numbers of the problem, no row twice."""
     pairs = list(zip(rows, columns))
     if not pairs:
@@ -86,14 +85,25 @@ def check_problem(problem: Problem, rows: Sequence[int], columns: Sequence[int],
     given_columns = set()
     for (row, column), cost in zip(pairs, costs):
         if cost is None:
-            return Verdict(f"row {row} may not have column {column}", row, column)
+            return Verdict(f"row {problem.row_name(row)} may not have column {problem.column_name(column)}", row, column)
         if column in given_columns:
-            return Verdict(f"column {column} is given twice", row, column)
+            return Verdict(f"column {problem.column_name(column)} is given twice", row, column)
         given_columns.add(column)
     most = min(problem.n_rows, problem.n_columns)
     if problem.persons is None and len(pairs) < most:
-        return Verdict(f"{len(pairs)} rows have a column, and {most} can")
-    return _judged(problem, pairs, costs, prices)
+        return Verdict(f"{_counted(len(pairs), 'row')} of {problem.n_rows} {_has(len(pairs))} a column, and {most} can")
+    verdict = None
+    if not problem.raw and not isinstance(problem.costs, list):
+        verdict = _judged(problem, pairs, costs, prices)
+    return verdict if verdict is not None else _judged_exactly(problem, pairs, costs, prices)
+
+
+def _counted(count: int, word: str) -> str:
+    return f"{count} {word}" if count == 1 else f"{count} {word}s"
+
+
+def _has(count: int) -> str:
+    return "has" if count == 1 else "have"
 
 
 def _verdict_on_none(problem: Problem) -> Verdict:
@@ -102,14 +112,16 @@ def _verdict_on_none(problem: Problem) -> Verdict:
     return Verdict("no row has a column")
 
 
-def _judged(problem: Problem, pairs: List[Tuple[int, int]], costs: List[int], prices: Any) -> Verdict:
-    """The library's verdict, in the caller's numbers.
+def _judged(problem: Problem, pairs: List[Tuple[int, int]], costs: List[int], given: List[Fraction]) -> Optional[Verdict]:
+    """The library's verdict, in the caller's numbers; None where costs or prices are beyond its range.
 
     A dummy's price is what the dearest pair pays, so nobody who is matched gains by staying out. If that is below 0, the cost of
     staying out is lowered instead, so that no price is below 0."""
     n, m, dummies = proved.sizes_of(problem, len(pairs))
     unit, sign = m + 1, -1 if problem.maximize else 1
-    prices = proved.scaled(problem, prices, unit)
+    prices = proved.scaled(problem, given, unit)
+    if prices is None:
+        return None
     paid = [sign * unit * cost + prices[column] for (_, column), cost in zip(pairs, costs)]
     dearest = max(paid)
     less = max(0, -(dearest // unit))
@@ -118,10 +130,12 @@ def _judged(problem: Problem, pairs: List[Tuple[int, int]], costs: List[int], pr
         of_objects = [0] * problem.n_rows
         for (row, _), held in zip(pairs, paid):
             of_objects[row] = dearest - held
+    if max(of_objects) >= 2**126 or dearest + less * unit >= 2**126 or less > library.GREATEST_COST:
+        return None
     halves = library.Halves(prices=of_objects + [dearest + less * unit] * dummies)
     asked = proved.given(problem, len(pairs), -sign * less)
     code, told = library.call("check", problem.maximize, *asked, _objects(problem, pairs, n, m - dummies), halves)
-    return _in_words(problem, pairs, prices, asked, code, told)
+    return _in_words(problem, pairs, prices, code, told)
 
 
 def _objects(problem: Problem, pairs: List[Tuple[int, int]], n: int, most: int) -> Any:
@@ -139,47 +153,130 @@ def _objects(problem: Problem, pairs: List[Tuple[int, int]], n: int, most: int) 
     return objects
 
 
-def _in_words(problem: Problem, pairs: List[Tuple[int, int]], prices: List[int], asked: proved.Given, code: str,
-              told: library.Told) -> Verdict:
+def _in_words(problem: Problem, pairs: List[Tuple[int, int]], prices: List[int], code: str, told: library.Told) -> Optional[Verdict]:
     if code == "SLACK":
         row, column = told.person - 1, told.object - 1
         if proved.is_turned(problem):
             row, column = column, row
-        return Verdict(f"row {row} would be better off with column {column}, at these prices", row, column)
+        return _better_off(problem, row, column)
     if code == "DEAR":
-        return _dear(prices, told.object - 1)
-    if code == "PRICE_RANGE":
-        return Verdict("prices are too far apart")
+        return _dear(problem, prices, told.object - 1, 1)
+    if code in ("PRICE_RANGE", "COST"):
+        return None
     if code != "BEST":
-        return proved.refuse(problem, asked, code, told)
+        return proved.refuse(code, told)
     # Where rows are more the library has seen the prices of the matched columns alone.
     used = {column for _, column in pairs}
     dear = [column for column, price in enumerate(prices) if price > 1 and column not in used]
-    return _dear(prices, dear[0]) if dear else Verdict()
+    return _dear(problem, prices, dear[0], 1) if dear else Verdict()
 
 
-def _dear(prices: List[int], unused: int) -> Verdict:
-    cheaper = next(column for column, price in enumerate(prices) if price + 1 < prices[unused])
-    return Verdict(f"column {unused} stays unused, and column {cheaper} is cheaper", None, cheaper)
+def _better_off(problem: Problem, row: int, column: int) -> Verdict:
+    return Verdict(f"row {problem.row_name(row)} would be better off with column {problem.column_name(column)}, at these prices", row, column)
+
+
+def _dear(problem: Problem, prices: List[int], unused: int, more: int) -> Verdict:
+    cheaper = next(column for column, price in enumerate(prices) if price + more < prices[unused])
+    return Verdict(f"column {problem.column_name(unused)} stays unused, and column {problem.column_name(cheaper)} is cheaper", None, cheaper)
+
+
+# Exactly, for costs and prices of any size.
+
+
+class _Best(NamedTuple):
+    """The least that a row pays, in whole numbers of a unit, and for which column."""
+
+    paid: int
+    column: int
+
+
+def _judged_exactly(problem: Problem, pairs: List[Tuple[int, int]], costs: List[Any], given: List[Fraction]) -> Verdict:
+    """The verdict by exact numbers. No plan of as many pairs is better by more than all slack together: what each matched row pays above
+    its best, and each unmatched one below the dearest, and what unused columns cost above the cheapest. Differences of plans are
+    multiples of the unit of all costs, so less slack than that is none."""
+    seen = problem
+    ratios = [problem.ratio(cost) for cost in costs]
+    if not (problem.raw and problem.numpy and problem.persons is None):
+        seen = in_whole_numbers(problem)
+    best = _bests(seen, pairs, ratios, given)
+    unit, rows = best
+    sign = -1 if problem.maximize else 1
+    prices = [int(price * unit.denominator) for price in given]
+    lowest = min(prices)
+    paid = {row: sign * in_unit(ratio, unit) + prices[column] for (row, column), ratio in zip(pairs, ratios)}
+    dearest = max(paid.values())
+    slack = {row: max(paid.get(row, dearest) - own.paid, 0) for row, own in enumerate(rows) if own is not None}
+    used = {column for _, column in pairs}
+    dear = {column: price - lowest for column, price in enumerate(prices) if column not in used}
+    whole = sum(slack.values()) + sum(dear.values())
+    if not whole or whole * _unit_of_all(problem).denominator < unit.denominator:
+        return Verdict()
+    row = next((row for row, more in slack.items() if more), None)
+    if row is not None:
+        return _better_off(problem, row, rows[row].column)  # type: ignore[union-attr]
+    return _dear(problem, prices, next(column for column, more in dear.items() if more), 0)
+
+
+def _unit_of_all(problem: Problem) -> Unit:
+    """The unit of which all costs are multiples."""
+    return in_whole_numbers(problem).unit
+
+
+Bests = Tuple[Unit, List[Optional[_Best]]]
+
+
+def _bests(problem: Problem, pairs: List[Tuple[int, int]], ratios: List[Any], prices: List[Fraction]) -> Bests:
+    """For each row the least that it would pay, in a unit of the costs and prices; None for a row without pairs."""
+    of_prices = set((1, price.denominator) for price in prices)
+    if problem.raw:
+        return _bests_of_doubles(problem, ratios, prices, of_prices)
+    unit = unit_of({(1, problem.unit.denominator)} | of_prices, True)
+    step, scaled = unit.denominator // problem.unit.denominator, [int(price * unit.denominator) for price in prices]
+    bests: List[Optional[_Best]] = []
+    for columns, costs in lists_of(problem):
+        paid = [(int(cost) * step + scaled[column], column) for column, cost in zip(columns, costs)]
+        bests.append(_Best(*min(paid)) if paid else None)
+    return unit, bests
+
+
+def _bests_of_doubles(problem: Problem, ratios: List[Any], prices: List[Fraction], of_prices: Any) -> Bests:
+    """As `_bests`, for a whole matrix of doubles: only those near the least are looked at exactly."""
+    numpy, sign = problem.numpy, -1 if problem.maximize else 1
+    near = arrays.near_least(numpy, problem.costs.reshape(problem.n_rows, problem.n_columns), sign, list(map(_as_float, prices)))
+    costs = {place: problem.ratio(problem.costs[place].item()) for places in near for place in places}
+    unit = unit_of(of_prices | set((1, denominator) for _, denominator in [*ratios, *costs.values()]), True)
+    scaled = [int(price * unit.denominator) for price in prices]
+    bests: List[Optional[_Best]] = []
+    for places in near:
+        columns = [place % problem.n_columns for place in places]
+        bests.append(_Best(*min((sign * in_unit(costs[place], unit) + scaled[column], column) for place, column in zip(places, columns))))
+    return unit, bests
+
+
+def _as_float(price: Fraction) -> float:
+    """The nearest float, or an infinite one."""
+    try:
+        return float(price)
+    except OverflowError:
+        return math.inf if price > 0 else -math.inf
 
 
 def check(costs: Any, columns: Any, prices: Any, rows: Any = None, maximize: bool = False,
-          decimals: Decimals = None) -> Verdict:
+          decimals: Optional[int] = None, missing: str = "refuse") -> Verdict:
     """Checks a plan of any origin against a problem: whether these prices prove that it is best.
 
     Parameters
     ----------
     costs : matrix
-        As in `solve`, or a sparse matrix of SciPy's.
+        As in `solve`.
     columns : list of int
-        The column of each row, from 0; None for a row that stays out.
+        The column of each row, from 0; None for a row that stays out. With a DataFrame labels will do too, except whole numbers.
     prices : list of numbers
-        One for each column, in the unit of the costs. A price is added to its column's costs, and subtracted under maximize. So
-        a solver's column duals are prices with reversed signs, and under maximize as they are. They are rounded to the nearest
-        part of the library's unit, so floats will do.
+        One for each column, in the unit of the costs, as `Result.prices`. A price is added to its column's costs, and subtracted under
+        maximize. So a solver's column duals are prices with reversed signs, and under maximize as they are.
     rows : list of int, optional
         The row of each of `columns`, if they aren't 0, 1, 2 ...
-    maximize, decimals
+    maximize, decimals, missing
         As in `solve`.
 
     Returns
@@ -193,19 +290,28 @@ def check(costs: Any, columns: Any, prices: Any, rows: Any = None, maximize: boo
     ValueError, TypeError
         As in `solve`, or if a number of the plan is none of the problem's, a row is in it twice, or there aren't as many
         prices as columns.
+
+    Notes
+    -----
+    Within its range the proved library checks, with prices rounded to a part in n + 1 of the costs' unit, which loses nothing. Beyond it
+    Python compares exactly: the plan is proved if what all rows pay above their best adds up to less than the unit of the costs.
+
+    >>> import nushbaret
+    >>> nushbaret.check([[1, 2], [3, 5]], columns=[1, 0], prices=[1, 0])
+    <nushbaret.Verdict: proved>
     """
-    problem = problem_of(costs, None, None, None, exact.manner(maximize, decimals))
+    problem = sources.problem_of(sources.lasting(costs), None, None, None, exact.manner(maximize, decimals, missing))
     pairs = _pairs_of(problem, columns, rows)
-    return check_problem(problem, [row for row, _ in pairs], [column for _, column in pairs], prices)
+    return check_problem(problem, [row for row, _ in pairs], [column for _, column in pairs], proved.exact_prices(problem, prices))
 
 
 def compare(costs: Any, columns: Any, rows: Any = None, maximize: bool = False,
-            decimals: Decimals = None) -> Comparison:
+            decimals: Optional[int] = None, missing: str = "refuse") -> Comparison:
     """By how much a plan made by hand is worse than the best one.
 
     Parameters
     ----------
-    costs, columns, rows, maximize, decimals
+    costs, columns, rows, maximize, decimals, missing
         As in `check`. The plan must have as many pairs as possible.
 
     Returns
@@ -216,20 +322,24 @@ def compare(costs: Any, columns: Any, rows: Any = None, maximize: bool = False,
     ------
     ValueError, TypeError
         As in `check`, or if the plan uses a forbidden pair or a column twice, or has fewer pairs than possible.
+
+    >>> import nushbaret
+    >>> nushbaret.compare([[1, 2], [3, 5]], columns=[0, 1]).worse
+    1
     """
-    problem = problem_of(costs, None, None, None, exact.manner(maximize, decimals))
+    source = Source(sources.lasting(costs), None, None, None, exact.manner(maximize, decimals, missing))
+    problem = source.read()
     pairs = _pairs_of(problem, columns, rows)
     held = costs_of_pairs(problem, pairs)
     seen = set()
     for (row, column), cost in zip(pairs, held):
         if cost is None:
-            raise ValueError(f"row {row} may not have column {column}")
+            raise ValueError(f"row {problem.row_name(row)} may not have column {problem.column_name(column)}")
         if column in seen:
-            raise ValueError(f"column {column} stands twice in the plan")
+            raise ValueError(f"column {problem.column_name(column)} stands twice in the plan")
         seen.add(column)
-    result = solve_problem(problem, None, True)
+    result = solve_problem(problem, None, True, source)
     if len(pairs) != len(result.rows):
-        raise ValueError(f"the plan has {len(pairs)} pairs, and {len(result.rows)} can be made")
-    cost, best = sum(held), result._answer.total
-    worse = best - cost if problem.maximize else cost - best
-    return Comparison(in_unit(cost, problem.places), result.cost, in_unit(worse, problem.places), result)
+        raise ValueError(f"the plan has {_counted(len(pairs), 'pair')}, and {len(result.rows)} can be made")
+    own, best = result._sum_of([problem.ratio(cost) for cost in held]), result.cost
+    return Comparison(own, best, exactly_less(best, own) if problem.maximize else exactly_less(own, best), result)

@@ -4,14 +4,13 @@ from collections import Counter
 from functools import cached_property
 from typing import Any, Collection, Dict, List, NamedTuple, Optional, Tuple
 
-from ._checking import problem_of
+from . import _source as sources
 from ._exact import manner
 from ._gadgets import Bounds, Counted, Pair, best_pairs, trimmed
 from ._infeasible import Infeasible, numbered
 from ._lack import Lack, lacks_of
-from ._problem import Problem, lists_of
-from ._result import Number, in_unit
-from ._solving import Decimals
+from ._numbers import Number
+from ._problem import Problem, in_whole_numbers, lists_of
 
 ONE_AT_MOST = Bounds(0, 1)
 
@@ -94,7 +93,7 @@ class CountsResult:
     ----------
     rows, columns : list of int, or NumPy array
         The pairs.
-    cost : int or decimal.Decimal
+    cost : int, decimal.Decimal or fractions.Fraction
         The sum of their costs, exactly.
     pairs : list of tuple
         The pairs by the labels of a DataFrame, or else by numbers.
@@ -113,8 +112,8 @@ class CountsResult:
         self._labels, self._found = problem.labels, pairs
         costs = _costs_of(counted, pairs)
         total = sum(costs)
-        self._costs = [in_unit(-cost if problem.maximize else cost, problem.places) for cost in costs]
-        self.cost: Number = in_unit(-total if problem.maximize else total, problem.places)
+        self._costs = [problem.unit.shown(-cost if problem.maximize else cost) for cost in costs]
+        self.cost: Number = problem.unit.shown(-total if problem.maximize else total)
         self.rows = problem.numbers([row for row, _ in pairs])
         self.columns = problem.numbers([column for _, column in pairs])
         self.missing_rows = missing(counted.row_bounds, Counter(row for row, _ in pairs))
@@ -277,7 +276,7 @@ def _counted(problem: Problem, rows: List[Bounds], columns: List[Bounds], groups
 
 
 def assign_counts(costs: Any, row_counts: Any = None, column_counts: Any = None, column_groups: Any = None, maximize: bool = False,
-                  decimals: Decimals = None, partial: bool = False, missing: str = "refuse") -> CountsResult:
+                  decimals: Optional[int] = None, partial: bool = False, missing: str = "refuse") -> CountsResult:
     """A best plan in which each row takes from so many to so many columns, and each column rows.
 
     Each pair is made at most once, and of a group of columns a row takes at most one.
@@ -285,7 +284,7 @@ def assign_counts(costs: Any, row_counts: Any = None, column_counts: Any = None,
     Parameters
     ----------
     costs : matrix
-        As in `solve`, or a sparse matrix of SciPy's.
+        As in `solve`.
     row_counts, column_counts : int, tuple or list, optional
         How many columns a row takes, and how many rows a column: a number, exactly so many, or a tuple (least, most). One for all, or a
         list with one for each. None is (0, 1); not both may be None.
@@ -321,7 +320,7 @@ def assign_counts(costs: Any, row_counts: Any = None, column_counts: Any = None,
     """
     if row_counts is None and column_counts is None:
         raise TypeError("row_counts and column_counts are both missing: give one, or call solve")
-    problem = problem_of(costs, None, None, None, manner(maximize, decimals, missing))
+    problem = in_whole_numbers(sources.problem_of(sources.lasting(costs), None, None, None, manner(maximize, decimals, missing)))
     rows, columns = bounds_of(row_counts, problem.n_rows, "row_counts"), bounds_of(column_counts, problem.n_columns, "column_counts")
     counted = _counted(problem, rows, columns, groups_of(column_groups, problem.n_columns))
     lacks, pairs = planned(counted, partial)

@@ -1,4 +1,5 @@
 """A plan by days, as rosters hang on the wall: a column for each group, who has what, and who is where."""
+from collections import Counter
 from html import escape
 from typing import Dict, Iterator, List, NamedTuple, Optional, Sequence, Tuple
 
@@ -87,12 +88,14 @@ Row = Tuple[str, List[str]]
 
 
 def _by_persons(roster: Roster, plan: Plan, labels: List[str], days: _Days) -> List[Row]:
-    """A row for each person: what it has on each day."""
+    """A row for each person: what it has on each day, and how many in all where that isn't one."""
+    counts = Counter(pair.person for pair in plan.pairs)
     cells: Dict[Tuple[int, Optional[int]], List[str]] = {}
     for pair in plan.pairs:
         text = escape(labels[pair.object]) + (" (fixed)" if pair.fixed else "")
         cells.setdefault((pair.person, _group(roster, pair.object)), []).append(text)
-    return [(name, ["\n".join(cells.get((person, group), [])) for group in days.groups]) for person, name in enumerate(roster.persons)]
+    return [(f"{name} ({counts[person]})" if counts[person] != 1 else name, ["\n".join(cells.get((person, group), [])) for group in days.groups])
+            for person, name in enumerate(roster.persons)]
 
 
 def _by_objects(roster: Roster, plan: Plan, labels: List[str], days: _Days) -> List[Row]:

@@ -1,260 +1,264 @@
-"""Costs of any kind become whole numbers: all are multiplied by one power of ten, exactly or rounded to the requested decimal places;
-or, for SciPy's call, by one power of two."""
+"""How costs are read. Costs with few decimal places become whole numbers, all multiplied by one power of ten. Any others stay as they
+are: doubles of an array, or a list of exact numbers."""
 import decimal
 import math
+import numbers
 import operator
 import struct
 import sys
 from array import array
 from fractions import Fraction
 from itertools import chain
-from typing import Any, Callable, List, NamedTuple, NoReturn, Optional, Sequence, Tuple
+from typing import Any, Callable, List, NamedTuple, NoReturn, Optional, Tuple
 
 from ._library import FEW, GREATEST_COST, Numbers
+from ._numbers import ONE, Ratio, Unit, in_unit, of_places, ratio_of, unit_of
 
+# With so many places at most, costs are made whole before they are solved.
 MOST_PLACES = 6
-# In place of a number of decimals: as many as fit; and a power of two, for costs that are taken as doubles.
-FIT, DOUBLES = "fit", "doubles"
 FORBID = "forbid"
-# Beyond such powers of two the factor, or what stands in for it, may be no double.
-MOST_SHIFT = 900
-# Digits after the point that are kept of a fraction before it is rounded.
-STICKY = 30
 _PLAIN = frozenset((int, float, bool, type(None)))
+# Doubles that are whole stay so below this; a greater one may print as another whole number.
+_MOST_WHOLE = 2.0**53
+_SAMPLE = 32
+_AT_ONCE = 2**20
 
-# What a place in a list of costs is called, for messages; a number as (whole, exponent), times a power of ten.
+# What a place in a list of costs is called, for messages.
 Where = Callable[[int], str]
-Scaled = Tuple[int, int]
 
 
 class Manner(NamedTuple):
-    """How costs are read: `decimals` is None for exactly, a number of places, FIT or DOUBLES; `forbid_nan` takes NaN as forbidden."""
+    """How costs are read: rounded to `decimals` places, or exactly where that is None. `forbid_nan` takes NaN as forbidden, and `doubles`
+    floats as what they are, not as the decimals that they print as, and texts as SciPy's call does."""
 
     maximize: bool
-    decimals: Any = None
+    decimals: Optional[int] = None
     forbid_nan: bool = False
+    doubles: bool = False
 
     @property
     def forbids(self) -> float:
         """The infinity that forbids a pair."""
         return -math.inf if self.maximize else math.inf
 
-    @property
-    def whole(self) -> bool:
-        """Whether whole numbers stay as they are."""
-        return not self.decimals or isinstance(self.decimals, str)
-
 
 class Costs(NamedTuple):
-    """Costs times 10**places, in their order; `forbidden` has the places of those that forbid their pair, where a 0 stands."""
+    """Costs in their order, in a unit; `forbidden` has the places of those that forbid their pair, where a 0 stands. Where `raw` is false
+    they are whole numbers of 64 bits, else an array of doubles or a list of exact numbers. `numpy` is the module where they are an array
+    of it, `fractions` says that one was a Fraction, and `most` is the greatest size of doubles, where it is known."""
 
     numbers: Any
-    forbidden: Any
-    places: int
-    rounded: bool
+    forbidden: Any = ()
+    unit: Unit = ONE
+    raw: bool = False
+    numpy: Any = None
+    fractions: bool = False
+    most: Optional[float] = None
+
+
+def loaded_numpy() -> Any:
+    """NumPy's module if somebody has imported it."""
+    numpy = sys.modules.get("numpy")
+    return numpy if hasattr(numpy, "ndarray") else None
 
 
 def numpy_of(value: Any) -> Any:
     """NumPy's module if the value is one of its arrays, or can become one by itself; else None."""
-    numpy = sys.modules.get("numpy")
+    numpy = loaded_numpy()
     if numpy is None:
         return None
-    return numpy if isinstance(value, numpy.ndarray) or hasattr(value, "__array__") else None
+    return numpy if isinstance(value, numpy.ndarray) or hasattr(value, "__array__") and not isinstance(value, type) else None
 
 
-def manner(maximize: Any, decimals: Any = None, missing: Any = "refuse") -> Manner:
+def manner(maximize: Any, decimals: Any = None, missing: Any = "refuse", doubles: bool = False) -> Manner:
     """How a call reads costs, from its arguments."""
-    if missing not in ("refuse", FORBID):
-        raise ValueError(f"missing is {missing!r}: 'refuse' or 'forbid' can be had")
-    return Manner(bool(maximize), _judged_decimals(decimals), missing == FORBID)
-
-
-def _judged_decimals(decimals: Any) -> Any:
-    if decimals is None or isinstance(decimals, str) and decimals == FIT:
-        return decimals
-    if isinstance(decimals, str):
-        raise ValueError(f"decimals is {decimals!r}: 0 to {MOST_PLACES} or 'fit' can be had")
-    decimals = operator.index(decimals)
-    if not 0 <= decimals <= MOST_PLACES:
-        raise ValueError(f"decimals is {decimals}: 0 to {MOST_PLACES} or 'fit' can be had")
-    return decimals
-
-
-def refuse_range(where: str, places: int) -> NoReturn:
-    scaled = f", with {places} decimal places: decimals=0 to {places - 1} takes fewer, decimals=\"fit\" as many as fit" if places else ""
-    raise ValueError(f"{where}: the cost is beyond {GREATEST_COST // 10**places}{scaled}")
-
-
-def _refuse_places(where: str, value: Any) -> NoReturn:
-    raise ValueError(f"{where}: {value} has more than {MOST_PLACES} decimal places: round the costs, as by "
-                     f"nushbaret.solve(costs, decimals={MOST_PLACES}), or decimals=\"fit\" for as many places as fit")
+    if not isinstance(missing, str) or missing not in ("refuse", FORBID):
+        raise ValueError(f"missing is {missing!r}: it must be 'refuse' or 'forbid'")
+    if decimals is not None:
+        if isinstance(decimals, str):
+            raise ValueError(f"decimals is {decimals!r}: it must be a whole number from 0, or None for the costs as they are")
+        decimals = operator.index(decimals)
+        if decimals < 0:
+            raise ValueError(f"decimals is {decimals}: it must be 0 or more")
+    return Manner(bool(maximize), decimals, missing == FORBID, doubles)
 
 
 def refuse_invalid(where: str, value: Any) -> NoReturn:
-    hint = ": None or an infinite cost forbids a pair, and missing=\"forbid\" takes nan so" if "nan" in str(value).lower() else ""
+    shown = str(value).lower()
+    hint = ": None or an infinite cost forbids a pair, and missing=\"forbid\" takes nan so" if "nan" in shown or shown == "--" else ""
     raise ValueError(f"matrix contains invalid numeric entries: {value} at {where}{hint}")
-
-
-def is_nan(value: Any) -> bool:
-    """Whether a value is NaN, or what pandas has in its place."""
-    return isinstance(value, (float, decimal.Decimal)) and value != value or type(value).__name__ in ("NAType", "NaTType")
-
-
-class _Decimals:
-    """Reads numbers of a list one after the other; each is a whole number times a power of ten."""
-
-    def __init__(self, manner: Manner, where: Where):
-        self.manner = manner
-        self.decimals = manner.decimals
-        self.where = where
-        self.places = 0
-        self.rounded = False
-
-    def of_digits(self, place: int, value: decimal.Decimal) -> Scaled:
-        """A finite decimal as (whole, exponent), with the greatest exponent that is at most 0."""
-        sign, digits, power = value.as_tuple()
-        if not value:
-            return 0, 0
-        if value.adjusted() > 13:
-            refuse_range(self.where(place), 0 if self.manner.whole else self.decimals)
-        whole, exponent = int("".join(map(str, digits))) * (-1 if sign else 1), int(power)
-        if exponent >= 0:
-            return whole * 10**exponent, 0
-        while exponent < 0 and whole % 10 == 0:
-            whole, exponent = whole // 10, exponent + 1
-        return self.judged(place, value, whole, exponent)
-
-    def judged(self, place: int, value: Any, whole: int, exponent: int) -> Scaled:
-        """The pair, where it has no more places than it may."""
-        if exponent >= -MOST_PLACES:
-            return whole, exponent
-        if self.decimals is None:
-            _refuse_places(self.where(place), value)
-        if exponent > -400:
-            return whole, exponent
-        self.rounded = True
-        return 0, 0
-
-    def of_float(self, place: int, value: float) -> Optional[Scaled]:
-        """A float that isn't whole, by the text that it prints as."""
-        text = repr(float(value))
-        if "e" in text or "n" in text:
-            return self.of_decimal(place, decimal.Decimal(text))
-        before, _, after = text.partition(".")
-        return self.judged(place, text, int(before + after), -len(after)) if after != "0" else (int(before), 0)
-
-    def of_fraction(self, place: int, value: Fraction) -> Scaled:
-        if value.denominator == 1 or 10**MOST_PLACES % value.denominator == 0:
-            return int(value * 10**MOST_PLACES), -MOST_PLACES
-        if self.decimals is None:
-            _refuse_places(self.where(place), value)
-        # The last digit says whether there is more, so that a later rounding knows on which side of a half it stands.
-        whole, rest = divmod(value.numerator * 10**STICKY, value.denominator)
-        return whole * 10 + (rest != 0), -STICKY - 1
-
-    def pair(self, place: int, value: Any) -> Optional[Scaled]:
-        """(whole, exponent), or None where the pair is forbidden."""
-        if value is None or self.manner.forbid_nan and is_nan(value):
-            return None
-        if isinstance(value, Fraction):
-            return self.of_digits_of_fraction(place, value)
-        if isinstance(value, float):
-            return self.of_float(place, value)
-        if isinstance(value, decimal.Decimal):
-            return self.of_decimal(place, value)
-        if hasattr(value, "dtype") and value.dtype.kind == "f":
-            return self.of_decimal(place, decimal.Decimal(str(value)))
-        return self.of_whole(place, value)
-
-    def of_decimal(self, place: int, number: decimal.Decimal) -> Optional[Scaled]:
-        if number.is_finite():
-            return self.of_digits(place, number)
-        if number.is_infinite() and (number < 0) == self.manner.maximize:
-            return None
-        return refuse_invalid(self.where(place), str(number).lower().replace("infinity", "inf"))
-
-    def of_digits_of_fraction(self, place: int, value: Fraction) -> Scaled:
-        whole, exponent = self.of_fraction(place, value)
-        while exponent < 0 and whole % 10 == 0:
-            whole, exponent = whole // 10, exponent + 1
-        return whole, exponent
-
-    def of_whole(self, place: int, value: Any) -> Scaled:
-        try:
-            return operator.index(value), 0
-        except TypeError:
-            if is_nan(value):
-                refuse_invalid(self.where(place), "nan")
-            refuse_kind(self.where(place), value)
-
-    def fitting(self, pairs: Sequence[Optional[Scaled]]) -> int:
-        """As many places as the costs have, as far as these fit."""
-        least = min(MOST_PLACES, max((-pair[1] for pair in pairs if pair), default=0))
-        while least and any(abs(pair[0]) * 10**least > GREATEST_COST * 10**-pair[1] for pair in pairs if pair):
-            least -= 1
-        return least
-
-    def scaled(self, place: int, pair: Scaled) -> int:
-        """The number times 10**places, rounded to the nearest, halves to even ones."""
-        whole, exponent = pair
-        power: int = 10**abs(self.places + exponent)
-        if self.places + exponent >= 0:
-            number = whole * power
-        else:
-            number, rest = divmod(whole, power)
-            self.rounded = self.rounded or rest != 0
-            number += 2 * rest > power or 2 * rest == power and number % 2
-        if not -GREATEST_COST <= number <= GREATEST_COST:
-            refuse_range(self.where(place), self.places)
-        return number
 
 
 def refuse_kind(where: str, value: Any) -> NoReturn:
     raise TypeError(f"Cannot cast array data: {where} is {value!r}, which is no number") from None
 
 
+def is_nan(value: Any) -> bool:
+    """Whether a value is NaN, or what pandas has in its place."""
+    if isinstance(value, decimal.Decimal):
+        return value.is_nan()
+    return isinstance(value, float) and value != value or type(value).__name__ in ("NAType", "NaTType")
+
+
+class _Reader:
+    """Reads numbers of any kind, one after the other."""
+
+    def __init__(self, manner: Manner, where: Where):
+        self.manner, self.where = manner, where
+
+    def number(self, place: int, value: Any) -> Any:
+        """An int, float, Decimal or Fraction, finite; None where the pair is forbidden."""
+        if value is None or self.manner.forbid_nan and is_nan(value):
+            return None
+        if isinstance(value, float):
+            return float(value) if math.isfinite(value) else self._infinite(place, float(value))
+        if isinstance(value, decimal.Decimal):
+            return _simple(value) if value.is_finite() else self._infinite(place, value)
+        if isinstance(value, (int, numbers.Integral)):
+            return self._whole(int(value))
+        if isinstance(value, numbers.Rational):
+            fraction = Fraction(int(value.numerator), int(value.denominator))
+            return fraction if fraction.denominator > 1 else int(fraction)
+        if getattr(getattr(value, "dtype", None), "kind", "") == "f":
+            return self._of_numpy(place, value)
+        return self._of_any(place, value)
+
+    def _whole(self, value: int) -> int:
+        if self.manner.doubles and abs(value) > _MOST_WHOLE:
+            float(value)
+        return value
+
+    def _infinite(self, place: int, value: Any) -> None:
+        if is_nan(value) or (value < 0) != self.manner.maximize:
+            refuse_invalid(self.where(place), str(value).lower().replace("infinity", "inf"))
+
+    def _of_numpy(self, place: int, value: Any) -> Any:
+        """A float of NumPy's of another size than Python's."""
+        if self.manner.doubles or not math.isfinite(value):
+            return self.number(place, float(value))
+        return decimal.Decimal(str(value))
+
+    def _of_any(self, place: int, value: Any) -> Any:
+        """What a call of SciPy's makes a double of; elsewhere only what stands for a whole number."""
+        if not self.manner.doubles:
+            if isinstance(value, (str, bytes, complex)) or not hasattr(value, "__index__"):
+                return refuse_invalid(self.where(place), "nan") if is_nan(value) else refuse_kind(self.where(place), value)
+            return operator.index(value)
+        try:
+            return self.number(place, float(value))
+        except TypeError as fault:
+            raise TypeError(f"Cannot cast array data: {self.where(place)} is {value!r}, which is no number: {fault}") from None
+
+
+def _simple(value: decimal.Decimal) -> Any:
+    """A Decimal, as an int where it is a whole one of few digits."""
+    return int(value) if value.adjusted() < 18 and value == value.to_integral_value() else value
+
+
 def of_rows(rows: Any, length: int, manner: Manner, where: Where) -> Costs:
     """The costs of rows of one length. `where(place)` names a place for the caller."""
     if length * len(rows) <= FEW:
         rows, length = [list(chain.from_iterable(rows))], length * len(rows)
-    numbers = _packed(rows, length) if manner.whole else None
-    if numbers is not None and (manner.decimals != DOUBLES or not numbers or _in_range(rows)):
-        return Costs(numbers, (), 0, False)
-    values = list(chain.from_iterable(rows))
-    return doubles_of_list(values, manner, where) if manner.decimals == DOUBLES else _of_numbers(values, manner, where)
-
-
-def _in_range(rows: Any) -> bool:
-    """Whether the whole numbers of some rows, none of them empty, are within the library's range."""
-    return all(max(row) <= GREATEST_COST and min(row) >= -GREATEST_COST for row in rows)
+    packed = None if manner.decimals else _packed(rows, length)
+    if packed is not None:
+        return Costs(packed)
+    numpy = loaded_numpy()
+    read = _by_array(numpy, rows, length, manner, where) if numpy and length * len(rows) > FEW else None
+    if read is not None:
+        return read
+    return of_list(list(chain.from_iterable(rows)), manner, where)
 
 
 def of_list(values: List[Any], manner: Manner, where: Where) -> Costs:
     """The costs of a list."""
-    return of_rows([values], len(values), manner, where)
+    kinds = frozenset(map(type, values))
+    if _PLAIN.issuperset(kinds):
+        read = _of_plain(values.copy(), manner) if manner.decimals is None and not manner.doubles else None
+        if read is not None:
+            return read
+    reader = _Reader(manner, where)
+    found = [reader.number(place, value) for place, value in enumerate(values)]
+    forbidden = [place for place, number in enumerate(found) if number is None]
+    for place in forbidden:
+        found[place] = 0
+    return _of_numbers(found, forbidden, manner)
+
+
+def _by_array(numpy: Any, rows: Any, length: int, manner: Manner, where: Where) -> Optional[Costs]:
+    """The costs of many ints, floats and None, through an array; None where others are among them, or one is an int that is no double. An
+    array of each row is made in turn, so that Ctrl-C is heeded."""
+    doubles = numpy.empty((len(rows), length))
+    for place, row in enumerate(rows):
+        kinds = frozenset(map(type, row))
+        if not _PLAIN.issuperset(kinds):
+            return None
+        if int in kinds and any(type(value) is int and not -_MOST_WHOLE <= value <= _MOST_WHOLE for value in row):
+            return None
+        doubles[place] = [manner.forbids if value is None else value for value in row] if type(None) in kinds else row
+    return of_array(numpy, doubles, manner, where)
+
+
+def _of_numbers(found: List[Any], forbidden: List[int], manner: Manner) -> Costs:
+    """The costs of exact numbers: whole ones of 64 bits where one unit makes them such."""
+    if manner.decimals is not None:
+        found = [_to_places(value, manner.decimals, manner.doubles) for value in found]
+        unit = of_places(manner.decimals)
+        try:
+            return Costs(array("q", found), forbidden, unit)
+        except OverflowError:
+            return Costs(found, forbidden, unit, True)
+    fractions = any(type(value) is Fraction for value in found)
+    ratios = [ratio_of(value, manner.doubles) for value in found]
+    return _in_one_unit(ratios, forbidden, fractions) or Costs(found, forbidden, ONE, True, None, fractions)
+
+
+def _in_one_unit(ratios: List[Ratio], forbidden: List[int], fractions: bool) -> Optional[Costs]:
+    """Costs as whole numbers in the unit of all; None where that is too small for the library's range."""
+    denominators = {denominator for _, denominator in ratios}
+    if max(denominators, default=1) > GREATEST_COST:
+        return None
+    unit = ONE
+    for denominator in denominators:
+        unit = unit_of(((1, unit.denominator), (1, denominator)), fractions)
+        if unit.denominator > GREATEST_COST:
+            return None
+    whole = [in_unit(ratio, unit) for ratio in ratios]
+    if unit != ONE and max((abs(number) for number in whole), default=0) > GREATEST_COST:
+        return None
+    try:
+        return Costs(array("q", whole), forbidden, unit, False, None, fractions)
+    except OverflowError:
+        return None
+
+
+def _to_places(value: Any, places: int, doubles: bool) -> int:
+    """A number times 10**places, rounded to the nearest whole number, halves to even ones."""
+    number, denominator = ratio_of(value, doubles)
+    whole, rest = divmod(number * 10**places, denominator)
+    return int(whole) + int(2 * rest > denominator or 2 * rest == denominator and whole % 2 == 1)
 
 
 def _packed(rows: Any, length: int) -> Optional[Numbers]:
     """Rows as one array of 64-bit numbers; None where a number isn't whole, or is no number of 64 bits."""
     pack = struct.Struct(f"{length}q").pack_into
-    numbers = array("q", (0,)) * (length * len(rows))
+    numbers_ = array("q", (0,)) * (length * len(rows))
     try:
         for place, row in enumerate(rows):
-            _pack(pack, numbers, 8 * length * place, row)
-    except (struct.error, TypeError, OverflowError):
+            _pack(pack, numbers_, 8 * length * place, row)
+    except (struct.error, TypeError, ValueError, OverflowError):
         return None
-    return numbers
+    return numbers_
 
 
-def _pack(pack: Callable[..., None], numbers: Numbers, place: int, row: Any) -> None:
+def _pack(pack: Callable[..., None], numbers_: Numbers, place: int, row: Any) -> None:
     """Writes a row of whole numbers, or one of floats that hold such. An `array` would take floats as well, and in Python 3.9
     cut off what stands after the point."""
     try:
-        pack(numbers, place, *row)
+        pack(numbers_, place, *row)
     except struct.error:
-        if not all(map(float.is_integer, row)):
+        if not all(map(float.is_integer, row)) or max(max(row), -min(row)) >= _MOST_WHOLE:
             raise
-        pack(numbers, place, *map(int, row))
+        pack(numbers_, place, *map(int, row))
 
 
 def _of_plain(values: List[Any], manner: Manner) -> Optional[Costs]:
@@ -265,24 +269,24 @@ def _of_plain(values: List[Any], manner: Manner) -> Optional[Costs]:
     for place in forbidden:
         values[place] = 0
     try:
-        numbers, places = _scaled_plain(values)
+        numbers_, places = _scaled_plain(values)
     except (OverflowError, ValueError):
         return None
-    if numbers and not _in_range([numbers]):
+    if numbers_ and max(max(numbers_), -min(numbers_)) > GREATEST_COST:
         return None
-    return Costs(numbers, forbidden, places, False)
+    return Costs(numbers_, forbidden, of_places(places))
 
 
 def _scaled_plain(values: List[Any]) -> Tuple[Numbers, int]:
     """The numbers times the least power of ten that makes all whole, and which one that is."""
-    numbers, places = array("q"), 0
+    numbers_, places = array("q"), 0
     for begin in range(0, len(values), FEW):
         before = places
         whole, places = _block_scaled(values[begin:begin + FEW], places)
         if places > before:
-            numbers = array("q", [number * 10**(places - before) for number in numbers])
-        numbers.extend(whole)
-    return numbers, places
+            numbers_ = array("q", [number * 10**(places - before) for number in numbers_])
+        numbers_.extend(whole)
+    return numbers_, places
 
 
 def _block_scaled(block: List[Any], least: int) -> Tuple[Numbers, int]:
@@ -295,181 +299,138 @@ def _block_scaled(block: List[Any], least: int) -> Tuple[Numbers, int]:
     raise ValueError(f"more than {MOST_PLACES} decimal places")
 
 
-def _of_numbers(values: List[Any], manner: Manner, where: Where) -> Costs:
-    """The costs of a list of numbers of any kind."""
-    if manner.decimals in (None, FIT) and _PLAIN.issuperset(map(type, values)):
-        read = _of_plain(values.copy(), manner)
-        if read is not None:
-            return read
-    reader = _Decimals(manner, where)
-    pairs = [(value, 0) if type(value) is int
-             else (int(value), 0) if type(value) is float and value.is_integer()
-             else reader.pair(place, value) for place, value in enumerate(values)]
-    least = min((pair[1] for pair in pairs if pair), default=0)
-    reader.places = -least if manner.decimals is None else reader.fitting(pairs) if manner.decimals == FIT else manner.decimals
-    forbidden = [place for place, pair in enumerate(pairs) if pair is None]
-    numbers = array("q", [reader.scaled(place, pair) if pair else 0 for place, pair in enumerate(pairs)])
-    return Costs(numbers, forbidden, reader.places, reader.rounded)
-
-
-def doubles_of_list(values: List[Any], manner: Manner, where: Where) -> Costs:
-    """Costs as doubles, times the greatest power of two that leaves all within range."""
-    if set(map(type, values)) == {float} and math.isfinite(sum(values)):
-        shift = shift_of(max(max(values), -min(values)))
-        if -MOST_SHIFT < shift < MOST_SHIFT:
-            scale = 2.0**shift
-            return Costs(array("q", map(round, [value * scale for value in values])), (), 0, False)
-    doubles = [_double(place, value, manner, where) for place, value in enumerate(values)]
-    most = max((abs(value) for value in doubles if value is not None), default=0.0)
-    shift = shift_of(most)
-    numbers = array("q", [0 if value is None else round(math.ldexp(value, shift)) for value in doubles])
-    return Costs(numbers, [place for place, value in enumerate(doubles) if value is None], 0, False)
-
-
-def _double(place: int, value: Any, manner: Manner, where: Where) -> Optional[float]:
-    """A finite float; None where the pair is forbidden."""
-    kind = getattr(getattr(value, "dtype", None), "kind", "f")
-    if value is None or isinstance(value, (str, bytes, complex)) or kind not in "biuf":
-        return None if value is None else refuse_kind(where(place), value)
-    try:
-        double = float(value)
-    except TypeError:
-        return refuse_invalid(where(place), "nan") if is_nan(value) else refuse_kind(where(place), value)
-    except OverflowError:
-        raise ValueError(f"{where(place)}: the cost is beyond the range of floats") from None
-    except ValueError:
-        return refuse_invalid(where(place), "nan")
-    if math.isfinite(double):
-        return double
-    return None if double == manner.forbids else refuse_invalid(where(place), double)
-
-
-def shift_of(most: float) -> int:
-    """The greatest power of two that leaves a float within the library's range."""
-    part, power = math.frexp(most)
-    return 40 - power - (part > GREATEST_COST / 2**40)
-
-
 def of_array(numpy: Any, values: Any, manner: Manner, where: Where) -> Costs:
     """The costs of a NumPy array, whatever its shape, in the order of C."""
-    kind = values.dtype.kind
-    if kind in "biu" or kind == "f" and values.dtype.itemsize <= 8:
-        if manner.decimals == DOUBLES:
-            return doubles_of_array(numpy, values, manner, where)
-        if kind == "f":
-            return _of_float_array(numpy, values, manner, where)
-        return _of_whole_array(numpy, values, 0 if manner.whole else manner.decimals, where)
+    mask = getattr(values, "mask", None) if isinstance(values, numpy.ma.MaskedArray) else None
+    with numpy.errstate(all="ignore"):
+        values = numpy.asarray(values)
+        if mask is None or manner.doubles or not mask.any():
+            return _of_values(numpy, values.ravel(), manner, where)
+        masked = numpy.flatnonzero(mask)
+        if not manner.forbid_nan:
+            refuse_invalid(where(int(masked[0])), "-- (masked)")
+        values = values.copy()
+        values[mask] = 0
+        read = _of_values(numpy, values.ravel(), manner, where)
+        return read._replace(forbidden=numpy.union1d(numpy.array(read.forbidden, numpy.intp), masked))
+
+
+def _of_values(numpy: Any, flat: Any, manner: Manner, where: Where) -> Costs:
+    kind, size = flat.dtype.kind, flat.dtype.itemsize
+    if kind in "biu":
+        return _of_whole_array(numpy, flat, manner, where)
+    if kind == "f" and size <= 8:
+        return _of_float_array(numpy, flat, manner, where)
     if kind in "Of":
-        costs = of_list([*values.ravel()], manner, where)
-        return costs._replace(numbers=numpy.array(costs.numbers, numpy.int64))
-    raise TypeError(f"Cannot cast array data from {values.dtype!r} to costs: they must be numbers")
+        read = of_list([*flat], manner, where)
+        return read if read.raw or read.numpy else read._replace(numbers=numpy.array(read.numbers, numpy.int64), numpy=numpy)
+    raise TypeError(f"Cannot cast array data from {flat.dtype!r} to dtype('float64') according to the rule 'safe': costs must be numbers")
 
 
-def _refuse_first(numpy: Any, beyond: Any, where: Where, places: int) -> NoReturn:
-    refuse_range(where(int(numpy.flatnonzero(beyond)[0])), places)
+def _of_whole_array(numpy: Any, flat: Any, manner: Manner, where: Where) -> Costs:
+    places = manner.decimals or 0
+    great = flat.dtype.kind == "u" and flat.dtype.itemsize == 8 and flat.size and flat.max() > 2**63 - 1
+    most = GREATEST_COST // 10**places
+    if great or places and flat.size and not (int(flat.min()) >= -most and int(flat.max()) <= most):
+        return _of_numbers([int(value) for value in flat], [], manner)
+    numbers_ = flat.astype(numpy.int64, copy=not flat.flags.aligned)
+    return Costs(numbers_ * 10**places if places else numbers_, (), of_places(places), False, numpy)
 
 
-def _of_whole_array(numpy: Any, values: Any, places: int, where: Where) -> Costs:
-    flat = values.ravel()
-    kind = flat.dtype.kind
-    if kind == "u" and flat.dtype.itemsize == 8 or places and kind != "b":
-        most = GREATEST_COST // 10**places
-        beyond = (flat > most) if kind == "u" else (flat > most) | (flat < -most)
-        if beyond.any():
-            _refuse_first(numpy, beyond, where, places)
-    numbers = flat.astype(numpy.int64, copy=not flat.flags.aligned)
-    return Costs(numbers * 10**places if places else numbers, (), places, False)
+def _of_float_array(numpy: Any, flat: Any, manner: Manner, where: Where) -> Costs:
+    wide = flat.astype(numpy.float64, copy=not flat.flags.aligned)
+    whole = None if manner.decimals else whole_numbers(numpy, wide)
+    if whole is not None:
+        return Costs(whole, (), ONE, False, numpy)
+    if flat.dtype.itemsize < 8 and not manner.doubles and not (numpy.rint(flat) == flat).all():
+        wide = flat.astype("U32").astype(numpy.float64)
+    wide, forbidden, most = _finite(numpy, wide, manner, where)
+    if manner.decimals is not None:
+        return _rounded_array(numpy, wide, forbidden, manner)
+    places = None if manner.doubles and not len(forbidden) else _least_places(numpy, wide, 0 if manner.doubles else MOST_PLACES)
+    if places is not None and size_of(wide) * 10.0**places <= GREATEST_COST:
+        return Costs(_scaled_array(numpy, wide, places), forbidden, of_places(places), False, numpy)
+    return Costs(wide, forbidden, ONE, True, numpy, False, most)
 
 
-def doubles_of_array(numpy: Any, values: Any, manner: Manner, where: Where) -> Costs:
-    """Costs as doubles, times the greatest power of two that leaves all within range; whole numbers within it stay."""
-    flat = values.ravel()
-    if flat.dtype.kind != "f" and (not flat.size or flat.max() <= GREATEST_COST and flat.min() >= -GREATEST_COST):
-        return Costs(flat.astype(numpy.int64, copy=not flat.flags.aligned), (), 0, False)
-    flat, forbidden = _finite(numpy, flat.astype(numpy.float64), manner, where)
-    most = float(numpy.abs(flat).max()) if flat.size else 0.0
-    return Costs(numpy.rint(numpy.ldexp(flat, shift_of(most))).astype(numpy.int64), forbidden, 0, False)
-
-
-def _finite(numpy: Any, flat: Any, manner: Manner, where: Where) -> Tuple[Any, Any]:
-    """The costs with 0 for those that forbid their pair, and the places of these."""
+def _finite(numpy: Any, flat: Any, manner: Manner, where: Where) -> Tuple[Any, Any, Optional[float]]:
+    """The costs with 0 for those that forbid their pair, the places of these, and the greatest size where none does."""
+    most = size_of(flat)
+    if math.isfinite(most):
+        return flat, (), most
     infinite = ~numpy.isfinite(flat)
-    if not infinite.any():
-        return flat, ()
     wrong = infinite & (flat != manner.forbids)
     if manner.forbid_nan:
         wrong &= flat == flat
     if wrong.any():
         place = int(numpy.flatnonzero(wrong)[0])
         refuse_invalid(where(place), flat[place])
-    return numpy.where(infinite, 0.0, flat), numpy.flatnonzero(infinite)
+    return numpy.where(infinite, 0.0, flat), numpy.flatnonzero(infinite), None
 
 
-def _of_float_array(numpy: Any, values: Any, manner: Manner, where: Where) -> Costs:
-    flat = values.ravel()
-    wide = flat.astype(numpy.float64, copy=False)
-    numbers = whole_numbers(numpy, wide) if manner.whole else None
-    if numbers is not None:
-        return Costs(numbers, (), 0, False)
-    if flat.dtype.itemsize < 8 and not (numpy.rint(flat) == flat).all():
-        wide = flat.astype("U32").astype(numpy.float64)
-    flat, forbidden = _finite(numpy, wide, manner, where)
-    places = _places_of(numpy, flat, manner, where)
-    scaled = numpy.rint(flat * 10.0**places)
-    beyond = numpy.abs(scaled) > GREATEST_COST
-    if beyond.any():
-        _refuse_first(numpy, beyond, where, places)
-    numbers = scaled.astype(numpy.int64)
-    rounded = manner.decimals is not None and _round_halves(numpy, flat, numbers, places)
-    return Costs(numbers, forbidden, places, rounded)
+def size_of(flat: Any) -> float:
+    """The greatest size of doubles; not finite where one isn't. (A dot product would start threads.)"""
+    return max(float(flat.max()), -float(flat.min())) if flat.size else 0.0
 
 
-def _places_of(numpy: Any, flat: Any, manner: Manner, where: Where) -> int:
-    if manner.decimals is None:
-        return _least_places(numpy, flat, where)
-    if manner.decimals != FIT:
-        return int(manner.decimals)
-    try:
-        places = _least_places(numpy, flat, where)
-    except ValueError:
-        places = MOST_PLACES
-    most = float(numpy.abs(flat).max()) if flat.size else 0.0
-    while places and Fraction(repr(most)) * 10**places > GREATEST_COST:
-        places -= 1
-    return places
+def _rounded_array(numpy: Any, flat: Any, forbidden: Any, manner: Manner) -> Costs:
+    places = manner.decimals or 0
+    if places <= MOST_PLACES and size_of(flat) * 10.0**places <= GREATEST_COST:
+        whole = _scaled_array(numpy, flat, places)
+        _round_halves(numpy, flat, whole, places, manner.doubles)
+        return Costs(whole, forbidden, of_places(places), False, numpy)
+    return _of_numbers(flat.tolist(), forbidden, manner)
 
 
 def whole_numbers(numpy: Any, flat: Any) -> Any:
     """Floats as whole numbers of 64 bits; None where one isn't whole or is too great."""
-    # With such a sum of squares none is beyond 10**18, and none is infinite or NaN.
-    if not flat.dot(flat) <= 1e36:
+    # Mostly the first ones show that not all are whole.
+    if flat.size > FEW and whole_numbers(numpy, flat[:_SAMPLE]) is None:
         return None
-    numbers = flat.astype(numpy.int64)
-    if flat.size <= FEW and numbers.astype(numpy.float64).tobytes() == flat.tobytes():
-        return numbers
-    return numbers if numpy.logical_and.reduce(numbers == flat) else None
+    # With such a sum of squares none is beyond 2**53, and none is infinite or NaN.
+    if not (flat.dot(flat) <= 2.0**105 if flat.size <= FEW else size_of(flat) < _MOST_WHOLE):
+        return None
+    numbers_ = flat.astype(numpy.int64)
+    if flat.size <= FEW and numbers_.astype(numpy.float64).tobytes() == flat.tobytes():
+        return numbers_
+    return numbers_ if numpy.logical_and.reduce(numbers_ == flat) else None
 
 
-def _least_places(numpy: Any, flat: Any, where: Where) -> int:
-    """The least power of ten that makes all whole. Two decimals of at most 15 digits are never one float, so that
-    equality after the division shows the decimal that a float prints as."""
-    left = flat
-    for places in range(MOST_PLACES + 1):
+def _scaled_array(numpy: Any, flat: Any, places: int) -> Any:
+    """Floats times 10**places, rounded to the nearest whole numbers; some at a time, so that Ctrl-C is heeded in between."""
+    whole = numpy.empty(flat.shape, numpy.int64)
+    for begin in range(0, len(flat), _AT_ONCE):
+        whole[begin:begin + _AT_ONCE] = numpy.rint(flat[begin:begin + _AT_ONCE] * 10.0**places)
+    return whole
+
+
+def _least_places(numpy: Any, flat: Any, most: int) -> Optional[int]:
+    """The least power of ten that makes all whole; None where that is beyond 10**most, or some are too great. Two decimals of at most 15
+    digits are never one float, so that equality after the division shows the decimal that a float prints as."""
+    if size_of(flat) > GREATEST_COST:
+        return None
+    # Mostly a few of them show that this is beyond it.
+    parts = [flat[::max(len(flat) // _SAMPLE, 1)], *(flat[begin:begin + _AT_ONCE] for begin in range(0, len(flat), _AT_ONCE))]
+    places: Optional[int] = 0
+    for part in parts:
+        if places is not None:
+            places = _more_places(numpy, part, places, most)
+    return places
+
+
+def _more_places(numpy: Any, left: Any, least: int, most: int) -> Optional[int]:
+    """The least power of ten, from 10**least to 10**most, that makes some floats whole."""
+    for places in range(least, most + 1):
         power = 10.0**places
         left = left[numpy.rint(left * power) / power != left]
         if not left.size:
             return places
-    place = int(numpy.flatnonzero(flat == left[0])[0])
-    if abs(left[0]) > GREATEST_COST:
-        refuse_range(where(place), 0)
-    return _refuse_places(where(place), repr(float(left[0])))
+    return None
 
 
-def _round_halves(numpy: Any, flat: Any, numbers: Any, places: int) -> bool:
-    """Rounds those near a half again, as decimals; returns whether rounding changed any number."""
-    power = 10.0**places
-    product = flat * power
+def _round_halves(numpy: Any, flat: Any, whole: Any, places: int, doubles: bool) -> None:
+    """Rounds those near a half again, as decimals."""
+    product = flat * 10.0**places
     half = numpy.abs(numpy.abs(product - numpy.floor(product)) - 0.5) < 0.001
     for place in numpy.flatnonzero(half):
-        numbers[place] = round(Fraction(repr(float(flat[place]))) * 10**places)
-    return bool((numbers / power != flat).any())
+        whole[place] = _to_places(float(flat[place]), places, doubles)

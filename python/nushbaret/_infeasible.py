@@ -8,10 +8,13 @@ from . import _library as library
 from ._problem import Problem
 
 
-def _shown(numbers: Any) -> str:
-    """Some numbers in words, at most ten of them."""
-    shown = ", ".join(str(number) for number in list(numbers)[:10])
-    return shown if len(numbers) <= 10 else f"{shown}, .. ({len(numbers)} in all)"
+def numbered(kind: str, numbers: Any, labels: Optional[List[Any]] = None) -> str:
+    """Numbers or their labels, at most ten, after what they are of: row 3, rows 3, 4, no row."""
+    if not len(numbers):
+        return f"no {kind}"
+    shown = ", ".join(str(labels[number] if labels else number) for number in list(numbers)[:10])
+    more = f", .. ({len(numbers)} in all)" if len(numbers) > 10 else ""
+    return f"{kind}{'s' if len(numbers) > 1 else ''} {shown}{more}"
 
 
 class Infeasible(ValueError):
@@ -25,28 +28,30 @@ class Infeasible(ValueError):
     groups : list of tuple
         Rows and columns of each group that is short, in the order of their first rows (or columns). No two groups share any.
     rows, columns : list of int, or NumPy arrays if the costs are one
-        Those of the first group: numbers from 0, rising.
+        Those of the first group: numbers from 0, rising. The text names them by the labels of a DataFrame.
+
+    >>> import nushbaret
+    >>> try:
+    ...     nushbaret.solve([[1, None], [2, None]])
+    ... except nushbaret.Infeasible as short:
+    ...     print(short)
+    cost matrix is infeasible: rows 0, 1 may have column 0 only
     """
 
-    def __init__(self, groups: List[Tuple[Any, Any]]):
+    def __init__(self, groups: List[Tuple[Any, Any]], labels: Optional[Tuple[List[Any], List[Any]]] = None):
         rows, columns = groups[0]
-        if len(rows) > len(columns):
-            why = f"{numbered('row', rows)} may have " + (f"{numbered('column', columns)} only" if len(columns) else "no column")
-        else:
-            why = f"{numbered('column', columns)} may go to " + (f"{numbered('row', rows)} only" if len(rows) else "no row")
+        first, second = numbered("row", rows, labels and labels[0]), numbered("column", columns, labels and labels[1])
+        why = f"{first} may have {second}" if len(rows) > len(columns) else f"{second} may go to {first}"
+        only = " only" if len(rows) and len(columns) else ""
         more = f" (the first of {len(groups)} groups)" if len(groups) > 1 else ""
-        super().__init__(f"cost matrix is infeasible: {why}{more}")
+        super().__init__(f"cost matrix is infeasible: {why}{only}{more}")
         self.groups = groups
         self.rows = rows
         self.columns = columns
+        self._labels = labels
 
     def __reduce__(self) -> Tuple[Any, ...]:
-        return type(self), (self.groups,)
-
-
-def numbered(kind: str, numbers: Any) -> str:
-    """Numbers, after what they are of: row 3, rows 3, 4."""
-    return f"{kind}{'s' if len(numbers) != 1 else ''} {_shown(numbers)}"
+        return type(self), (self.groups, self._labels)
 
 
 Lists = Sequence[Sequence[int]]
@@ -127,7 +132,7 @@ def infeasible(problem: Problem) -> Infeasible:
     count, other = sorted((problem.n_rows, problem.n_columns))
     nodes, others = (problem.objects, problem.persons) if of_columns else (problem.persons, problem.objects)
     groups = [tuple(map(problem.numbers, group)) for group in groups_of(lists_of_nodes(count, nodes, others), other)]
-    return Infeasible([(few, many) if of_columns else (many, few) for many, few in groups])
+    return Infeasible([(few, many) if of_columns else (many, few) for many, few in groups], problem.labels)
 
 
 def groups_of(lists: Lists, other: int) -> List[Group]:

@@ -3,8 +3,9 @@ import contextlib
 import ctypes
 import pathlib
 import threading
+import time
 from array import array
-from typing import TYPE_CHECKING, Any, Dict, List, Optional, Tuple, Union
+from typing import TYPE_CHECKING, Any, Callable, Dict, Iterator, List, Optional, Tuple, Union
 
 # An array of whole numbers; before Python 3.12 `array` takes no type while a program runs.
 if TYPE_CHECKING:
@@ -12,7 +13,7 @@ if TYPE_CHECKING:
 else:
     Numbers = array
 
-VERSION = "2.0.0"
+VERSION = "3.0.0"
 MOST_PERSONS = 8192
 GREATEST_COST = 10**12
 GREATEST_FIRST_PRICE = 10**21
@@ -31,7 +32,12 @@ PLACES = (_PACKAGE / NAME, _PACKAGE.parent.parent / "c" / "out" / NAME)
 
 
 class LibraryNotFound(OSError):
-    """The shared library is missing, or it is of another version; the text says which command builds it."""
+    """The shared library is missing, or it is of another version; the text says which command builds it.
+
+    >>> import nushbaret
+    >>> issubclass(nushbaret.LibraryNotFound, OSError)
+    True
+    """
 
 
 class Told(ctypes.Structure):
@@ -66,7 +72,7 @@ def _load() -> None:
     library.nushbaret_version(room, 32)
     found = bytes(room).split(b"\0")[0].decode()
     if found != VERSION:
-        raise LibraryNotFound(f"the library is of version {found}, {VERSION} is wanted: make it anew by c/build.sh")
+        raise LibraryNotFound(f"the library is of version {found}, and {VERSION} is needed: c/build.sh builds it again")
     for name, lists in _LISTS.items():
         call = getattr(library, f"nushbaret_{name}")
         sense = [] if name == "check_hall" else [ctypes.c_uint32]
@@ -144,15 +150,82 @@ def _loaded() -> Dict[str, Any]:
 
 
 def call(name: str, sense: Optional[bool], n: int, m: int, *lists: Any) -> Tuple[str, Told]:
-    """The name of the code, and what is told. `sense` is None for `check_hall`; MemoryError where memory is refused."""
+    """The name of the code, and what is told. `sense` is None for `check_hall`; MemoryError where memory is refused, and TimeoutError
+    where the time of `limited` is over."""
     told = Told()
+    end = getattr(_limits, "end", None)
+    in_thread = end is not None or n * max(map(len, lists)) >= LONG and threading.current_thread() is threading.main_thread()
+    if in_thread:
+        lists = tuple(map(_owned, lists))
     words: List[Any] = [n, m] if sense is None else [1 if sense else 0, n, m]
     for values in lists:
         words += _lend(values)
-    code = CODES[_loaded()[name](*words, ctypes.addressof(told))]
+    function = _loaded()[name]
+    words.append(ctypes.addressof(told))
+    code = CODES[_waited_for(lambda: int(function(*words)), end, lists, told) if in_thread else function(*words)]
     if code == "MEMORY":
         raise MemoryError("the library was refused memory")
     return code, told
+
+
+# The time at which a thread's calls have to end.
+_limits = threading.local()
+# A call whose persons times pairs are so many may take long. It gets a thread of its own, so that Ctrl-C ends the wait for it.
+LONG = 2**27
+_SLICE = 0.2
+_AT_ONCE = 2**22
+
+
+@contextlib.contextmanager
+def limited(timeout: Optional[float]) -> Iterator[None]:
+    """Within, calls raise TimeoutError after so many seconds."""
+    if timeout is None:
+        yield
+        return
+    if not timeout >= 0:
+        raise ValueError(f"timeout is {timeout!r}: it must be a number of seconds, 0 or more")
+    before, end = getattr(_limits, "end", None), time.monotonic() + timeout
+    _limits.end = end if before is None else min(before, end)
+    try:
+        yield
+    finally:
+        _limits.end = before
+
+
+def look_at_time() -> None:
+    """Raises TimeoutError where the time of `limited` is over."""
+    end = getattr(_limits, "end", None)
+    if end is not None and time.monotonic() >= end:
+        raise TimeoutError("the time is over; nothing of the caller's was changed")
+
+
+def _owned(values: Any) -> Any:
+    """A list that nobody else changes while the library reads it: a copy of one that is lent by the caller."""
+    if isinstance(values, Lent):
+        return array("q", bytes(values.held))
+    if not hasattr(values, "flags") or values.flags.owndata:
+        return values
+    # In parts, so that Ctrl-C is heeded in between.
+    own = type(values)(values.shape, values.dtype)
+    for begin in range(0, len(values), _AT_ONCE):
+        own[begin:begin + _AT_ONCE] = values[begin:begin + _AT_ONCE]
+    return own
+
+
+def _waited_for(work: Callable[[], int], end: Optional[float], *lists: Any) -> int:
+    """What some work returns that a thread does. Where the wait ends early, the thread goes on, and keeps its lists until it ends."""
+    look_at_time()
+    found: List[int] = []
+    done = threading.Event()
+
+    def run(*kept: Any) -> None:
+        found.append(work())
+        done.set()
+
+    threading.Thread(target=run, args=lists, daemon=True).start()
+    while not done.wait(_SLICE if end is None else min(_SLICE, max(end - time.monotonic(), 0))):
+        look_at_time()
+    return found[0]
 
 
 class Room:
@@ -170,8 +243,13 @@ class Room:
         self.minimized, self.maximized, self.sizes = sense(0), sense(1), (few, many)
         self.rest = count(n * m), address(objects), few, address(persons), few, address(prices), many, address(told)
         self.call = _calls["dense, made ready"]
+        # Where the costs of each row begin, less 1.
+        self.before = numpy.arange(-1, n * m - 1, m)
+        self.halves = Halves()
+        self.halves.words = numpy.frombuffer(self.words, numpy.uint64, 2 * m, _TOLD)
         self.doubles: Any = None
         self.numbers: Any = None
+        self.flat: Any = None
         self.own: Any = None
 
     def held(self, numbers: Any) -> Any:
@@ -183,6 +261,7 @@ class Room:
         """Makes memory for costs that are to become whole numbers."""
         self.doubles = numpy.empty(shape)
         self.own = self.held(self.doubles.view(numpy.int64))
+        self.flat = self.numbers.reshape(-1)
 
 
 # Rooms of calls that have ended, by their sizes; at most so many sizes.

@@ -84,7 +84,7 @@ def solved(nodes: Nodes, costs: Numbers, fullest: bool) -> Any:
     """The result of the problem of nodes, for these costs, which are to be least."""
     rows, columns = len(nodes.of_rows), len(nodes.of_columns)
     persons, objects = (None, None) if nodes.is_full else (_from_one(nodes.rows), _from_one(nodes.columns))
-    return solve_problem(Problem(rows, columns, False, costs, persons, objects, 0, False, None), None, fullest)
+    return solve_problem(Problem(rows, columns, False, costs, persons, objects), None, fullest)
 
 
 def _from_one(numbers: Numbers) -> Numbers:

@@ -10,15 +10,19 @@ import heapq
 import operator
 from array import array
 from bisect import insort
+from fractions import Fraction
 from itertools import compress, repeat
 from typing import Any, Dict, FrozenSet, Iterable, Iterator, List, NamedTuple, Optional, Sequence, Tuple
 
-from ._checking import check_problem, problem_of
+from . import _library as library, _source as sources
+from ._checking import check_problem
 from ._exact import manner
 from ._infeasible import Group, prove_short
-from ._problem import Problem, lists_of
-from ._result import Plan, Result, in_unit
-from ._solving import Decimals, solve_problem, solve_served
+from ._numbers import Unit, in_unit, unit_of
+from ._problem import Problem, in_whole_numbers, lists_of, owned
+from ._result import Plan, Result
+from ._solving import solve_problem, solve_served
+from ._source import Source
 
 INFINITE = float("inf")
 NOBODY: FrozenSet[int] = frozenset()
@@ -51,19 +55,26 @@ class _Search(NamedTuple):
 class Ranking:
     """The plans of a problem with as many pairs as a result's."""
 
-    def __init__(self, result: Result):
-        problem, (rows, columns) = result._problem, result._pairs
+    def __init__(self, problem: Problem, result: Result):
+        rows, columns = result._pairs
+        duals, unit = result._whole_duals
+        problem = in_whole_numbers(owned(problem))
+        # Duals may be in a part of the costs' unit.
+        self.unit = _common(problem.unit, unit)
+        step, of_duals = self.unit.denominator // problem.unit.denominator, self.unit.denominator // unit.denominator
         self.n_rows, self.n_columns = problem.n_rows, problem.n_columns
         self.sign = -1 if problem.maximize else 1
         self.rows_out, self.columns_out = len(rows) < self.n_rows, len(rows) < self.n_columns
-        self.lists = lists_of(problem) + [(range(self.n_columns if self.columns_out else 0), repeat(0))]
+        self.lists = _times(lists_of(problem), step) + [(range(self.n_columns if self.columns_out else 0), repeat(0))]
         self.waiting: List[Tuple[Any, ...]] = []
         self.costs: List[int] = []
         self.count = 0
-        duals, own = result._whole_duals, [self.n_columns] * self.n_rows
+        own, cost = [self.n_columns] * self.n_rows, sum(in_unit(ratio, self.unit) for ratio in result._ratios)
         for row, column in zip(rows, columns):
             own[row] = column
-        self.whole = _Part(own, self.sign * result._answer.total, duals.rows + [0], duals.columns + [-duals.unmatched], 0, NOBODY)
+        row_duals, column_duals = duals.rows + [0], duals.columns + [-duals.unmatched]
+        self.whole = _Part(own, self.sign * cost, [of_duals * dual for dual in row_duals], [of_duals * dual for dual in column_duals],
+                           0, NOBODY)
 
     def wait(self, part: _Part) -> None:
         """Puts a part in line: at first by the least columns that its best plans can begin with."""
@@ -87,6 +98,7 @@ class Ranking:
     def take(self) -> Optional[_Part]:
         """The next part in order, with its plan checked; None where there is none."""
         while self.waiting:
+            library.look_at_time()
             part: _Part
             _, _, stage, _, part = heapq.heappop(self.waiting)
             if stage:
@@ -226,7 +238,7 @@ class Ranking:
         rows = [row for row in range(first, self.n_rows) if part.columns[row] < self.n_columns]
         numbers = {column: number for number, column in enumerate(free)}
         verdict = check_problem(left, [row - first for row in rows], [numbers[part.columns[row]] for row in rows],
-                                [-part.column_duals[column] for column in free])
+                                [Fraction(-part.column_duals[column]) for column in free])
         if not verdict:
             raise RuntimeError(f"a plan was found to be the best of its part, and the library says otherwise: {verdict.why}")
         cost = sum(self._cost(row, column) for row, column in enumerate(part.columns) if column < self.n_columns)
@@ -240,7 +252,8 @@ class Ranking:
 
     def _left(self, part: _Part, free: List[int]) -> Problem:
         """The pairs that a part leaves to its free rows and columns."""
-        persons, objects, costs = array("H"), array("H"), array("q")
+        persons, objects = array("H"), array("H")
+        costs: List[int] = []
         number = dict(zip(free, range(1, len(free) + 1)))
         seen: Any = None
         own: List[int] = []
@@ -253,7 +266,7 @@ class Ranking:
             objects.extend(compress(kept, kept))
             costs.extend(compress(values, kept))
             persons.extend(array("H", (row - part.first + 1,)) * (len(objects) - len(persons)))
-        return Problem(self.n_rows - part.first, len(free), False, costs, persons, objects, 0, False, None)
+        return Problem(self.n_rows - part.first, len(free), False, _packed(costs), persons, objects)
 
     def _prove_empty(self, part: _Part, row: int, choices: Iterable[Choice], found: _Search) -> None:
         """Lets the library say that no plan of a part keeps the columns of the rows below a row, which gets one of some choices: the
@@ -281,53 +294,83 @@ class Ranking:
                     persons.append(row + 1)
                     objects.append(column + 1)
                     costs.append((column == own) - (pairs + 1) * (worth_rows[row] + worth_columns[column]))
-        best = solve_served(Problem(self.n_rows, self.n_columns, False, costs, persons, objects, 0, False, None), pairs)
+        best = solve_served(Problem(self.n_rows, self.n_columns, False, costs, persons, objects), pairs)
         most = pairs - (pairs + 1) * (sum(worth_rows) + sum(worth_columns))
         if best is None or best.cost > most:
             raise RuntimeError("a plan was found to be along pairs of reduced cost 0, and the library says otherwise")
         return best.cost < most
 
 
+def _common(first: Unit, second: Unit) -> Unit:
+    """The greatest unit of which two are multiples, which shows numbers as the first does."""
+    if first.denominator % second.denominator == 0:
+        return first
+    return unit_of(((1, first.denominator), (1, second.denominator)), first.places is None)
+
+
+def _times(lists: List[Any], step: int) -> List[Any]:
+    """Columns and costs of rows, in a smaller unit."""
+    return lists if step == 1 else [(columns, [int(cost) * step for cost in costs]) for columns, costs in lists]
+
+
+def _packed(costs: List[int]) -> Any:
+    """Costs as the library takes them, or the list where some don't fit."""
+    try:
+        return array("q", costs)
+    except OverflowError:
+        return costs
+
+
 def _plan(result: Result, ranking: Ranking, part: _Part) -> Plan:
-    problem = result._problem
-    rows = [row for row, column in enumerate(part.columns) if column < problem.n_columns]
+    n_columns = ranking.n_columns
+    rows = [row for row, column in enumerate(part.columns) if column < n_columns]
     columns = [part.columns[row] for row in rows]
-    return Plan(problem.numbers(rows), problem.numbers(columns), in_unit(ranking.sign * part.cost, problem.places))
+    cost = ranking.sign * part.cost
+    shown = result._shape.unit if not result._shape.raw else ranking.unit
+    return Plan(result._numbers(rows), result._numbers(columns), shown.shown(cost * shown.denominator // ranking.unit.denominator))
 
 
-def next_best(result: Result) -> Optional[Plan]:
+def next_best(problem: Problem, result: Result) -> Optional[Plan]:
     """The best plan except for a result's own."""
-    ranking = Ranking(result)
+    ranking = Ranking(problem, result)
     ranking.split(ranking.whole, 1)
     part = ranking.take()
     return None if part is None else _plan(result, ranking, part)
 
 
 def best_plans(result: Result, count: int) -> Iterator[Plan]:
-    """The first plans in order, so many at most."""
-    ranking = Ranking(result)
+    """The first plans of a result's problem in order, so many at most."""
+    return _in_order(Ranking(result._checked(), result), result, count, None)
+
+
+def _in_order(ranking: Ranking, result: Result, count: int, timeout: Optional[float]) -> Iterator[Plan]:
     ranking.wait(ranking.whole)
     for left in range(count, 0, -1):
-        part = ranking.take()
-        if part is None:
-            return
-        yield _plan(result, ranking, part)
-        if left > 1:
-            ranking.split(part, left - 1)
+        with library.limited(timeout):
+            part = ranking.take()
+            if part is None:
+                return
+            plan = _plan(result, ranking, part)
+        yield plan
+        with library.limited(timeout):
+            if left > 1:
+                ranking.split(part, left - 1)
 
 
-def k_best(costs: Any, k: int, maximize: bool = False, decimals: Decimals = None, partial: bool = False,
-           missing: str = "refuse") -> Iterator[Plan]:
+def k_best(costs: Any, k: int, maximize: bool = False, decimals: Optional[int] = None, partial: bool = False,
+           missing: str = "refuse", timeout: Optional[float] = None) -> Iterator[Plan]:
     """The k best plans, from the best on.
 
     Parameters
     ----------
     costs : matrix
-        As in `solve`, or a sparse matrix of SciPy's.
+        As in `solve`. The plans are of the costs as they are when this is called.
     k : int
         How many to yield; fewer if there are no more.
     maximize, decimals, partial, missing
         As in `solve`.
+    timeout : float, optional
+        After so many seconds TimeoutError is raised, by the call and by each step of the iterator.
 
     Yields
     ------
@@ -337,18 +380,26 @@ def k_best(costs: Any, k: int, maximize: bool = False, decimals: Decimals = None
 
     Raises
     ------
-    Infeasible, ValueError, TypeError, MemoryError, LibraryNotFound
+    Infeasible, ValueError, TypeError, TimeoutError, MemoryError, LibraryNotFound
         As in `solve`, or if k is below 0.
 
     Notes
     -----
-    Murty (1968), each plan from the duals of the one before. Python finds the plans, and the library checks each before it is
-    yielded: it is a best one of its part, which has the plans that agree with an earlier plan in the first rows and differ from
-    it in the next. That the parts hold all plans and are taken in order is tested, not proved. Plans differ in their rows or
-    columns; equal rows make plans of one cost, and there may be very many.
+    Murty (1968), each plan from the duals of the one before. Python finds the plans. Before it is yielded, each is checked as `check`
+    does, by the library where costs are in its range: it is a best one of its part, which has the plans that agree with an earlier plan
+    in the first rows and differ from it in the next. That the parts hold all plans and are taken in order is tested, not proved. Plans
+    differ in their rows or columns; equal rows make plans of one cost, and there may be very many.
+
+    >>> import nushbaret
+    >>> [(plan.columns, plan.cost) for plan in nushbaret.k_best([[4, 1], [2, 3]], 2)]
+    [([1, 0], 3), ([0, 1], 7)]
     """
     k = operator.index(k)
     if k < 0:
         raise ValueError(f"k is {k}: it must be 0 or more")
-    problem = problem_of(costs, None, None, None, manner(maximize, decimals, missing))
-    return best_plans(solve_problem(problem, None, partial), k)
+    source = Source(sources.lasting(costs), None, None, None, manner(maximize, decimals, missing))
+    with library.limited(timeout):
+        problem = source.read()
+        result = solve_problem(problem, None, partial, source)
+        ranking = Ranking(problem, result)
+    return _in_order(ranking, result, k, timeout)

@@ -1,41 +1,64 @@
 """A problem of rows and columns, as the caller gave it, with its costs in whole numbers."""
+import math
 import operator
 import sys
 from array import array
+from fractions import Fraction
 from itertools import compress
 from typing import Any, Dict, List, NamedTuple, Optional, Sequence, Tuple
 
 from . import _exact as exact
 from ._library import MOST_PERSONS, Lent
-
-
-# How many rows and columns, the costs, and NumPy's module if these are an array.
-Matrix = Tuple[int, int, exact.Costs, Any]
+from ._numbers import ONE, Ratio, Unit, in_unit, ratio_of, unit_of
 
 
 class Problem(NamedTuple):
-    """Costs are times 10**places. Dense: all costs in order, and `persons` is None. Sparse: row persons[k] - 1 and column
-    objects[k] - 1 are a pair at costs[k]. `numpy` is the module if the costs are an array, else None; `labels` are those of the
-    rows and columns of a frame of pandas."""
+    """Costs in a unit. Dense: all costs in order, and `persons` is None. Sparse: row persons[k] - 1 and column objects[k] - 1 are a
+    pair at costs[k].
+
+    Where `raw` is false, costs are whole numbers. Else they are an array of doubles or a list of exact numbers; floats are then what they
+    are if `doubles` is true, and the decimals that they print as if not. `numpy` is the module if the lists are its arrays, and `arrays`
+    if answers are to be. `fractions` says that a cost was given as a Fraction; `labels` are those of the rows and columns of a frame of
+    pandas, and `most` is the greatest size of doubles, where it is known."""
 
     n_rows: int
     n_columns: int
     maximize: bool
     costs: Any
-    persons: Any
-    objects: Any
-    places: int
-    rounded: bool
-    numpy: Any
+    persons: Any = None
+    objects: Any = None
+    unit: Unit = ONE
+    raw: bool = False
+    doubles: bool = False
+    numpy: Any = None
+    arrays: Any = None
+    fractions: bool = False
     labels: Optional[Tuple[List[Any], List[Any]]] = None
+    most: Optional[float] = None
 
     def place(self, place: int) -> Tuple[int, int]:
-        """Row and column of a place in the lists of pairs."""
+        """Row and column of a place in the list of costs."""
+        if self.persons is None:
+            return divmod(place, self.n_columns)
         return int(self.persons[place]) - 1, int(self.objects[place]) - 1
 
     def numbers(self, values: Sequence[int]) -> Any:
         """Row or column numbers, as an array if the costs are one."""
-        return values if self.numpy is None else self.numpy.array(values, self.numpy.intp)
+        return values if self.arrays is None else self.arrays.array(values, self.arrays.intp)
+
+    def ratio(self, cost: Any) -> Ratio:
+        """A cost of the list, exactly."""
+        if not self.raw or self.unit != ONE:
+            return int(cost), self.unit.denominator
+        return ratio_of(cost, self.doubles)
+
+    def row_name(self, row: int) -> Any:
+        """A row's label, or else its number."""
+        return self.labels[0][row] if self.labels else row
+
+    def column_name(self, column: int) -> Any:
+        """A column's label, or else its number."""
+        return self.labels[1][column] if self.labels else column
 
 
 def _place_in(n_columns: int) -> exact.Where:
@@ -46,75 +69,109 @@ def _judge_size(n_rows: int, n_columns: int) -> None:
     if n_rows < 0 or n_columns < 0:
         raise ValueError(f"{n_rows} rows and {n_columns} columns: neither can be below 0")
     if max(n_rows, n_columns) > MOST_PERSONS:
-        raise ValueError(f"{n_rows} rows and {n_columns} columns: at most {MOST_PERSONS} of each can be had")
+        raise ValueError(f"{n_rows} rows and {n_columns} columns: at most {MOST_PERSONS} of each are possible")
 
 
-def _rows_of_any(costs: Any) -> List[Any]:
+def _rows_of_any(costs: Any, manner: exact.Manner) -> List[Any]:
+    if manner.doubles and (not hasattr(costs, "__len__") or isinstance(costs, (dict, set, frozenset)) or hasattr(costs, "tocsr")):
+        # SciPy takes a sparse matrix with items for a list.
+        if costs is not None and not (hasattr(costs, "tocsr") and hasattr(costs, "__getitem__")):
+            float(costs)
+        raise ValueError("expected a matrix (2-D array), got a 0 array")
     try:
         rows = [row if hasattr(row, "__len__") else list(row) for row in costs]
     except TypeError:
         raise ValueError("expected a matrix (2-D array)") from None
-    if any(isinstance(row, (str, bytes)) for row in rows):
-        raise TypeError("Cannot cast array data: a row is a text")
+    for place, row in enumerate(rows):
+        if isinstance(row, (str, bytes)):
+            raise (ValueError if manner.doubles else TypeError)(f"Cannot cast array data: row {place} is the text {row!r}")
+        if isinstance(row, (dict, set, frozenset)):
+            raise TypeError(f"Cannot cast array data: row {place} is a {type(row).__name__}, which has no order")
     return rows
 
 
-def _rows_of(costs: Any) -> Tuple[List[Any], int]:
+def _rows_of(costs: Any, manner: exact.Manner) -> Tuple[List[Any], int]:
     """The rows of a matrix that is no array of NumPy's, and how long they are."""
     if type(costs) is list and {list}.issuperset(map(type, costs)):
         rows = costs
     else:
-        rows = _rows_of_any(costs)
+        rows = _rows_of_any(costs, manner)
+    if not rows and manner.doubles:
+        raise ValueError("expected a matrix (2-D array), got a 1 array")
     lengths = set(map(len, rows))
     if len(lengths) > 1:
         row = next(row for row, held in enumerate(rows) if len(held) != len(rows[0]))
         raise ValueError(f"expected a matrix (2-D array): row {row} has {len(rows[row])} costs, row 0 has {len(rows[0])}")
+    if manner.doubles and any(isinstance(value, (list, tuple)) for row in rows for value in row[:1]):
+        raise ValueError("expected a matrix (2-D array), got a 3 array")
     return rows, lengths.pop() if rows else 0
 
 
-def _of_view(view: memoryview, manner: exact.Manner) -> Matrix:
+def native(view: memoryview) -> memoryview:
+    """A view whose format Python reads: that of an array of ctypes has a mark for the order of its bytes."""
+    kind = view.format.lstrip("@=" + ("<" if sys.byteorder == "little" else ">"))
+    if kind == view.format or not view.nbytes:
+        return view
+    held = view.cast("B") if view.c_contiguous else memoryview(view.tobytes())
+    return held.cast(kind, list(view.shape or ()))
+
+
+def _of_view(view: memoryview, manner: exact.Manner) -> Problem:
     """Of a memoryview of two dimensions: lent if it has the library's own kind of numbers."""
     if view.ndim != 2:
         raise ValueError(f"expected a matrix (2-D array), got a {view.ndim} array")
     n_rows, n_columns = view.shape or (0, 0)
     _judge_size(n_rows, n_columns)
-    own = view.format in ("q", "l") and view.itemsize == 8 and view.c_contiguous and not view.readonly
-    if own and manner.whole and manner.decimals != exact.DOUBLES and view.nbytes:
-        return n_rows, n_columns, exact.Costs(Lent(view), (), 0, False), None
-    return n_rows, n_columns, exact.of_rows(view.tolist(), n_columns, manner, _place_in(n_columns)), None
+    view = native(view)
+    kind = view.format
+    own = kind in ("q", "l") and view.itemsize == 8 and view.c_contiguous and not view.readonly
+    if own and not manner.decimals and view.nbytes:
+        return Problem(n_rows, n_columns, manner.maximize, Lent(view))
+    return _dense(n_rows, n_columns, manner, exact.of_rows(view.tolist(), n_columns, manner, _place_in(n_columns)))
 
 
-def _of_array(numpy: Any, costs: Any, manner: exact.Manner) -> Matrix:
-    costs = numpy.asarray(costs)
+def _of_array(numpy: Any, costs: Any, manner: exact.Manner) -> Problem:
+    costs = numpy.asanyarray(costs)
     if costs.ndim != 2:
         raise ValueError(f"expected a matrix (2-D array), got a {costs.ndim} array")
     n_rows, n_columns = costs.shape
     _judge_size(n_rows, n_columns)
-    return n_rows, n_columns, exact.of_array(numpy, costs, manner, _place_in(n_columns)), numpy
+    return _dense(n_rows, n_columns, manner, exact.of_array(numpy, costs, manner, _place_in(n_columns)))._replace(arrays=numpy)
 
 
-def _read_matrix(costs: Any, manner: exact.Manner) -> Matrix:
+def _dense(n_rows: int, n_columns: int, manner: exact.Manner, read: exact.Costs) -> Problem:
+    """The problem of all pairs but the forbidden ones."""
+    whole = Problem(n_rows, n_columns, manner.maximize, read.numbers, None, None, read.unit, read.raw, manner.doubles, read.numpy,
+                    None, read.fractions, None, read.most)
+    if not len(read.forbidden):
+        return whole
+    numbers, persons, objects = _without_forbidden(n_rows, n_columns, read)
+    return whole._replace(costs=numbers, persons=persons, objects=objects)
+
+
+def _read_matrix(costs: Any, manner: exact.Manner) -> Problem:
     numpy = exact.numpy_of(costs)
     if numpy:
         return _of_array(numpy, costs, manner)
     if not isinstance(costs, (list, tuple, str)):
         try:
-            return _of_view(memoryview(costs), manner)
+            view = memoryview(costs)
         except TypeError:
             pass
-    rows, n_columns = _rows_of(costs)
+        else:
+            return _of_view(view, manner)
+    rows, n_columns = _rows_of(costs, manner)
     _judge_size(len(rows), n_columns)
-    return len(rows), n_columns, exact.of_rows(rows, n_columns, manner, _place_in(n_columns)), None
+    return _dense(len(rows), n_columns, manner, exact.of_rows(rows, n_columns, manner, _place_in(n_columns)))
 
 
 def of_matrix(costs: Any, manner: exact.Manner) -> Problem:
     """The problem of a matrix. ValueError and TypeError name what is wrong, with row and column from 0."""
-    labels = (list(costs.index), list(costs.columns)) if is_frame(costs) else None
-    n_rows, n_columns, read, numpy = _read_matrix(costs.to_numpy() if labels else costs, manner)
-    numbers, persons, objects = read.numbers, None, None
-    if len(read.forbidden):
-        numbers, persons, objects = _without_forbidden(n_rows, n_columns, read, numpy)
-    return Problem(n_rows, n_columns, manner.maximize, numbers, persons, objects, read.places, read.rounded, numpy, labels)
+    if hasattr(costs, "tocsr") and not manner.doubles:
+        return of_sparse_matrix(costs, manner)
+    if not is_frame(costs):
+        return _read_matrix(costs, manner)
+    return _read_matrix(costs.to_numpy(), manner)._replace(labels=(list(costs.index), list(costs.columns)))
 
 
 def is_frame(costs: Any) -> bool:
@@ -131,19 +188,48 @@ def plain(values: Any) -> Any:
 
 
 def costs_of_pairs(problem: Problem, pairs: Sequence[Tuple[int, int]]) -> List[Any]:
-    """The whole costs of some pairs, no two of one row; None where one is forbidden. Of a pair that is given several times the least."""
+    """The costs of some pairs, no two of one row; None where one is forbidden. Of a pair that is given several times the least."""
     if problem.persons is None:
         costs = plain(problem.costs)
-        return [int(costs[row * problem.n_columns + column]) for row, column in pairs]
+        found = [costs[row * problem.n_columns + column] for row, column in pairs]
+        return [cost.item() for cost in found] if problem.numpy else found
     own = [0] * (problem.n_rows + 1)
     for row, column in pairs:
         own[row + 1] = column + 1
     persons = problem.persons.tolist()
     wanted = map(operator.eq, map(own.__getitem__, persons), problem.objects.tolist())
-    least: Dict[int, int] = {}
-    for person, cost in compress(zip(persons, problem.costs.tolist()), wanted):
+    least: Dict[int, Any] = {}
+    for person, cost in compress(zip(persons, listed_costs(problem)), wanted):
         least[person] = min(cost, least.get(person, cost))
     return [least.get(row + 1) for row, _ in pairs]
+
+
+def listed_costs(problem: Problem) -> List[Any]:
+    """The costs as a list of Python's."""
+    costs = plain(problem.costs)
+    return costs if isinstance(costs, list) else list(costs.tolist())
+
+
+def owned(problem: Problem) -> Problem:
+    """The problem with costs that the caller can't change."""
+    if isinstance(problem.costs, Lent):
+        return problem._replace(costs=array("q", bytes(problem.costs.held)))
+    return problem._replace(costs=problem.costs.copy()) if problem.numpy else problem
+
+
+def in_whole_numbers(problem: Problem) -> Problem:
+    """The same problem with whole numbers of any size for its costs, in the unit of all."""
+    if not problem.raw:
+        return problem
+    if problem.unit != ONE:
+        return problem._replace(raw=False)
+    ratios = [problem.ratio(cost) for cost in listed_costs(problem)]
+    unit = unit_of(set((1, denominator) for _, denominator in ratios), problem.fractions)
+    costs: Any = [in_unit(ratio, unit) for ratio in ratios]
+    persons, objects = problem.persons, problem.objects
+    if problem.numpy and persons is not None:
+        persons, objects = array("H", persons.tolist()), array("H", objects.tolist())
+    return problem._replace(costs=costs, persons=persons, objects=objects, unit=unit, raw=False, numpy=None)
 
 
 def lists_of(problem: Problem) -> List[Tuple[Sequence[int], Any]]:
@@ -152,11 +238,11 @@ def lists_of(problem: Problem) -> List[Tuple[Sequence[int], Any]]:
     if problem.persons is None:
         costs = plain(problem.costs)
         if problem.maximize:
-            costs = -costs if problem.numpy else array("q", map(operator.neg, costs))
-        view, columns = memoryview(costs), range(n_columns)
+            costs = -costs if problem.numpy else list(map(operator.neg, costs))
+        view, columns = costs if isinstance(costs, list) else memoryview(costs), range(n_columns)
         return [(columns, view[row * n_columns:(row + 1) * n_columns]) for row in range(n_rows)]
     held: List[Dict[int, int]] = [{} for _ in range(n_rows)]
-    for person, item, cost in zip(problem.persons.tolist(), problem.objects.tolist(), problem.costs.tolist()):
+    for person, item, cost in zip(problem.persons.tolist(), problem.objects.tolist(), listed_costs(problem)):
         row = held[person - 1]
         row[item - 1] = min(cost, row.get(item - 1, cost))
     return [(sorted(row), [sign * row[column] for column in sorted(row)]) for row in held]
@@ -173,23 +259,59 @@ def listed(problem: Problem) -> Problem:
     persons, objects = array("H"), array("H", range(1, n_columns + 1)) * n_rows
     for row in range(1, n_rows + 1):
         persons.extend(array("H", [row]) * n_columns)
-    costs = problem.costs if isinstance(problem.costs, array) else array("q", bytes(problem.costs.held))
+    costs = problem.costs if isinstance(problem.costs, (array, list)) else array("q", bytes(problem.costs.held))
     return problem._replace(costs=costs, persons=persons, objects=objects)
 
 
-def _without_forbidden(n_rows: int, n_columns: int, read: exact.Costs, numpy: Any) -> Tuple[Any, Any, Any]:
+def _chosen(values: Any, places: Any) -> Any:
+    """The values at some places, in a list of the same kind."""
+    if isinstance(values, list):
+        return [values[place] for place in places]
+    return array(values.typecode, [values[place] for place in places]) if isinstance(values, array) else values[places]
+
+
+def kept(problem: Problem, places: Any) -> Problem:
+    """A problem of listed pairs with those at some places alone."""
+    costs, persons, objects = (_chosen(values, places) for values in (problem.costs, problem.persons, problem.objects))
+    return problem._replace(costs=costs, persons=persons, objects=objects, most=None)
+
+
+def within(problem: Problem, worst: Ratio) -> Problem:
+    """The problem without the pairs that are worse than a cost."""
+    bound = Fraction(*worst)
+    if not problem.numpy:
+        problem = in_whole_numbers(problem)
+    problem = listed(problem)
+    # The nearest double is the one that prints as this decimal.
+    most: Any = float(bound) if problem.raw else (math.ceil if problem.maximize else math.floor)(bound * problem.unit.denominator)
+    if problem.numpy:
+        return kept(problem, problem.costs >= most if problem.maximize else problem.costs <= most)
+    return kept(problem, [place for place, cost in enumerate(problem.costs) if (cost >= most if problem.maximize else cost <= most)])
+
+
+def without_pair(problem: Problem, row: int, column: int) -> Problem:
+    """The problem with one pair less."""
+    problem = listed(problem)
+    if problem.numpy:
+        return kept(problem, (problem.persons != row + 1) | (problem.objects != column + 1))
+    pair = row + 1, column + 1
+    return kept(problem, [place for place, other in enumerate(zip(problem.persons, problem.objects)) if other != pair])
+
+
+def _without_forbidden(n_rows: int, n_columns: int, read: exact.Costs) -> Tuple[Any, Any, Any]:
     """Costs, persons and objects of the pairs that aren't forbidden."""
+    numpy = read.numpy
     if numpy:
         allowed = numpy.ones(n_rows * n_columns, bool)
-        allowed[read.forbidden] = False
+        allowed[numpy.asarray(read.forbidden, numpy.intp)] = False
         places = numpy.flatnonzero(allowed)
         persons, objects = numpy.divmod(places, n_columns)
         return read.numbers[places], (persons + 1).astype(numpy.uint16), (objects + 1).astype(numpy.uint16)
-    forbidden = set(read.forbidden)
+    forbidden = set(map(int, read.forbidden))
     places = [place for place in range(n_rows * n_columns) if place not in forbidden]
     persons = array("H", [place // n_columns + 1 for place in places])
     objects = array("H", [place % n_columns + 1 for place in places])
-    return array("q", [read.numbers[place] for place in places]), persons, objects
+    return _chosen(read.numbers, places), persons, objects
 
 
 def _numbered(values: Any, most: int, what: str) -> Any:
@@ -213,42 +335,61 @@ def _numbered(values: Any, most: int, what: str) -> Any:
     return array("H", [number + 1 for number in numbers])
 
 
-def _pair_costs(costs: Any, manner: exact.Manner, where: exact.Where) -> Tuple[exact.Costs, Any]:
+def _pair_costs(costs: Any, manner: exact.Manner, where: exact.Where) -> exact.Costs:
     numpy = exact.numpy_of(costs)
     if numpy:
-        costs = numpy.asarray(costs)
+        costs = numpy.asanyarray(costs)
         if costs.ndim != 1:
             raise ValueError(f"costs must be a list of numbers, not an array of {costs.ndim} dimensions")
-        return exact.of_array(numpy, costs, manner, where), numpy
-    return exact.of_list(list(costs), manner, where), None
-
-
-def _one_form(numpy: Any, values: Any, kind: str) -> Any:
-    """A list in the form of the others: an array of NumPy's if any of them is one."""
-    return numpy.asarray(values, kind) if numpy else values
+        return exact.of_array(numpy, costs, manner, where)
+    costs = list(costs)
+    return exact.of_rows([costs], len(costs), manner, where)
 
 
 def of_pairs(n_rows: Any, n_columns: Any, rows: Any, columns: Any, costs: Any, manner: exact.Manner) -> Problem:
     """The problem of listed pairs, whose costs may be infinite or None to forbid a pair after all."""
     n_rows, n_columns = operator.index(n_rows), operator.index(n_columns)
     _judge_size(n_rows, n_columns)
+    arrays = next(filter(None, map(exact.numpy_of, (costs, rows, columns))), None)
     persons, objects = _numbered(rows, n_rows, "rows"), _numbered(columns, n_columns, "columns")
 
     def where(place: int) -> str:
         pair = f" (row {persons[place] - 1}, column {objects[place] - 1})" if place < min(len(persons), len(objects)) else ""
         return f"costs[{place}]{pair}"
 
-    read, numpy = _pair_costs(costs, manner, where)
+    read = _pair_costs(costs, manner, where)
     if not len(persons) == len(objects) == len(read.numbers):
         raise ValueError(f"rows, columns and costs must be of one length: they have {len(persons)}, {len(objects)} and {len(read.numbers)}")
-    numpy = numpy or exact.numpy_of(rows) or exact.numpy_of(columns)
-    kinds = ("uint16", "uint16", "int64")
-    lists = [_one_form(numpy, values, kind) for values, kind in zip((persons, objects, read.numbers), kinds)]
+    numpy = read.numpy or (arrays if not read.raw else None)
+    lists = [persons, objects, read.numbers]
+    if numpy:
+        lists = [numpy.asarray(values, kind) for values, kind in zip(lists, ("uint16", "uint16", "float64" if read.raw else "int64"))]
+    elif exact.numpy_of(persons) or exact.numpy_of(objects):
+        lists[:2] = array("H", map(int, persons)), array("H", map(int, objects))
+    problem = Problem(n_rows, n_columns, manner.maximize, lists[2], lists[0], lists[1], read.unit, read.raw, manner.doubles, numpy,
+                      arrays, read.fractions)
     if len(read.forbidden):
         forbidden = set(map(int, read.forbidden))
-        kept = [place for place in range(len(persons)) if place not in forbidden]
-        lists = [values[kept] if numpy else array(values.typecode, [values[place] for place in kept]) for values in lists]
-    return Problem(n_rows, n_columns, manner.maximize, lists[2], lists[0], lists[1], read.places, read.rounded, numpy)
+        problem = kept(problem, [place for place in range(len(persons)) if place not in forbidden])
+    return once(problem) if problem.raw else problem
+
+
+def once(problem: Problem) -> Problem:
+    """The problem in which a pair that is given several times has its least cost alone."""
+    keys = [MOST_PERSONS * int(person) + int(item) for person, item in zip(problem.persons, problem.objects)]
+    if len(set(keys)) == len(keys):
+        return problem
+    least: Dict[int, int] = {}
+    for place, key in enumerate(keys):
+        before = least.setdefault(key, place)
+        if before != place and _is_less(problem, place, before):
+            least[key] = place
+    return kept(problem, sorted(least.values()))
+
+
+def _is_less(problem: Problem, place: int, other: int) -> bool:
+    (number, denominator), (others, other_denominator) = problem.ratio(plain(problem.costs)[place]), problem.ratio(plain(problem.costs)[other])
+    return number * other_denominator < others * denominator
 
 
 def of_sparse_matrix(matrix: Any, manner: exact.Manner) -> Problem:

@@ -3,16 +3,14 @@
 The library gives each of n persons one of m objects, proved for n <= m. The fewer of rows and columns are the persons: with more rows
 than columns the problem is turned. If persons may stay out, each also lists dummy objects, as many as persons are to stay out. Then
 at least the requested number of pairs is made, and exactly this number if no plan has more."""
-import decimal
-import math
-import numbers
+import operator
 from array import array
 from fractions import Fraction
-from typing import Any, List, NamedTuple, NoReturn, Optional, Tuple, Union
+from typing import Any, List, NamedTuple, NoReturn, Optional, Sequence, Tuple, Union
 
 from . import _library as library
-from ._exact import refuse_range
 from ._library import GREATEST_FIRST_PRICE, MOST_PERSONS, Halves
+from ._numbers import ratio_of
 from ._problem import Problem, costs_of_pairs, listed, lists_of, plain
 
 
@@ -28,13 +26,14 @@ class Given(NamedTuple):
 
 
 class Answer(NamedTuple):
-    """A best assignment: an object for each person, from 1 on, and prices in the unit of costs times m + 1."""
+    """A best assignment: an object for each person, from 1 on, and prices in the unit of costs times m + 1. Where levels found it, there
+    are neither prices nor a total."""
 
     n: int
     m: int
-    total: int
+    total: Optional[int]
     objects: Any
-    halves: Halves
+    halves: Any
 
 
 class Short(NamedTuple):
@@ -57,8 +56,8 @@ def sizes_of(problem: Problem, served: Optional[int]) -> Tuple[int, int, int]:
     n, most = sorted((problem.n_rows, problem.n_columns))
     dummies = 0 if served is None else n - served
     if most + dummies > MOST_PERSONS:
-        raise ValueError(f"{problem.n_rows} rows and {problem.n_columns} columns, of which {served} can be paired, want {most + dummies} "
-                         f"with dummies: at most {MOST_PERSONS} can be had")
+        raise ValueError(f"{problem.n_rows} rows and {problem.n_columns} columns, of which {served} can be paired, make {most + dummies} "
+                         f"with dummies: at most {MOST_PERSONS} are possible")
     return n, most + dummies, dummies
 
 
@@ -66,10 +65,19 @@ def _turned_costs(problem: Problem) -> Any:
     """The costs of a dense problem, column by column."""
     n_rows, n_columns = problem.n_rows, problem.n_columns
     if problem.numpy:
-        return problem.costs.reshape(n_rows, n_columns).T.ravel()
+        return _turned_array(problem.numpy, problem.costs.reshape(n_rows, n_columns))
     costs, turned = plain(problem.costs), array("q")
     for column in range(n_columns):
         turned.frombytes(costs[column::n_columns].tobytes())
+    return turned
+
+
+def _turned_array(numpy: Any, costs: Any) -> Any:
+    """The costs of a matrix, column by column. Some columns at a time are taken, so that Ctrl-C is heeded in between."""
+    turned = numpy.empty(costs.size, costs.dtype)
+    by_columns = turned.reshape(costs.shape[::-1])
+    for begin in range(0, len(by_columns), 64):
+        by_columns[begin:begin + 64] = costs[:, begin:begin + 64].T
     return turned
 
 
@@ -98,19 +106,13 @@ def _joined(numpy: Any, own: Any, more: Any) -> Any:
     return numpy.concatenate((own, more)) if numpy else own + more
 
 
-def refuse(problem: Problem, asked: Given, code: str, told: library.Told) -> NoReturn:
-    """Raises the fault that a code of the library means."""
-    if code == "COST":
-        if problem.persons is not None:
-            row, column = problem.place(told.place)
-        else:
-            row, column = reversed(divmod(told.place, asked.m)) if is_turned(problem) else divmod(told.place, asked.m)
-        refuse_range(f"row {row}, column {column}", problem.places)
+def refuse(code: str, told: library.Told) -> NoReturn:
+    """Raises what a code of the library means that no lists of this package should get."""
     raise RuntimeError(f"the library refused its lists: {code} at {told.place}")
 
 
-def answer(problem: Problem, asked: Given, first: Optional[Halves] = None) -> Union[Answer, Short]:
-    """The library's answer, an Answer or a Short. `first` are first prices."""
+def answer(problem: Problem, asked: Given, first: Optional[Halves] = None) -> Union[Answer, Short, None]:
+    """The library's answer, an Answer or a Short; None where a cost is beyond its range. `first` are first prices."""
     n, m = asked.n, asked.m
     objects, persons, halves = array("H", bytes(2 * n)), array("H", bytes(2 * n)), Halves(m)
     is_dense = problem.persons is None and not len(asked.persons)
@@ -123,7 +125,26 @@ def answer(problem: Problem, asked: Given, first: Optional[Halves] = None) -> Un
         return Answer(n, m, told.total, objects, halves)
     if code == "HALL":
         return Short(persons[:told.persons], objects[:told.objects])
-    return refuse(problem, asked, code, told)
+    return None if code == "COST" else refuse(code, told)
+
+
+def found(asked: Given, maximize: bool, first: Optional[Halves] = None) -> Union[Answer, Short]:
+    """The library's answer to listed pairs, whose costs are in its range."""
+    n, m = asked.n, asked.m
+    objects, persons, halves = array("H", bytes(2 * n)), array("H", bytes(2 * n)), Halves(m)
+    lists = [asked.persons, asked.objects, asked.costs] + ([] if first is None else [first])
+    code, told = library.call("sparse" if first is None else "sparse_from", maximize, n, m, *lists, objects, persons, halves)
+    if code == "BEST":
+        return Answer(n, m, told.total, objects, halves)
+    return Short(persons[:told.persons], objects[:told.objects]) if code == "HALL" else refuse(code, told)
+
+
+def best_of(asked: Given) -> Answer:
+    """The library's answer to listed pairs that hold an assignment; the sum is to be least."""
+    answer_ = found(asked, False)
+    if isinstance(answer_, Short):
+        raise RuntimeError("some pairs were found to hold a plan, and the library says otherwise")
+    return answer_
 
 
 def no_pairs(problem: Problem) -> Answer:
@@ -146,21 +167,6 @@ def pairs_of(problem: Problem, found: Answer) -> Tuple[List[int], List[int]]:
     return [own[place] for place in columns], [persons[place] for place in columns]
 
 
-def prices_of(problem: Problem, found: Answer, rows: List[int], columns: List[int]) -> List[int]:
-    """One price for each column, in the library's unit: the library's, or in a turned problem those that follow from the rows' prices."""
-    prices = found.halves.prices()
-    if not is_turned(problem):
-        return prices[:problem.n_columns]
-    if not rows:
-        return [0] * problem.n_columns
-    unit = (found.m + 1) * (-1 if problem.maximize else 1)
-    worth = [prices[-1] if found.m > problem.n_rows else 0] * problem.n_columns
-    for row, column, cost in zip(rows, columns, costs_of_pairs(problem, list(zip(rows, columns)))):
-        worth[column] = unit * cost + prices[row]
-    most = max(worth)
-    return [most - held for held in worth]
-
-
 # Duals in the field's words, in whole costs.
 
 
@@ -173,18 +179,19 @@ class Duals(NamedTuple):
     unmatched: int
 
 
-def duals_of(problem: Problem, found: Answer, rows: List[int], columns: List[int]) -> Duals:
-    """The duals that follow from an answer's prices. A row's and a column's sum is at most their pair's cost, and equals it in the plan.
-    Columns have no dual above 0, and 0 if they are unmatched; if all are matched and rows are left over, this holds of rows instead."""
+def duals_of(problem: Problem, found: Answer, prices: List[int], pairs: Sequence[Tuple[int, int]], costs: Sequence[int]) -> Duals:
+    """The duals that follow from whole prices of the objects, the least 0, and from the pairs of a plan with their costs. A row's and a
+    column's sum is at most their pair's cost, and equals it in the plan. Columns have no dual above 0, and 0 if they are unmatched; if all
+    are matched and rows are left over, this holds of rows instead."""
     n_rows, n_columns = problem.n_rows, problem.n_columns
-    if not rows:
+    if not len(pairs):
         return Duals([0] * n_rows, [0] * n_columns, 0)
-    prices, most, turned = _whole_prices(problem, found, len(rows)), max(n_rows, n_columns), is_turned(problem)
+    most, turned = max(n_rows, n_columns), is_turned(problem)
     out = prices[-1] if found.m > most else 0
     of_objects = [-price for price in prices[:most]]
     of_persons = [out] * found.n
     sign = -1 if problem.maximize else 1
-    for row, column, cost in zip(rows, columns, costs_of_pairs(problem, list(zip(rows, columns)))):
+    for (row, column), cost in zip(pairs, costs):
         person, item = (column, row) if turned else (row, column)
         of_persons[person] = sign * cost - of_objects[item]
     if not turned:
@@ -192,7 +199,7 @@ def duals_of(problem: Problem, found: Answer, rows: List[int], columns: List[int
     return Duals([dual + out for dual in of_objects], [dual - out for dual in of_persons], out)
 
 
-def _whole_prices(problem: Problem, found: Answer, served: int) -> List[int]:
+def whole_prices(found: Answer) -> List[int]:
     """Prices without any slack, in whole costs, from prices with slackness 1 in the library's unit.
 
     There are fewer prices than residues modulo the unit, so one residue belongs to no price. Counted from the residue after it, no
@@ -203,14 +210,7 @@ def _whole_prices(problem: Problem, found: Answer, served: int) -> List[int]:
     missing = next(rest for rest in range(unit) if rest not in rests)
     whole = [(price - missing - 1) // unit for price in prices]
     lowest = min(whole)
-    whole = [price - lowest for price in whole]
-    if len(rests) > 1:
-        asked = given(problem, served)
-        halves = Halves(prices=[price * unit for price in whole])
-        code, _ = library.call("check", problem.maximize, *asked, found.objects, halves)
-        if code != "BEST":
-            raise RuntimeError(f"prices without slack were found, and the library says otherwise: {code}")
-    return whole
+    return [price - lowest for price in whole]
 
 
 def rents(duals: Duals) -> List[int]:
@@ -222,38 +222,43 @@ def rents(duals: Duals) -> List[int]:
 # Prices of the caller's, in the unit of the costs, one for each column.
 
 
-def _whole(price: Any, scale: int, place: int) -> int:
-    """A price times the scale, rounded to a whole number."""
-    if type(price) is int:
-        return price * scale
+def exact_price(price: Any, name: Any) -> Fraction:
+    """A price of any kind, exactly; a float is the decimal that it prints as. `name` is that of its column."""
+    if isinstance(price, str) or type(price) is bytes:
+        raise TypeError(f"the price of column {name} is {price!r}: it must be a number")
     try:
-        if isinstance(price, (int, decimal.Decimal, numbers.Rational)):
-            return round(Fraction(price) * scale)
-        return round(Fraction(math.fsum((price,))) * scale)
+        if hasattr(price, "as_integer_ratio") and not hasattr(price, "dtype"):
+            return Fraction(*ratio_of(price, False))
+        return Fraction(operator.index(price)) if hasattr(price, "__index__") else Fraction(*ratio_of(float(price), False))
     except (ValueError, OverflowError):
-        raise ValueError(f"the price of column {place} is {price}: it must be finite") from None
+        raise ValueError(f"the price of column {name} is {price}: it must be finite") from None
     except TypeError:
-        raise TypeError(f"the price of column {place} is {price!r}: it must be a number") from None
+        raise TypeError(f"the price of column {name} is {price!r}: it must be a number") from None
 
 
-def scaled(problem: Problem, prices: Any, unit: int) -> List[int]:
-    """Prices as whole numbers in the library's unit, the least 0."""
-    prices = list(prices)
+def exact_prices(problem: Problem, prices: Any) -> List[Fraction]:
+    """The caller's prices, one for each column."""
+    prices = prices.tolist() if hasattr(prices, "tolist") and getattr(prices, "ndim", 1) == 1 else list(prices)
     if len(prices) != problem.n_columns:
         raise ValueError(f"there are {len(prices)} prices, and {problem.n_columns} columns")
-    scale = unit * 10**problem.places
-    whole = [_whole(price, scale, place) for place, price in enumerate(prices)]
+    return [exact_price(price, problem.column_name(column)) for column, price in enumerate(prices)]
+
+
+def scaled(problem: Problem, prices: List[Fraction], unit: int) -> Optional[List[int]]:
+    """Prices as whole numbers in the library's unit, the least 0; None where they are too far apart for it."""
+    scale = unit * problem.unit.denominator
+    whole = [round(price * scale) for price in prices]
     lowest = min(whole, default=0)
     whole = [price - lowest for price in whole]
-    if max(whole, default=0) > GREATEST_FIRST_PRICE:
-        raise ValueError(f"prices are too far apart: the greatest is more than {GREATEST_FIRST_PRICE // scale} above the least")
-    return whole
+    return None if max(whole, default=0) > GREATEST_FIRST_PRICE else whole
 
 
-def first_prices(problem: Problem, prices: Any, served: Optional[int]) -> Halves:
-    """First prices for the library; those of dummies are 0."""
+def first_prices(problem: Problem, prices: List[Fraction], served: Optional[int]) -> Optional[Halves]:
+    """First prices for the library; those of dummies are 0. None where they are too far apart to be of use."""
     _, m, dummies = sizes_of(problem, served)
     first = scaled(problem, prices, m + 1)
+    if first is None:
+        return None
     if is_turned(problem):
         first = _of_rows(problem, first, m + 1)
     return Halves(prices=first + [0] * dummies)
@@ -261,6 +266,6 @@ def first_prices(problem: Problem, prices: Any, served: Optional[int]) -> Halves
 
 def _of_rows(problem: Problem, prices: List[int], unit: int) -> List[int]:
     """First prices of the turned problem, the least 0: what rows gain at prices of the columns."""
-    paid = [min((unit * cost + prices[column] for column, cost in zip(*held)), default=None) for held in lists_of(problem)]
+    paid = [min((unit * int(cost) + prices[column] for column, cost in zip(*held)), default=None) for held in lists_of(problem)]
     most = max((price for price in paid if price is not None), default=0)
     return [0 if price is None else min(most - price, GREATEST_FIRST_PRICE) for price in paid]

@@ -1,27 +1,25 @@
 """A best assignment as the caller sees it."""
 import decimal
+import operator
+from fractions import Fraction
 from functools import cached_property
-from typing import TYPE_CHECKING, Any, Iterable, List, NamedTuple, Optional, Tuple, Union
+from typing import TYPE_CHECKING, Any, Dict, Iterable, List, NamedTuple, Optional, Sequence, Tuple, Union
 
-from . import _proved as proved
-from ._exact import manner
+from . import _duals as exact_duals, _proved as proved
+from ._exact import loaded_numpy, manner
+from ._numbers import Number, Ratio, Unit, all_shown, total
 from ._problem import Problem, costs_of_pairs
+from ._source import Held, Source, problem_of
 
 if TYPE_CHECKING:
     from ._checking import Verdict
 
-
-Number = Union[int, decimal.Decimal]
-
-
-def in_unit(number: int, places: int) -> Number:
-    """number / 10**places, exactly: an int where places is 0, else a Decimal."""
-    return decimal.Decimal(f"{number}E-{places}") if places else number
+CHANGED = "the costs were changed after the call, and the plan and its duals are no longer best for them: solve them again"
 
 
 def rows_and_columns(problem: Problem, answer: proved.Answer) -> Tuple[Any, Any]:
     """The numbers of the pairs of an answer, without dummies, as arrays if the costs were one."""
-    return _arrays_of(problem.numpy, problem, answer) if problem.numpy else proved.pairs_of(problem, answer)
+    return _arrays_of(problem.arrays, problem, answer) if problem.arrays else proved.pairs_of(problem, answer)
 
 
 def _arrays_of(numpy: Any, problem: Problem, answer: proved.Answer) -> Tuple[Any, Any]:
@@ -36,7 +34,12 @@ def _arrays_of(numpy: Any, problem: Problem, answer: proved.Answer) -> Tuple[Any
 
 
 class Plan(NamedTuple):
-    """A plan: row rows[k] has column columns[k], and all pairs together cost `cost`."""
+    """A plan: row rows[k] has column columns[k], and all pairs together cost `cost`.
+
+    >>> import nushbaret
+    >>> nushbaret.solve([[4, 1], [2, 3]]).next_best()
+    Plan(rows=[0, 1], columns=[0, 1], cost=7)
+    """
 
     rows: Any
     columns: Any
@@ -44,103 +47,174 @@ class Plan(NamedTuple):
 
 
 class Result:
-    """A best assignment, with prices that prove it.
+    """A best assignment, with exact duals that prove it.
 
     Row `rows[k]` has column `columns[k]`; numbers are from 0, and rows rise. They are NumPy arrays if the costs are one, and
-    lists otherwise.
+    lists otherwise. A result can be pickled and copied, and its attributes can't be set. It keeps no copy of the costs: where it needs
+    them again, it reads those of the call, and raises ValueError where they were changed so that the plan is no longer best.
 
-    Attributes
-    ----------
-    rows, columns : list of int, or NumPy array
-        The pairs. With unequal numbers there are as many as the fewer of rows and columns.
-    cost : int or decimal.Decimal
-        The sum of their costs, exactly; a Decimal if costs have decimal places.
-    pairs : list of tuple
-        The pairs by the labels of a DataFrame, or else by numbers.
-    row_duals, column_duals : list of int or of decimal.Decimal
-        The proof, exactly: u[i] + v[j] <= costs[i][j] for each allowed pair, with equality in the plan; v[j] <= 0, and 0 for an
-        unmatched column; the sum of all is the cost. If there are more rows than columns and all columns are matched, this holds
-        of u instead of v. Under maximize these signs are reversed. In a partial plan that leaves out rows and columns, unmatched
-        rows have one dual, none is greater, and the sum over matched rows and columns is the cost. Other duals may prove the
-        same plan.
-    prices : list of int
-        The library's own proof: one price for each column. Divided by `scale` they are in the unit of the costs. If there are
-        more rows than columns, the library has prices of the rows, and these follow from them.
-    unmatched_rows, unmatched_columns : list of int, or NumPy array
-        Those without a pair, rising.
-    scale : int
-        Divide prices by it to get them in the unit of the costs.
-    decimals : int
-        How many decimal places the costs have.
-    rounded : bool
-        Whether rounding to `decimals` places changed any cost: then the plan is best for the rounded costs.
-    error_bound : int or decimal.Decimal
-        By how much at most the plan is worse than the best one for the costs before rounding; 0 if none was rounded.
-    maximize : bool
-        Whether this is the greatest sum, not the least.
-    is_unique : bool
-        Whether no other plan of as many pairs is as good: of the plans along pairs without reduced cost, the library has none that
-        differs. Which pairs these are follows from the proved prices.
+    >>> import nushbaret
+    >>> result = nushbaret.solve([[4, 1, 3], [2, 0, 5], [3, 2, 2]])
+    >>> result.columns, result.cost
+    ([1, 0, 2], 5)
     """
 
-    def __init__(self, problem: Problem, answer: proved.Answer):
-        self._problem = problem
-        self._answer = answer
-        self.rows, self.columns = rows_and_columns(problem, answer)
-        self.cost = in_unit(answer.total, problem.places)
-        self.scale = (answer.m + 1) * 10**problem.places
-        self.decimals, self.rounded, self.maximize = problem.places, problem.rounded, problem.maximize
-        self.error_bound = in_unit(len(self.rows), problem.places) if problem.rounded else 0
+    #: The rows of the pairs, rising, from 0.
+    rows: Any
+    #: The column of each of `rows`.
+    columns: Any
+    #: Whether this is the greatest sum, not the least.
+    maximize: bool
+    _source: Union[Source, Held]
+    _shape: Problem
+    _answer: proved.Answer
+    _pairs: Tuple[List[int], List[int]]
+    _costs: List[Any]
+    _as_arrays: bool
+
+    def __init__(self, source: Union[Source, Held], problem: Problem, answer: proved.Answer):
+        rows, columns = rows_and_columns(problem, answer)
+        pairs = proved.pairs_of(problem, answer) if problem.arrays else (rows, columns)
+        pairs = list(pairs[0]), list(pairs[1])
+        # Without its lists the problem is small.
+        shape = problem._replace(costs=None, persons=None, objects=None, numpy=None, arrays=None)
+        self.__dict__.update(rows=rows, columns=columns, maximize=problem.maximize, _source=source, _shape=shape, _answer=answer,
+                             _pairs=pairs, _costs=costs_of_pairs(problem, list(zip(*pairs))), _as_arrays=problem.arrays is not None)
+
+    def __setattr__(self, name: str, value: Any) -> None:
+        raise AttributeError(f"a result's {name} can't be set")
+
+    def __delattr__(self, name: str) -> None:
+        raise AttributeError(f"a result's {name} can't be deleted")
+
+    def __getstate__(self) -> Dict[str, Any]:
+        return dict(self.__dict__)
+
+    def __setstate__(self, state: Dict[str, Any]) -> None:
+        self.__dict__.update(state)
 
     def __repr__(self) -> str:
         return f"<nushbaret.Result: cost {self.cost}, {len(self.rows)} pairs>"
 
     @cached_property
-    def _pairs(self) -> Tuple[List[int], List[int]]:
-        return proved.pairs_of(self._problem, self._answer)
+    def _ratios(self) -> List[Ratio]:
+        """The costs of the pairs, as they were at the call."""
+        return [self._shape.ratio(cost) for cost in self._costs]
+
+    @cached_property
+    def cost(self) -> Number:
+        """The exact sum of the costs: an int, a Decimal where costs have decimal places, or a Fraction where one was given."""
+        return self._sum_of(self._ratios)
+
+    def _sum_of(self, ratios: Sequence[Ratio]) -> Number:
+        """The exact sum of some costs of the problem."""
+        shape = self._shape
+        return total(ratios, shape.fractions) if shape.raw else shape.unit.shown(sum(number for number, _ in ratios))
+
+    def _numbers(self, values: Sequence[int]) -> Any:
+        numpy = loaded_numpy() if self._as_arrays else None
+        return values if numpy is None else numpy.array(values, numpy.intp)
 
     @cached_property
     def pairs(self) -> List[Tuple[Any, Any]]:
-        if self._problem.labels is None:
-            return list(zip(*self._pairs))
-        rows, columns = self._problem.labels
-        return [(rows[row], columns[column]) for row, column in zip(*self._pairs)]
+        """The pairs, by the labels of a DataFrame, or else by numbers."""
+        return [(self._shape.row_name(row), self._shape.column_name(column)) for row, column in zip(*self._pairs)]
 
     @cached_property
     def unmatched_rows(self) -> Any:
-        return self._problem.numbers(sorted(set(range(self._problem.n_rows)).difference(self._pairs[0])))
+        """The rows without a pair, rising."""
+        return self._numbers(sorted(set(range(self._shape.n_rows)).difference(self._pairs[0])))
 
     @cached_property
     def unmatched_columns(self) -> Any:
-        return self._problem.numbers(sorted(set(range(self._problem.n_columns)).difference(self._pairs[1])))
+        """The columns without a pair, rising."""
+        return self._numbers(sorted(set(range(self._shape.n_columns)).difference(self._pairs[1])))
+
+    def _read_again(self) -> Problem:
+        """The problem of the call; ValueError if the plan's pairs have other costs now."""
+        problem = self._source.read()
+        if (problem.n_rows, problem.n_columns) != (self._shape.n_rows, self._shape.n_columns):
+            raise ValueError(CHANGED)
+        now = costs_of_pairs(problem, list(zip(*self._pairs)))
+        if None in now or [Fraction(*problem.ratio(cost)) for cost in now] != [Fraction(*ratio) for ratio in self._ratios]:
+            raise ValueError(CHANGED)
+        return problem
 
     @cached_property
-    def prices(self) -> List[int]:
-        return proved.prices_of(self._problem, self._answer, *self._pairs)
+    def _whole_duals(self) -> Tuple[proved.Duals, Unit]:
+        """Whole duals in a unit. Where levels found the plan these take the costs again."""
+        unit = self._shape.unit
+        prices: List[int] = []
+        if self._pairs[0] and self._answer.halves is None:
+            prices, unit = self._exact_prices()
+        elif self._pairs[0]:
+            prices = proved.whole_prices(self._answer)
+        costs = [number * (unit.denominator // denominator) for number, denominator in self._ratios]
+        return proved.duals_of(self._shape, self._answer, prices, list(zip(*self._pairs)), costs), unit
 
-    @cached_property
-    def _whole_duals(self) -> proved.Duals:
-        return proved.duals_of(self._problem, self._answer, *self._pairs)
+    def _exact_prices(self) -> exact_duals.ExactPrices:
+        from ._solving import solved
+        problem, count = self._read_again(), len(self._pairs[0])
+        served = None if count == min(problem.n_rows, problem.n_columns) else count
+        again = solved(problem, None, served)
+        if isinstance(again, proved.Short) or Result(self._source, problem, again).cost != self.cost:
+            raise ValueError(CHANGED)
+        found = exact_duals.exact_prices(problem, served, self._answer.objects)
+        if found is None:
+            raise ValueError(CHANGED)
+        return found
 
-    def _in_unit(self, numbers: Iterable[int]) -> List[Number]:
-        return [in_unit(number, self.decimals) for number in numbers]
+    def _shown(self, numbers: Iterable[int]) -> List[Number]:
+        unit = self._whole_duals[1]
+        return [unit.shown(number) for number in numbers]
 
     @cached_property
     def row_duals(self) -> List[Number]:
-        return self._in_unit(-dual if self.maximize else dual for dual in self._whole_duals.rows)
+        """The exact dual of each row.
+
+        A row's and a column's dual together are at most the cost of their pair, for each allowed pair, and equal it in the plan; all
+        together sum up to the cost. A column's dual is at most 0, and 0 where it is unmatched; if there are more rows than columns and
+        all columns are matched, this holds of rows instead. Under maximize these signs are reversed. In a partial plan that leaves out
+        rows and columns, unmatched rows have one dual, none is greater, and the sum over matched rows and columns is the cost. Other
+        duals may prove the same plan.
+        """
+        return self._shown(-dual if self.maximize else dual for dual in self._whole_duals[0].rows)
 
     @cached_property
     def column_duals(self) -> List[Number]:
-        return self._in_unit(-dual if self.maximize else dual for dual in self._whole_duals.columns)
+        """The exact dual of each column, as `row_duals` says."""
+        return self._shown(-dual if self.maximize else dual for dual in self._whole_duals[0].columns)
 
     @cached_property
+    def prices(self) -> List[Number]:
+        """One price for each column, exactly, in the unit of the costs; the least is 0. With them `check` proves the plan, and `start`
+        begins at them."""
+        return self._shown(proved.rents(self._whole_duals[0]))
+
+    @property
     def _rents(self) -> List[Number]:
-        return self._in_unit(proved.rents(self._whole_duals))
+        """The prices, as the command for rosters calls them."""
+        return self.prices
+
+    @cached_property
+    def _exact_rents(self) -> List[Fraction]:
+        duals, unit = self._whole_duals
+        return [Fraction(rent, unit.denominator) for rent in proved.rents(duals)]
+
+    def _checked(self) -> Problem:
+        """The problem of the call; ValueError unless the duals prove that the plan is best for its costs as they are now."""
+        from ._checking import check_problem
+        problem = self._read_again()
+        if not check_problem(problem, self._pairs[0], self._pairs[1], self._exact_rents):
+            raise ValueError(CHANGED)
+        return problem
 
     @cached_property
     def is_unique(self) -> bool:
+        """Whether no other plan of as many pairs is as good. The library finds, among the plans along pairs without reduced cost, one with
+        as few of this plan's pairs as possible; which pairs these are follows from the duals."""
         from ._plans import Ranking
-        return not Ranking(self).has_other()
+        return not Ranking(self._checked(), self).has_other()
 
     def next_best(self) -> Optional[Plan]:
         """The best plan except for this one, with as many pairs. If this is one of several best plans, it is another of these.
@@ -148,11 +222,15 @@ class Result:
         Returns
         -------
         Plan or None
-            None if there is no other plan. Of several, the one that comes first in the order of `k_best`, whose notes say what the
-            library checks of it.
+            None if there is no other plan. Of several, the one that comes first in the order of `k_best`, whose notes say how it is
+            checked.
+
+        >>> import nushbaret
+        >>> nushbaret.solve([[4, 1], [2, 3]]).next_best().cost
+        7
         """
         from ._plans import next_best
-        return next_best(self)
+        return next_best(self._checked(), self)
 
     def to_frame(self) -> Any:
         """The pairs as a DataFrame of pandas, which must be installed.
@@ -160,45 +238,71 @@ class Result:
         Returns
         -------
         pandas.DataFrame
-            With columns row, column and cost: by labels if the costs were a DataFrame, else by numbers.
+            With columns row, column and cost: by labels if the costs were a DataFrame, else by numbers. Costs are whole numbers or
+            floats where these print as the exact costs, and Decimals or Fractions otherwise.
+
+        >>> import nushbaret
+        >>> nushbaret.solve([[4, 1], [2, 3]]).to_frame()  # doctest: +SKIP
+           row  column  cost
+        0    0       1     1
+        1    1       0     2
         """
         import pandas  # type: ignore
-        costs = self._in_unit(costs_of_pairs(self._problem, list(zip(*self._pairs))))
+        shape = self._shape
+        costs: List[Any] = (all_shown(self._ratios, shape.fractions) if shape.raw
+                            else [shape.unit.shown(number) for number, _ in self._ratios])
+        if costs and all(isinstance(cost, decimal.Decimal) and _prints_so(cost) for cost in costs):
+            costs = list(map(float, costs))
         rows, columns = zip(*self.pairs) if self.pairs else ((), ())
         return pandas.DataFrame({"row": list(rows), "column": list(columns), "cost": costs})
 
-    def verify(self, costs: Any = None, rows: Any = None, columns: Any = None) -> "Verdict":
-        """Checks the plan and its duals against a problem, by the library's proved checker.
+    def verify(self, costs: Any = None, rows: Any = None, columns: Any = None, missing: str = "refuse") -> "Verdict":
+        """Checks the plan and its duals against a problem.
 
         Parameters
         ----------
         costs : matrix or sparse matrix, optional
-            The problem, of as many rows and columns; if it isn't given, the one that was solved.
+            The problem, of as many rows and columns; if it isn't given, the one that was solved, with its costs as they are now.
         rows, columns : lists of int, optional
             If they are given, `costs` is a list too, and these are its pairs, as in `solve_sparse`.
+        missing : {"refuse", "forbid"}, optional
+            As in `solve`, for `costs`.
 
         Returns
         -------
         Verdict
-            True as a condition exactly if the duals prove that no plan of as many pairs is better.
+            True as a condition exactly if the duals prove that no plan of as many pairs is better. `check` says what checks it.
+
+        >>> import nushbaret
+        >>> result = nushbaret.solve([[1, 2], [3, 5]])
+        >>> result.verify(), bool(result.verify([[1, 2], [3, 3]]))
+        (<nushbaret.Verdict: proved>, False)
         """
-        from ._checking import check_problem, problem_of
-        problem = self._problem
-        if costs is not None:
-            how = manner(self.maximize, self.decimals if self.rounded else None)
-            problem = problem_of(costs, rows, columns, (problem.n_rows, problem.n_columns), how)
-        rows, columns = self._pairs
-        return check_problem(problem, rows, columns, self._rents)
+        from ._checking import Verdict, check_problem
+        if costs is None:
+            problem = self._source.read()
+        else:
+            how = manner(self.maximize, self._decimals, missing)
+            problem = problem_of(costs, rows, columns, (self._shape.n_rows, self._shape.n_columns), how)
+        try:
+            prices = self._exact_rents
+        except ValueError as fault:
+            return Verdict(str(fault))
+        return check_problem(problem, self._pairs[0], self._pairs[1], prices)
 
-    def without(self, row: int, column: int) -> "Result":
+    @property
+    def _decimals(self) -> Optional[int]:
+        return self._source.manner.decimals if isinstance(self._source, Source) else None
+
+    def without(self, row: Any, column: Any, timeout: Optional[float] = None) -> "Result":
         """The best plan with this pair forbidden. The pair is worth what that plan costs more.
-
-        Solves again and reads the costs again, so don't change an array before.
 
         Parameters
         ----------
-        row, column : int
-            A pair, by numbers from 0.
+        row, column : int, or a label of a DataFrame
+            A pair. Whole numbers count from 0, any other label is looked up.
+        timeout : float, optional
+            As in `solve`.
 
         Returns
         -------
@@ -211,6 +315,27 @@ class Result:
             If there is none without the pair.
         IndexError
             If the row or the column isn't one of the problem.
+        ValueError
+            If the costs were changed after the call, so that the plan is no longer best.
+
+        >>> import nushbaret
+        >>> nushbaret.solve([[4, 1], [2, 3]]).without(0, 1).cost
+        7
         """
         from ._solving import solve_without
-        return solve_without(self._problem, len(self._pairs[0]), row, column)
+        return solve_without(self, row, column, timeout)
+
+
+def _prints_so(cost: decimal.Decimal) -> bool:
+    """Whether a float prints as this decimal."""
+    return decimal.Decimal(repr(float(cost))) == cost
+
+
+def numbered(value: Any, labels: Optional[List[Any]]) -> int:
+    """The number of a row or column: a whole number is one, anything else is a label."""
+    if labels is None or hasattr(value, "__index__"):
+        return operator.index(value)
+    try:
+        return labels.index(value)
+    except ValueError:
+        raise IndexError(f"the frame has no label {value!r}") from None

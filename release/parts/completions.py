@@ -1,20 +1,21 @@
-"""Completions of the program's words for bash, zsh and fish, made of its help: completions.py PROGRAM SHARE."""
+"""Completions of the words of both commands for bash, zsh and fish: completions.py SHARE [PROGRAM].
+
+Those of the program are made of its help, and those of the roster command of its table of options.
+"""
 import pathlib
 import sys
 
-from helps import read_all
+from helps import manual, read_all, roster_help
 
-FILES = ("<FILE>", "<REPORT>")
+BASH = """# Completes the words of @NAME@ in bash.
 
-BASH = """# Completes the words of auction_cli in bash.
-
-_auction_cli_files() {
+_@NAME@_files() {
     local IFS=$'\\n'
     compopt -o filenames 2> /dev/null
     COMPREPLY=($(compgen -f -- "$cur"))
 }
 
-_auction_cli() {
+_@NAME@() {
     local IFS=$' \\t\\n' cur=${COMP_WORDS[COMP_CWORD]} before=${COMP_WORDS[COMP_CWORD - 1]} command= words plain word
     COMPREPLY=()
     if [ "$cur" = = ]; then
@@ -25,12 +26,7 @@ _auction_cli() {
     case "$before" in
 @VALUES@
     esac
-    for word in "${COMP_WORDS[@]:1:COMP_CWORD - 1}"; do
-        case "$word" in @NAMES@) command=$word; break ;; esac
-    done
-    case "$command" in
-@COMMANDS@
-    esac
+@PLACE@
     if [[ $cur == -* || $plain == : ]]; then
         COMPREPLY=($(compgen -W "$words" -- "$cur"))
     else
@@ -38,14 +34,32 @@ _auction_cli() {
     fi
 }
 
-complete -F _auction_cli auction_cli
+complete -F _@NAME@ @NAME@
 """
 
-ZSH = """#compdef auction_cli
-# Completes the words of auction_cli in zsh.
+# Which words may stand after a command of the program.
+BASH_COMMANDS = """    for word in "${COMP_WORDS[@]:1:COMP_CWORD - 1}"; do
+        case "$word" in @NAMES@) command=$word; break ;; esac
+    done
+    case "$command" in
+@COMMANDS@
+    esac"""
 
-_auction_cli() {
-    local context state state_descr line
+ZSH = """#compdef @NAME@
+# Completes the words of @NAME@ in zsh.
+
+_@NAME@() {
+@BODY@
+}
+
+if [ "$funcstack[1]" = _@NAME@ ]; then
+    _@NAME@ "$@"
+else
+    compdef _@NAME@ @NAME@
+fi
+"""
+
+ZSH_COMMANDS = """    local context state state_descr line
     typeset -A opt_args
     _arguments -C \\
 @OPTIONS@
@@ -62,15 +76,7 @@ _auction_cli() {
             case $line[1] in
 @WORDS@
             esac ;;
-    esac
-}
-
-if [ "$funcstack[1]" = _auction_cli ]; then
-    _auction_cli "$@"
-else
-    compdef _auction_cli auction_cli
-fi
-"""
+    esac"""
 
 
 def _filled(text, **parts):
@@ -83,24 +89,31 @@ def _words(options):
     return " ".join(word for entry in options for word in (entry.name, entry.short) if word)
 
 
-def _bash_value(entry):
+def _bash_value(name, entry):
     """The line of a case that completes the value of an option."""
-    if entry.value in FILES:
-        return f"        {entry.name}) _auction_cli_files; return ;;"
-    if entry.choices():
-        return f'        {entry.name}) COMPREPLY=($(compgen -W "{" ".join(entry.choices())}" -- "$cur")); return ;;'
+    if entry.is_file:
+        return f"        {entry.name}) _{name}_files; return ;;"
+    if entry.choices:
+        return f'        {entry.name}) COMPREPLY=($(compgen -W "{" ".join(entry.choices)}" -- "$cur")); return ;;'
     return f"        {entry.name}) return ;;"
 
 
-def bash(top, commands):
+def _bash_words(name, told):
+    """What sets the words that may stand here, and what else may."""
+    return f'words="{_words(told.options)}"; plain={f"_{name}_files" if told.arguments else ":"}'
+
+
+def bash(name, top, commands):
     """The script for bash."""
-    valued = {entry.name: entry for told in commands.values() for entry in told.options if entry.value}
-    behind = [f'        {name}) words="{_words(told.options)}"; plain={"_auction_cli_files" if told.arguments else ":"} ;;'
-              for name, told in commands.items()]
-    behind += [f'        help) words="{" ".join(commands)}"; plain=: ;;',
-               f'        *) words="{_words(top.options)} {" ".join(entry.name for entry in top.commands)}"; plain=: ;;']
-    return _filled(BASH, VALUES=[_bash_value(valued[name]) for name in sorted(valued)], COMMANDS=behind,
-                   NAMES=["|".join(entry.name for entry in top.commands)])
+    valued = {entry.name: entry for told in (top, *commands.values()) for entry in told.options if entry.value}
+    values = [_bash_value(name, valued[option]) for option in sorted(valued)]
+    if not commands:
+        return _filled(BASH, VALUES=values, PLACE=["    " + _bash_words(name, top)], NAME=[name])
+    after = [f"        {command}) {_bash_words(name, told)} ;;" for command, told in commands.items()]
+    after += [f'        help) words="{" ".join(commands)}"; plain=: ;;',
+              f'        *) words="{_words(top.options)} {" ".join(entry.name for entry in top.commands)}"; plain=: ;;']
+    place = _filled(BASH_COMMANDS, COMMANDS=after, NAMES=["|".join(entry.name for entry in top.commands)])
+    return _filled(BASH, VALUES=values, PLACE=[place], NAME=[name])
 
 
 def _zsh_text(text):
@@ -112,72 +125,88 @@ def _zsh_text(text):
 
 def _zsh_option(entry):
     """The specification of an option for zsh's _arguments."""
-    action = "_files" if entry.value in FILES else f"({' '.join(entry.choices())})" if entry.choices() else ""
-    value = f":{entry.value[1:-1]}:{action}" if entry.value else ""
+    action = "_files" if entry.is_file else f"({' '.join(entry.choices)})" if entry.choices else ""
+    value = f":{_bare(entry.value)}:{action}" if entry.value else ""
     if entry.short:
         return f"'({entry.short} {entry.name})'{{{entry.short},{entry.name}}}'[{_zsh_text(entry.text)}]{value}'"
-    return f"'{entry.name}{'=' if entry.value else ''}[{_zsh_text(entry.text)}]{value}'"
+    return f"'{'*' if entry.repeats else ''}{entry.name}{'=' if entry.value else ''}[{_zsh_text(entry.text)}]{value}'"
 
 
-def _zsh_words(name, told):
-    """The lines of a case that complete the words behind a command."""
+def _bare(name):
+    """The name of a value without its brackets."""
+    return name.strip("<>")
+
+
+def _zsh_arguments(told, indent):
+    """The lines that complete the options and arguments of a help."""
     words = [_zsh_option(entry) for entry in told.options]
-    words += [f"'{at}:{entry.name[1:-1]}:_files'" for at, entry in enumerate(told.arguments, 1)]
-    indent = " " * 24
-    return [f"                {name})", "                    _arguments \\", f" \\\n{indent}".join([f"{indent}{words[0]}", *words[1:]]) + " ;;"]
+    words += [f"'{at}:{_bare(entry.name)}:_files'" for at, entry in enumerate(told.arguments, 1)]
+    inner = f" \\\n{indent}    "
+    return [f"{indent}_arguments \\", inner.join([f"{indent}    {words[0]}", *words[1:]])]
 
 
-def zsh(top, commands):
+def _zsh_after(command, told):
+    """The lines of a case that complete the words after a command."""
+    lines = [f"                {command})", *_zsh_arguments(told, " " * 20)]
+    return [*lines[:-1], lines[-1] + " ;;"]
+
+
+def zsh(name, top, commands):
     """The script for zsh."""
-    words = [line for name, told in commands.items() for line in _zsh_words(name, told)]
+    if not commands:
+        return _filled(ZSH, BODY=_zsh_arguments(top, "    "), NAME=[name])
+    words = [line for command, told in commands.items() for line in _zsh_after(command, told)]
     words.append(f"                help) _values command {' '.join(commands)} ;;")
-    return _filled(ZSH, OPTIONS=[f"        {_zsh_option(entry)} \\" for entry in top.options], WORDS=words,
+    body = _filled(ZSH_COMMANDS, OPTIONS=[f"        {_zsh_option(entry)} \\" for entry in top.options], WORDS=words,
                    COMMANDS=[f"                '{_zsh_text(entry.name)}:{_zsh_text(entry.text)}'" for entry in top.commands])
+    return _filled(ZSH, BODY=[body], NAME=[name])
 
 
 def _fish_text(text):
     return "'" + text.replace("\\", "\\\\").replace("'", "\\'") + "'"
 
 
-def _fish(condition, words):
-    return f"complete -c auction_cli -n {_fish_text(condition)} {words}"
+def _fish(name, condition, words):
+    return f"complete -c {name}{f' -n {_fish_text(condition)}' if condition else ''} {words}"
 
 
-def _fish_option(condition, entry):
+def _fish_option(name, condition, entry):
     """The line of an option for fish."""
     words = f"-l {entry.name[2:]}" + (f" -s {entry.short[1:]}" if entry.short else "")
-    if entry.value in FILES:
+    if entry.is_file:
         words += " -r -F"
-    elif entry.choices():
-        words += f" -x -a {_fish_text(' '.join(entry.choices()))}"
+    elif entry.choices:
+        words += f" -x -a {_fish_text(' '.join(entry.choices))}"
     elif entry.value:
         words += " -x"
-    return _fish(condition, f"{words} -d {_fish_text(entry.text)}")
+    return _fish(name, condition, f"{words} -d {_fish_text(entry.text)}")
 
 
-def fish(top, commands):
+def fish(name, top, commands):
     """The script for fish."""
-    lines = ["# Completes the words of auction_cli in fish.", "complete -c auction_cli -f"]
-    lines += [_fish_option("__fish_use_subcommand", entry) for entry in top.options]
-    lines += [_fish("__fish_use_subcommand", f"-a {entry.name} -d {_fish_text(entry.text)}") for entry in top.commands]
-    for name, told in commands.items():
-        condition = f"__fish_seen_subcommand_from {name}"
-        lines += [_fish_option(condition, entry) for entry in told.options]
-        lines += [_fish(condition, "-F") for _ in told.arguments]
-    lines += [_fish("__fish_seen_subcommand_from help", f"-a {_fish_text(' '.join(commands))}"), ""]
-    return "\n".join(lines)
+    first = "__fish_use_subcommand" if commands else ""
+    lines = [f"# Completes the words of {name} in fish.", *([f"complete -c {name} -f"] if commands else [])]
+    lines += [_fish_option(name, first, entry) for entry in top.options]
+    lines += [_fish(name, first, f"-a {entry.name} -d {_fish_text(entry.text)}") for entry in top.commands]
+    for command, told in commands.items():
+        condition = f"__fish_seen_subcommand_from {command}"
+        lines += [_fish_option(name, condition, entry) for entry in told.options]
+        lines += [_fish(name, condition, "-F") for _ in told.arguments]
+    lines += [_fish(name, "__fish_seen_subcommand_from help", f"-a {_fish_text(' '.join(commands))}")] if commands else []
+    return "\n".join([*lines, ""])
 
 
-PLACES = {"bash-completion/completions/auction_cli": bash, "zsh/site-functions/_auction_cli": zsh,
-          "fish/vendor_completions.d/auction_cli.fish": fish}
+PLACES = {"bash-completion/completions/@": bash, "zsh/site-functions/_@": zsh, "fish/vendor_completions.d/@.fish": fish}
 
 
 def main():
-    program, share = sys.argv[1:]
-    for name, make in PLACES.items():
-        file = pathlib.Path(share) / name
-        file.parent.mkdir(parents=True, exist_ok=True)
-        file.write_text(make(*read_all(program)), encoding="utf-8")
+    share, *program = sys.argv[1:]
+    told = {manual.words.NAME: (roster_help(), {}), **({"auction_cli": read_all(program[0])} if program else {})}
+    for name, helps in told.items():
+        for place, make in PLACES.items():
+            file = pathlib.Path(share) / place.replace("@", name)
+            file.parent.mkdir(parents=True, exist_ok=True)
+            file.write_text(make(name, *helps), encoding="utf-8")
 
 
 if __name__ == "__main__":

@@ -1,31 +1,22 @@
-"""What the program's help says, read from the program itself: its commands, options, arguments and notes."""
+"""What helps say: the program's, read from the program itself, and the roster command's, from its table of options."""
+import pathlib
 import re
 import subprocess
+import sys
 from typing import List, NamedTuple
 
+sys.path.insert(0, str(pathlib.Path(__file__).resolve().parents[2] / "python"))
+import nushbaret_manual as manual
+from nushbaret_manual import Entry
+
+# What a value is called that is a file.
+FILES = ("<FILE>", "<REPORT>")
 ENTRY = re.compile(r"^ {2,6}(?:(-\w), )?(--[\w-]+|<\w+>|\w+)(?: (<\w+>))?(?: {2,}(\S.*))?$")
 HEADS = ("Commands:", "Arguments:", "Options:")
 
 
-class Entry(NamedTuple):
-    """A command, an option or an argument: its short name if any, its name, what its value is called, and its text."""
-
-    short: str
-    name: str
-    value: str
-    text: str
-
-    def choices(self):
-        """The words that its value may be, where the help lists them."""
-        listed = re.search(r"\[possible values: (.*?)\]", self.text)
-        if listed:
-            return listed[1].split(", ")
-        either = re.search(r": (\w+) or (\w+)(?: \[|$)", self.text)
-        return [either[1], either[2]] if either else []
-
-
 class Help(NamedTuple):
-    """The help of the program, or of one of its commands."""
+    """The help of the program, of one of its commands, or of the roster command."""
 
     about: str
     usage: str
@@ -40,6 +31,15 @@ def told(program, *words):
     return subprocess.run([program, *words], stdin=subprocess.DEVNULL, capture_output=True, text=True, check=True).stdout
 
 
+def _choices(text):
+    """The words that a value may be, where the text of its option lists them."""
+    listed = re.search(r"\[possible values: (.*?)\]", text)
+    if listed:
+        return tuple(listed[1].split(", "))
+    either = re.search(r": (\w+) or (\w+)(?: \[|$)", text)
+    return (either[1], either[2]) if either else ()
+
+
 def _entries(block):
     """The entries of a block; a line that is indented deeper goes on with the one above."""
     entries = []
@@ -51,7 +51,7 @@ def _entries(block):
             entries[-1] = entries[-1]._replace(text=f"{entries[-1].text} {line.strip()}".strip())
         else:
             raise SystemExit(f"help that isn't understood: {line!r}")
-    return entries
+    return [entry._replace(choices=_choices(entry.text), is_file=any(file in entry for file in FILES)) for entry in entries]
 
 
 def read_help(program, *command):
@@ -71,3 +71,9 @@ def read_all(program):
     """The help of the program, and that of each of its commands by name, but for `help` itself."""
     top = read_help(program)
     return top, {entry.name: read_help(program, entry.name) for entry in top.commands if entry.name != "help"}
+
+
+def roster_help():
+    """The help of the roster command, which has no commands of its own."""
+    options = [entry for section in manual.words.SECTIONS for entry in manual.option_entries(section)]
+    return Help(manual.words.SUMMARY, "", [], [manual.ARGUMENT], [*manual.GENERAL, *options], [])

@@ -1,6 +1,8 @@
-"""The manual's pages, made of the program's help and of the header for C: manual.py PROGRAM HEADER VERSION FOLDER.
+"""The manual's pages, made of the roster command's options, of the header for C, and of the program's help, where a program is named:
+manual.py HEADER VERSION FOLDER [PROGRAM].
 
-FOLDER/man1 gets the page of the program, FOLDER/man3 one of the header, nushbaret.3, and one of each of its calls.
+FOLDER/man1 gets the page of the roster command and that of the program, FOLDER/man3 one of the header, nushbaret.3, and one of each of its
+calls.
 """
 import pathlib
 import re
@@ -8,23 +10,9 @@ import sys
 import textwrap
 
 from headers import read_header
-from helps import read_all
+from helps import manual, read_all
 
-
-def escaped(text):
-    """A text as roff prints it: each mark as it is, and no word parted."""
-    for mark, written in (("\\", "\\e"), ("-", "\\-"), ("'", "\\(aq"), ("`", "\\(ga"), ("^", "\\(ha"), ("~", "\\(ti")):
-        text = text.replace(mark, written)
-    return re.sub(r"^(?=[.'])", r"\\&", text, flags=re.M)
-
-
-def verbatim(text):
-    """A text whose lines stand as they are."""
-    return [".PP", ".nf", escaped(text), ".fi"]
-
-
-def heading(name, section, version):
-    return [f'.TH {name.upper()} {section} "" "nushbaret {version}" "Nushbaret"', ".nh", ".ad l"]
+escaped, heading, option_lines, verbatim = manual.escaped, manual.heading, manual.option_lines, manual.verbatim
 
 
 def paragraph(block):
@@ -42,13 +30,6 @@ def blocks_of(comment):
     """The paragraphs of a comment, without what all its lines are indented by."""
     first, _, others = comment.strip("\n").partition("\n")
     return [block for block in re.split(r"\n\s*\n", f"{first.strip()}\n{textwrap.dedent(others)}".strip()) if block.strip()]
-
-
-def option_lines(entries):
-    """Options or arguments, each with its text below."""
-    for entry in entries:
-        names = ", ".join(f"\\fB{escaped(name)}\\fR" for name in (entry.short, entry.name) if name)
-        yield from (".TP", names + (f" \\fI{escaped(entry.value)}\\fR" if entry.value else ""), escaped(entry.text))
 
 
 def notes_lines(notes):
@@ -73,7 +54,7 @@ def program_page(program, version):
     for name, told in commands.items():
         lines += [f".SH {name.upper()}", escaped(told.about), *option_lines([*told.arguments, *told.options])]
         lines += notes_lines(told.notes)
-    return "\n".join([*lines, ".SH SEE ALSO", "\\fBnushbaret\\fR(3)", ""])
+    return "\n".join([*lines, ".SH SEE ALSO", "\\fBnushbaret\\fR(1), \\fBnushbaret\\fR(3)", ""])
 
 
 def groups_of(parts):
@@ -131,12 +112,13 @@ def header_page(parts, names, version):
     return "\n".join([*lines, *see_also(names), ""])
 
 
-def pages(program, header, version):
+def pages(header, version, programs):
     """The name of each page, and its text."""
     parts = read_header(header)
     groups = groups_of(parts)
     names = [name for group in groups for name in names_of(group)]
-    yield "man1/auction_cli.1", program_page(program, version)
+    yield f"man1/{manual.words.NAME}.1", manual.command_page()
+    yield from (("man1/auction_cli.1", program_page(program, version)) for program in programs)
     yield "man3/nushbaret.3", header_page(parts, names, version)
     for group in groups:
         first, *others = names_of(group)
@@ -145,8 +127,8 @@ def pages(program, header, version):
 
 
 def main():
-    program, header, version, folder = sys.argv[1:]
-    for name, text in pages(program, pathlib.Path(header).read_text(encoding="utf-8"), version):
+    header, version, folder, *programs = sys.argv[1:]
+    for name, text in pages(pathlib.Path(header).read_text(encoding="utf-8"), version, programs):
         file = pathlib.Path(folder) / name
         file.parent.mkdir(parents=True, exist_ok=True)
         file.write_text(text, encoding="utf-8")

@@ -1,6 +1,7 @@
 #!/usr/bin/env python3
 """Compares the header for C, the names that the built library shows, and the crates: signatures, structs, codes, version and
-SONAME. Prints what differs and ends with 1 then. Needs the built library (c/build.sh)."""
+SONAME. Prints what differs and ends with 1 then. Needs the built library (c/build.sh): tests/door/header.py [FOLDER], where it isn't in
+c/out."""
 import pathlib
 import re
 import subprocess
@@ -15,6 +16,7 @@ NUMBERS = {"u8": "uint8_t", "u16": "uint16_t", "u32": "uint32_t", "u64": "uint64
 # What a code's variant is called in the header, where that isn't its own name.
 CALLED = {"Verdict::Length": "ANSWER_LENGTH", "Verdict::PriceRange": "PRICE_RANGE", "HallVerdict::Range": "HALL_RANGE", "HallVerdict::Order": "HALL_ORDER",
           "HallVerdict::Missing": "HALL_MISSING", "HallVerdict::Extra": "HALL_EXTRA", "HallVerdict::Count": "HALL_COUNT"}
+BUILT = pathlib.Path(sys.argv[1]) if sys.argv[1:] else TOP / "c/out"
 differ = []
 
 
@@ -86,13 +88,13 @@ compare("version of the header", re.search(r'NUSHBARET_VERSION "(.*)"', HEADER)[
 for file in TOP.glob("crates/*/src/*.rt"):
     for told in re.findall(r'VERSION: &str = "(.*)"', file.read_text()):
         compare(f"version of {file.parent.parent.name}", told, version)
-soname = re.search(r"SONAME.*\[(.*)\]", subprocess.run(["readelf", "-d", TOP / "c/out/libnushbaret.so"], capture_output=True, text=True, check=True).stdout)
+soname = re.search(r"SONAME.*\[(.*)\]", subprocess.run(["readelf", "-d", BUILT / "libnushbaret.so"], capture_output=True, text=True, check=True).stdout)
 compare("SONAME", soname and soname[1], f"libnushbaret.so.{version.split('.')[0]}")
 mapped = re.findall(r"^\s+(nushbaret_\w+);", (TOP / "c/exports.map").read_text(), flags=re.M)
 compare("exports.map", sorted(mapped), sorted(calls))
-shown = subprocess.run(["nm", "-D", "--defined-only", TOP / "c/out/libnushbaret.so"], capture_output=True, text=True, check=True).stdout
+shown = subprocess.run(["nm", "-D", "--defined-only", BUILT / "libnushbaret.so"], capture_output=True, text=True, check=True).stdout
 compare("the shared library's names", sorted(line.split()[-1] for line in shown.splitlines()), sorted(calls))
-shown = subprocess.run(["nm", "-g", "--defined-only", TOP / "c/out/libnushbaret.a"], capture_output=True, text=True, check=True).stdout
+shown = subprocess.run(["nm", "-g", "--defined-only", BUILT / "libnushbaret.a"], capture_output=True, text=True, check=True).stdout
 compare("the archive's names", sorted(line.split()[-1] for line in shown.splitlines() if " " in line), sorted(calls))
 for line in differ:
     print(line)

@@ -1,4 +1,4 @@
-"""Floats: SciPy's call takes all that SciPy takes, and costs as SciPy's plans do; `solve` rounds where it is asked to."""
+"""Floats: SciPy's call takes all that SciPy takes, and its plan is best for these very doubles; `solve` rounds where it is asked to."""
 import math
 import unittest
 from decimal import Decimal
@@ -17,17 +17,6 @@ except ImportError:
     optimize = None
 
 
-def unit_of(costs):
-    """The power of two to which doubles are rounded: the least at which the greatest is within the library's range."""
-    most = max((abs(Fraction(cost)) for row in costs for cost in row if math.isfinite(cost)), default=Fraction(0))
-    unit = Fraction(1)
-    while most and most / unit <= nushbaret.GREATEST_COST:
-        unit /= 2
-    while most / unit > nushbaret.GREATEST_COST:
-        unit *= 2
-    return unit
-
-
 def cost_of(costs, rows, columns):
     return sum(Fraction(float(costs[row][column])) for row, column in zip(rows, columns))
 
@@ -44,10 +33,10 @@ class Lists(unittest.TestCase):
             served = min(n_rows, n_columns)
             self.assertEqual(len(set(columns)), served)
             wanted = best([[Fraction(cost) for cost in row] for row in costs], maximize, served)
-            self.assertLessEqual(abs(cost_of(costs, rows, columns) - wanted), served * unit_of(costs))
+            self.assertEqual(cost_of(costs, rows, columns), wanted)
 
     def test_best_for_these_very_doubles(self):
-        """Where a power of two makes all whole within range, nothing is rounded."""
+        """Here a power of two makes all whole within the library's range."""
         draw = drawing(22)
         for _ in range(500):
             n, maximize = draw.randint(1, 4), draw.random() < 0.5
@@ -60,51 +49,38 @@ class Lists(unittest.TestCase):
         for other, wanted in ((10**300, [0, 1]), (Decimal("1e-300"), [1, 0]), (Fraction(1, 3), [1, 0]), (True, [0, 1]), (False, [1, 0]),
                               (2.5, [0, 1]), (2**63, [0, 1]), (-2**63, [1, 0]), (None, [0, 1]), (math.inf, [0, 1])):
             self.assertEqual(nushbaret.linear_sum_assignment([[0.5, other], [0.25, 0.5]])[1], wanted, other)
-        for wrong, kind, words in (("1", TypeError, "Cannot cast array data: row 0, column 1 is '1'"), (1j, TypeError, "is 1j"),
-                                   (10**400, ValueError, "row 0, column 1: the cost is beyond the range of floats"),
+        for wrong, kind, words in (("x", ValueError, "could not convert string to float"), (1j, TypeError, "is 1j"),
+                                   (10**400, OverflowError, "int too large to convert to float"),
                                    (Decimal("sNaN"), ValueError, "nan at row 0, column 1"), (object(), TypeError, "which is no number"),
                                    (-math.inf, ValueError, "-inf at row 0, column 1"), (math.nan, ValueError, "nan at row 0, column 1")):
             with self.assertRaisesRegex(kind, words):
                 nushbaret.linear_sum_assignment([[0.5, wrong], [1, 1]])
 
 
-class Fitting(unittest.TestCase):
+class Rounding(unittest.TestCase):
     def test_drawn(self):
+        """With `decimals` each cost is rounded, of whatever kind and form it is, and the plan is best for the rounded ones."""
         draw = drawing(23)
-        rounded = 0
         for _ in range(500):
             n_rows, n_columns, maximize = draw.randint(1, 4), draw.randint(1, 4), draw.random() < 0.5
-            scale = 10.0**draw.randint(-8, 11)
+            scale, places = 10.0**draw.randint(-8, 11), draw.choice([0, 1, 2, 6, 7, 20])
             costs = [[draw.choice([draw.random(), draw.randint(-9, 9) / 8]) * scale for _ in range(n_columns)] for _ in range(n_rows)]
-            exact = [[Fraction(repr(cost)) for cost in row] for row in costs]
+            exact = [[round(Fraction(repr(cost)), places) for cost in row] for row in costs]
             forms = [costs, [[Fraction(repr(cost)) for cost in row] for row in costs], [[Decimal(repr(cost)) for cost in row] for row in costs]]
-            told = set()
+            wanted = best(exact, maximize, min(n_rows, n_columns))
             for form in forms + ([np.array(costs)] if np else []):
-                result = nushbaret.solve(form, maximize, decimals="fit")
+                result = nushbaret.solve(form, maximize, decimals=places)
                 own = sum(exact[row][column] for row, column in zip(result.rows, result.columns))
-                wanted = best(exact, maximize, min(n_rows, n_columns))
-                self.assertLessEqual(abs(own - wanted), Fraction(result.error_bound))
-                told.add((result.cost, result.decimals, result.rounded, result.error_bound))
-            self.assertEqual(len(told), 1)
-            most = max(abs(cost) for row in exact for cost in row)
-            if result.rounded:
-                rounded += 1
-                self.assertTrue(result.decimals == 6 or most * 10**(result.decimals + 1) > nushbaret.GREATEST_COST)
-            else:
-                self.assertEqual((own, result.error_bound), (wanted, 0))
-        self.assertGreater(rounded, 100)
+                self.assertEqual((own, result.cost), (wanted, wanted))
+                self.assertEqual(type(result.cost), Decimal if places else int)
+                self.assertTrue(result.verify())
 
     def test_refusals(self):
-        for decimals, words in (("fits", "decimals is 'fits': 0 to 6 or 'fit' can be had"), (7, "decimals is 7: 0 to 6 or 'fit'"),
-                                ("doubles", "decimals is 'doubles': 0 to 6")):
-            with self.assertRaisesRegex(ValueError, words):
+        for decimals in "fit", "doubles", "6":
+            with self.assertRaisesRegex(ValueError, f"decimals is '{decimals}': it must be a whole number from 0, or None"):
                 nushbaret.solve([[1]], decimals=decimals)
-        with self.assertRaisesRegex(ValueError, "row 0, column 0: the cost is beyond 1000000000000$"):
-            nushbaret.solve([[1e13]], decimals="fit")
-        with self.assertRaisesRegex(ValueError, 'more than 6 decimal places: round the costs, as by .*decimals=6.*decimals="fit"'):
-            nushbaret.solve([[1 / 3]])
-        with self.assertRaisesRegex(ValueError, 'with 2 decimal places: decimals=0 to 1 takes fewer, decimals="fit" as many as fit'):
-            nushbaret.solve([[10**11, 0.25]])
+        with self.assertRaises(TypeError):
+            nushbaret.solve([[1]], decimals=0.5)
 
 
 @unittest.skipUnless(optimize, "SciPy isn't there")
@@ -146,10 +122,11 @@ class BesideScipy(unittest.TestCase):
             rows, columns = nushbaret.linear_sum_assignment(costs, maximize)
             self.assertEqual(len(rows), min(doubles.shape))
             self.assertEqual((list(rows), len(set(columns))), (sorted(rows), len(rows)))
-            own, wanted = cost_of(doubles, rows, columns), cost_of(doubles, *theirs)
-            better = own - wanted if maximize else wanted - own
+            exact = costs if kind in ("int64", "uint64") else doubles
+            own, theirs = (sum(map(Fraction, exact[pairs].tolist())) for pairs in ((rows, columns), theirs))
+            better = own - theirs if maximize else theirs - own
             most = max(abs(Fraction(float(cost))) for cost in doubles[np.isfinite(doubles)])
-            self.assertGreaterEqual(better, -len(rows) * unit_of(doubles.tolist()))
+            self.assertGreaterEqual(better, 0)
             self.assertLessEqual(better, len(rows) * most / 2**45)
         self.assertGreater(infeasible, 20)
 

@@ -24,7 +24,7 @@ class Missing(unittest.TestCase):
             for call in nushbaret.solve, nushbaret.linear_sum_assignment, nushbaret.bottleneck:
                 with self.assertRaisesRegex(ValueError, hint):
                     call(form)
-            for decimals in None, 1, "fit":
+            for decimals in None, 1, 30:
                 result = nushbaret.solve(form, missing="forbid", decimals=decimals)
                 self.assertEqual((list(result.columns), result.cost), ([0, 1], Decimal("4.5")))
             self.assertEqual(len(list(nushbaret.k_best(form, 9, missing="forbid"))), 1)

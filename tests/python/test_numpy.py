@@ -100,33 +100,28 @@ class Arrays(unittest.TestCase):
         self.assertEqual(nushbaret.solve(np.array([[0.1]], np.float32)).cost, Decimal("0.1"))
         self.assertEqual(nushbaret.solve(np.array([[16777.1, 9], [9, 0.123456]], np.float32), True).cost, Decimal("16777.223456"))
         self.assertEqual(nushbaret.solve(np.array([[123456.789012]])).cost, Decimal("123456.789012"))
-        with self.assertRaisesRegex(ValueError, "row 0, column 1: 0.30000000000000004 has more than 6 decimal places"):
-            nushbaret.solve(np.array([[1.0, 0.1 + 0.2]]))
+        self.assertEqual(nushbaret.solve(np.array([[1.0, 0.1 + 0.2]])).cost, Decimal("0.30000000000000004"))
+        self.assertEqual(nushbaret.solve(np.array([[1 / 3, 5e-324]], np.float32)).cost, 0)
         self.assertEqual(nushbaret.solve(np.array([[0.1 + 0.2]]), decimals=6).cost, Decimal("0.3"))
         for value, wanted in (2.675, "2.68"), (2.665, "2.66"), (-2.675, "-2.68"), (0.005, "0"), (0.015, "0.02"):
-            result = nushbaret.solve(np.array([[value]]), decimals=2)
-            self.assertEqual((result.cost, result.rounded), (Decimal(wanted), True), value)
-        self.assertFalse(nushbaret.solve(np.array([[2.67]]), decimals=2).rounded)
+            self.assertEqual(nushbaret.solve(np.array([[value]]), decimals=2).cost, Decimal(wanted), value)
 
     def test_lists_and_arrays_are_read_alike(self):
         rng = np.random.default_rng(8)
         for _ in range(500):
             values = np.round(rng.normal(0, 10.0**rng.integers(0, 6), (2, 3)), int(rng.integers(0, 8)))
-            for decimals in None, 0, 2, 6:
+            for decimals in None, 0, 2, 6, 9:
                 told = []
                 for costs in values, values.tolist():
                     try:
                         result = nushbaret.solve(costs, decimals=decimals)
-                        told.append((result.cost, result.decimals, result.rounded))
+                        told.append((result.cost, str(result.cost), result.columns[0]))
                     except ValueError as fault:
                         told.append(str(fault))
                 self.assertEqual(*told)
 
     def test_refusals(self):
         for costs, kind, words in ((np.zeros(3), ValueError, "expected a matrix"), (np.eye(2).astype(str), TypeError, "Cannot cast array data"),
-                                   (np.array([[1, 2**63]], np.uint64), ValueError, "row 0, column 1: the cost is beyond"),
-                                   (np.array([[1, -10**12 - 1]]), ValueError, "row 0, column 1: the cost is beyond"),
-                                   (np.array([[1, 1e300]]), ValueError, "row 0, column 1: the cost is beyond"),
                                    (np.array([[1, np.nan]]), ValueError, "nan at row 0, column 1"),
                                    (np.array([[1, -np.inf]]), ValueError, "contains invalid numeric entries"),
                                    (np.zeros((8193, 1)), ValueError, "8193 rows"), (np.zeros((1, 1), complex), TypeError, "Cannot cast")):

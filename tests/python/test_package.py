@@ -1,6 +1,7 @@
 """The package as it is built and installed: without a network, with the library inside."""
 import base64
 import csv
+import email
 import hashlib
 import importlib.util
 import os
@@ -49,8 +50,18 @@ class Package(unittest.TestCase):
                 wanted = base64.urlsafe_b64encode(hashlib.sha256(text).digest()).rstrip(b"=").decode()
                 self.assertEqual((digest, int(size)), (f"sha256={wanted}", len(text)))
         self.assertEqual({row[0] for row in rows}, names)
-        self.assertLessEqual({"nushbaret/py.typed", "nushbaret/__main__.py", f"nushbaret/{build.NAME}"}, names)
+        self.assertLessEqual({"nushbaret/py.typed", "nushbaret/__main__.py", f"nushbaret/{build.NAME}", f"{build.DATA}/share/man/man1/nushbaret.1"}, names)
         self.solves(str(self.folder / "out"))
+        self.describes((self.folder / "out" / build.INFO / "METADATA").read_text(encoding="utf-8"))
+
+    def describes(self, metadata):
+        """Whether the metadata have what an index shows, and a description without links that lead nowhere."""
+        told = email.message_from_string(metadata)
+        self.assertIn("linear assignment problem", told["Keywords"].split(","))
+        self.assertIn("Operating System :: POSIX :: Linux", told.get_all("Classifier"))
+        self.assertEqual(told["Description-Content-Type"], "text/markdown")
+        self.assertIn("For rosters with names there is a command\n(ROSTERS.md).", told.get_payload())
+        self.assertNotRegex(told.get_payload(), r"\]\((?!https?:)")
 
     def test_sources(self):
         build = backend()
@@ -58,13 +69,22 @@ class Package(unittest.TestCase):
         subprocess.run(["tar", "-xzf", name], cwd=self.folder, check=True)
         again = subprocess.run([sys.executable, "-c", "import nushbaret_build; print(nushbaret_build.build_wheel('..'))"],
                                cwd=self.folder / f"nushbaret-{build.VERSION}", capture_output=True, text=True, check=True)
-        self.assertTrue((self.folder / again.stdout.strip()).exists())
+        self.assertEqual((self.folder / again.stdout.strip()).read_bytes(), (self.folder / build.build_wheel(self.folder)).read_bytes())
 
     def test_no_library_to_pack(self):
         build = backend()
-        build.LIBRARIES = (self.folder / build.NAME,)
-        with self.assertRaisesRegex(SystemExit, "run c/build.sh"):
-            build.build_wheel(self.folder)
+        for machine, words in (("x86_64", "c/build.sh at"), ("aarch64", "c/build.sh --target aarch64 at")):
+            build.PLATFORM = f"linux-{machine}"
+            build.LIBRARIES[machine] = self.folder / build.NAME, build.LIBRARIES[machine][1]
+            with self.assertRaisesRegex(SystemExit, f"run {words}"):
+                build.build_wheel(self.folder)
+        self.assertEqual(list(self.folder.iterdir()), [])
+
+    def test_other_machines(self):
+        build = backend()
+        for build.PLATFORM in ("win-amd64", "macosx-14.0-arm64", "linux-i686", "linux-armv7l"):
+            with self.assertRaisesRegex(SystemExit, f"Linux for x86-64 and for 64-bit ARM, and this is {build.PLATFORM}"):
+                build.build_wheel(self.folder)
         self.assertEqual(list(self.folder.iterdir()), [])
 
     def test_one_version(self):

@@ -1,10 +1,40 @@
-"""The sessions of docs/PYTHON.md run as they stand."""
+"""The sessions of docs/PYTHON.md, and the examples of the docstrings."""
 import doctest
+import inspect
 import pathlib
+import unittest
 
-PAGE = pathlib.Path(__file__).resolve().parent.parent.parent / "docs/PYTHON.md"
+import nushbaret
+
+PAGE = pathlib.Path(__file__).resolve().parent.parent.parent / "docs" / "PYTHON.md"
+
+
+def public():
+    """The public functions and classes by their names, with the public methods of the classes."""
+    for name in nushbaret.__all__:
+        value = getattr(nushbaret, name)
+        if callable(value):
+            yield name, value
+        if inspect.isclass(value) and not issubclass(value, (Exception, tuple)):
+            yield from ((f"{name}.{method}", own) for method, own in vars(value).items() if inspect.isfunction(own) and method[0] != "_")
+
+
+class Docstrings(unittest.TestCase):
+    def test_examples_run(self):
+        finder, runner = doctest.DocTestFinder(recurse=False), doctest.DocTestRunner(verbose=False)
+        for name, value in public():
+            tests = finder.find(value, name, module=False, globs={})
+            self.assertTrue(tests and tests[0].examples, f"{name} has no example")
+            for test in tests:
+                runner.run(test)
+        self.assertEqual(runner.failures, 0)
+
+    def test_properties_have_texts(self):
+        for name, value in vars(nushbaret.Result).items():
+            if name[0] != "_" and not callable(value):
+                self.assertTrue(value.__doc__, name)
 
 
 def load_tests(loader, tests, pattern):
-    tests.addTests(doctest.DocFileSuite(str(PAGE), module_relative=False, encoding="utf-8"))
+    tests.addTests(doctest.DocFileSuite(str(PAGE), module_relative=False))
     return tests

@@ -175,7 +175,7 @@ class Checked(unittest.TestCase):
 
     def test_a_plan_taken_for_the_only_one(self):
         result = nushbaret.solve([[1, 1], [1, 1]])
-        ranking = Ranking(result)
+        ranking = Ranking(result._source.read(), result)
         self.assertTrue(ranking.has_other())
         ranking.whole = ranking.whole._replace(row_duals=[dual + 1 for dual in ranking.whole.row_duals])
         with self.assertRaisesRegex(RuntimeError, "along pairs of reduced cost 0, and the library says otherwise"):
@@ -205,7 +205,7 @@ class Bottlenecks(unittest.TestCase):
     def test_refusals(self):
         with self.assertRaisesRegex(ValueError, 'nan at row 0, column 1: None or an infinite cost forbids a pair, and missing="forbid"'):
             nushbaret.bottleneck([[1, float("nan")]])
-        with self.assertRaisesRegex(ValueError, "missing is 'drop': 'refuse' or 'forbid' can be had"):
+        with self.assertRaisesRegex(ValueError, "missing is 'drop': it must be 'refuse' or 'forbid'"):
             nushbaret.bottleneck([[1]], missing="drop")
         self.assertEqual(nushbaret.bottleneck([]).cost, 0)
 

@@ -42,29 +42,32 @@ class Refused(unittest.TestCase):
     def test_ranges(self):
         solve = nushbaret.solve
         self.assertEqual(solve([[MOST, -MOST], [0, MOST]]).cost, -MOST)
-        for beyond in MOST + 1, -MOST - 1, 2**63, -2**70, Decimal(MOST + 1), float(MOST + 1), 1e300, Decimal("1E+999999"):
-            self.refused(ValueError, "row 1, column 0: the cost is beyond 1000000000000", solve, [[1, 2], [beyond, 1]])
-            self.refused(ValueError, "row 0, column 1: the cost is beyond", solve, [[1, beyond], [None, 1]])
-        for costs, place in ([[1, 2], [3, 4], [5, MOST + 1]], "row 2, column 1"), ([[1, 2, 3], [4, MOST + 1, 6]], "row 1, column 1"):
-            self.refused(ValueError, f"{place}: the cost is beyond", solve, costs)
+        for beyond in MOST + 1, -MOST - 1, 2**63, -2**70, Decimal(MOST + 1), float(MOST + 1), 1e300, Decimal("1E+999"), Decimal("-1E-999"):
+            exact = Fraction(str(beyond))
+            self.assertEqual(Fraction(solve([[1, 2], [beyond, 1]]).cost), min(2, 2 + exact))
+            self.assertEqual(Fraction(solve([[1, beyond], [None, 1]], maximize=True).cost), 2)
+            result = solve([[beyond, None], [None, 1]])
+            self.assertEqual((Fraction(result.cost), bool(result.verify())), (exact + 1, True))
         self.assertEqual(solve([[Decimal("1000000.000000")]], decimals=6).cost, 10**6)
         self.assertEqual(solve([[Decimal("999999.999999")]]).cost, Decimal("999999.999999"))
-        self.refused(ValueError, "row 0, column 0: the cost is beyond 1000000, with 6 decimal places", solve, [[1000000.000001]])
-        self.refused(ValueError, "beyond 1000000, with 6 decimal places", solve, [[10**6 + 1]], decimals=6)
+        self.assertEqual(solve([[10**6 + 1]], decimals=6).cost, 10**6 + 1)
+        self.assertEqual(str(solve([[10**6 + 1]], decimals=9).cost), "1000001.000000000")
 
     def test_places(self):
         solve = nushbaret.solve
-        line = "round the costs, as by nushbaret.solve(costs, decimals=6), or decimals=\"fit\" for as many places as fit"
-        for value in 0.1 + 0.2, 1e-7, Decimal("0.1234567"), Fraction(1, 3), Decimal("1E-999999"):
-            self.refused(ValueError, line, solve, [[value]])
-            self.assertTrue(solve([[value]], decimals=6).rounded)
+        for value in 0.1 + 0.2, 1e-7, Decimal("0.1234567"), Fraction(1, 3), Decimal("1E-9999"), Decimal("0." + 40 * "7"):
+            exact = value if isinstance(value, Fraction) else Fraction(Decimal(str(value)))
+            cost = solve([[value, 9], [9, value]]).cost
+            self.assertEqual((Fraction(cost), type(cost)), (2 * exact, Fraction if isinstance(value, Fraction) else Decimal))
         self.assertEqual(solve([[0.1 + 0.2]], decimals=6).cost, Decimal("0.3"))
         self.assertEqual(solve([[Fraction(1, 3)]], decimals=2).cost, Decimal("0.33"))
         for value, wanted in (2.675, "2.68"), (2.665, "2.66"), (-2.675, "-2.68"), (0.005, "0"), (1.005, "1.00"), (0.015, "0.02"):
             self.assertEqual(solve([[value]], decimals=2).cost, Decimal(wanted), value)
         self.assertEqual((solve([[2.5]]).cost, solve([[2.0]]).cost, type(solve([[2.0]]).cost)), (Decimal("2.5"), 2, int))
         self.assertEqual(type(solve([[2]], decimals=2).cost), Decimal)
-        self.refused(ValueError, "decimals is 7: 0 to 6 or 'fit' can be had", solve, [[1]], decimals=7)
+        self.assertEqual(str(solve([[Fraction(2, 3)]], decimals=30).cost), "0." + 29 * "6" + "7")
+        self.refused(ValueError, "decimals is -1: it must be 0 or more", solve, [[1]], decimals=-1)
+        self.refused(ValueError, "decimals is 'fit': it must be a whole number from 0, or None", solve, [[1]], decimals="fit")
         self.refused(TypeError, "", solve, [[1]], decimals=0.5)
 
     def test_kinds(self):
@@ -81,7 +84,8 @@ class Refused(unittest.TestCase):
         result = nushbaret.solve(lent)
         self.assertEqual((result.cost, bool(result.verify(lent)), nushbaret.compare(lent, [0, 1]).worse), (5, True, 1))
         lent = memoryview(array("q", [1, MOST + 1])).cast("B").cast("q", (1, 2))
-        self.refused(ValueError, "row 0, column 1: the cost is beyond", nushbaret.solve, lent)
+        self.assertEqual(nushbaret.solve(lent).cost, 1)
+        self.assertEqual(nushbaret.solve(lent, maximize=True).cost, MOST + 1)
 
     def test_forbidden(self):
         self.assertEqual(nushbaret.solve([[1, 2], [3, math.inf]]).columns, [1, 0])
@@ -99,20 +103,22 @@ class Refused(unittest.TestCase):
         self.refused(ValueError, "columns[0] is -1", solve, 2, 2, [0, 1], [-1, 1], [1, 1])
         self.refused(ValueError, "they have 2, 2 and 1", solve, 2, 2, [0, 1], [0, 1], [1])
         self.refused(TypeError, "", solve, 2, 2, [0.0, 1.0], [0, 1], [1, 1])
-        self.refused(TypeError, "costs are wanted", solve, 2, 2)
+        self.refused(TypeError, "costs are needed", solve, 2, 2)
         self.refused(ValueError, "nan at costs[1] (row 1, column 0)", solve, 2, 2, [0, 1], [1, 0], [1, math.nan])
-        self.refused(ValueError, "row 1, column 0: the cost is beyond", solve, 2, 2, [0, 1], [1, 0], [1, MOST + 1])
+        self.assertEqual(solve(2, 2, [0, 1], [1, 0], [1, MOST + 1]).cost, MOST + 2)
+        self.assertEqual(solve(1, 1, [0, 0], [0, 0], [MOST + 5, MOST + 3], maximize=True).cost, MOST + 3)
+        self.assertEqual(solve(1, 1, [0, 0], [0, 0], [Fraction(5, 7), Decimal("0.5")], maximize=True).cost, Fraction(1, 2))
         self.refused(ValueError, "-1 rows", solve, -1, 2, [], [], [])
         self.refused(ValueError, "8193 rows", solve, 8193, 2, [], [], [])
-        self.refused(nushbaret.Infeasible, "row 0 may have no column", solve, 2, 2, [], [], [])
+        self.refused(nushbaret.Infeasible, "row 0 may have no column (the first of 2 groups)", solve, 2, 2, [], [], [])
         self.assertEqual(solve(1, 1, [0, 0], [0, 0], [5, 3], maximize=True).cost, 3)
 
     def test_first_prices(self):
         self.refused(ValueError, "there are 1 prices, and 2 columns", nushbaret.solve, [[1, 2], [3, 5]], start=[0])
         self.refused(ValueError, "the price of column 1 is nan", nushbaret.solve, [[1, 2], [3, 5]], start=[0, math.nan])
         self.refused(TypeError, "the price of column 0 is 'x'", nushbaret.solve, [[1, 2], [3, 5]], start=["x", 0])
-        self.refused(ValueError, "too far apart", nushbaret.solve, [[1, 2], [3, 5]], start=[0, 10**21])
-        self.assertEqual(nushbaret.solve([[1, 2], [3, 5]], start=[0, 10**20]).cost, 5)
+        for start in [0, 10**20], [0, 10**21], [0, -10**400], (0.5, Fraction(1, 3)), iter([1, 2]), array("q", [1, 2]), map(float, "12"):
+            self.assertEqual(nushbaret.solve([[1, 2], [3, 5]], start=start).cost, 5)
 
     def test_plans(self):
         costs = [[1, 2], [3, 5]]
@@ -121,14 +127,14 @@ class Refused(unittest.TestCase):
         self.assertEqual(nushbaret.check(costs, [0, 1], [1, 0]).row, 1)
         self.assertIn("column 0 is given twice", nushbaret.check(costs, [0, 0], [1, 0]).why)
         self.assertIn("row 1 may not have column 1", nushbaret.check([[1, 2], [3, None]], [0, 1], [1, 0]).why)
-        self.assertIn("1 rows have a column, and 2 can", nushbaret.check(costs, [0, None], [1, 0]).why)
+        self.assertIn("1 row of 2 has a column, and 2 can", nushbaret.check(costs, [0, None], [1, 0]).why)
         self.refused(ValueError, "row 0 of the plan has column 2", nushbaret.check, costs, [2, 0], [1, 0])
         self.refused(ValueError, "row 2 of the plan", nushbaret.check, costs, [1, 0], [1, 0], rows=[0, 2])
         self.refused(ValueError, "row 0 stands twice", nushbaret.check, costs, [1, 0], [1, 0], rows=[0, 0])
         self.assertEqual(nushbaret.compare(costs, [0, 1])[:3], (6, 5, 1))
         self.assertEqual(nushbaret.compare(costs, [1, 0], maximize=True)[:3], (5, 6, 1))
         self.refused(ValueError, "column 0 stands twice", nushbaret.compare, costs, [0, 0])
-        self.refused(ValueError, "the plan has 1 pairs, and 2 can be made", nushbaret.compare, costs, [0, None])
+        self.refused(ValueError, "the plan has 1 pair, and 2 can be made", nushbaret.compare, costs, [0, None])
         self.refused(IndexError, "row 2, column 0: there are 2 rows", nushbaret.solve(costs).without, 2, 0)
 
 
@@ -140,14 +146,13 @@ class Limits(unittest.TestCase):
             result = nushbaret.solve(costs, maximize, partial=True)
             self.assertEqual((len(result.rows), result.cost), (2, wanted))
         costs[0][0] += 1
-        with self.assertRaisesRegex(ValueError, "row 0, column 0: the cost is beyond"):
-            nushbaret.solve(costs, partial=True)
+        self.assertEqual(nushbaret.solve(costs, True, partial=True).cost, 2 * MOST + 1)
 
     def test_size_with_dummies(self):
         rows = list(range(4097))
         result = nushbaret.solve_sparse(4097, 4096, rows[:4096], rows[:4096], [1] * 4096)
         self.assertEqual((result.cost, result.unmatched_rows), (4096, [4096]))
-        with self.assertRaisesRegex(ValueError, "of which 1 can be paired, want 8193"):
+        with self.assertRaisesRegex(ValueError, "of which 1 can be paired, make 8193"):
             nushbaret.solve_sparse(4097, 4097, [0] * 4097, rows, [1] * 4097, partial=True)
 
     @unittest.skipUnless(sys.platform == "linux", "limits of memory are Linux's here")

@@ -1,15 +1,16 @@
 #!/usr/bin/env bash
-# Installs and uses a release: the wheel in a fresh environment, the tarball under a prefix and the package under another
-# root; with each of the two a problem is solved and verified, and c/example.c built as C99 and as C++11, by pkg-config and
-# by CMake, and run. tests/release.sh calls it, as tests/release/use.sh FOLDER WORK: what is wrong is printed and goes to
-# WORK/failed, what was used to WORK/ran, and what the tools for are missing to WORK/without. Where KIT is set, that folder
-# must be out of sight.
+# Installs and uses a release: the wheel in a fresh environment, the tarball in a fresh home by README's line, and the package
+# under another root and by dpkg; a roster is planned with each, and with the last two a problem is solved and verified, and
+# c/example.c built as C99 and as C++11, by pkg-config and by CMake, and run. Of what is for ARM, pip takes the wheel by its
+# rules for that machine, and c/example.c is built and run under emulation. tests/release.sh calls it, as
+# tests/release/use.sh FOLDER WORK: what is wrong is printed and goes to WORK/failed, what was used to WORK/ran, and what the
+# tools for are missing to WORK/without. Where KIT is set, that folder must be out of sight.
 set -uo pipefail
 top=$(cd "$(dirname "$0")/../.." && pwd)
 folder=$1
 work=$2
 read -r _ version < "$folder/SOURCE"
-multiarch=x86_64-linux-gnu
+packages=lib/python3/dist-packages
 
 fail() {
     echo "$*" | tee -a "$work/failed"
@@ -48,27 +49,52 @@ hidden() {
     if [ -n "${KIT-}" ] && ! grep -qx 'a mount namespace' "$work/without" && [ -e "$KIT/bin" ]; then fail "the kit is in sight: $KIT"; fi
 }
 
+# What needs the kit says so in one sentence.
+without_kit() {
+    local script
+    for script in prove $(if has cc; then echo c/build.sh; fi); do
+        "$top/$script" > "$work/log" 2>&1 && fail "$script succeeds without the kit"
+        [ "$(cat "$work/log")" = "$script: the Rattle kit isn't on the path (docs/RATTLE.md)" ] || fail "$script without the kit: $(cat "$work/log")"
+    done
+}
+
+# library FILE MACHINE: a library is for this machine, and needs no newer C library than the wheels promise.
+library() {
+    local newest
+    if has readelf; then
+        readelf -h "$1" | grep "Machine:.*$2" > /dev/null
+        newest=$(printf '%s\n' 2.17 $(readelf -W --dyn-syms "$1" | grep -o 'GLIBC_[0-9.]*' | cut -d _ -f 2) | sort -V | tail -n 1)
+        [ "$newest" = 2.17 ] || fail "$1 needs glibc $newest"
+    fi
+}
+
 roster=$'least hours: 12\.00\nAda: early, 2\.50\nBen: night, 1\.75\nCleo: late, 2\.00\nDan: weekend, 5\.00\nEve: office, 0\.75'
 
-# The wheel: a roster is planned by the command that it installs.
+# The wheel that pip takes for this machine: a roster is planned by the command that it installs.
 wheel() {
-    local file=$folder/nushbaret-$version-py3-none-manylinux2014_x86_64.whl newest
-    python3 -m zipfile -e "$file" "$work/unpacked"
-    if has objdump; then
-        newest=$(printf '%s\n' 2.17 $(objdump -T "$work/unpacked/nushbaret/libnushbaret.so" | grep -o 'GLIBC_[0-9.]*' | cut -d _ -f 2) | sort -V | tail -n 1)
-        [ "$newest" = 2.17 ] || fail "the wheel's library wants glibc $newest"
-    fi
+    python3 -m zipfile -e "$folder/nushbaret-$version-py3-none-manylinux2014_x86_64.whl" "$work/unpacked"
+    library "$work/unpacked/nushbaret/libnushbaret.so" X86-64
     if python3 -m venv "$work/planner" > "$work/log" 2>&1; then
-        done_by 'pip install' "$work/planner/bin/pip" --disable-pip-version-check install --no-index --quiet "$file" || return
+        done_by 'pip install' "$work/planner/bin/pip" --disable-pip-version-check install --quiet --no-index --find-links "$folder" nushbaret || return
         expect 'nushbaret --version' "nushbaret $version" "$work/planner/bin/nushbaret" --version
         expect 'nushbaret' "$roster" "$work/planner/bin/nushbaret" "$top/examples/named_roster.csv"
         expect 'import' "$work/planner/.* 5" "$work/planner/bin/python" -I -c 'import nushbaret; print(nushbaret.__file__, nushbaret.solve([[1, 2], [3, 5]]).cost)'
+        expect 'pip show' '.*Topic :: Office/Business :: Scheduling.*' "$work/planner/bin/pip" --disable-pip-version-check show --verbose nushbaret
         ran 'the wheel in a venv'
+        wheel_for_arm
     else
         expect 'nushbaret' "$roster" env "PYTHONPATH=$work/unpacked" python3 -m nushbaret "$top/examples/named_roster.csv"
         ran 'the wheel unpacked'
         without 'a venv'
     fi
+}
+
+# The wheel for ARM, which pip takes by its rules for that machine.
+wheel_for_arm() {
+    done_by 'pip install for ARM' "$work/planner/bin/pip" --disable-pip-version-check install --quiet --no-index --find-links "$folder" \
+        --platform manylinux2014_aarch64 --only-binary=:all: --target "$work/for_arm" nushbaret || return
+    library "$work/for_arm/nushbaret/libnushbaret.so" AArch64
+    ran 'the wheel for ARM by pip'
 }
 
 # program PATH: a problem is solved, and the report verified.
@@ -81,13 +107,20 @@ program() {
 
 example=$'cost [0-9]+: person 1 has object 2, person 2 has object 1\nproved [a-z]+'
 
-# pkg_config NAME LIB WORD..: builds the worked example as C99 and as C++11; the words set what pkg-config looks at.
+# flags_of NAME WORD..: what pkg-config says that a caller needs; the words set what it looks at.
+flags_of() {
+    local name=$1
+    shift
+    expect "$name: pkg-config" "$version" env "$@" pkg-config --modversion nushbaret
+    flags=$(env "$@" pkg-config --cflags --libs nushbaret) || { fail "$name: pkg-config gives no flags"; return 1; }
+    flags="-Wall -Wextra -Werror $flags"
+}
+
+# pkg_config NAME LIB WORD..: builds the worked example as C99 and as C++11, with these flags.
 pkg_config() {
     local name=$1 lib=$2 flags
     shift 2
-    expect "$name: pkg-config" "$version" env "$@" pkg-config --modversion nushbaret
-    flags=$(env "$@" pkg-config --cflags --libs nushbaret) || { fail "$name: pkg-config gives no flags"; return; }
-    flags="-Wall -Wextra -Werror $flags"
+    flags_of "$name" "$@" || return
     done_by "$name: C99" cc -std=c99 "$top/c/example.c" -o "$work/c99" $flags \
         && expect "$name: C99" "$example" env LD_LIBRARY_PATH="$lib" "$work/c99"
     done_by "$name: C++11" c++ -x c++ -std=c++11 "$top/c/example.c" -o "$work/cpp11" $flags \
@@ -133,34 +166,102 @@ used() {
     fi
 }
 
-tarball() {
-    mkdir "$work/prefix"
-    done_by 'tarball' tar -xzf "$folder/nushbaret-$version-linux-x86_64.tar.gz" -C "$work/prefix" || return
-    ran 'the tarball'
-    used tarball "$work/prefix" "$work/prefix/lib" PKG_CONFIG_PATH="$work/prefix/lib/pkgconfig"
+# on_arm NAME LIB WORD..: the worked example over the library for ARM, where its compiler and qemu are.
+on_arm() {
+    local name=$1 lib=$2 flags root
+    shift 2
+    library "$lib/libnushbaret.so" AArch64
+    if ! has aarch64-linux-gnu-gcc || ! has qemu-aarch64 || ! has pkg-config; then
+        without 'a compiler and qemu for ARM'
+        return
+    fi
+    root=$(dirname "$(dirname "$(aarch64-linux-gnu-gcc -print-file-name=libc.so.6)")")
+    flags_of "$name" "$@" || return
+    done_by "$name: C99" aarch64-linux-gnu-gcc -std=c99 "$top/c/example.c" -o "$work/c99" $flags \
+        && expect "$name: C99" "$example" env LD_LIBRARY_PATH="$lib" qemu-aarch64 -L "$root" "$work/c99"
+    done_by "$name: archive" aarch64-linux-gnu-gcc -std=c99 "$top/c/example.c" "$lib/libnushbaret.a" -static -o "$work/static" "-I$lib/../include" "-I$lib/../../include" \
+        && expect "$name: archive" "$example" qemu-aarch64 "$work/static"
+    ran 'C99 for ARM under qemu'
 }
 
-package() {
-    local file=$folder/nushbaret_${version}_amd64.deb root=$work/root
+# planned NAME WORD..: these words plan the roster, from any folder.
+planned() {
+    local name=$1
+    shift
+    (cd / && expect "$name: nushbaret --version" "nushbaret $version" "$@" --version && expect "$name: nushbaret" "$roster" "$@" "$top/examples/named_roster.csv")
+}
+
+# The tarballs: that of this machine as README says, in a home that has no .local yet.
+tarball() {
+    local line lib=$work/arm_prefix/lib
+    ln -s "$folder" "$work/release"
+    mkdir "$work/home" "$work/arm_prefix"
+    line=$(sed -n 's/^    \(.*tar -xzf release.*\)$/\1/p' "$top/README.md")
+    (cd "$work" && HOME=$work/home done_by 'tarball' bash -euc "$line") || return
+    prefix=$work/home/.local
+    planned tarball "$prefix/bin/nushbaret"
+    ran 'the tarball'
+    used tarball "$prefix" "$prefix/lib" PKG_CONFIG_PATH="$prefix/lib/pkgconfig"
+    done_by 'tarball for ARM' tar -xzf "$folder/nushbaret-$version-linux-aarch64.tar.gz" -C "$work/arm_prefix" || return
+    ran 'the tarball for ARM'
+    on_arm 'tarball for ARM' "$lib" PKG_CONFIG_LIBDIR="$lib/pkgconfig"
+}
+
+# unpacked_package MACHINE ARCHITECTURE GLIBC ROOT: the package of a machine under a root, after its sums and what it depends on.
+unpacked_package() {
+    local file=$folder/nushbaret_${version}_$2.deb root=$4
     mkdir "$root"
     if has dpkg-deb; then
         expect 'package' "$version" dpkg-deb -f "$file" Version
-        expect 'package' 'libc6 \(>= [0-9.]+\)' dpkg-deb -f "$file" Depends
+        expect 'package' "$2" dpkg-deb -f "$file" Architecture
+        expect 'package' "libc6 \(>= $3\), python3 \(>= 3\.9\)" dpkg-deb -f "$file" Depends
         done_by 'package' dpkg-deb -x "$file" "$root" || return
         (cd "$root" && dpkg-deb -I "$file" md5sums | md5sum --quiet -c) || fail 'package: other sums'
     else
-        (cd "$work" && ar x "$file" data.tar.gz && tar -xzf data.tar.gz -C "$root") || fail 'package: not an archive'
+        (cd "$work" && ar x "$file" data.tar.gz && tar -xzf data.tar.gz -C "$root") || { fail 'package: not an archive'; return 1; }
         without dpkg-deb
     fi
+    [ "$(head -n 1 "$root/usr/bin/nushbaret")" = '#!/usr/bin/python3' ] || fail "package: nushbaret by another Python"
+}
+
+# looks_at ROOT MACHINE: the words that set where pkg-config looks under a root.
+looks_at() {
+    printf '%s\n' "PKG_CONFIG_SYSROOT_DIR=$1" "PKG_CONFIG_LIBDIR=$1/usr/lib/$2-linux-gnu/pkgconfig" PKG_CONFIG_ALLOW_SYSTEM_CFLAGS=1 PKG_CONFIG_ALLOW_SYSTEM_LIBS=1
+}
+
+package() {
+    local root=$work/root arm=$work/arm_root
+    unpacked_package x86_64 amd64 '2\.34' "$root" || return
+    planned package env "PYTHONPATH=$root/usr/$packages" python3 "$root/usr/bin/nushbaret"
     ran 'the package'
-    used package "$root/usr" "$root/usr/lib/$multiarch" PKG_CONFIG_SYSROOT_DIR="$root" PKG_CONFIG_LIBDIR="$root/usr/lib/$multiarch/pkgconfig" \
-        PKG_CONFIG_ALLOW_SYSTEM_CFLAGS=1 PKG_CONFIG_ALLOW_SYSTEM_LIBS=1
+    used package "$root/usr" "$root/usr/lib/x86_64-linux-gnu" $(looks_at "$root" x86_64)
+    installed
+    unpacked_package aarch64 arm64 '2\.17' "$arm" || return
+    ran 'the package for ARM'
+    on_arm 'package for ARM' "$arm/usr/lib/aarch64-linux-gnu" $(looks_at "$arm" aarch64)
+}
+
+# The package by dpkg, over copies of the system's folders that nobody else sees.
+installed() {
+    local told status=0
+    if ! has dpkg || ! has unshare || ! /usr/bin/python3 -c 'import sys; sys.exit(sys.version_info < (3, 9))' 2> /dev/null; then
+        without 'dpkg or its Python'
+        return
+    fi
+    told=$(unshare -m "$top/tests/release/installed.sh" "$folder/nushbaret_${version}_amd64.deb" "$version" "$top/examples/named_roster.csv" 2>&1) || status=$?
+    if [ "$status" = 3 ] || [[ $told == unshare:* ]]; then
+        without 'a namespace for dpkg'
+    elif [ "$status" != 0 ] || ! [[ $told =~ ^$roster$ ]]; then
+        fail "installed by dpkg: status $status, $told"
+    else
+        ran 'installed by dpkg'
+    fi
 }
 
 # The manual's pages without a warning; and they and the completions say what the help and the header do.
 manual() {
     local page
-    cd "$work/prefix/share/man" || return
+    cd "$prefix/share/man" || return
     for page in man*/*; do
         if has man; then
             man --warnings -l "$page" > "$work/page" 2> "$work/log" < /dev/null
@@ -173,30 +274,44 @@ manual() {
         [ ! -s "$work/log" ] || fail "$page: $(cat "$work/log")"
     done
     if has man || has groff; then ran 'man pages'; fi
+    if has man; then
+        expect 'man nushbaret' 'NUSHBARET\(1\).*' man -M "$prefix/share/man" nushbaret
+        expect 'man 3 nushbaret' 'NUSHBARET\(3\).*' man -M "$prefix/share/man" 3 nushbaret
+    fi
     cd "$top" || return
-    python3 tests/release/words.py "$work/prefix/share" "$work/prefix/bin/auction_cli" "$work/prefix/include/nushbaret.h" > "$work/log" 2>&1 \
+    python3 tests/release/words.py "$prefix/share" "$prefix/bin/nushbaret" "$prefix/include/nushbaret.h" "$prefix/bin/auction_cli" > "$work/log" 2>&1 \
         || fail "words: $(cat "$work/log")"
+    python3 tests/release/words.py "$work/arm_prefix/share" "$prefix/bin/nushbaret" "$prefix/include/nushbaret.h" > "$work/log" 2>&1 \
+        || fail "words of the tarball for ARM: $(cat "$work/log")"
+    cmp -s "$prefix/share/man/man1/nushbaret.1" "$work/unpacked/nushbaret-$version.data/data/share/man/man1/nushbaret.1" || fail 'the wheel has another page'
+    [ ! -d "$work/planner" ] || [ -e "$work/planner/share/man/man1/nushbaret.1" ] || fail 'pip puts no page'
     ran 'their words'
 }
 
 completions() {
-    local share=$work/prefix/share
+    local share=$prefix/share name
     ran 'completions of bash'
     if has zsh; then
-        done_by 'completions of zsh' zsh -f -c 'autoload -Uz compinit && compinit -u -d "$2" && source "$1" && whence -w _auction_cli && [[ $_comps[auction_cli] = _auction_cli ]]' \
-            zsh "$share/zsh/site-functions/_auction_cli" "$work/zcompdump" && ran 'of zsh'
+        for name in auction_cli nushbaret; do
+            done_by "completions of zsh: $name" zsh -f -c 'autoload -Uz compinit && compinit -u -d "$2" && source "$1" && whence -w "$3" && [[ $_comps[${3#_}] = $3 ]]' \
+                zsh "$share/zsh/site-functions/_$name" "$work/zcompdump" "_$name"
+        done
+        ran 'of zsh'
     else
         without zsh
     fi
     if has fish; then
         expect 'completions of fish' $'auction\t.*\npaths\t.*' env HOME="$work" fish --no-config -c 'source $argv[1]; complete -C "auction_cli solve --method "' "$share/fish/vendor_completions.d/auction_cli.fish"
+        expect 'completions of fish: nushbaret' $'--as-many-as-can\t.*' env HOME="$work" fish --no-config -c 'source $argv[1]; complete -C "nushbaret --as-"' "$share/fish/vendor_completions.d/nushbaret.fish"
         ran 'of fish'
     else
         without fish
     fi
 }
 
+prefix=
 hidden
+without_kit
 wheel
 tarball
 package

@@ -1,12 +1,14 @@
 #!/usr/bin/env python3
-"""Compares the manual's pages and the completions of a release with the program's help and the header for C:
-tests/release/words.py SHARE PROGRAM HEADER. Prints what differs, and ends with status 1 then. It reads all of them by itself."""
+"""Compares the manual's pages and the completions of a release with the help of the roster command, the header for C, and the program's help,
+where the release has a program: tests/release/words.py SHARE COMMAND HEADER [PROGRAM]. COMMAND is a script of Python. Prints what differs,
+and ends with status 1 then. It reads all of them by itself."""
+import os
 import pathlib
 import re
 import subprocess
 import sys
 
-SHARE, PROGRAM, HEADER = map(pathlib.Path, sys.argv[1:])
+SHARE, COMMAND, HEADER, *PROGRAMS = map(pathlib.Path, sys.argv[1:])
 COMMANDS = ("solve", "verify")
 HEADS = ("Options:", "Arguments:", "Commands:", "")
 differ = []
@@ -33,7 +35,18 @@ def plain(page):
 
 
 def help_of(*command):
-    return subprocess.run([PROGRAM, *command, "--help"], capture_output=True, text=True, check=True).stdout
+    return subprocess.run([*PROGRAMS, *command, "--help"], capture_output=True, text=True, check=True).stdout
+
+
+def roster_help():
+    """The help of the roster command, each entry in a line of its own."""
+    told = subprocess.run([COMMAND, "--help"], capture_output=True, text=True, check=True, env={**os.environ, "COLUMNS": "100000"}).stdout
+    return re.sub(r"\n {6,}", "  ", told)
+
+
+def roster_options():
+    """The options that it lists, with their values' names and their texts."""
+    return [tuple(found) for found in re.findall(r"^  (?:-\w, )?(--[\w-]+)(?: (\S+))? {2,}(\S.*)$", roster_help(), flags=re.M)]
 
 
 def options_in(text):
@@ -60,6 +73,37 @@ def look_at_the_program():
     compare("sections of auction_cli.1", len(sections), len(COMMANDS))
 
 
+def look_at_the_command():
+    """Each line of the roster command's help stands on its page, except how its usage begins, and the page has no other option."""
+    page, told = plain("man1/nushbaret.1"), roster_help()
+    for line in told.partition("\n\n")[2].splitlines():
+        line = squeezed(line)
+        if line.rstrip(":") not in page and line not in ("positional arguments:", "options:"):
+            differ.append(f"nushbaret.1 has nothing of: {line}")
+    compare("options of nushbaret.1", options_in(page), options_in(told))
+
+
+def look_at_its_completions():
+    """bash offers its options and what their values may be; the scripts for zsh and fish have its options, with their texts, and no other."""
+    options = roster_options()
+    names = sorted(name for name, _, _ in options)
+    compare("bash, nushbaret", answers_of_bash("nushbaret", "--"), names)
+    compare("bash, a roster", answers_of_bash("nushbaret", "--max", "ma"), ["man"])
+    for name, value, _ in options:
+        if re.search("FILE|PLAN", value):
+            compare(f"bash, {name}", answers_of_bash("nushbaret", name, "ma"), ["man"])
+            compare(f"bash, {name}=", answers_of_bash("nushbaret", name, "=", "ma"), ["man"])
+    compare("bash, --decimals", answers_of_bash("nushbaret", "--decimals", ""), list("0123456"))
+    compare("bash, --change-cost", answers_of_bash("nushbaret", "--change-cost", ""), [])
+    zsh = (SHARE / "zsh/site-functions/_nushbaret").read_text()
+    fish = (SHARE / "fish/vendor_completions.d/nushbaret.fish").read_text()
+    in_zsh = {name.strip("{,"): text for name, text in re.findall(r"(--[\w-]+)(?:\})?'?=?\[((?:\\.|[^]\\])*)\]", zsh)}
+    in_fish = dict(re.findall(r"^complete -c nushbaret -l (\S+).* -d '((?:\\'|[^'])*)'$", fish, flags=re.M))
+    compare("zsh, nushbaret", {name: re.sub(r"\\([][:])", r"\1", text.replace("'\\''", "'")) for name, text in in_zsh.items()},
+            {name: text for name, _, text in options})
+    compare("fish, nushbaret", {f"--{name}": text.replace("\\'", "'") for name, text in in_fish.items()}, {name: text for name, _, text in options})
+
+
 def look_at_the_header():
     """Each call has a page with its declaration and its comment; each line of a comment at the margin stands on a page, and each
     other line of what is declared."""
@@ -84,32 +128,32 @@ def look_at_the_header():
             differ.append(f"no page of section 3 has: {line}")
 
 
-def answers_of_bash(*words):
-    """What bash offers behind these words; the last is to be completed."""
-    asked = ("source \"$1\" && shift && COMP_WORDS=(\"$@\") && COMP_CWORD=$(($# - 1)) && complete -p auction_cli > /dev/null"
-             " && { _auction_cli; printf '%s\\n' \"${COMPREPLY[@]}\"; }")
-    script = SHARE / "bash-completion/completions/auction_cli"
-    ran = subprocess.run(["bash", "--norc", "-c", asked, "bash", script, "auction_cli", *words], capture_output=True, text=True, cwd=SHARE)
+def answers_of_bash(name, *words):
+    """What bash offers after the name of a command and these words; the last is to be completed."""
+    asked = (f"source \"$1\" && shift && COMP_WORDS=(\"$@\") && COMP_CWORD=$(($# - 1)) && complete -p {name} > /dev/null"
+             f" && {{ _{name}; printf '%s\\n' \"${{COMPREPLY[@]}}\"; }}")
+    script = SHARE / "bash-completion/completions" / name
+    ran = subprocess.run(["bash", "--norc", "-c", asked, "bash", script, name, *words], capture_output=True, text=True, cwd=SHARE)
     if ran.returncode or ran.stderr:
-        differ.append(f"bash completes {words} with status {ran.returncode}: {ran.stderr}")
+        differ.append(f"bash completes {name} {words} with status {ran.returncode}: {ran.stderr}")
     return sorted(ran.stdout.split())
 
 
 def look_at_bash():
-    compare("bash, the first word", answers_of_bash(""), sorted(["-h", "help", *COMMANDS, *listed_options(help_of())]))
-    compare("bash, help", answers_of_bash("help", ""), sorted(COMMANDS))
+    compare("bash, the first word", answers_of_bash("auction_cli", ""), sorted(["-h", "help", *COMMANDS, *listed_options(help_of())]))
+    compare("bash, help", answers_of_bash("auction_cli", "help", ""), sorted(COMMANDS))
     for command in COMMANDS:
         told = help_of(command)
-        compare(f"bash, {command}", answers_of_bash(command, "--"), sorted(listed_options(told)))
+        compare(f"bash, {command}", answers_of_bash("auction_cli", command, "--"), sorted(listed_options(told)))
         for option, value in listed_options(told).items():
             if value in ("<FILE>", "<REPORT>"):
-                compare(f"bash, {option}", answers_of_bash(command, option, "ma"), ["man"])
-                compare(f"bash, {option}=", answers_of_bash(command, option, "=", "ma"), ["man"])
-    compare("bash, --method", answers_of_bash("solve", "--method", ""), ["auction", "paths"])
-    compare("bash, --mode=", answers_of_bash("solve", "--mode", "=", "w"), ["workers"])
-    compare("bash, --sense", answers_of_bash("verify", "--sense", ""), ["max", "min"])
-    compare("bash, --workers", answers_of_bash("solve", "--workers", ""), [])
-    compare("bash, a report", answers_of_bash("verify", "--sparse", "ma"), ["man"])
+                compare(f"bash, {option}", answers_of_bash("auction_cli", command, option, "ma"), ["man"])
+                compare(f"bash, {option}=", answers_of_bash("auction_cli", command, option, "=", "ma"), ["man"])
+    compare("bash, --method", answers_of_bash("auction_cli", "solve", "--method", ""), ["auction", "paths"])
+    compare("bash, --mode=", answers_of_bash("auction_cli", "solve", "--mode", "=", "w"), ["workers"])
+    compare("bash, --sense", answers_of_bash("auction_cli", "verify", "--sense", ""), ["max", "min"])
+    compare("bash, --workers", answers_of_bash("auction_cli", "solve", "--workers", ""), [])
+    compare("bash, a report", answers_of_bash("auction_cli", "verify", "--sparse", "ma"), ["man"])
 
 
 def look_at_the_others():
@@ -128,10 +172,13 @@ def look_at_the_others():
                 differ.append(f"fish or zsh, {command} --{name}: another text")
 
 
-look_at_the_program()
+look_at_the_command()
+look_at_its_completions()
 look_at_the_header()
-look_at_bash()
-look_at_the_others()
+if PROGRAMS:
+    look_at_the_program()
+    look_at_bash()
+    look_at_the_others()
 for line in differ:
     print(line)
 sys.exit(bool(differ))

@@ -80,6 +80,17 @@ alone_prepared b new s table version answer offer free number none is_answer is_
     let made : offer ≡ prepared b.base (prices_of b) version answer = is_offer ∙ (λ i. prepared ((is_base ∙ base) i) ((is_table ∙ prices) i) version answer) in
     subst (λ (z : BookData × List ℤ × Option Offer). IsPrepared z.0 1 z.1 version z.2) (λ i. (sym is_new i, sym prices i, sym made i)) c.prepared
 
+-- neither a claim nor the next phase stops the book or lifts a stop
+pub after_claim-stopped : (b : BookData) (w : ℕ) (answer : Claim) → (after_claim b w answer).stopped ≡ b.stopped
+after_claim-stopped b w (claim.Person person ask) = refl
+after_claim-stopped b w claim.Refuted = refl
+after_claim-stopped b w claim.Done = refl
+after_claim-stopped b w claim.Stopped = refl
+after_claim-stopped b w claim.Wait = refl
+
+pub next_if_over-stopped : (b : BookData) → (next_if_over b).stopped ≡ b.stopped
+next_if_over-stopped b = cond_both (is_over b) (phased b) b (λ (n : BookData). n.stopped ≡ b.stopped) (λ h. refl) (λ h. refl)
+
 pub alone_claimed : (b new : BookData) (answer : Claim) → new ≡ after_claim b 1 answer → Follows 1 b new
 alone_claimed b new answer is = subst (Follows 1 b) (sym is) (answered_follows 1 b answer)
 

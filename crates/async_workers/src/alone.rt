@@ -1,5 +1,5 @@
 // One thread goes on with a book alone.
-ghost use Rattle.std.specs.Prelude.{◌≡◌, ◌<◌, ℕ, None, IfOk, IfSome, OnOk, length};
+ghost use Rattle.std.specs.Prelude.{◌≡◌, ◌<◌, ℕ, None, IfOk, IfSome, OnOk, false, length};
 ghost use Rattle.assign_core.specs.Numbered.{IsNumber, numbered};
 ghost use Rattle.auction_book.specs.Follows.{GoesOn};
 ghost use Rattle.auction_book.specs.Free.{IsFree};
@@ -46,6 +46,7 @@ fn offer_alone(alloc: Global, book: &mut Book) -> Result<(), AllocError>
     requires none { numbered book.old.claims 1 None ≡ None }
     ensures goes_on { GoesOn book.old book.new }
     ensures none { numbered book.new.claims 1 None ≡ None }
+    ensures stopped { book.new.stopped ≡ book.old.stopped }
     ensures free { IsFree book.new }
 {
     book.invariant();
@@ -60,6 +61,7 @@ fn step_alone(alloc: Global, book: &mut Book) -> Result<(), AllocError>
     requires none { numbered book.old.claims 1 None ≡ None }
     ensures goes_on { GoesOn book.old book.new }
     ensures none { OnOk result (numbered book.new.claims 1 None ≡ None) }
+    ensures stopped { book.new.stopped ≡ book.old.stopped }
     ensures free { IsFree book.new }
 {
     offer_alone(alloc, book)?;
@@ -75,6 +77,7 @@ pub fn go_alone<R: Wait>(rt: &R, alloc: Global, book: &mut Book) -> Result<Outco
     requires { 0 < length book.old.claims }
     ensures goes_on { GoesOn book.old book.new }
     ensures answers { IfOk result (IsAnsweredBy book.new) }
+    ensures resumed { book.new.stopped ≡ false }
     ensures free { IsFree book.new }
 {
     give_up_all(book);

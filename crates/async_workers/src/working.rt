@@ -38,7 +38,8 @@ pub fn take_turns<G: Gate, R: Wait>(
     ensures can_turn { CanTurn place.now desk.new }
     ensures works { WorksOn desk.old desk.new }
     ensures fault { IsMemory result }
-    ensures last { (before : DeskData) × IsLastTurn refresh before desk.new result }
+    ensures last { (before : DeskData) × CanTurn place.now before × WorksOn desk.old before
+        × IsLastTurn refresh before desk.new result }
 {
     let mut pause = FIRST_PAUSE;
     for _ in rt.forever() {

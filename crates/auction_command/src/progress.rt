@@ -117,8 +117,7 @@ fn phases_of(scaled: &Scaled) -> u16 {
     MOST_PHASES
 }
 
-/// A watch on the solving of a problem. As an observer of shortest paths it shows the number of
-/// persons who have an object.
+/// A watch on an auction.
 #[derive(Drop)]
 pub struct WatchedSearch<'a, V> {
     watch: &'a V,
@@ -147,7 +146,20 @@ impl<'a, V: Watch> WatchedSearch<'a, V> {
     }
 }
 
-impl<V: Watch> Observer for WatchedSearch<'_, V> {
+/// A watch on shortest paths: it shows the number of persons who have an object.
+#[derive(Drop)]
+pub struct WatchedPaths<'a, V> {
+    watch: &'a V,
+    persons: u16,
+}
+
+impl<'a, V: Watch> WatchedPaths<'a, V> {
+    pub fn new(persons: u16, watch: &'a V) -> WatchedPaths<'a, V> {
+        WatchedPaths { watch, persons }
+    }
+}
+
+impl<V: Watch> Observer for WatchedPaths<'_, V> {
     fn assigned(&self, persons: u16) {
         self.watch.show(News::Paths(persons, self.persons));
     }

@@ -7,22 +7,23 @@ ghost use Rattle.rounds.specs.Outcomes.{IsDecided, IsProof};
 ghost use Rattle.report.specs.Reports.{IsReport};
 ghost use Rattle.report.specs.SeenReports.{seen_report};
 ghost use Rattle.report.specs.Starts.{IsFirstPrice, IsStart};
-ghost use Rattle.auction_command.specs.Solve.{BeginsAt, IsOutcomeBy, IsOutcomeIn, problem_under};
+ghost use Rattle.auction_command.specs.Solve.{BeginsAt, IsOutcomeIn, problem_under};
 ghost use Rattle.auction_command.specs.Solve.{Reads, SolveOutcome, end_of, end_status, solver_of, status};
-ghost use Rattle.auction_command.specs.inside.Solve.{FailsToBegin, HasNoStart, Reports};
+ghost use Rattle.auction_command.specs.inside.Solve.{FailsToBegin, HasNoStart, Puts, Reports};
 
-use crate::progress::{CountedReader, Unwatched, Watch, WatchedGate, WatchedOffers, WatchedSearch};
-use assign_core::{MOST_PERSONS, Outcome, Person, Prices, Problem, Sense, SolveFault};
+use crate::progress::{CountedReader, Unwatched, Watch, WatchedGate, WatchedOffers, WatchedPaths};
+use assign_core::{MOST_PERSONS, Outcome, Person, Price, Prices, Problem, Sense, SolveFault};
 use async_workers::{Gate, solve_workers_from};
+use augmenting_paths::{Wishes, copy_rows};
 use command_line::{Method, Mode, SolveOpts};
-use dual_checker::confirms;
+use dual_checker::{CostRows, confirms};
 use orlib_reader::{InputFault, read_dense, read_sparse};
 use report::{
     Report, ReportFault, StartFault, WriteFault, read_report, start_prices, write_report,
 };
 use rounds::solve_rounds_by;
 use scaled_values::{Scaled, scale};
-use shortest_paths::{solve_paths_from_watched, solve_paths_watched};
+use shortest_paths::solve_paths;
 use std::alloc::{AllocError, Global};
 use std::fmt;
 use std::io::{Read, Write};
@@ -265,45 +266,37 @@ fn solve_by_auction<T: Threads + Wait + Sync, G: Gate + Sync, V: Watch + Sync>(
     Ok(outcome)
 }
 
-// The outcome of shortest paths from these first prices. Their own crate checks what a search
-// finds. Prices that are all 0 say nothing, so the search then begins at others.
-fn solve_by_paths<V: Watch>(
-    alloc: Global,
-    scaled: Arc<Scaled>,
-    prices: Prices,
-    watch: &V,
-) -> Result<Outcome, SolveFault>
-    requires { length prices ≡ length (arc_value scaled).problem }
-    ensures proof { IfOk result (IsProof (arc_value scaled)) }
-    ensures decided { IfOk result (IsDecided (arc_value scaled)) }
-{
-    let observer = WatchedSearch::new(&scaled, watch);
-    let found = if prices.as_slice().iter().all(|price| *price == 0) {
-        solve_paths_watched(alloc, scaled, &observer)
+// First prices, if they say anything: prices that are all 0 don't.
+fn telling(prices: &Prices) -> Option<&[Price]> {
+    let prices = prices.as_slice();
+    if prices.iter().all(|price| *price == 0) {
+        None
     } else {
-        solve_paths_from_watched(alloc, scaled, prices, &observer)
-    };
-    Ok(found?)
+        Some(prices)
+    }
 }
 
-// The outcome of the method from these first prices.
-fn solve_by<T: Threads + Wait + Sync, G: Gate + Sync, V: Watch + Sync>(
-    context: &Context<'_, T, G, V>,
-    scaled: &Arc<Scaled>,
-    prices: Prices,
-    solver: Solver,
-) -> Result<Outcome, SolveFault>
-    requires workers { 0 < solver.options.workers }
-    requires long { length prices ≡ length (arc_value scaled.now).problem }
-    requires low { All IsFirstPrice prices }
-    ensures method { IfOk result
-        (IsOutcomeBy solver.method solver.options (arc_value scaled.now) prices) }
-    ensures proof { IfOk result (IsProof (arc_value scaled.now)) }
+// The outcome of shortest paths from these first prices. Their own crate checks what a search
+// finds. It needs no benefits.
+fn solve_by_paths<V: Watch>(
+    alloc: Global,
+    problem: &Problem,
+    sense: Sense,
+    prices: &Prices,
+    watch: &V,
+) -> Result<Outcome, AllocError>
+    ensures proof { IfOk result (IsProof (problem_under sense problem.now)) }
+    ensures decided { IfOk result (IsDecided (problem_under sense problem.now)) }
 {
-    match solver.method {
-        Method::Auction => solve_by_auction(context, scaled, prices, solver.options),
-        Method::Paths => solve_by_paths(context.alloc, scaled.clone()?, prices, context.watch),
-    }
+    let n = problem.n();
+    let rows = CostRows::first(problem, n, n);
+    let copy = copy_rows(alloc, &rows, sense)?;
+    let observer = WatchedPaths::new(n, watch);
+    let wishes = Wishes {
+        prices: telling(prices),
+        observer: &observer,
+    };
+    solve_paths(alloc, &rows, sense, copy, wishes)
 }
 
 // The end that belongs to an outcome.
@@ -313,6 +306,62 @@ fn ended_by(outcome: &Outcome) -> Ended
     match outcome {
         Outcome::Best(_) => Ended::Optimal,
         Outcome::Hall(_) => Ended::Infeasible,
+    }
+}
+
+// Writes the report on an outcome.
+fn put_report<V: Watch, W: Write>(
+    watch: &V,
+    problem: &Problem,
+    w: &mut W,
+    options: SolveOpts,
+    outcome: &Outcome,
+) -> Result<Ended, CliFault>
+    ensures { Puts options problem.now outcome.now (W.contents w.old) (W.contents w.new) result }
+{
+    watch.over();
+    write_report(w, problem, options.sense, outcome, options.prices)?;
+    Ok(ended_by(outcome))
+}
+
+// Solves a problem by the auction from these prices, and writes the report.
+fn report_auction<T: Threads + Wait + Sync, G: Gate + Sync, V: Watch + Sync, W: Write>(
+    context: &Context<'_, T, G, V>,
+    problem: Problem,
+    prices: Prices,
+    w: &mut W,
+    options: SolveOpts,
+) -> Result<Ended, CliFault>
+    requires workers { 0 < options.workers }
+    requires long { length prices ≡ length problem }
+    requires low { All IsFirstPrice prices }
+    ensures { Reports (solver_of Method.Auction options) problem prices (W.contents w.old)
+        (W.contents w.new) result }
+{
+    let scaled = shared(context.alloc, problem, options.sense)?;
+    match solve_by_auction(context, &scaled, prices, options) {
+        Ok(outcome) => put_report(context.watch, scaled.problem(), w, options, &outcome),
+        Err(_) => Err(CliFault::Memory),
+    }
+}
+
+// Solves a problem by shortest paths from these prices, and writes the report.
+fn report_paths<V: Watch, W: Write>(
+    alloc: Global,
+    watch: &V,
+    problem: &Problem,
+    prices: &Prices,
+    w: &mut W,
+    options: SolveOpts,
+) -> Result<Ended, CliFault>
+    ensures { Reports (solver_of Method.Paths options) problem.now prices.now
+        (W.contents w.old) (W.contents w.new) result }
+{
+    // This call shows the prover that it is a problem.
+    let _persons = problem.n();
+    match solve_by_paths(alloc, problem, options.sense, prices, watch) {
+        Ok(outcome) => put_report(watch, problem, w, options, &outcome),
+        Err(_) => Err(CliFault::Memory),
     }
 }
 
@@ -330,14 +379,12 @@ fn report_from<T: Threads + Wait + Sync, G: Gate + Sync, V: Watch + Sync, W: Wri
     ensures { Reports solver problem prices (W.contents w.old) (W.contents w.new) result }
 {
     let options = solver.options;
-    let scaled = shared(context.alloc, problem, options.sense)?;
-    let outcome = match solve_by(context, &scaled, prices, solver) {
-        Ok(outcome) => outcome,
-        Err(_) => return Err(CliFault::Memory),
-    };
-    context.watch.over();
-    write_report(w, scaled.problem(), options.sense, &outcome, options.prices)?;
-    Ok(ended_by(&outcome))
+    match solver.method {
+        Method::Auction => report_auction(context, problem, prices, w, options),
+        Method::Paths => {
+            report_paths(context.alloc, context.watch, &problem, &prices, w, options)
+        }
+    }
 }
 
 // The prices of a report as the first of a run with `n` objects.

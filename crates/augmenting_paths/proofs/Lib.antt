@@ -1,1 +1,1 @@
-pub mod FirstPersons
+pub mod Spans

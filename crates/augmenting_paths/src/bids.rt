@@ -2,22 +2,20 @@
 // second best, or by eps more. Without eps this is the augmenting row reduction of Jonker and
 // Volgenant (A shortest augmenting path algorithm for dense and sparse linear assignment problems,
 // 1987), with eps Bertsekas's auction.
-ghost use Rattle.std.specs.Prelude.{◌≡◌, length, pos, ◌<ℤ◌};
-
 use super::market::Market;
+use super::matrix::{Matrix, Row};
 use super::number::Number;
 use super::observer::{Observer, Telling};
-use super::rows::{place_of, row_at};
-use assign_core::{Benefit, Object};
-use scaled_values::{Row, Scaled};
+use super::places::place_at;
 
 // The number of objects of a full row that are compared at once.
 const BLOCK: usize = 32;
 
-// The best object of a person with its value, and the second best value.
+// The best object of a person with its value, the sum of its cost and its price, and the second
+// best value. Less is better.
 #[derive(Clone, Copy)]
 struct Two<W> {
-    object: Option<usize>,
+    object: Option<u16>,
     best: W,
     second: W,
 }
@@ -27,13 +25,13 @@ impl<W: Number> Two<W> {
     fn none() -> Two<W> {
         Two {
             object: None,
-            best: W::LEAST,
-            second: W::LEAST,
+            best: W::GREATEST,
+            second: W::GREATEST,
         }
     }
 
-    fn with(self, object: usize, value: W) -> Two<W> {
-        if value > self.best {
+    fn with(self, object: u16, value: W) -> Two<W> {
+        if value < self.best {
             Two {
                 object: Some(object),
                 best: value,
@@ -41,60 +39,58 @@ impl<W: Number> Two<W> {
             }
         } else {
             Two {
-                second: self.second.greater(value),
+                second: self.second.lesser(value),
                 ..self
             }
         }
     }
 
     // The two best with the objects of a block that begins at this place.
-    fn with_block(self, at: usize, benefits: &[Benefit], prices: &[W]) -> Two<W> {
+    fn with_block(self, at: usize, costs: &[W], prices: &[W]) -> Two<W> {
         let mut two = self;
-        for (k, (benefit, price)) in benefits.iter().zip(prices).enumerate() {
-            two = two.with(at.wrapping_add(k), W::of(*benefit).minus(*price));
+        for (k, (cost, price)) in costs.iter().zip(prices).enumerate() {
+            two = two.with(place_at(at.wrapping_add(k)), cost.plus(*price));
         }
         two
     }
 }
 
-// The greatest value. Compilers make vectors of this loop.
-pub fn greatest_value<W: Number>(benefits: &[Benefit], prices: &[W]) -> W {
-    let mut greatest = W::LEAST;
-    for (benefit, price) in benefits.iter().zip(prices) {
-        greatest = greatest.greater(W::of(*benefit).minus(*price));
+// The least value. Compilers make vectors of this loop.
+pub fn least_value<W: Number>(costs: &[W], prices: &[W]) -> W {
+    let mut least = W::GREATEST;
+    for (cost, price) in costs.iter().zip(prices) {
+        least = least.lesser(cost.plus(*price));
     }
-    greatest
+    least
 }
 
-fn two_of_full<W: Number>(benefits: &[Benefit], prices: &[W]) -> Two<W> {
+fn two_of_full<W: Number>(costs: &[W], prices: &[W]) -> Two<W> {
     let mut two = Two::none();
     let mut at = 0usize;
-    for (benefits, prices) in benefits.chunks(BLOCK).zip(prices.chunks(BLOCK)) {
-        if greatest_value(benefits, prices) > two.second {
-            two = two.with_block(at, benefits, prices);
+    for (costs, prices) in costs.chunks(BLOCK).zip(prices.chunks(BLOCK)) {
+        if least_value(costs, prices) < two.second {
+            two = two.with_block(at, costs, prices);
         }
         at = at.wrapping_add(BLOCK);
     }
     two
 }
 
-fn two_of_pairs<W: Number>(pairs: &[(Object, Benefit)], prices: &[W]) -> Two<W> {
+fn two_of_pairs<W: Number>(places: &[u16], costs: &[W], prices: &[W]) -> Two<W> {
     let mut two = Two::none();
-    for (object, benefit) in pairs {
-        let place = place_of(*object);
-        if let Some(price) = prices.get(place) {
-            two = two.with(place, W::of(*benefit).minus(*price));
+    for (place, cost) in places.iter().zip(costs) {
+        if let Some(price) = prices.get(*place as usize) {
+            two = two.with(*place, cost.plus(*price));
         }
     }
     two
 }
 
-// The two best objects of the person at this place.
-fn two_of<W: Number>(scaled: &Scaled, prices: &[W], person: usize) -> Two<W> {
-    match row_at(scaled, person) {
-        Some(Row::Full(benefits)) => two_of_full(benefits, prices),
-        Some(Row::Pairs(pairs)) => two_of_pairs(pairs, prices),
-        None => Two::none(),
+// The two best objects of a row.
+fn two_of<W: Number>(row: Row<'_, W>, prices: &[W]) -> Two<W> {
+    match row {
+        Row::Full(costs) => two_of_full(costs, prices),
+        Row::Pairs(places, costs) => two_of_pairs(places, costs, prices),
     }
 }
 
@@ -103,29 +99,24 @@ enum Came {
     // The person got an object, or can't get one without raising a price.
     Done,
     // The person got the object of this person, which may bid at once.
-    Evicted(usize),
+    Evicted(u16),
 }
 
-// The amount by which a price is raised: to where the second best is as good, in steps, plus eps.
-fn raise_of<W: Number>(two: Two<W>, eps: i64, step: i64) -> W
-    requires { pos 0 <ℤ step }
-{
-    if two.second == W::LEAST {
-        return W::of(eps);
+// The amount by which a price is raised: to where the second best is as good, plus eps.
+fn raise_of<W: Number>(two: Two<W>, eps: W) -> W {
+    if two.second == W::GREATEST {
+        return eps;
     }
-    let gap = two.best.minus(two.second).plus(W::of(1));
-    gap.rounded(step).plus(W::of(eps))
+    let gap = two.second.minus(two.best).plus(W::of(1));
+    gap.rounded().plus(eps)
 }
 
 // One bid of a person without an object. If the price stays, nobody is evicted.
-fn bid<W: Number>(market: &mut Market<W>, two: Two<W>, person: usize, eps: i64, step: i64) -> Came
-    requires { pos 0 <ℤ step }
-    ensures { length market.new.prices.items ≡ length market.old.prices.items }
-{
+fn bid<W: Number>(market: &mut Market<W>, two: Two<W>, person: u16, eps: W) -> Came {
     let Some(object) = two.object else {
         return Came::Done;
     };
-    let raise = raise_of(two, eps, step);
+    let raise = raise_of(two, eps);
     let owner = market.owner(object);
     if raise == W::of(0) && owner.is_some() {
         return Came::Done;
@@ -143,20 +134,16 @@ fn bid<W: Number>(market: &mut Market<W>, two: Two<W>, person: usize, eps: i64, 
 
 // At most `most` bids of a person and of those evicted in turn. Returns the number of bids.
 fn bid_on<W: Number>(
-    scaled: &Scaled,
+    matrix: &Matrix<W>,
     market: &mut Market<W>,
-    first: usize,
-    eps: i64,
+    first: u16,
+    eps: W,
     most: usize,
-) -> usize
-    requires { length market.old.prices.items ≡ length scaled.now.problem }
-    ensures { length market.new.prices.items ≡ length scaled.now.problem }
-{
-    let step = i64::from(scaled.n()) + 1;
+) -> usize {
     let mut person = first;
     for k in 0..most {
-        let two = two_of(scaled, market.prices.as_slice(), person);
-        match bid(market, two, person, eps, step) {
+        let two = two_of(matrix.row(person), market.prices.as_slice());
+        match bid(market, two, person, eps) {
             Came::Done => return k + 1,
             Came::Evicted(other) => person = other,
         }
@@ -174,21 +161,17 @@ pub struct Bids {
 
 // Lets each person without an object bid, and those that are evicted.
 pub fn bid_all<W: Number, O: Observer>(
-    scaled: &Scaled,
+    matrix: &Matrix<W>,
     market: &mut Market<W>,
-    eps: i64,
+    eps: W,
     most: Bids,
     telling: &mut Telling<'_, O>,
-)
-    requires { length market.old.prices.items ≡ length scaled.now.problem }
-    ensures { length market.new.prices.items ≡ length scaled.now.problem }
-{
-    let n = market.objects.len();
-    let mut left = n.saturating_mul(most.a_person as usize);
+) {
+    let mut left = (matrix.persons as usize).saturating_mul(most.a_person as usize);
     telling.tell(market);
-    for person in 0..n {
+    for person in 0..matrix.persons {
         if market.object(person).is_none() {
-            let made = bid_on(scaled, market, person, eps, left.min(most.in_a_row));
+            let made = bid_on(matrix, market, person, eps, left.min(most.in_a_row));
             left = left.saturating_sub(made);
             telling.count(made, market);
         }

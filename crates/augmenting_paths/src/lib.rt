@@ -1,24 +1,27 @@
 //! Shortest augmenting paths: an untrusted search whose answer must pass the checkers.
 #![tactic(auto)]
 
-mod among;
 mod answer;
 mod attempt;
 mod bids;
+mod copy;
 mod listers;
 mod lowering;
 mod market;
+mod matrix;
 mod number;
 mod observer;
+mod passes;
 mod path;
+mod places;
 mod plan;
 mod prices;
 mod reach;
-mod rows;
+mod scale;
 mod search;
 mod settling;
 mod ties;
 
-pub use among::{try_paths_among, try_paths_among_from};
-pub use attempt::{try_paths, try_paths_from, try_paths_from_watched, try_paths_watched};
-pub use observer::{Observer, Unobserved};
+pub use copy::{CostCopy, copy_dense, copy_rows};
+pub use observer::{Observer, Pass, Unobserved};
+pub use passes::{Wishes, try_paths};

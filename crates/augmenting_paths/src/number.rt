@@ -1,7 +1,5 @@
-// The number types of prices and distances: 64 bits, or 128 if sums would leave these.
-ghost use Rattle.std.specs.Prelude.{pos, ◌<ℤ◌};
-
-use assign_core::Price;
+// The number types of costs, prices and distances during a search: 32 bits, or 64 where these don't
+// suffice.
 
 // Whole numbers whose sums wrap. No answer relies on a sum: what a search finds is checked.
 pub trait Number: Copy + Ord + Drop {
@@ -12,7 +10,11 @@ pub trait Number: Copy + Ord + Drop {
     const FAR: Self;
     // No object is reached at this distance.
     const END: Self;
+    // The greatest first price, to which greater ones are cut, so that a search has room for its
+    // sums.
+    const PRICE_CUT: i64;
 
+    // The low bits of a number.
     fn of(number: i64) -> Self;
 
     fn plus(self, other: Self) -> Self;
@@ -23,13 +25,54 @@ pub trait Number: Copy + Ord + Drop {
 
     fn greater(self, other: Self) -> Self;
 
-    // The next multiple of the step, toward 0.
-    fn rounded(self, step: i64) -> Self
-        requires { pos 0 <ℤ step };
+    // The greatest multiple of 4 that isn't above.
+    fn rounded(self) -> Self;
 
-    fn to_price(self) -> Price;
+    fn to_wide(self) -> i64;
 }
 
+// Costs take 27 bits, so that distances have room for some steps of a path.
+impl Number for i32 {
+    const LEAST: i32 = i32::MIN;
+
+    const GREATEST: i32 = i32::MAX;
+
+    const FAR: i32 = 1 << 30;
+
+    const END: i32 = 1 << 29;
+
+    const PRICE_CUT: i64 = 1 << 28;
+
+    fn of(number: i64) -> i32 {
+        ((number.cast_unsigned() & 0xffff_ffff) as u32).cast_signed()
+    }
+
+    fn plus(self, other: i32) -> i32 {
+        self.wrapping_add(other)
+    }
+
+    fn minus(self, other: i32) -> i32 {
+        self.wrapping_sub(other)
+    }
+
+    fn lesser(self, other: i32) -> i32 {
+        self.min(other)
+    }
+
+    fn greater(self, other: i32) -> i32 {
+        self.max(other)
+    }
+
+    fn rounded(self) -> i32 {
+        self & !3
+    }
+
+    fn to_wide(self) -> i64 {
+        i64::from(self)
+    }
+}
+
+// Distances of every problem stay below 2^56.
 impl Number for i64 {
     const LEAST: i64 = i64::MIN;
 
@@ -38,6 +81,8 @@ impl Number for i64 {
     const FAR: i64 = 1 << 61;
 
     const END: i64 = 1 << 60;
+
+    const PRICE_CUT: i64 = 1 << 58;
 
     fn of(number: i64) -> i64 {
         number
@@ -59,50 +104,11 @@ impl Number for i64 {
         self.max(other)
     }
 
-    fn rounded(self, step: i64) -> i64 {
-        self.wrapping_sub(self % step)
+    fn rounded(self) -> i64 {
+        self & !3
     }
 
-    fn to_price(self) -> Price {
-        Price::from(self)
-    }
-}
-
-// Sums stay below 2^80: a bid raises a price by less than 2^56, and a search by less than 2^68.
-impl Number for i128 {
-    const LEAST: i128 = i128::MIN;
-
-    const GREATEST: i128 = i128::MAX;
-
-    const FAR: i128 = 1 << 121;
-
-    const END: i128 = 1 << 120;
-
-    fn of(number: i64) -> i128 {
-        i128::from(number)
-    }
-
-    fn plus(self, other: i128) -> i128 {
-        self.wrapping_add(other)
-    }
-
-    fn minus(self, other: i128) -> i128 {
-        self.wrapping_sub(other)
-    }
-
-    fn lesser(self, other: i128) -> i128 {
-        self.min(other)
-    }
-
-    fn greater(self, other: i128) -> i128 {
-        self.max(other)
-    }
-
-    fn rounded(self, step: i64) -> i128 {
-        self.wrapping_sub(self % i128::from(step))
-    }
-
-    fn to_price(self) -> Price {
+    fn to_wide(self) -> i64 {
         self
     }
 }

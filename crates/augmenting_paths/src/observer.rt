@@ -3,13 +3,29 @@
 use super::market::Market;
 use super::number::Number;
 
+/// A pass of a search, from which the next one takes over where it finds no proof.
+#[derive(Clone, Copy, Debug, PartialEq, Eq)]
+pub enum Pass {
+    /// In 32 bits.
+    Narrow,
+    /// In 64 bits, from the prices of the pass in 32 bits.
+    Refined,
+    /// In 64 bits, from first prices.
+    Started,
+    /// In 64 bits, without first prices.
+    Wide,
+}
+
 /// A callback for the progress of paths.
 pub trait Observer {
     /// Called with the number of persons who have an object, from 0 to n: when bids and searches
     /// begin, and then after some thousand bids and scanned persons. The number falls only to 0:
-    /// when first prices are left for others, and when an auction before the searches begins, at
-    /// each of its phases and at its end.
+    /// when a pass takes over from another, when first prices are left for others, and when an
+    /// auction before the searches begins, at each of its phases and at its end.
     fn assigned(&self, persons: u16);
+
+    /// Called as a pass begins.
+    fn begins(&self, _pass: Pass) {}
 }
 
 /// An observer that does nothing.
@@ -33,6 +49,10 @@ pub struct Telling<'a, O> {
 impl<'a, O: Observer> Telling<'a, O> {
     pub fn new(observer: &'a O) -> Telling<'a, O> {
         Telling { observer, steps: 0 }
+    }
+
+    pub fn begin(&mut self, pass: Pass) {
+        self.observer.begins(pass);
     }
 
     pub fn tell<W: Number>(&mut self, market: &Market<W>) {

@@ -1,9 +1,7 @@
 // How much is tried of each method. The numbers come from measurements; no answer depends on them.
-ghost use Rattle.std.specs.Prelude.{◌≤◌};
-
 use super::bids::Bids;
-use assign_core::{MOST_PERSONS, Person};
-use scaled_values::Scaled;
+use super::matrix::Matrix;
+use super::number::Number;
 
 // A problem is sparse if fewer than one in this many pairs are listed.
 const SPARSE_BELOW: usize = 8;
@@ -41,31 +39,25 @@ impl Plan {
     }
 }
 
-// Whether the first `persons` persons list few pairs.
-fn is_sparse(scaled: &Scaled, persons: u16) -> bool {
-    let mut pairs = 0usize;
-    for i in 0..persons.min(scaled.n()) {
-        pairs = pairs.saturating_add(scaled.problem().row(Person(i + 1)).len());
-    }
-    pairs < persons as usize * scaled.n() as usize / SPARSE_BELOW
+// Whether the persons list few pairs.
+fn is_sparse<W: Number>(matrix: &Matrix<W>) -> bool {
+    let all = (matrix.persons as usize).saturating_mul(matrix.objects as usize);
+    matrix.pairs() < all / SPARSE_BELOW
 }
 
-// The plan for `n` persons without first prices.
-fn plan_by(n: usize, is_sparse: bool) -> Plan
-    requires { n ≤ MOST_PERSONS }
-{
+fn plan_by(persons: usize, is_sparse: bool) -> Plan {
     if is_sparse {
         Plan {
-            most_unserved: n / 64,
-            most_scans: n,
+            most_unserved: persons / 64,
+            most_scans: persons,
             bids_a_phase: 8,
             bids_in_a_row: 300,
             by_heap: true,
         }
     } else {
         Plan {
-            most_unserved: n / 2,
-            most_scans: n * 80,
+            most_unserved: persons / 2,
+            most_scans: persons.saturating_mul(80),
             bids_a_phase: 32,
             bids_in_a_row: usize::MAX,
             by_heap: false,
@@ -73,42 +65,51 @@ fn plan_by(n: usize, is_sparse: bool) -> Plan
     }
 }
 
-// The plan for a problem without first prices.
-pub fn plan_of(scaled: &Scaled) -> Plan {
-    let n = scaled.n();
-    plan_by(n as usize, is_sparse(scaled, n))
-}
-
-// The plan for the first `n` persons among more objects. Searches go on until they find something:
-// an auction before them would leave high prices at unowned objects.
-pub fn plan_among(scaled: &Scaled, n: u16) -> Plan
-    requires { n ≤ MOST_PERSONS }
-{
-    plan_by(n as usize, is_sparse(scaled, n)).to_the_end()
-}
-
-// The plan from first prices. It tries little, since the other plan is as good if the prices don't
-// fit the problem.
-pub fn started_plan(scaled: &Scaled) -> Plan {
-    let n = scaled.n() as usize;
-    Plan {
-        most_unserved: n / 64 + 1,
-        most_scans: n * 8,
-        ..plan_of(scaled)
+// The plan without first prices. With more objects than persons searches go on until they find
+// something: an auction before them would leave high prices at unowned objects.
+pub fn plan_of<W: Number>(matrix: &Matrix<W>) -> Plan {
+    let plan = plan_by(matrix.persons as usize, is_sparse(matrix));
+    if matrix.persons < matrix.objects {
+        plan.to_the_end()
+    } else {
+        plan
     }
 }
 
-// The plan from first prices for the first `n` persons among more objects. It tries less than in a
-// square, since the search from equal prices is mostly short.
-pub fn started_plan_among(scaled: &Scaled, n: u16) -> Plan
-    requires { n ≤ MOST_PERSONS }
-{
-    let persons = n as usize;
+// The plan from first prices. It tries little, since the other plan is as good if the prices don't
+// fit the problem. It tries less with more objects than persons, since the search from equal prices
+// is mostly short.
+pub fn started_plan<W: Number>(matrix: &Matrix<W>) -> Plan {
+    let persons = matrix.persons as usize;
+    let plan = plan_by(persons, is_sparse(matrix));
+    let most_unserved = persons / 64 + 1;
+    if matrix.persons < matrix.objects {
+        Plan {
+            most_unserved,
+            most_scans: persons.saturating_mul(2),
+            bids_in_a_row: persons / 256 + 16,
+            ..plan
+        }
+    } else {
+        Plan {
+            most_unserved,
+            most_scans: persons.saturating_mul(8),
+            ..plan
+        }
+    }
+}
+
+// The plan from the prices of a pass with less exact costs. It tries little, since an auction from
+// there is as good if they are far from fitting.
+pub fn refined_plan<W: Number>(matrix: &Matrix<W>) -> Plan {
+    let plan = plan_of(matrix);
+    if matrix.persons < matrix.objects {
+        return plan;
+    }
+    let most_scans = (matrix.persons as usize).saturating_mul(8);
     Plan {
-        most_unserved: persons / 64 + 1,
-        most_scans: persons * 2,
-        bids_in_a_row: persons / 256 + 16,
-        ..plan_by(persons, is_sparse(scaled, n))
+        most_scans: most_scans.min(plan.most_scans),
+        ..plan
     }
 }
 

@@ -1,108 +1,103 @@
-// Prices to begin with. Benefits are multiples of one more than the number of persons, and so are
-// all prices here.
-ghost use Rattle.std.specs.Prelude.{◌≡◌, pos, length, IfOk, ◌<ℤ◌};
+// Prices to begin with, multiples of 4.
+ghost use Rattle.std.specs.Prelude.{◌≡◌, pos, length, ◌<ℤ◌};
 
+use super::matrix::{Matrix, Row};
 use super::number::Number;
-use super::rows::{place_of, row_at};
-use assign_core::{Benefit, Object, Price, Prices};
-use scaled_values::{Row, Scaled};
+use assign_core::Price;
 use std::alloc::{AllocError, Global};
 
-// The greatest first price, to which greater ones are cut, so that a search has room for its sums.
-pub const PRICE_CUT: i64 = 1 << 58;
-
-// The greater of each benefit and the value before.
-fn raise_full(prices: &mut [i64], benefits: &[Benefit])
-    requires { length prices.old ≡ length benefits.now }
+// The lesser of each cost and the one before.
+fn lower_each<W: Number>(prices: &mut [W], costs: &[W])
+    requires { length prices.old ≡ length costs.now }
 {
-    for k in 0..benefits.len() {
-        prices[k] = prices[k].max(benefits[k]);
+    for k in 0..costs.len() {
+        prices[k] = prices[k].lesser(costs[k]);
     }
 }
 
-fn raise_pairs(prices: &mut [i64], pairs: &[(Object, Benefit)]) {
-    for (object, benefit) in pairs {
-        let place = place_of(*object);
+fn lower_full<W: Number>(prices: &mut [W], costs: &[W]) {
+    if prices.len() == costs.len() {
+        lower_each(prices, costs);
+    }
+}
+
+fn lower_pairs<W: Number>(prices: &mut [W], places: &[u16], costs: &[W]) {
+    for (place, cost) in places.iter().zip(costs) {
+        let place = *place as usize;
         if place < prices.len() {
-            prices[place] = prices[place].max(*benefit);
+            prices[place] = prices[place].lesser(*cost);
         }
     }
 }
 
-// The greatest benefit of each object; the least number for an object that no person lists.
-fn greatest_benefits(alloc: Global, scaled: &Scaled) -> Result<Vec<i64>, AllocError>
-    ensures { IfOk result (λ v. length v.items ≡ length scaled.now.problem) }
-{
-    let n = scaled.n() as usize;
-    let mut prices = vec![in alloc; i64::MIN; n]?;
-    for i in 0..n {
-        match row_at(scaled, i) {
-            Some(Row::Full(benefits)) => raise_full(prices.as_mut_slice(), benefits),
-            Some(Row::Pairs(pairs)) => raise_pairs(prices.as_mut_slice(), pairs),
-            None => {}
+// The least cost of each object; the greatest number for an object that no person lists.
+fn least_costs<W: Number>(alloc: Global, matrix: &Matrix<W>) -> Result<Vec<W>, AllocError> {
+    let mut prices = vec![in alloc; W::GREATEST; matrix.objects as usize]?;
+    for person in 0..matrix.persons {
+        match matrix.row(person) {
+            Row::Full(costs) => lower_full(prices.as_mut_slice(), costs),
+            Row::Pairs(places, costs) => lower_pairs(prices.as_mut_slice(), places, costs),
         }
     }
     Ok(prices)
 }
 
-// The least of these benefits, of listed objects.
-fn least_listed(prices: &[i64]) -> i64 {
-    let mut least = i64::MAX;
+// The greatest of these costs, of listed objects.
+fn greatest_listed<W: Number>(prices: &[W]) -> W {
+    let mut greatest = W::LEAST;
     for price in prices {
-        if *price != i64::MIN {
-            least = least.min(*price);
+        if *price != W::GREATEST {
+            greatest = greatest.greater(*price);
         }
     }
-    least
+    greatest
 }
 
-// The greatest benefit of each object, less the least of these; 0 for an object that no person
-// lists.
-pub fn usual_prices(alloc: Global, scaled: &Scaled) -> Result<Vec<i64>, AllocError>
-    ensures { IfOk result (λ v. length v.items ≡ length scaled.now.problem) }
-{
-    let mut prices = greatest_benefits(alloc, scaled)?;
-    let least = least_listed(prices.as_slice());
+// The greatest of the objects' least costs, less the least cost of the object; 0 for an object that
+// no person lists. At these prices each listed object is best for somebody.
+pub fn usual_prices<W: Number>(alloc: Global, matrix: &Matrix<W>) -> Result<Vec<W>, AllocError> {
+    let mut prices = least_costs(alloc, matrix)?;
+    let greatest = greatest_listed(prices.as_slice());
     for price in prices.iter_mut() {
-        *price = if *price == i64::MIN {
-            0
+        *price = if *price == W::GREATEST {
+            W::of(0)
         } else {
-            price.wrapping_sub(least)
+            greatest.minus(*price)
         };
     }
     Ok(prices)
 }
 
-// The same prices in numbers of 128 bits.
-pub fn widened(alloc: Global, prices: &[i64]) -> Result<Vec<i128>, AllocError>
-    ensures { IfOk result (λ v. length v.items ≡ length prices.now) }
-{
-    let mut wide = vec![in alloc; 0i128; prices.len()]?;
-    for k in 0..prices.len() {
-        wide[k] = i128::from(prices[k]);
-    }
-    Ok(wide)
-}
-
-// The amount by which a price is above the least, cut and rounded to a multiple of the step.
-fn cut_price(price: Price, least: Price, step: i64) -> i64
+// An amount in whole steps.
+fn in_steps(amount: Price, step: i64) -> Price
     requires { pos 0 <ℤ step }
 {
-    let above = i64::try_from(price.wrapping_sub(least)).unwrap_or(PRICE_CUT);
-    above.max(0).min(PRICE_CUT).rounded(step)
+    match i64::try_from(amount) {
+        Ok(amount) => Price::from(amount / step),
+        Err(_) => amount / Price::from(step),
+    }
 }
 
-// Given prices, in the form that a search can use: only their differences matter.
-pub fn given_prices(alloc: Global, scaled: &Scaled, given: &Prices) -> Result<Vec<i64>, AllocError>
-    requires { length given.now ≡ length scaled.now.problem }
-    ensures { IfOk result (λ v. length v.items ≡ length scaled.now.problem) }
+// A price above the least one, in the unit of the costs, cut to fit.
+fn cut_price<W: Number>(above: Price, step: i64) -> W
+    requires { pos 0 <ℤ step }
 {
-    let step = i64::from(scaled.n()) + 1;
-    let given = given.as_slice();
+    let steps = i64::try_from(in_steps(above, step)).unwrap_or(i64::MAX);
+    W::of(steps.max(0).min(W::PRICE_CUT / 4).wrapping_mul(4))
+}
+
+// Given prices among so many objects, in the form that a search can use: only their differences
+// matter. A problem's prices are in steps of one more than the number of objects.
+pub fn given_prices<W: Number>(
+    alloc: Global,
+    given: &[Price],
+    objects: u16,
+) -> Result<Vec<W>, AllocError> {
+    let step = i64::from(objects) + 1;
     let least = given.iter().copied().min().unwrap_or(0);
-    let mut prices = vec![in alloc; 0i64; given.len()]?;
-    for k in 0..given.len() {
-        prices[k] = cut_price(given[k], least, step);
+    let mut prices = Vec::with_capacity(alloc, given.len())?;
+    for price in given {
+        prices.push(cut_price(price.wrapping_sub(least), step))?;
     }
     Ok(prices)
 }

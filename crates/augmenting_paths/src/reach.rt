@@ -3,8 +3,7 @@
 ghost use Rattle.std.specs.Prelude.{◌≡◌, ◌≤◌, ◌<◌, length, IfSome};
 
 use super::number::Number;
-use super::rows::place_of;
-use assign_core::{Benefit, Object};
+use super::places::place_at;
 use std::alloc::AllocError;
 use std::collections::BinaryHeap;
 
@@ -12,46 +11,46 @@ use std::collections::BinaryHeap;
 const BLOCK: usize = 64;
 
 // The objects of a full row from one place to another: updates the costs, and returns the least
-// distance.
+// distance. Compilers make vectors of this loop.
 fn reach_block<W: Number>(
-    benefits: &[Benefit],
+    row: &[W],
     base: W,
     costs: &mut [W],
     keys: &[W],
     from: usize,
     to: usize,
 ) -> W
-    requires benefits { length benefits.now ≡ length costs.old }
+    requires row { length row.now ≡ length costs.old }
     requires keys { length keys.now ≡ length costs.old }
     requires to { to ≤ length costs.old }
 {
     let mut least = W::GREATEST;
     for k in from..to {
-        let cost = costs[k].lesser(base.minus(W::of(benefits[k])));
+        let cost = costs[k].lesser(base.plus(row[k]));
         costs[k] = cost;
         least = least.lesser(cost.plus(keys[k]));
     }
     least
 }
 
-// A full row: updates the costs and the least distance of each block. An object nearer than `near`
-// ends a search, and the later blocks stay as they are.
-pub fn reach_full<W: Number>(
-    benefits: &[Benefit],
+// The blocks of a full row: updates the costs and the least distance of each block. An object
+// nearer than `near` ends a search, and the later blocks stay as they are.
+fn reach_blocks<W: Number>(
+    row: &[W],
     base: W,
     costs: &mut [W],
     keys: &[W],
     near: W,
     blocks: &mut Vec<W>,
 ) -> Result<(), AllocError>
-    requires benefits { length benefits.now ≡ length costs.old }
+    requires row { length row.now ≡ length costs.old }
     requires keys { length keys.now ≡ length costs.old }
 {
-    let n = benefits.len();
+    let count = row.len();
     let mut at = 0usize;
-    for _block in 0..n / BLOCK + 1 {
-        let to = at.saturating_add(BLOCK).min(n);
-        let least = reach_block(benefits, base, costs, keys, at, to);
+    for _block in 0..count / BLOCK + 1 {
+        let to = at.saturating_add(BLOCK).min(count);
+        let least = reach_block(row, base, costs, keys, at, to);
         blocks.push(least)?;
         if least < near {
             return Ok(());
@@ -61,11 +60,27 @@ pub fn reach_full<W: Number>(
     Ok(())
 }
 
-pub fn reach_pairs<W: Number>(pairs: &[(Object, Benefit)], base: W, costs: &mut [W]) {
-    for (object, benefit) in pairs {
-        let place = place_of(*object);
+// A full row; nothing if the lists don't have one length.
+pub fn reach_full<W: Number>(
+    row: &[W],
+    base: W,
+    costs: &mut [W],
+    keys: &[W],
+    near: W,
+    blocks: &mut Vec<W>,
+) -> Result<(), AllocError> {
+    if row.len() == costs.len() && keys.len() == costs.len() {
+        reach_blocks(row, base, costs, keys, near, blocks)
+    } else {
+        Ok(())
+    }
+}
+
+pub fn reach_pairs<W: Number>(places: &[u16], row: &[W], base: W, costs: &mut [W]) {
+    for (place, cost) in places.iter().zip(row) {
+        let place = *place as usize;
         if place < costs.len() {
-            costs[place] = costs[place].lesser(base.minus(W::of(*benefit)));
+            costs[place] = costs[place].lesser(base.plus(*cost));
         }
     }
 }
@@ -106,11 +121,11 @@ fn gather_block<W: Number>(
     keys: &[W],
     at: usize,
     least: W,
-    places: &mut Vec<usize>,
+    places: &mut Vec<u16>,
 ) -> Result<(), AllocError> {
     for (k, (cost, key)) in costs.iter().zip(keys).enumerate() {
         if cost.plus(*key) == least {
-            places.push(at.wrapping_add(k))?;
+            places.push(place_at(at.wrapping_add(k)))?;
         }
     }
     Ok(())
@@ -122,7 +137,7 @@ pub fn gather<W: Number>(
     keys: &[W],
     blocks: &[W],
     least: W,
-    places: &mut Vec<usize>,
+    places: &mut Vec<u16>,
 ) -> Result<(), AllocError> {
     let mut at = 0usize;
     for ((costs, keys), block) in costs.chunks(BLOCK).zip(keys.chunks(BLOCK)).zip(blocks) {
@@ -135,31 +150,31 @@ pub fn gather<W: Number>(
 }
 
 // Hides the objects of a list from this one on.
-pub fn hide<W: Number>(keys: &mut [W], places: &[usize], from: usize) {
+pub fn hide<W: Number>(keys: &mut [W], places: &[u16], from: usize) {
     for place in places.iter().skip(from) {
-        if *place < keys.len() {
-            keys[*place] = W::FAR;
+        let place = *place as usize;
+        if place < keys.len() {
+            keys[place] = W::FAR;
         }
     }
 }
 
 // Objects with their distances negated, the nearest first. An object that got nearer is in it
 // again.
-pub type Heap<W> = BinaryHeap<(W, usize)>;
+pub type Heap<W> = BinaryHeap<(W, u16)>;
 
-// One object of a short row.
+// One object of a row.
 fn push<W: Number>(
     heap: &mut Heap<W>,
-    place: usize,
+    place: u16,
     cost: W,
     costs: &mut [W],
     keys: &[W],
-) -> Result<(), AllocError>
-    requires { length keys.now ≡ length costs.old }
-{
-    if place < costs.len() && cost < costs[place] {
-        costs[place] = cost;
-        let distance = cost.plus(keys[place]);
+) -> Result<(), AllocError> {
+    let at = place as usize;
+    if at < costs.len() && at < keys.len() && cost < costs[at] {
+        costs[at] = cost;
+        let distance = cost.plus(keys[at]);
         heap.push((W::of(0).minus(distance), place))?;
     }
     Ok(())
@@ -167,47 +182,40 @@ fn push<W: Number>(
 
 pub fn push_full<W: Number>(
     heap: &mut Heap<W>,
-    benefits: &[Benefit],
+    row: &[W],
     base: W,
     costs: &mut [W],
     keys: &[W],
-) -> Result<(), AllocError>
-    requires { length keys.now ≡ length costs.old }
-{
-    for k in 0..benefits.len() {
-        push(heap, k, base.minus(W::of(benefits[k])), costs, keys)?;
+) -> Result<(), AllocError> {
+    for (k, cost) in row.iter().enumerate() {
+        push(heap, place_at(k), base.plus(*cost), costs, keys)?;
     }
     Ok(())
 }
 
 pub fn push_pairs<W: Number>(
     heap: &mut Heap<W>,
-    pairs: &[(Object, Benefit)],
+    places: &[u16],
+    row: &[W],
     base: W,
     costs: &mut [W],
     keys: &[W],
-) -> Result<(), AllocError>
-    requires { length keys.now ≡ length costs.old }
-{
-    for (object, benefit) in pairs {
-        let cost = base.minus(W::of(*benefit));
-        push(heap, place_of(*object), cost, costs, keys)?;
+) -> Result<(), AllocError> {
+    for (place, cost) in places.iter().zip(row) {
+        push(heap, *place, base.plus(*cost), costs, keys)?;
     }
     Ok(())
 }
 
-// The nearest object that wasn't passed.
-pub fn pop<W: Number>(heap: &mut Heap<W>, costs: &[W], keys: &[W]) -> Option<usize>
-    requires { length keys.now ≡ length costs.now }
-    ensures { IfSome result (λ k. k < length costs.now) }
-{
+// The nearest object that wasn't passed, if it is nearer than `END`.
+pub fn pop<W: Number>(heap: &mut Heap<W>, costs: &[W], keys: &[W]) -> Option<u16> {
     for _ in 0..heap.len() {
         let (negated, place) = heap.pop()?;
-        if place < costs.len() {
-            let distance = costs[place].plus(keys[place]);
-            if W::of(0).minus(distance) == negated {
-                return Some(place);
-            }
+        let cost = costs.get(place as usize).copied()?;
+        let key = keys.get(place as usize).copied()?;
+        let distance = cost.plus(key);
+        if distance < W::END && W::of(0).minus(distance) == negated {
+            return Some(place);
         }
     }
     None

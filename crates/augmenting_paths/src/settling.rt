@@ -4,107 +4,111 @@
 // object falls too, and so on, until an object comes down to the base. It stays unowned, and each
 // person on the path takes the object from which it was reached. This is Dijkstra's search, seen
 // from the objects.
-ghost use Rattle.std.specs.Prelude.{◌≡◌, length};
-
 use super::listers::Listers;
 use super::lowering::{lower_unowned, unowned_above};
 use super::market::Market;
+use super::matrix::Matrix;
+use super::number::Number;
 use super::plan::most_looks;
-use super::prices::PRICE_CUT;
-use super::rows::{benefit_at, row_at};
 use super::ties::{Ties, match_dear};
-use scaled_values::Scaled;
 use std::alloc::{AllocError, Global};
-
-// No person is reached at this distance.
-const FAR: i64 = i64::MAX;
 
 // A reached object. Its price begins to fall once the price of the first object has fallen by
 // `distance`, and comes down to the base once that has fallen by `end`.
 #[derive(Clone, Copy)]
-struct Reached {
-    object: usize,
-    distance: i64,
-    end: i64,
+struct Reached<W> {
+    object: u16,
+    distance: W,
+    end: W,
 }
 
 // The state of the searches.
 #[derive(Drop)]
-struct Settling {
-    listers: Listers,
+struct Settling<W: Number> {
+    listers: Listers<W>,
     // The value of each person's own object.
-    values: Vec<i64>,
+    values: Vec<W>,
     // The distance of each person, and the object from which it was reached.
-    distances: Vec<i64>,
-    from: Vec<usize>,
+    distances: Vec<W>,
+    from: Vec<u16>,
     // Reached persons that aren't scanned yet, and scanned ones.
-    waiting: Vec<usize>,
-    scanned: Vec<usize>,
+    waiting: Vec<u16>,
+    scanned: Vec<u16>,
     // The number of pairs that may still be looked at.
     looks: usize,
 }
 
 // The value of a person's own object.
-fn value_of(scaled: &Scaled, market: &Market<i64>, person: usize) -> i64 {
-    let own = market.object(person).unwrap_or(usize::MAX);
-    let benefit = row_at(scaled, person).and_then(|row| benefit_at(row, own));
-    benefit.unwrap_or(0).wrapping_sub(market.price(own))
+fn value_of<W: Number>(matrix: &Matrix<W>, market: &Market<W>, person: u16) -> W {
+    match market.object(person) {
+        Some(own) => {
+            let cost = matrix.row(person).cost(own).unwrap_or(W::of(0));
+            cost.plus(market.price(own))
+        }
+        None => W::GREATEST,
+    }
 }
 
-fn values_of(alloc: Global, scaled: &Scaled, market: &Market<i64>) -> Result<Vec<i64>, AllocError> {
-    let persons = market.objects.len();
-    let mut values = Vec::with_capacity(alloc, persons)?;
-    for person in 0..persons {
-        values.push(value_of(scaled, market, person))?;
+fn values_of<W: Number>(
+    alloc: Global,
+    matrix: &Matrix<W>,
+    market: &Market<W>,
+) -> Result<Vec<W>, AllocError> {
+    let mut values = Vec::with_capacity(alloc, matrix.persons as usize)?;
+    for person in 0..matrix.persons {
+        values.push(value_of(matrix, market, person))?;
     }
     Ok(values)
 }
 
 // Marks these persons as not reached.
-fn forget(distances: &mut [i64], persons: &[usize]) {
+fn forget<W: Number>(distances: &mut [W], persons: &[u16]) {
     for person in persons {
-        if *person < distances.len() {
-            distances[*person] = FAR;
+        let place = *person as usize;
+        if place < distances.len() {
+            distances[place] = W::GREATEST;
         }
     }
 }
 
-impl Settling {
-    fn new(alloc: Global, scaled: &Scaled, market: &Market<i64>) -> Result<Settling, AllocError> {
-        let persons = market.objects.len();
-        let listers = Listers::new(alloc, scaled, persons)?;
+impl<W: Number> Settling<W> {
+    fn new(
+        alloc: Global,
+        matrix: &Matrix<W>,
+        market: &Market<W>,
+    ) -> Result<Settling<W>, AllocError> {
+        let persons = matrix.persons as usize;
+        let listers = Listers::new(alloc, matrix)?;
         let looks = most_looks(listers.count());
         Ok(Settling {
             listers,
-            values: values_of(alloc, scaled, market)?,
-            distances: vec![in alloc; FAR; persons]?,
-            from: vec![in alloc; 0usize; persons]?,
+            values: values_of(alloc, matrix, market)?,
+            distances: vec![in alloc; W::GREATEST; persons]?,
+            from: vec![in alloc; 0u16; persons]?,
             waiting: Vec::new(alloc),
             scanned: Vec::new(alloc),
             looks,
         })
     }
 
-    fn distance(&self, person: usize) -> i64 {
-        self.distances.get(person).copied().unwrap_or(FAR)
+    fn distance(&self, person: u16) -> W {
+        let distance = self.distances.get(person as usize).copied();
+        distance.unwrap_or(W::GREATEST)
     }
 
-    // Reaches a person from an object, if this is nearer. `level` is the person's distance less its
-    // value.
-    fn look(&mut self, person: usize, object: usize, level: i64) -> Result<(), AllocError> {
-        let distance = self
-            .values
-            .get(person)
-            .copied()
-            .unwrap_or(0)
-            .wrapping_add(level);
-        if person < self.distances.len() && distance < self.distances[person] {
-            if self.distances[person] == FAR {
+    // Reaches a person from an object, if this is nearer. `value` is the object's value to it, plus
+    // the object's distance.
+    fn look(&mut self, person: u16, object: u16, value: W) -> Result<(), AllocError> {
+        let place = person as usize;
+        let own = self.values.get(place).copied().unwrap_or(W::of(0));
+        let distance = value.minus(own);
+        if place < self.distances.len() && distance < self.distances[place] {
+            if self.distances[place] == W::GREATEST {
                 self.waiting.push(person)?;
             }
-            self.distances[person] = distance;
-            if person < self.from.len() {
-                self.from[person] = object;
+            self.distances[place] = distance;
+            if place < self.from.len() {
+                self.from[place] = object;
             }
         }
         Ok(())
@@ -113,32 +117,32 @@ impl Settling {
     // Looks at all persons that list a reached object.
     fn scan(
         &mut self,
-        scaled: &Scaled,
-        market: &Market<i64>,
-        one: Reached,
+        matrix: &Matrix<W>,
+        market: &Market<W>,
+        one: Reached<W>,
     ) -> Result<(), AllocError> {
-        let from = one.distance.wrapping_add(market.price(one.object));
-        self.scan_full(scaled, one.object, from)?;
+        let from = one.distance.plus(market.price(one.object));
+        self.scan_full(matrix, one.object, from)?;
         self.scan_pairs(one.object, from)
     }
 
-    fn scan_full(&mut self, scaled: &Scaled, object: usize, from: i64) -> Result<(), AllocError> {
+    fn scan_full(&mut self, matrix: &Matrix<W>, object: u16, from: W) -> Result<(), AllocError> {
         for k in 0..self.listers.full.len() {
             let person = self.listers.full.get(k).copied().unwrap_or(0);
-            let benefit = row_at(scaled, person).and_then(|row| benefit_at(row, object));
-            self.look(person, object, from.wrapping_sub(benefit.unwrap_or(0)))?;
+            let cost = matrix.row(person).cost(object).unwrap_or(W::of(0));
+            self.look(person, object, from.plus(cost))?;
         }
         self.looks = self.looks.saturating_sub(self.listers.full.len());
         Ok(())
     }
 
-    fn scan_pairs(&mut self, object: usize, from: i64) -> Result<(), AllocError> {
+    fn scan_pairs(&mut self, object: u16, from: W) -> Result<(), AllocError> {
         let mut listed = self.listers.last_of(object);
         for _step in 0..self.values.len() {
             let Some(one) = listed else {
                 return Ok(());
             };
-            self.look(one.person, object, from.wrapping_sub(one.benefit))?;
+            self.look(one.person, object, from.plus(one.cost))?;
             self.looks = self.looks.saturating_sub(1);
             listed = self.listers.previous(one);
         }
@@ -146,11 +150,11 @@ impl Settling {
     }
 
     // Takes the nearest waiting person, if it is nearer than `end`.
-    fn nearest(&mut self, end: i64) -> Result<Option<usize>, AllocError> {
+    fn nearest(&mut self, end: W) -> Result<Option<u16>, AllocError> {
         let mut least = end;
         let mut place = usize::MAX;
         for (k, person) in self.waiting.iter().enumerate() {
-            let distance = self.distances.get(*person).copied().unwrap_or(FAR);
+            let distance = self.distance(*person);
             if distance < least {
                 least = distance;
                 place = k;
@@ -176,30 +180,30 @@ impl Settling {
     // is left.
     fn run(
         &mut self,
-        scaled: &Scaled,
-        market: &Market<i64>,
-        first: Reached,
-        base: i64,
-    ) -> Result<Option<Reached>, AllocError> {
+        matrix: &Matrix<W>,
+        market: &Market<W>,
+        first: Reached<W>,
+        base: W,
+    ) -> Result<Option<Reached<W>>, AllocError> {
         self.clear();
         let mut one = first;
         let mut end = first;
-        for _turn in 0..market.objects.len() {
-            self.scan(scaled, market, one)?;
+        for _turn in 0..matrix.persons {
+            self.scan(matrix, market, one)?;
             let Some(person) = self.nearest(end.end)? else {
                 return Ok(Some(end));
+            };
+            let Some(object) = market.object(person) else {
+                return Ok(None);
             };
             if self.looks == 0 {
                 return Ok(None);
             }
-            let object = market.object(person).unwrap_or(usize::MAX);
             let distance = self.distance(person);
             one = Reached {
                 object,
                 distance,
-                end: distance
-                    .wrapping_add(market.price(object))
-                    .wrapping_sub(base),
+                end: distance.plus(market.price(object)).minus(base),
             };
             if one.end < end.end {
                 end = one;
@@ -209,27 +213,31 @@ impl Settling {
     }
 
     // Lowers the prices of objects that were reached before the end.
-    fn lower(&mut self, market: &mut Market<i64>, end: i64) {
+    fn lower(&mut self, market: &mut Market<W>, end: W) {
         for person in &self.scanned {
-            let distance = self.distances.get(*person).copied().unwrap_or(FAR);
-            let fall = end.wrapping_sub(distance);
-            if fall > 0 && *person < self.values.len() {
-                self.values[*person] = self.values[*person].wrapping_add(fall);
-                let own = market.object(*person).unwrap_or(usize::MAX);
-                market.set_price(own, market.price(own).wrapping_sub(fall));
+            let place = *person as usize;
+            let distance = self.distances.get(place).copied().unwrap_or(W::GREATEST);
+            let fall = end.minus(distance);
+            if fall > W::of(0) && place < self.values.len() {
+                self.values[place] = self.values[place].minus(fall);
+                if let Some(own) = market.object(*person) {
+                    market.set_price(own, market.price(own).minus(fall));
+                }
             }
         }
     }
 
     // Each person on the path takes the object from which it was reached.
-    fn move_up(&self, market: &mut Market<i64>, end: usize) {
+    fn move_up(&self, market: &mut Market<W>, end: u16) {
         let mut next = market.owner(end);
         market.vacate(end);
         for _step in 0..self.values.len() {
             let Some(person) = next else {
                 return;
             };
-            let object = self.from.get(person).copied().unwrap_or(usize::MAX);
+            let Some(object) = self.from.get(person as usize).copied() else {
+                return;
+            };
             next = market.owner(object);
             market.give(object, person);
         }
@@ -239,23 +247,23 @@ impl Settling {
     // did.
     fn bring_down(
         &mut self,
-        scaled: &Scaled,
-        market: &mut Market<i64>,
-        object: usize,
-        base: i64,
+        matrix: &Matrix<W>,
+        market: &mut Market<W>,
+        object: u16,
+        base: W,
     ) -> Result<bool, AllocError> {
         // The price of an unowned object is stored less 1.
-        let price = market.price(object).wrapping_add(1);
+        let price = market.price(object).plus(W::of(1));
         market.set_price(object, price);
         let first = Reached {
             object,
-            distance: 0,
-            end: price.wrapping_sub(base),
+            distance: W::of(0),
+            end: price.minus(base),
         };
-        let Some(end) = self.run(scaled, market, first, base)? else {
+        let Some(end) = self.run(matrix, market, first, base)? else {
             return Ok(false);
         };
-        market.set_price(object, price.wrapping_sub(end.end).wrapping_sub(1));
+        market.set_price(object, price.minus(end.end).minus(W::of(1)));
         self.lower(market, end.end);
         self.move_up(market, end.object);
         Ok(true)
@@ -264,18 +272,18 @@ impl Settling {
 
 // The base, and the unowned objects that were above it.
 #[derive(Drop)]
-pub struct Base {
-    price: i64,
-    dear: Vec<usize>,
+pub struct Base<W> {
+    pub price: W,
+    pub dear: Vec<u16>,
 }
 
 // Those of these objects that are still unowned at a price above the floor.
-fn still_above(
+fn still_above<W: Number>(
     alloc: Global,
-    market: &Market<i64>,
-    places: &[usize],
-    floor: i64,
-) -> Result<Vec<usize>, AllocError> {
+    market: &Market<W>,
+    places: &[u16],
+    floor: W,
+) -> Result<Vec<u16>, AllocError> {
     let mut above = Vec::with_capacity(alloc, places.len())?;
     for place in places {
         if market.is_unowned_above(*place, floor) {
@@ -287,48 +295,40 @@ fn still_above(
 
 // The base. First unowned objects come near it: persons take those above it along ties, prices of
 // others fall until some person would pay them, and low prices rise to the base.
-pub fn base_of(
+pub fn base_of<W: Number>(
     alloc: Global,
-    scaled: &Scaled,
-    market: &mut Market<i64>,
-    ties: &Ties,
-) -> Result<Base, AllocError>
-    requires { length market.old.prices.items ≡ length scaled.now.problem }
-    ensures { length market.new.prices.items ≡ length scaled.now.problem }
-{
-    let floor = market.least_paid(PRICE_CUT).wrapping_sub(1);
+    matrix: &Matrix<W>,
+    market: &mut Market<W>,
+    ties: &Ties<W>,
+) -> Result<Base<W>, AllocError> {
+    let most = W::of(W::PRICE_CUT);
+    let floor = market.least_paid(most).minus(W::of(1));
     let dear = unowned_above(alloc, market, floor)?;
-    match_dear(alloc, scaled, market, ties, dear.as_slice(), floor)?;
-    let price = market.least_paid(PRICE_CUT);
-    let floor = price.wrapping_sub(1);
+    match_dear(alloc, matrix, market, ties, dear.as_slice(), floor)?;
+    let price = market.least_paid(most);
+    let floor = price.minus(W::of(1));
     let dear = still_above(alloc, market, dear.as_slice(), floor)?;
-    lower_unowned(
-        alloc,
-        scaled,
-        market,
-        ties.values.as_slice(),
-        dear.as_slice(),
-        floor,
-    )?;
+    let (values, places) = (ties.values.as_slice(), dear.as_slice());
+    lower_unowned(alloc, matrix, market, values, places, floor)?;
     market.raise_unowned(floor);
     Ok(Base { price, dear })
 }
 
 // Brings the price of each unowned object down to the base. Returns whether the looks sufficed.
-pub fn settle(
+pub fn settle<W: Number>(
     alloc: Global,
-    scaled: &Scaled,
-    market: &mut Market<i64>,
-    base: &Base,
+    matrix: &Matrix<W>,
+    market: &mut Market<W>,
+    base: &Base<W>,
 ) -> Result<bool, AllocError> {
-    let floor = base.price.wrapping_sub(1);
+    let floor = base.price.minus(W::of(1));
     let dear = still_above(alloc, market, base.dear.as_slice(), floor)?;
     if dear.is_empty() {
         return Ok(true);
     }
-    let mut settling = Settling::new(alloc, scaled, market)?;
+    let mut settling = Settling::new(alloc, matrix, market)?;
     for object in &dear {
-        if !settling.bring_down(scaled, market, *object, base.price)? {
+        if !settling.bring_down(matrix, market, *object, base.price)? {
             return Ok(false);
         }
     }

@@ -1,13 +1,11 @@
 // Ties: near optimal prices many objects are a person's best. One look at each row lists them, and
 // augmenting paths that need no row match the persons with objects of these lists (Kuhn, The
 // Hungarian method for the assignment problem, 1955).
-ghost use Rattle.std.specs.Prelude.{◌≡◌, length};
-
-use super::bids::greatest_value;
+use super::bids::least_value;
 use super::market::Market;
-use super::rows::{place_of, row_at};
-use assign_core::{Benefit, Object};
-use scaled_values::{Row, Scaled};
+use super::matrix::{Matrix, Row};
+use super::number::Number;
+use super::places::place_at;
 use std::alloc::{AllocError, Global};
 
 // The most best objects that are kept for a person.
@@ -18,21 +16,21 @@ const BLOCK: usize = 32;
 
 // Best objects of the persons, one person after the other.
 #[derive(Drop)]
-pub struct Ties {
-    objects: Vec<usize>,
+pub struct Ties<W: Number> {
+    objects: Vec<u16>,
     // The length of the list before each person, and at the end.
     bounds: Vec<usize>,
     // The value of the best objects of each person.
-    pub values: Vec<i64>,
+    pub values: Vec<W>,
 }
 
-impl Ties {
+impl<W: Number> Ties<W> {
     // Ties of no persons yet.
-    fn new(alloc: Global, n: usize) -> Result<Ties, AllocError> {
+    fn new(alloc: Global, persons: u16) -> Result<Ties<W>, AllocError> {
         Ok(Ties {
             objects: Vec::new(alloc),
             bounds: vec![in alloc; 0usize; 1]?,
-            values: Vec::with_capacity(alloc, n)?,
+            values: Vec::with_capacity(alloc, persons as usize)?,
         })
     }
 
@@ -40,9 +38,16 @@ impl Ties {
         self.bounds.get(person).copied().unwrap_or(0)
     }
 
+    // The best objects of a person.
+    fn of(&self, person: u16) -> &[u16] {
+        let from = self.bound(person as usize);
+        let to = self.bound(person as usize + 1);
+        self.objects.as_slice().get(from..to).unwrap_or(&[])
+    }
+
     // Adds the best objects of the next person.
-    fn look(&mut self, scaled: &Scaled, prices: &[i64], person: usize) -> Result<(), AllocError> {
-        let value = keep(scaled, prices, person, &mut self.objects)?;
+    fn look(&mut self, matrix: &Matrix<W>, prices: &[W], person: u16) -> Result<(), AllocError> {
+        let value = keep(matrix, prices, person, &mut self.objects)?;
         self.values.push(value)?;
         self.bounds.push(self.objects.len())?;
         Ok(())
@@ -50,16 +55,16 @@ impl Ties {
 }
 
 // Keeps the objects with this value in a block that begins at this place.
-fn keep_block(
-    benefits: &[Benefit],
-    prices: &[i64],
+fn keep_block<W: Number>(
+    costs: &[W],
+    prices: &[W],
     at: usize,
-    best: i64,
-    objects: &mut Vec<usize>,
+    best: W,
+    objects: &mut Vec<u16>,
 ) -> Result<(), AllocError> {
-    for (k, (benefit, price)) in benefits.iter().zip(prices).enumerate() {
-        if benefit.wrapping_sub(*price) == best {
-            objects.push(at.wrapping_add(k))?;
+    for (k, (cost, price)) in costs.iter().zip(prices).enumerate() {
+        if cost.plus(*price) == best {
+            objects.push(place_at(at.wrapping_add(k)))?;
         }
     }
     Ok(())
@@ -67,30 +72,30 @@ fn keep_block(
 
 // The best objects of a person: where its list begins, and the best value so far.
 #[derive(Clone, Copy)]
-struct Best {
+struct Best<W> {
     start: usize,
-    value: i64,
+    value: W,
 }
 
-impl Best {
+impl<W: Number> Best<W> {
     // Adds a part of a full row that begins at this place.
     fn with_full(
         self,
-        benefits: &[Benefit],
-        prices: &[i64],
+        costs: &[W],
+        prices: &[W],
         from: usize,
-        objects: &mut Vec<usize>,
-    ) -> Result<Best, AllocError> {
+        objects: &mut Vec<u16>,
+    ) -> Result<Best<W>, AllocError> {
         let mut best = self;
         let mut at = from;
-        for (benefits, prices) in benefits.chunks(BLOCK).zip(prices.chunks(BLOCK)) {
-            let value = greatest_value(benefits, prices);
-            if value > best.value {
+        for (costs, prices) in costs.chunks(BLOCK).zip(prices.chunks(BLOCK)) {
+            let value = least_value(costs, prices);
+            if value < best.value {
                 objects.truncate(best.start);
                 best.value = value;
             }
             if value == best.value && objects.len() < best.start.saturating_add(MOST_KEPT) {
-                keep_block(benefits, prices, at, value, objects)?;
+                keep_block(costs, prices, at, value, objects)?;
             }
             at = at.wrapping_add(BLOCK);
         }
@@ -100,33 +105,33 @@ impl Best {
     // Adds one object of a row of pairs.
     fn with_pair(
         self,
-        place: usize,
-        value: i64,
-        objects: &mut Vec<usize>,
-    ) -> Result<Best, AllocError> {
-        if value > self.value {
+        place: u16,
+        value: W,
+        objects: &mut Vec<u16>,
+    ) -> Result<Best<W>, AllocError> {
+        if value < self.value {
             objects.truncate(self.start);
         }
-        if value >= self.value {
+        if value <= self.value {
             objects.push(place)?;
         }
         Ok(Best {
-            value: value.max(self.value),
+            value: value.lesser(self.value),
             ..self
         })
     }
 
     fn with_pairs(
         self,
-        pairs: &[(Object, Benefit)],
-        prices: &[i64],
-        objects: &mut Vec<usize>,
-    ) -> Result<Best, AllocError> {
+        places: &[u16],
+        costs: &[W],
+        prices: &[W],
+        objects: &mut Vec<u16>,
+    ) -> Result<Best<W>, AllocError> {
         let mut best = self;
-        for (object, benefit) in pairs {
-            let place = place_of(*object);
-            if let Some(price) = prices.get(place) {
-                best = best.with_pair(place, benefit.wrapping_sub(*price), objects)?;
+        for (place, cost) in places.iter().zip(costs) {
+            if let Some(price) = prices.get(*place as usize) {
+                best = best.with_pair(*place, cost.plus(*price), objects)?;
             }
         }
         Ok(best)
@@ -135,27 +140,26 @@ impl Best {
 
 // Keeps best objects of the person at this place, and returns their value. It scans a full row from
 // this place on, so that persons with many equally good objects don't all keep the same ones.
-fn keep(
-    scaled: &Scaled,
-    prices: &[i64],
-    person: usize,
-    objects: &mut Vec<usize>,
-) -> Result<i64, AllocError> {
+fn keep<W: Number>(
+    matrix: &Matrix<W>,
+    prices: &[W],
+    person: u16,
+    objects: &mut Vec<u16>,
+) -> Result<W, AllocError> {
     let start = objects.len();
     let none = Best {
         start,
-        value: i64::MIN,
+        value: W::GREATEST,
     };
-    let best = match row_at(scaled, person) {
-        Some(Row::Full(benefits)) => {
-            let at = person.min(benefits.len()).min(prices.len());
-            let (benefits, benefits_on) = benefits.split_at(at);
+    let best = match matrix.row(person) {
+        Row::Full(costs) => {
+            let at = (person as usize).min(costs.len()).min(prices.len());
+            let (costs, costs_on) = costs.split_at(at);
             let (prices, prices_on) = prices.split_at(at);
-            let best = none.with_full(benefits_on, prices_on, at, objects)?;
-            best.with_full(benefits, prices, 0, objects)?
+            let best = none.with_full(costs_on, prices_on, at, objects)?;
+            best.with_full(costs, prices, 0, objects)?
         }
-        Some(Row::Pairs(pairs)) => none.with_pairs(pairs, prices, objects)?,
-        None => none,
+        Row::Pairs(places, costs) => none.with_pairs(places, costs, prices, objects)?,
     };
     objects.truncate(start.saturating_add(MOST_KEPT));
     Ok(best.value)
@@ -166,46 +170,46 @@ fn keep(
 // from there.
 // It ends at an unowned object whose price stands above the floor.
 #[derive(Drop)]
-struct Reach {
-    from: Vec<Option<usize>>,
-    objects: Vec<usize>,
-    floor: i64,
+struct Reach<W> {
+    from: Vec<Option<u16>>,
+    objects: Vec<u16>,
+    floor: W,
 }
 
-impl Reach {
+impl<W: Number> Reach<W> {
     // Nothing is reached yet.
-    fn new(alloc: Global, objects: usize, floor: i64) -> Result<Reach, AllocError> {
+    fn new(alloc: Global, objects: u16, floor: W) -> Result<Reach<W>, AllocError> {
         Ok(Reach {
-            from: vec![in alloc; None; objects]?,
+            from: vec![in alloc; None; objects as usize]?,
             objects: Vec::new(alloc),
             floor,
         })
     }
 
-    fn reached_from(&self, object: usize) -> Option<usize> {
-        self.from.get(object).copied().flatten()
+    fn reached_from(&self, object: u16) -> Option<u16> {
+        self.from.get(object as usize).copied().flatten()
     }
 
-    fn mark(&mut self, object: usize, from: Option<usize>) {
-        if object < self.from.len() {
-            self.from[object] = from;
+    fn mark(&mut self, object: u16, from: u16) {
+        let place = object as usize;
+        if place < self.from.len() {
+            self.from[place] = Some(from);
         }
     }
 
     // Reaches the best objects of a person, up to an end of the search.
     fn reach(
         &mut self,
-        ties: &Ties,
-        market: &Market<i64>,
-        person: usize,
-    ) -> Result<Option<usize>, AllocError> {
-        for k in ties.bound(person)..ties.bound(person.wrapping_add(1)) {
-            let object = ties.objects.get(k).copied().unwrap_or(0);
-            if self.reached_from(object).is_none() {
-                self.mark(object, Some(person));
-                self.objects.push(object)?;
-                if market.is_unowned_above(object, self.floor) {
-                    return Ok(Some(object));
+        ties: &Ties<W>,
+        market: &Market<W>,
+        person: u16,
+    ) -> Result<Option<u16>, AllocError> {
+        for object in ties.of(person) {
+            if self.reached_from(*object).is_none() {
+                self.mark(*object, person);
+                self.objects.push(*object)?;
+                if market.is_unowned_above(*object, self.floor) {
+                    return Ok(Some(*object));
                 }
             }
         }
@@ -215,10 +219,10 @@ impl Reach {
     // The search from a person: an end, if it reaches one.
     fn run(
         &mut self,
-        ties: &Ties,
-        market: &Market<i64>,
-        first: usize,
-    ) -> Result<Option<usize>, AllocError> {
+        ties: &Ties<W>,
+        market: &Market<W>,
+        first: u16,
+    ) -> Result<Option<u16>, AllocError> {
         self.objects.clear();
         let mut next = Some(first);
         for turn in 0..market.owners.len() {
@@ -236,12 +240,9 @@ impl Reach {
     }
 
     // Gives each person on the way back from an object the object that was reached from it.
-    fn walk_back(&self, scaled: &Scaled, market: &mut Market<i64>, end: usize)
-        requires { length market.old.prices.items ≡ length scaled.now.problem }
-        ensures { length market.new.prices.items ≡ length scaled.now.problem }
-    {
+    fn walk_back(&self, market: &mut Market<W>, end: u16) {
         let mut object = end;
-        for _step in 0..scaled.n() {
+        for _step in 0..self.from.len() {
             let Some(person) = self.reached_from(object) else {
                 return;
             };
@@ -257,8 +258,9 @@ impl Reach {
     // Forgets what the last search reached.
     fn forget(&mut self) {
         for object in &self.objects {
-            if *object < self.from.len() {
-                self.from[*object] = None;
+            let place = *object as usize;
+            if place < self.from.len() {
+                self.from[place] = None;
             }
         }
     }
@@ -266,24 +268,20 @@ impl Reach {
 
 // Matches persons with best objects, starting without owned objects, and returns the best objects.
 // `None` if more persons than `most_unserved` can't be matched: no later person changes this.
-pub fn match_ties(
+pub fn match_ties<W: Number>(
     alloc: Global,
-    scaled: &Scaled,
-    market: &mut Market<i64>,
+    matrix: &Matrix<W>,
+    market: &mut Market<W>,
     most_unserved: usize,
-) -> Result<Option<Ties>, AllocError>
-    requires { length market.old.prices.items ≡ length scaled.now.problem }
-    ensures { length market.new.prices.items ≡ length scaled.now.problem }
-{
-    let persons = market.objects.len();
+) -> Result<Option<Ties<W>>, AllocError> {
     let prices = market.prices.as_slice().to_vec(alloc)?;
-    let mut ties = Ties::new(alloc, persons)?;
-    let mut reach = Reach::new(alloc, prices.len(), i64::MIN)?;
+    let mut ties = Ties::new(alloc, matrix.persons)?;
+    let mut reach = Reach::new(alloc, matrix.objects, W::LEAST)?;
     let mut unserved = 0usize;
-    for person in 0..persons {
-        ties.look(scaled, prices.as_slice(), person)?;
+    for person in 0..matrix.persons {
+        ties.look(matrix, prices.as_slice(), person)?;
         if let Some(object) = reach.run(&ties, market, person)? {
-            reach.walk_back(scaled, market, object);
+            reach.walk_back(market, object);
             reach.forget();
         } else {
             unserved = unserved.saturating_add(1);
@@ -297,24 +295,20 @@ pub fn match_ties(
 
 // A person whose object's price is at most the floor leaves it, if ties lead to an unowned object
 // above the floor.
-fn leave_for_dear(
-    scaled: &Scaled,
-    market: &mut Market<i64>,
-    ties: &Ties,
-    reach: &mut Reach,
-    person: usize,
-) -> Result<(), AllocError>
-    requires { length market.old.prices.items ≡ length scaled.now.problem }
-    ensures { length market.new.prices.items ≡ length scaled.now.problem }
-{
+fn leave_for_dear<W: Number>(
+    market: &mut Market<W>,
+    ties: &Ties<W>,
+    reach: &mut Reach<W>,
+    person: u16,
+) -> Result<(), AllocError> {
     let Some(own) = market.object(person) else {
         return Ok(());
     };
-    if market.price(own).wrapping_sub(1) <= reach.floor {
+    if market.price(own).minus(W::of(1)) <= reach.floor {
         if let Some(object) = reach.run(ties, market, person)? {
             market.vacate(own);
             market.release(person);
-            reach.walk_back(scaled, market, object);
+            reach.walk_back(market, object);
             reach.forget();
         }
     }
@@ -322,23 +316,20 @@ fn leave_for_dear(
 }
 
 // Moves persons along ties from objects at the floor to unowned ones above it.
-pub fn match_dear(
+pub fn match_dear<W: Number>(
     alloc: Global,
-    scaled: &Scaled,
-    market: &mut Market<i64>,
-    ties: &Ties,
-    dear: &[usize],
-    floor: i64,
-) -> Result<(), AllocError>
-    requires { length market.old.prices.items ≡ length scaled.now.problem }
-    ensures { length market.new.prices.items ≡ length scaled.now.problem }
-{
+    matrix: &Matrix<W>,
+    market: &mut Market<W>,
+    ties: &Ties<W>,
+    dear: &[u16],
+    floor: W,
+) -> Result<(), AllocError> {
     if dear.is_empty() {
         return Ok(());
     }
-    let mut reach = Reach::new(alloc, market.prices.len(), floor)?;
-    for person in 0..market.objects.len() {
-        leave_for_dear(scaled, market, ties, &mut reach, person)?;
+    let mut reach = Reach::new(alloc, matrix.objects, floor)?;
+    for person in 0..matrix.persons {
+        leave_for_dear(market, ties, &mut reach, person)?;
     }
     Ok(())
 }

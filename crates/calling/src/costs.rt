@@ -4,11 +4,9 @@ ghost use Rattle.assign_core.specs.Assignment.{IsAssignment};
 ghost use Rattle.assign_core.specs.Slackness.{IsCertificate};
 ghost use Rattle.calling.specs.Costs.{IsLeastCost};
 
+use crate::solving::solve_problem;
 use assign_core::{Certificate, Cost, Outcome, Problem, Sense, slack_means_best};
-use scaled_values::scale;
-use shortest_paths::solve_paths;
 use std::alloc::{AllocError, Global};
-use std::sync::Arc;
 
 /// What an assignment costs that its prices prove optimal.
 pub fn cost_of_best(problem: &Problem, best: &Certificate) -> Cost
@@ -29,10 +27,8 @@ pub fn least_cost(alloc: Global, problem: Problem) -> Result<Option<Cost>, Alloc
     ensures { IfOk result (λ found. MatchOption found
         ((xs : List ℕ) → IsAssignment problem xs → ⊥) (IsLeastCost problem)) }
 {
-    let scaled = Arc::new(alloc, scale(alloc, problem, Sense::Min)?)?;
-    let outcome = solve_paths(alloc, scaled.clone()?)?;
-    match outcome {
-        Outcome::Best(best) => Ok(Some(cost_of_best(scaled.problem(), &best))),
+    match solve_problem(alloc, &problem, Sense::Min)? {
+        Outcome::Best(best) => Ok(Some(cost_of_best(&problem, &best))),
         Outcome::Hall(_) => Ok(None),
     }
 }

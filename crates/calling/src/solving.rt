@@ -1,59 +1,70 @@
 // One call of each solver.
-ghost use Rattle.std.specs.Prelude.{◌≡◌, ◌*◌, ◌<◌, ◌≤◌, All, IfOk, length, pos, replicate};
-ghost use Rattle.assign_core.specs.Dense.{dense_rows, dense_rows_among};
+ghost use Rattle.std.specs.Prelude.{◌≡◌, ◌*◌, ◌<◌, All, IfOk, length, pos, replicate};
+ghost use Rattle.assign_core.specs.Dense.{rows_cut};
+ghost use Rattle.assign_core.specs.Outcomes as core;
 ghost use Rattle.assign_core.specs.Rows.{IsCost, IsSize};
-ghost use Rattle.rounds.specs.Outcomes.{IsDecided, IsOfRounds, IsProof};
-ghost use Rattle.augmenting_paths.specs.Among.{IsDecidedAmong, IsProofAmong};
+ghost use Rattle.rounds.specs.Outcomes.{IsOfRounds, IsProof};
 ghost use Rattle.calling.specs.Solving.{problem_under};
 
 use assign_core::{Cost, Outcome, Problem, Sense};
 use async_workers::{OpenGate, solve_workers};
+use augmenting_paths::{Unobserved, Wishes, copy_dense, copy_rows};
+use dual_checker::CostRows;
 use rounds::{solve_rounds, solve_rounds_alone};
 use scaled_values::scale;
-use shortest_paths::{solve_paths, solve_paths_among};
+use shortest_paths::solve_paths;
 use std::alloc::{AllocError, Global};
 use std::sync::{Arc, Wait};
 use std::thread::Threads;
 
-/// Solves the problem of `n` persons and `n` objects at these costs, row by row.
+/// Solves a problem by shortest augmenting paths.
 ///
 /// # Errors
 /// `AllocError` if memory is refused.
-pub fn solve_dense(alloc: Global, n: u16, costs: &[Cost]) -> Result<Outcome, AllocError>
-    requires size { IsSize n }
-    requires count { length costs.now ≡ n * n }
-    requires costs { All IsCost costs.now }
-    ensures proof { IfOk result (IsProof (problem_under Sense.Min (dense_rows n costs.now))) }
-    ensures decided { IfOk result (IsDecided (problem_under Sense.Min (dense_rows n costs.now))) }
+pub fn solve_problem(
+    alloc: Global,
+    problem: &Problem,
+    sense: Sense,
+) -> Result<Outcome, AllocError>
+    ensures proof { IfOk result (core.IsProof sense problem.now) }
+    ensures decided { IfOk result (core.IsDecided problem.now) }
 {
-    let problem = Problem::dense(alloc, n, costs)?;
-    let scaled = Arc::new(alloc, scale(alloc, problem, Sense::Min)?)?;
-    solve_paths(alloc, scaled)
+    let n = problem.n();
+    let rows = CostRows::first(problem, n, n);
+    let copy = copy_rows(alloc, &rows, sense)?;
+    let wishes = Wishes {
+        prices: None,
+        observer: &Unobserved,
+    };
+    solve_paths(alloc, &rows, sense, copy, wishes)
 }
 
-/// Solves the problem of `n` persons among `m` objects, at least as many, at these costs, row by
-/// row.
+/// Solves the problem of `n` persons among `m` objects at these costs, row by row, and takes no
+/// problem for it.
 ///
 /// # Errors
 /// `AllocError` if memory is refused.
-pub fn solve_dense_among(
+pub fn solve_costs(
     alloc: Global,
     n: u16,
     m: u16,
+    sense: Sense,
     costs: &[Cost],
 ) -> Result<Outcome, AllocError>
     requires persons { IsSize n }
     requires objects { IsSize m }
     requires count { length costs.now ≡ n * m }
     requires costs { All IsCost costs.now }
-    ensures proof { IfOk result
-        (IsProofAmong (problem_under Sense.Min (dense_rows_among n m costs.now)) n) }
-    ensures decided { IfOk result
-        (IsDecidedAmong (problem_under Sense.Min (dense_rows_among n m costs.now)) n) }
+    ensures proof { IfOk result (core.IsProofAmong sense m (rows_cut m n costs.now)) }
+    ensures decided { IfOk result (core.IsDecided (rows_cut m n costs.now)) }
 {
-    let problem = Problem::dense_among(alloc, n, m, costs)?;
-    let scaled = Arc::new(alloc, scale(alloc, problem, Sense::Min)?)?;
-    solve_paths_among(alloc, scaled, n)
+    let rows = CostRows::dense(n, m, costs);
+    let copy = copy_dense(alloc, n, m, sense, costs)?;
+    let wishes = Wishes {
+        prices: None,
+        observer: &Unobserved,
+    };
+    solve_paths(alloc, &rows, sense, copy, wishes)
 }
 
 /// Solves by rounds in the calling thread.

@@ -50,8 +50,7 @@ numbered_rule name usual least most = record (valued_rule name usual) { parser =
 abbrev pub named_rule : Text → Text → Bor (List (Bor Text)) → Rule
 named_rule name usual names = record (valued_rule name usual) { parser = Some (Names names) }
 
--- where the names of the methods are in memory: clap's commands have it, and no meaning depends on
--- it
+-- where the names of the methods are in memory, which is a part of clap's command
 pub record Places : Type 0 where
   pub list : ℕ × ℕ
   pub auction : ℕ × ℕ

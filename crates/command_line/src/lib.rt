@@ -4,5 +4,6 @@
 mod words;
 
 pub use words::{
-    Asked, MOST_REFRESH, MOST_WORKERS, Method, Mode, SolveOpts, Words, WordsFault, read_words,
+    Asked, MOST_REFRESH, MOST_WORKERS, Method, Mode, SolveOpts, Words, WordsFault, command,
+    read_words,
 };

@@ -4,13 +4,14 @@ ghost use Rattle.std.specs.Option.{option_map};
 ghost use Rattle.std.specs.String.{string_bytes};
 ghost use Rattle.assign_core.specs.declared.sense.Sense.{Sense};
 ghost use Rattle.assign_core.specs.declared.sense.Sense.TheVariants.{Max, Min};
+ghost use Rattle.clap.specs.declared.builder.command.Command.TheViews.{out-Command as fields_of};
 ghost use Rattle.clap.specs.Words.{app_of, found_of, one_of, rows_of, rule_of, subcommand_rows_of, Text};
 ghost use Rattle.command_line.specs.Words.{Chooses, ChoosesSolving, NamesFile, NamesMethod, NamesMode, NamesSense, Places};
 ghost use Rattle.command_line.specs.inside.Words.{ChoosesVerifying, IsChoiceFault, NamesCommand};
 ghost use Rattle.command_line.specs.Words.{IsFlag, IsNumberFor};
 ghost use Rattle.command_line.specs.inside.Words.{HasNumbers, HasNumbersIfSolving, IsNumberIn};
 ghost use Rattle.command_line.specs.Words.{AsksForVersion, IsInRanges, IsTaken, Solves, SolvesBy, SolvesFrom, Verifies, VerifiesFrom, WordsOutcome};
-ghost use Rattle.command_line.specs.inside.Words.{IsFaultOf};
+ghost use Rattle.command_line.specs.inside.Words.{IsFaultOf, without_version};
 ghost use Rattle.command_line.specs.Words.{flag_rule, input_rule, method_rule, named_rule, numbered_rule, optional_rule, plain_solve_app, program, report_rule, solve_app, start_rule, valued_rule, verify_app, version_rule};
 ghost use Rattle.command_line.specs.Words.{full_line, full_options, full_verify_line, input_line, input_verify_line, is_max, mode_name, sense_name, usual_options};
 
@@ -18,6 +19,7 @@ use assign_core::Sense;
 use clap::builder::ValueParser;
 use clap::error::ErrorKind;
 use clap::{Arg, ArgAction, ArgMatches, Command, Error};
+use release_version::VERSION;
 use std::alloc::{AllocError, Global};
 use std::convert::AsStr;
 
@@ -396,22 +398,32 @@ fn version_flag<'a>(alloc: Global) -> Arg<'a>
         .action(ArgAction::Version)
 }
 
-// The program's version, as the file VERSION at the top has it.
-const VERSION: &str = "2.0.0";
-
-// The program's command with its subcommands. clap's own option for the version has a short name.
-fn command<'a>(alloc: Global) -> Result<Command<'a>, AllocError>
-    ensures { IfOk result (λ c. (at : Places) × (app_of c ≡ program at)) }
+// The program's command with its subcommands, before it has a version. clap's own option for the
+// version has a short name.
+fn unversioned_command<'a>(alloc: Global) -> Result<Command<'a>, AllocError>
+    ensures { IfOk result (λ c. (at : Places) × (app_of c ≡ without_version (program at))) }
 {
     Command::new(alloc, "auction_cli")
         .about("Solve assignment problems and check reports; the problem comes on standard input")
         .after_help(PROGRAM_NOTES)
-        .version(VERSION)
         .disable_version_flag(true)
         .subcommand_required(true)
         .arg(version_flag(alloc))?
         .subcommand(solve_command(alloc)?)?
         .subcommand(verify_command(alloc)?)
+}
+
+/// The program's command, by which `read_words` parses: its subcommands with their options, and its
+/// version, which `--version` prints.
+///
+/// # Errors
+/// `AllocError` if memory is refused.
+pub fn command<'a>(alloc: Global) -> Result<Command<'a>, AllocError>
+    ensures program { IfOk result (λ c. (at : Places) × (app_of c ≡ program at)) }
+    ensures version { IfOk result (λ c.
+        option_map (λ text. text.now) (fields_of c).version ≡ Some VERSION.now) }
+{
+    Ok(unversioned_command(alloc)?.version(VERSION))
 }
 
 // The greatest cost or the least.

@@ -10,3 +10,6 @@ pub mod HallMarking
 pub mod HallFirsts
 pub mod HallDifferences
 pub mod HallFaults
+pub mod Reading
+pub mod RoundedSums
+pub mod RowPlaces

@@ -10,11 +10,11 @@ use Rattle.assign_core.specs.Numbered.{IsNumber, numbered}
 use Rattle.assign_core.specs.Assignment.{AreListed}
 use Rattle.assign_core.proofs.Zips.{pair_number}
 use Rattle.assign_core.proofs.NumberedLemmas.{numbered-next}
-use Rattle.assign_core.specs.Rows.{Listing, IsListed, IsProblem, IsRow, IsRising, listed_in, listed_or_zero, row_of}
+use Rattle.assign_core.specs.Rows.{Listing, IsListed, IsRow, IsRising, listed_in, listed_or_zero, row_of}
 use Rattle.assign_core.specs.Benefits.{benefit, benefit_row}
 use Rattle.assign_core.specs.Prices.{price_of}
 use Rattle.assign_core.specs.Slackness.{HasSlack, IsWorth}
-use Rattle.assign_core.proofs.Listed.{all_listed, listed_range, rising_listed}
+use Rattle.assign_core.proofs.Listed.{all_listed, rising_listed}
 use Rattle.assign_core.proofs.BenefitRows.{row_of-benefits}
 use Rattle.assign_core.proofs.Duality.{benefit_listed, benefit_value}
 use Rattle.dual_checker.specs.Faults.{IsFirst, BreaksSlack, own_object}

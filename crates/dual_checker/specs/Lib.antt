@@ -3,4 +3,8 @@ pub mod Faults
 pub mod Verdicts
 pub mod HallMarks
 pub mod HallVerdicts
+pub mod HallSets
 pub mod Confirmed
+pub mod Listings
+pub mod CostRow
+pub mod inside

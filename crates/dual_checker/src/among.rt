@@ -1,7 +1,7 @@
 // The checker of problems that may have more objects than persons.
-ghost use Rattle.std.specs.Prelude.{◌≡◌, ◌↔◌, ℕ, pos, ◌+ℤ◌, ◌≤ℤ◌, ◌<ℤ◌, ◌<◌, ◌⊎◌, length, replicate, take, All, IfOk, IsTrue, MatchOption};
+ghost use Rattle.std.specs.Prelude.{◌≡◌, ◌↔◌, ℕ, pos, ◌+ℤ◌, ◌≤ℤ◌, ◌<ℤ◌, ◌<◌, ◌⊎◌, length, replicate, All, IfOk, IsTrue, MatchOption};
 ghost use Rattle.assign_core.specs.Numbered.{IsNumber, numbered};
-ghost use Rattle.assign_core.specs.Rows.{IsAmong, IsSize};
+ghost use Rattle.assign_core.specs.Rows.{IsSize};
 ghost use Rattle.assign_core.specs.Assignment.{IsBest};
 ghost use Rattle.assign_core.specs.Prices.{IsPrice, price_of};
 ghost use Rattle.assign_core.specs.Slackness.{IsCertificateAmong};
@@ -9,9 +9,10 @@ ghost use Rattle.dual_checker.specs.Faults.{IsFirst};
 ghost use Rattle.dual_checker.specs.Verdicts.{IsVerdictAmong, VerdictsAmongDiffer};
 
 use super::checker::first_fault;
+use super::cost_rows::CostRows;
 use super::slack::price_at;
 use super::verdict::Verdict;
-use assign_core::{Object, Price, Problem, Sense};
+use assign_core::{Object, Price, Sense};
 use std::alloc::{AllocError, Global};
 
 /// The verdict on an object for each of n persons and a price for each of m objects: the first of
@@ -75,21 +76,21 @@ fn first_dear(counts: &[u16], prices: &[Price]) -> Option<Object>
     None
 }
 
-// The first fault. The counts of the objects are 0 at first.
+// The first fault. There are a count and a rounded price for each object; the counts are 0 at first.
 fn first_fault_among(
     counts: &mut [u16],
-    problem: &Problem,
-    n: u16,
+    rounded: &mut [i64],
+    rows: &CostRows<'_>,
     sense: Sense,
     objects: &[Object],
     prices: &[Price],
 ) -> VerdictAmong
-    requires among { IsAmong n (length counts.old) problem.now }
-    requires zero { counts.old ≡ replicate (length counts.old) 0 }
-    ensures { IsVerdictAmong sense (length counts.old) (take n problem.now) objects.now
-        prices.now result }
+    requires size { IsSize rows.now.m }
+    requires counts { counts.old ≡ replicate rows.now.m 0 }
+    requires rounded { length rounded.old ≡ rows.now.m }
+    ensures { IsVerdictAmong sense rows.now.m rows.now.rows objects.now prices.now result }
 {
-    let fault = first_fault(counts, problem, n, sense, objects, prices);
+    let fault = first_fault(counts, rounded, rows, sense, objects, prices);
     if fault != Verdict::Yes {
         return VerdictAmong::Usual(fault);
     }
@@ -103,30 +104,29 @@ fn first_fault_among(
 /// under this sense. If not, the answer is the first fault: one of `check`, in their order, and
 /// after those the lowest unowned object whose price is too high.
 ///
-/// Only the first `n` of the problem's persons count; if there are more objects, the other persons
-/// list nothing (`Problem::dense_among`). `Yes` proves the assignment optimal: slackness 1 at
-/// benefits scaled by `m + 1`, and no unowned object with a price over 1 above another. The lists
-/// may have any length and hold any numbers. The time is linear in the listed pairs.
+/// `Yes` proves the assignment optimal: slackness 1 at benefits scaled by `m + 1`, and no unowned
+/// object with a price over 1 above another. The lists may have any length and hold any numbers.
+/// The time is linear in the listed pairs; the memory is 10 bytes an object.
 ///
 /// # Errors
 /// `AllocError` if memory is refused, before the lists are read.
 pub fn check_among(
     alloc: Global,
-    problem: &Problem,
-    n: u16,
-    m: u16,
+    rows: &CostRows<'_>,
     sense: Sense,
     objects: &[Object],
     prices: &[Price],
 ) -> Result<VerdictAmong, AllocError>
-    requires { IsAmong n m problem.now }
     ensures verdict { IfOk result (λ v.
-        IsVerdictAmong sense m (take n problem.now) objects.now prices.now v) }
+        IsVerdictAmong sense rows.now.m rows.now.rows objects.now prices.now v) }
     ensures yes { IfOk result (λ v. (v ≡ VerdictAmong.Usual Verdict.Yes)
-        ↔ IsCertificateAmong sense m (take n problem.now) objects.now prices.now) }
+        ↔ IsCertificateAmong sense rows.now.m rows.now.rows objects.now prices.now) }
     ensures best { IfOk result (λ v.
-        v ≡ VerdictAmong.Usual Verdict.Yes → IsBest sense (take n problem.now) objects.now) }
+        v ≡ VerdictAmong.Usual Verdict.Yes → IsBest sense rows.now.rows objects.now) }
 {
-    let mut counts = vec![in alloc; 0u16; m as usize]?;
-    Ok(first_fault_among(counts.as_mut_slice(), problem, n, sense, objects, prices))
+    let m = rows.objects() as usize;
+    let mut counts = vec![in alloc; 0u16; m]?;
+    let mut rounded = vec![in alloc; 0i64; m]?;
+    let (counts, rounded) = (counts.as_mut_slice(), rounded.as_mut_slice());
+    Ok(first_fault_among(counts, rounded, rows, sense, objects, prices))
 }

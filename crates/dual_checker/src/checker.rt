@@ -1,42 +1,41 @@
 // The checker: the first fault of the verdicts' order.
-ghost use Rattle.std.specs.Prelude.{◌≡◌, ◌↔◌, length, replicate, take, IfOk};
+ghost use Rattle.std.specs.Prelude.{◌≡◌, ◌↔◌, length, replicate, IfOk};
 ghost use Rattle.assign_core.specs.Assignment.{IsBest};
 ghost use Rattle.assign_core.specs.Slackness.{IsCertificate};
-ghost use Rattle.assign_core.specs.Rows.{IsAmong};
 ghost use Rattle.dual_checker.specs.Counts.{AreCounts};
 ghost use Rattle.dual_checker.specs.Verdicts.{IsFault, IsVerdict};
 
+use super::cost_rows::CostRows;
 use super::counts::first_given_twice;
 use super::listed::first_unlisted;
 use super::priced::first_out_of_range;
+use super::rounded::set_rounded;
 use super::slack::first_short;
 use super::verdict::Verdict;
 use assign_core::{Object, Price, Problem, Sense};
 use std::alloc::{AllocError, Global};
 
-// The first fault of the first `n` persons' objects and of a price for each count; the counts are 0
-// at first.
+// The first fault of the persons' objects and the objects' prices. There are a count and a
+// rounded price for each object; the counts are 0 at first.
 pub fn first_fault(
     counts: &mut [u16],
-    problem: &Problem,
-    n: u16,
+    rounded: &mut [i64],
+    rows: &CostRows<'_>,
     sense: Sense,
     objects: &[Object],
     prices: &[Price],
 ) -> Verdict
-    requires among { IsAmong n (length counts.old) problem.now }
-    requires zero { counts.old ≡ replicate (length counts.old) 0 }
-    ensures fault { IsFault sense (length counts.old) (take n problem.now) objects.now
-        prices.now result }
+    requires counts { counts.old ≡ replicate rows.now.m 0 }
+    requires rounded { length rounded.old ≡ rows.now.m }
+    ensures fault { IsFault sense rows.now.m rows.now.rows objects.now prices.now result }
     ensures counts { result ≡ Verdict.Yes → AreCounts counts.new objects.now }
-    ensures long { length counts.new ≡ length counts.old }
+    ensures long { length counts.new ≡ rows.now.m }
 {
-    // This call shows the prover that there are few enough persons.
-    let _persons = problem.n();
-    if objects.len() != n as usize || prices.len() != counts.len() {
+    let (n, m) = (rows.persons() as usize, rows.objects() as usize);
+    if objects.len() != n || prices.len() != m {
         return Verdict::Length;
     }
-    if let Some(person) = first_unlisted(problem, objects) {
+    if let Some(person) = first_unlisted(rows, objects) {
         return Verdict::Unlisted(person);
     }
     if let Some(object) = first_given_twice(counts, objects) {
@@ -45,7 +44,8 @@ pub fn first_fault(
     if let Some(object) = first_out_of_range(prices) {
         return Verdict::PriceRange(object);
     }
-    if let Some((person, object)) = first_short(problem, sense, objects, prices) {
+    set_rounded(rounded, prices);
+    if let Some((person, object)) = first_short(rows, sense, objects, prices, rounded) {
         return Verdict::Slack(person, object);
     }
     Verdict::Yes
@@ -81,6 +81,9 @@ pub fn check(
     ensures best { IfOk result (λ v. v ≡ Verdict.Yes → IsBest sense problem.now objects.now) }
 {
     let n = problem.n();
+    let rows = CostRows::first(problem, n, n);
     let mut counts = vec![in alloc; 0u16; n as usize]?;
-    Ok(first_fault(counts.as_mut_slice(), problem, n, sense, objects, prices))
+    let mut rounded = vec![in alloc; 0i64; n as usize]?;
+    let (counts, rounded) = (counts.as_mut_slice(), rounded.as_mut_slice());
+    Ok(first_fault(counts, rounded, &rows, sense, objects, prices))
 }

@@ -2,8 +2,10 @@
 ghost use Rattle.std.specs.Prelude.{◌≡◌, ℕ, ◌↔◌, List, false, length, replicate, IfOk};
 ghost use Rattle.assign_core.specs.Assignment.{IsAssignment};
 ghost use Rattle.assign_core.specs.Hall.{IsHallSet};
+ghost use Rattle.dual_checker.specs.HallSets.{IsHallVerdictAmong};
 ghost use Rattle.dual_checker.specs.HallVerdicts.{IsHallVerdict};
 
+use super::cost_rows::CostRows;
 use super::hall_lists::{are_in_range, are_rising};
 use super::hall_marks::{first_missing, first_unmarked, mark_listed, mark_objects};
 use super::hall_verdict::HallVerdict;
@@ -14,25 +16,25 @@ use std::alloc::{AllocError, Global};
 fn first_hall_fault(
     named: &mut [bool],
     listed: &mut [bool],
-    problem: &Problem,
+    rows: &CostRows<'_>,
     persons: &[Person],
     objects: &[Object],
 ) -> HallVerdict
-    requires named { named.old ≡ replicate (length problem.now) false }
-    requires listed { listed.old ≡ replicate (length problem.now) false }
-    ensures { IsHallVerdict problem.now persons.now objects.now result }
+    requires named { named.old ≡ replicate rows.now.m false }
+    requires listed { listed.old ≡ replicate rows.now.m false }
+    ensures { IsHallVerdictAmong rows.now.m rows.now.rows persons.now objects.now result }
 {
-    if !are_in_range(problem, persons, objects) {
+    if !are_in_range(rows, persons, objects) {
         return HallVerdict::Range;
     }
     if !are_rising(persons, objects) {
         return HallVerdict::Order;
     }
     mark_objects(named, objects);
-    if let Some((person, object)) = first_missing(problem, persons, named) {
+    if let Some((person, object)) = first_missing(rows, persons, named) {
         return HallVerdict::Missing(person, object);
     }
-    mark_listed(listed, problem, persons);
+    mark_listed(listed, rows, persons);
     if let Some(object) = first_unmarked(objects, listed) {
         return HallVerdict::Extra(object);
     }
@@ -40,6 +42,31 @@ fn first_hall_fault(
         return HallVerdict::Count;
     }
     HallVerdict::Yes
+}
+
+/// Whether these persons and objects are a Hall set of the rows; if not, the first fault in the
+/// order of `HallVerdict`, by its lowest number, as `check_hall` gives it.
+///
+/// # Errors
+/// `AllocError` if memory is refused, before the lists are read.
+pub fn check_hall_among(
+    alloc: Global,
+    rows: &CostRows<'_>,
+    persons: &[Person],
+    objects: &[Object],
+) -> Result<HallVerdict, AllocError>
+    ensures verdict { IfOk result (λ v.
+        IsHallVerdictAmong rows.now.m rows.now.rows persons.now objects.now v) }
+    ensures yes { IfOk result (λ v.
+        (v ≡ HallVerdict.Yes) ↔ IsHallSet rows.now.rows persons.now objects.now) }
+    ensures none { IfOk result (λ v.
+        v ≡ HallVerdict.Yes → (xs : List ℕ) → IsAssignment rows.now.rows xs → ⊥) }
+{
+    let m = rows.objects() as usize;
+    let mut named = vec![in alloc; false; m]?;
+    let mut listed = vec![in alloc; false; m]?;
+    let (named, listed) = (named.as_mut_slice(), listed.as_mut_slice());
+    Ok(first_hall_fault(named, listed, rows, persons, objects))
 }
 
 /// Whether these persons and objects are a Hall set of the problem; if not, the first fault in the
@@ -72,14 +99,6 @@ pub fn check_hall(
     ensures none { IfOk result (λ v.
         v ≡ HallVerdict.Yes → (xs : List ℕ) → IsAssignment problem.now xs → ⊥) }
 {
-    let n = problem.n() as usize;
-    let mut named = vec![in alloc; false; n]?;
-    let mut listed = vec![in alloc; false; n]?;
-    Ok(first_hall_fault(
-        named.as_mut_slice(),
-        listed.as_mut_slice(),
-        problem,
-        persons,
-        objects,
-    ))
+    let n = problem.n();
+    check_hall_among(alloc, &CostRows::first(problem, n, n), persons, objects)
 }

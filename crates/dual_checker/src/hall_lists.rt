@@ -2,9 +2,11 @@
 ghost use Rattle.std.specs.Prelude.{◌↔◌, length, map, All, IsTrue};
 ghost use Rattle.std.specs.List.Sorted.{IsStrictlyIncreasing};
 ghost use Rattle.assign_core.specs.Numbered.{IsNumber};
-ghost use Rattle.dual_checker.specs.HallVerdicts.{AreInRange, AreRising};
+ghost use Rattle.dual_checker.specs.HallSets.{AreInRangeAmong};
+ghost use Rattle.dual_checker.specs.HallVerdicts.{AreRising};
 
-use assign_core::{Numbered, Object, Person, Problem};
+use super::cost_rows::CostRows;
+use assign_core::{Numbered, Object, Person};
 
 // Whether all have numbers from 1 to n.
 fn are_within<T: Numbered>(n: u16, all: &[T]) -> bool
@@ -28,12 +30,11 @@ fn rise<T: Numbered>(all: &[T]) -> bool
     true
 }
 
-// Whether all numbers are those of persons and objects of the problem.
-pub fn are_in_range(problem: &Problem, persons: &[Person], objects: &[Object]) -> bool
-    ensures { IsTrue result ↔ AreInRange problem.now persons.now objects.now }
+// Whether all numbers are those of persons and objects of these rows.
+pub fn are_in_range(rows: &CostRows<'_>, persons: &[Person], objects: &[Object]) -> bool
+    ensures { IsTrue result ↔ AreInRangeAmong rows.now.m rows.now.rows persons.now objects.now }
 {
-    let n = problem.n();
-    are_within(n, persons) && are_within(n, objects)
+    are_within(rows.persons(), persons) && are_within(rows.objects(), objects)
 }
 
 // Whether both lists strictly rise.

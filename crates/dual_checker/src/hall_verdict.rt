@@ -7,7 +7,7 @@ use assign_core::{Object, Person};
 /// number is named if it is in its list.
 #[derive(Clone, Copy, PartialEq, Eq)]
 pub enum HallVerdict {
-    /// Some number isn't from 1 to the number of persons.
+    /// Some number isn't from 1 to the number of persons, or of objects.
     Range,
     /// One of the lists isn't strictly rising.
     Order,

@@ -1,22 +1,22 @@
 // Whether each person lists its object.
-ghost use Rattle.std.specs.Prelude.{◌≤◌, length, take, MatchOption};
+ghost use Rattle.std.specs.Prelude.{◌≡◌, length, MatchOption};
 ghost use Rattle.dual_checker.specs.Faults.{IsFirst, IsUnlisted};
 ghost use Rattle.assign_core.specs.Assignment.{AreListed};
 
-use assign_core::{Object, Person, Problem};
+use super::cost_rows::CostRows;
+use assign_core::{Object, Person};
 
-// The lowest of the persons with a given object that doesn't list it.
-pub fn first_unlisted(problem: &Problem, objects: &[Object]) -> Option<Person>
-    requires { length objects.now ≤ length problem.now }
-    ensures { let rows = take (length objects.now) problem.now in
-        MatchOption result (AreListed rows objects.now)
-        (λ i. IsFirst (IsUnlisted rows objects.now) (length objects.now) i) }
+// The lowest of the persons that doesn't list its object.
+pub fn first_unlisted(rows: &CostRows<'_>, objects: &[Object]) -> Option<Person>
+    requires { length objects.now ≡ length rows.now.rows }
+    ensures { MatchOption result (AreListed rows.now.rows objects.now)
+        (λ i. IsFirst (IsUnlisted rows.now.rows objects.now) (length rows.now.rows) i) }
 {
     // This call shows the prover that this many persons can be numbered.
-    let _persons = problem.n();
+    let _persons = rows.persons();
     for (i, object) in objects.iter().enumerate() {
         let person = Person(i as u16 + 1);
-        if problem.cost_of(person, *object).is_none() {
+        if rows.cost_of(person, *object).is_none() {
             return Some(person);
         }
     }

@@ -1,14 +1,19 @@
 // Whether each person has slackness 1.
-ghost use Rattle.std.specs.Prelude.{◌≡◌, ℕ, ℤ, pos, ◌+◌, ◌*ℤ◌, ◌≤◌, ◌≤ℤ◌, ◌-ℤ◌, length, map, take, All, MatchOption};
+ghost use Rattle.std.specs.Prelude.{◌≡◌, ℕ, ℤ, pos, ◌+◌, ◌*ℤ◌, ◌≤ℤ◌, ◌-ℤ◌, length, map, All, MatchOption};
 ghost use Rattle.assign_core.specs.Numbered.{IsNumber};
-ghost use Rattle.assign_core.specs.Rows.{IsCost, IsRow, IsSize, IsListed, listed_or_zero, row_of};
+ghost use Rattle.assign_core.specs.Rows.{IsCost, IsRow, IsSize, listed_or_zero, row_of};
 ghost use Rattle.assign_core.specs.Benefits.{benefit, benefit_row};
 ghost use Rattle.assign_core.specs.Prices.{IsPrice, price_of};
 ghost use Rattle.assign_core.specs.Slackness.{AllSlack, HasSlack};
 ghost use Rattle.dual_checker.specs.Faults.{BreaksSlack, BreaksSlackOf, IsFirst, IsShort};
 ghost use Rattle.assign_core.specs.Assignment.{AreListed};
+ghost use Rattle.dual_checker.specs.CostRow.{IsFull, listing_of};
+ghost use Rattle.dual_checker.specs.inside.Rounded.{AreRounded};
 
-use assign_core::{Cost, GREATEST_COST, MOST_PERSONS, Object, Person, Price, Problem, Sense};
+use super::cost_row::{CostRow, listed, pair_at};
+use super::cost_rows::CostRows;
+use super::sums::shows_slack;
+use assign_core::{Cost, GREATEST_COST, MOST_PERSONS, Object, Person, Price, Sense};
 
 // An object's price.
 pub fn price_at(prices: &[Price], object: Object) -> Price
@@ -31,84 +36,97 @@ fn worth(sense: Sense, n: u16, cost: Cost, price: Price) -> Price
     i128::from(sense.benefit(n, cost)) - price
 }
 
-// The value of a person's own object, among as many objects as prices.
-fn own_worth(
-    problem: &Problem,
-    sense: Sense,
-    person: Person,
-    object: Object,
-    prices: &[Price],
-) -> Price
-    requires person { IsNumber (length problem.now) person }
-    requires listed { IsListed problem.now person object }
-    requires size { IsSize (length prices.now) }
-    requires number { IsNumber (length prices.now) object }
-    requires in_range { All IsPrice prices.now }
-    ensures value { let cost = listed_or_zero (row_of problem.now person) object in
-        result ≡ (benefit sense (length prices.now) cost -ℤ price_of prices.now object) }
-    ensures most { result ≤ℤ (pos (MOST_PERSONS + 1) *ℤ GREATEST_COST) }
+// The cost of a person's own object.
+fn own_cost(rows: &CostRows<'_>, person: Person, object: Object) -> Cost
+    ensures { result ≡ listed_or_zero (row_of rows.now.rows person) object }
 {
-    // This call shows the prover that each listed cost is in range.
-    let _listed = problem.row(person);
-    let cost = problem.cost_of(person, object).unwrap_or(0);
-    worth(sense, prices.len() as u16, cost, price_at(prices, object))
+    rows.cost_of(person, object).unwrap_or(0)
 }
 
 // The lowest object of a row whose value is over 1 above that of a person's own object.
 fn first_broken(
-    row: &[(Object, Cost)],
+    row: CostRow<'_>,
     sense: Sense,
     prices: &[Price],
     own: Object,
     own_worth: Price,
 ) -> Option<Object>
     requires size { IsSize (length prices.now) }
-    requires row { IsRow (length prices.now) row.now }
+    requires row { IsRow (length prices.now) (listing_of row) }
+    requires full { IsFull (length prices.now) row }
     requires in_range { All IsPrice prices.now }
     requires number { IsNumber (length prices.now) own }
-    requires own { let cost = listed_or_zero row.now own in
+    requires own { let cost = listed_or_zero (listing_of row) own in
         own_worth ≡ (benefit sense (length prices.now) cost -ℤ price_of prices.now own) }
     requires most { own_worth ≤ℤ (pos (MOST_PERSONS + 1) *ℤ GREATEST_COST) }
-    ensures { let benefits = benefit_row sense (length prices.now) row.now in
+    ensures { let benefits = benefit_row sense (length prices.now) (listing_of row.entry) in
         MatchOption result (HasSlack (pos 1) prices.now benefits own)
         (λ k. IsFirst (BreaksSlack (pos 1) prices.now benefits own) (length prices.now) k) }
 {
     let n = prices.len() as u16;
-    for (object, cost) in row {
-        if worth(sense, n, *cost, price_at(prices, *object)) > own_worth + 1 {
-            return Some(*object);
+    for i in 0..listed(row) {
+        let (object, cost) = pair_at(row, i);
+        if worth(sense, n, cost, price_at(prices, object)) > own_worth + 1 {
+            return Some(object);
         }
     }
     None
 }
 
-// The lowest of the persons with a given object that lacks slackness 1, and the lowest object that
-// breaks it.
+// The lowest object of a row that breaks slackness 1 of a person, whose own object has this cost.
+fn first_of_row(
+    row: CostRow<'_>,
+    sense: Sense,
+    prices: &[Price],
+    rounded: &[i64],
+    own: Object,
+    cost: Cost,
+) -> Option<Object>
+    requires size { IsSize (length prices.now) }
+    requires row { IsRow (length prices.now) (listing_of row) }
+    requires full { IsFull (length prices.now) row }
+    requires in_range { All IsPrice prices.now }
+    requires rounded { AreRounded rounded.now prices.now }
+    requires number { IsNumber (length prices.now) own }
+    requires cost { cost ≡ listed_or_zero (listing_of row) own }
+    ensures { let benefits = benefit_row sense (length prices.now) (listing_of row.entry) in
+        MatchOption result (HasSlack (pos 1) prices.now benefits own)
+        (λ k. IsFirst (BreaksSlack (pos 1) prices.now benefits own) (length prices.now) k) }
+{
+    if shows_slack(row, sense, prices, rounded, own, cost) {
+        return None;
+    }
+    let own_worth = worth(sense, prices.len() as u16, cost, price_at(prices, own));
+    first_broken(row, sense, prices, own, own_worth)
+}
+
+// The lowest person that lacks slackness 1, and the lowest object that breaks it.
 pub fn first_short(
-    problem: &Problem,
+    rows: &CostRows<'_>,
     sense: Sense,
     objects: &[Object],
     prices: &[Price],
+    rounded: &[i64],
 ) -> Option<(Person, Object)>
-    requires long { length objects.now ≤ length problem.now }
-    requires size { IsSize (length prices.now) }
-    requires rows { All (IsRow (length prices.now)) (take (length objects.now) problem.now) }
-    requires listed { AreListed (take (length objects.now) problem.now) objects.now }
+    requires long { length objects.now ≡ length rows.now.rows }
+    requires priced { length prices.now ≡ rows.now.m }
+    requires listed { AreListed rows.now.rows objects.now }
     requires in_range { All IsPrice prices.now }
-    ensures { let m = length prices.now in
-        let rows = take (length objects.now) problem.now in
+    requires rounded { AreRounded rounded.now prices.now }
+    ensures { let m = rows.now.m in
         MatchOption result
-        (AllSlack (pos 1) prices.now (map (benefit_row sense m) rows) objects.now)
-        (λ p. IsFirst (IsShort sense m rows objects.now prices.now) (length objects.now) p.0
-        × IsFirst (BreaksSlackOf sense m rows objects.now prices.now p.0) m p.1) }
+        (AllSlack (pos 1) prices.now (map (benefit_row sense m) rows.now.rows) objects.now)
+        (λ p. IsFirst (IsShort sense m rows.now.rows objects.now prices.now)
+        (length rows.now.rows) p.0
+        × IsFirst (BreaksSlackOf sense m rows.now.rows objects.now prices.now p.0) m p.1) }
 {
     // This call shows the prover that this many persons can be numbered.
-    let _persons = problem.n();
+    let _persons = rows.persons();
     for (i, object) in objects.iter().enumerate() {
         let person = Person(i as u16 + 1);
-        let row = problem.row(person);
-        let own_worth = own_worth(problem, sense, person, *object, prices);
-        if let Some(other) = first_broken(row, sense, prices, *object, own_worth) {
+        let cost = own_cost(rows, person, *object);
+        let row = rows.row(person);
+        if let Some(other) = first_of_row(row, sense, prices, rounded, *object, cost) {
             return Some((person, other));
         }
     }

@@ -3,11 +3,11 @@ ghost use Rattle.dual_checker.specs.Verdicts.{VerdictsDiffer};
 
 use assign_core::{Object, Person};
 
-/// The verdict on a list of objects and a list of prices, one of each for each person: the first of
-/// these that applies.
+/// The verdict on a list with an object for each person, and a list with a price for each object: the
+/// first of these that applies.
 #[derive(Clone, Copy, PartialEq, Eq)]
 pub enum Verdict {
-    /// The length of a list isn't the number of persons.
+    /// The length of a list isn't the number of persons, or of objects.
     Length,
     /// The lowest person that doesn't list its object.
     Unlisted(Person),

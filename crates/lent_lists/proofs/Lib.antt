@@ -1,6 +1,4 @@
+mod Answering
+mod Bounds
 mod Fitting
-mod Fewer
 mod Triples
-mod DenseFronts
-mod Starting
-mod HallFronts

@@ -11,7 +11,7 @@ use Rattle.lent_lists.specs.declared.told.Told.{Told}
 use Rattle.lent_lists.specs.Given.{GivenLists}
 use Rattle.lent_lists.specs.Faults.{HasFault, IsOfGiven}
 use Rattle.lent_lists.specs.Ends.{fault_code, fault_place}
-use Rattle.lent_lists.specs.HallSets.{IsHallVerdictAmong}
+use Rattle.dual_checker.specs.HallSets.{IsHallVerdictAmong}
 
 -- the code of a verdict on an assignment and prices
 abbrev pub verdict_code : VerdictAmong → ℤ

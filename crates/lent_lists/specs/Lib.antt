@@ -2,5 +2,7 @@ pub mod Prices
 pub mod Given
 pub mod Faults
 pub mod Ends
-pub mod HallSets
 pub mod Checks
+pub mod Shapes
+pub mod Sources
+pub mod Found

@@ -1,11 +1,24 @@
 // Answers into a caller's buffers, and lists out of them.
 ghost use Rattle.std.specs.Prelude.{◌≡◌, ◌≤◌, ◌++◌, All, IfOk, drop, length, map};
 ghost use Rattle.assign_core.specs.Prices.{IsPrice};
-ghost use Rattle.lent_lists.specs.Prices.{IsSplitFirstPrice, price_in};
+ghost use Rattle.lent_lists.specs.Prices.{price_in};
 
 use crate::split_price::SplitPrice;
-use assign_core::{MOST_PERSONS, Numbered, Price, Prices};
+use crate::told::Told;
+use assign_core::{Numbered, Price};
 use std::alloc::{AllocError, Global};
+
+/// The buffers for an answer.
+#[derive(Drop)]
+pub struct Buffers<'a> {
+    /// One place for each person.
+    pub objects: &'a mut [u16],
+    /// One place for each person.
+    pub persons: &'a mut [u16],
+    /// One place for each object.
+    pub prices: &'a mut [SplitPrice],
+    pub told: &'a mut Told,
+}
 
 /// Writes the numbers of persons or objects at the beginning of a buffer.
 pub fn put_numbers<T: Numbered>(buffer: &mut [u16], all: &[T])
@@ -48,14 +61,4 @@ pub fn prices_of(alloc: Global, halves: &[SplitPrice]) -> Result<Vec<Price>, All
         prices.push(half.price())?;
     }
     Ok(prices)
-}
-
-/// The first prices with these halves, as a table.
-pub fn first_prices(alloc: Global, first: &[SplitPrice]) -> Result<Prices, AllocError>
-    requires few { length first.now ≤ MOST_PERSONS }
-    requires low { All IsSplitFirstPrice first.now }
-    ensures { IfOk result (λ prices. length prices ≡ length first.now) }
-{
-    let values = prices_of(alloc, first)?;
-    Prices::new(alloc, values)
 }

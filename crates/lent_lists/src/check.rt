@@ -1,24 +1,41 @@
 // Answers of any program, checked against the given problem.
-ghost use Rattle.std.specs.Prelude.{◌≡◌, ◌↔◌, All, IfErr, IfOk, IsTrue, map};
-ghost use Rattle.assign_core.specs.Numbered.{IsNumber};
+ghost use Rattle.std.specs.Prelude.{◌≡◌, IfErr, IfOk, map};
+ghost use Rattle.dual_checker.specs.HallSets.{IsHallVerdictAmong};
 ghost use Rattle.dual_checker.specs.Verdicts.{IsVerdictAmong};
 ghost use Rattle.lent_lists.specs.Checks.{hall_code, verdict_code, with_hall_verdict, with_verdict};
 ghost use Rattle.lent_lists.specs.Faults.{HasFault, IsOfGiven};
-ghost use Rattle.lent_lists.specs.HallSets.{IsHallVerdictAmong};
 ghost use Rattle.lent_lists.specs.Prices.{price_in};
 
 use crate::buffers::{numbered, prices_of};
 use crate::fault::Fault;
 use crate::given::Given;
-use crate::judge::{first_wrong, judge};
-use crate::problem::problem_of;
+use crate::judge::judge;
+use crate::rows::{problem_of, rows_of};
 use crate::split_price::SplitPrice;
 use crate::told::Told;
-use assign_core::{Object, Person};
-use dual_checker::{HallVerdict, Verdict, VerdictAmong, check_among, check_hall};
-use std::alloc::Global;
+use assign_core::{Object, Person, Sense};
+use dual_checker::{
+    CostRows, HallVerdict, Verdict, VerdictAmong, check_among, check_hall_among,
+};
+use std::alloc::{AllocError, Global};
 
-/// The verdict on these objects and prices.
+// The verdict of rows on these objects and prices.
+fn verdict_of(
+    alloc: Global,
+    rows: &CostRows<'_>,
+    sense: Sense,
+    objects: &[u16],
+    prices: &[SplitPrice],
+) -> Result<VerdictAmong, AllocError>
+    ensures { IfOk result (λ v. IsVerdictAmong sense rows.now.m rows.now.rows objects.now
+        (map price_in prices.now) v) }
+{
+    let objects: Vec<Object> = numbered(alloc, objects)?;
+    let prices = prices_of(alloc, prices)?;
+    check_among(alloc, rows, sense, objects.as_slice(), prices.as_slice())
+}
+
+/// The verdict on these objects and prices. Dense costs are read where they are.
 pub fn verdict_on(
     alloc: Global,
     given: &Given<'_>,
@@ -29,30 +46,28 @@ pub fn verdict_on(
         IsVerdictAmong sense given.now.m rows objects.now (map price_in prices.now) v)) }
     ensures fault { IfErr result (HasFault given.now) }
 {
-    let sense = judge(given)?;
-    let problem = problem_of(alloc, given)?;
-    let objects: Vec<Object> = numbered(alloc, objects)?;
-    let prices = prices_of(alloc, prices)?;
-    let verdict = check_among(
-        alloc,
-        &problem,
-        given.n as u16,
-        given.m as u16,
-        sense,
-        objects.as_slice(),
-        prices.as_slice(),
-    )?;
+    let shape = judge(given)?;
+    let problem = problem_of(alloc, shape, given)?;
+    let rows = rows_of(shape, given, &problem);
+    let verdict = verdict_of(alloc, &rows, shape.sense, objects, prices)?;
     Ok(verdict)
 }
 
-// Whether the numbers are those of persons and of objects.
-fn are_in_range(n: u16, m: u16, persons: &[u16], objects: &[u16]) -> bool
-    ensures { IsTrue result ↔ (All (IsNumber n) persons.now × All (IsNumber m) objects.now) }
+// The verdict of rows on these persons and objects.
+fn hall_verdict_of(
+    alloc: Global,
+    rows: &CostRows<'_>,
+    persons: &[u16],
+    objects: &[u16],
+) -> Result<HallVerdict, AllocError>
+    ensures { IfOk result (IsHallVerdictAmong rows.now.m rows.now.rows persons.now objects.now) }
 {
-    first_wrong(n, persons).is_none() && first_wrong(m, objects).is_none()
+    let persons: Vec<Person> = numbered(alloc, persons)?;
+    let objects: Vec<Object> = numbered(alloc, objects)?;
+    check_hall_among(alloc, rows, persons.as_slice(), objects.as_slice())
 }
 
-/// The verdict on these persons and objects.
+/// The verdict on these persons and objects. Dense costs are read where they are.
 pub fn hall_verdict_on(
     alloc: Global,
     given: &Given<'_>,
@@ -63,14 +78,10 @@ pub fn hall_verdict_on(
         (λ sense rows. IsHallVerdictAmong given.now.m rows persons.now objects.now v)) }
     ensures fault { IfErr result (HasFault given.now) }
 {
-    let _sense = judge(given)?;
-    let problem = problem_of(alloc, given)?;
-    if !are_in_range(given.n as u16, given.m as u16, persons, objects) {
-        return Ok(HallVerdict::Range);
-    }
-    let persons: Vec<Person> = numbered(alloc, persons)?;
-    let objects: Vec<Object> = numbered(alloc, objects)?;
-    let verdict = check_hall(alloc, &problem, persons.as_slice(), objects.as_slice())?;
+    let shape = judge(given)?;
+    let problem = problem_of(alloc, shape, given)?;
+    let rows = rows_of(shape, given, &problem);
+    let verdict = hall_verdict_of(alloc, &rows, persons, objects)?;
     Ok(verdict)
 }
 

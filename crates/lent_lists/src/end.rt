@@ -1,5 +1,5 @@
 // How a solving call ends, and the codes of all ends.
-ghost use Rattle.std.specs.Prelude.{◌≡◌, IfErr, OnOk};
+ghost use Rattle.std.specs.Prelude.{◌≡◌, Ok};
 ghost use Rattle.lent_lists.specs.Ends.{end_code, fault_code, fault_place};
 
 use crate::fault::Fault;
@@ -12,6 +12,16 @@ pub enum End {
     Best,
     /// A Hall set: no assignment exists.
     Hall,
+}
+
+/// The code of an answer.
+pub fn code_of_end(end: End) -> i32
+    ensures { result ≡ end_code (Ok end) }
+{
+    match end {
+        End::Best => 0,
+        End::Hall => 1,
+    }
 }
 
 // The code of a fault.
@@ -43,18 +53,4 @@ pub fn refuse(fault: Fault, told: &mut Told) -> i32
         told.place = place as u64;
     }
     code_of(fault)
-}
-
-/// The code of an end. Records the place of a fault, if it has one.
-pub fn answer(end: Result<End, Fault>, told: &mut Told) -> i32
-    ensures code { result ≡ end_code end }
-    ensures ok { OnOk end (told.new ≡ told.old) }
-    ensures fault { IfErr end (λ fault.
-        told.new ≡ record told.old { place = fault_place told.old.place fault }) }
-{
-    match end {
-        Ok(End::Best) => 0,
-        Ok(End::Hall) => 1,
-        Err(fault) => refuse(fault, told),
-    }
 }

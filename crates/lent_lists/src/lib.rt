@@ -10,10 +10,14 @@ mod form;
 mod given;
 mod judge;
 mod problem;
+mod rows;
+mod search;
 mod solve;
 mod split_price;
 mod told;
+mod total;
 
+pub use buffers::Buffers;
 pub use check::{hall_verdict_on, report_hall_verdict, report_verdict, verdict_on};
 pub use end::refuse;
 pub use fault::Fault;

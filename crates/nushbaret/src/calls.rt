@@ -6,7 +6,7 @@ ghost use Rattle.lent_lists.specs.Given.{dense, either, sparse};
 ghost use Rattle.lent_lists.specs.Prices.{price_in};
 
 use lent_lists::{
-    Form, Given, SplitPrice, Told, form_of, hall_verdict_on, refuse, report_hall_verdict,
+    Buffers, Form, Given, SplitPrice, Told, form_of, hall_verdict_on, refuse, report_hall_verdict,
     report_verdict, solve_given, verdict_on,
 };
 use std::alloc::Global;
@@ -44,7 +44,13 @@ pub extern "C" fn nushbaret_dense(
         costs,
         first: &[],
     };
-    solve_given(alloc, &given, objects, persons, prices, told)
+    let room = Buffers {
+        objects,
+        persons,
+        prices,
+        told,
+    };
+    solve_given(alloc, &given, room)
 }
 
 /// Solves a dense problem from first prices.
@@ -82,7 +88,13 @@ pub extern "C" fn nushbaret_dense_from(
         costs,
         first,
     };
-    solve_given(alloc, &given, objects, persons, prices, told)
+    let room = Buffers {
+        objects,
+        persons,
+        prices,
+        told,
+    };
+    solve_given(alloc, &given, room)
 }
 
 /// Solves a sparse problem: `n` persons, `m` objects, and the persons, the objects and the costs of
@@ -121,7 +133,13 @@ pub extern "C" fn nushbaret_sparse(
         costs,
         first: &[],
     };
-    solve_given(alloc, &given, objects, persons, prices, told)
+    let room = Buffers {
+        objects,
+        persons,
+        prices,
+        told,
+    };
+    solve_given(alloc, &given, room)
 }
 
 /// Solves a sparse problem from first prices.
@@ -161,7 +179,13 @@ pub extern "C" fn nushbaret_sparse_from(
         costs,
         first,
     };
-    solve_given(alloc, &given, objects, persons, prices, told)
+    let room = Buffers {
+        objects,
+        persons,
+        prices,
+        told,
+    };
+    solve_given(alloc, &given, room)
 }
 
 /// Checks an assignment with its prices against a problem. The problem is dense if there are costs

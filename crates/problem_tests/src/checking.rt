@@ -1,7 +1,9 @@
 // Verdicts on small tables, worked by hand.
 mod among;
 mod confirmed;
+mod drawn;
 mod hall;
+mod plain;
 
 use assign_core::{MOST_PERSONS, Numbered, Object, PRICE_END, Person, Price, Problem, Sense};
 use dual_checker::{Verdict, check};

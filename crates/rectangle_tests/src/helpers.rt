@@ -1,18 +1,18 @@
 // Problems of n persons and m objects, and answers as plain data.
-ghost use Rattle.std.specs.Prelude.{◌≡◌, ◌≤◌, IfOk, length, max};
-ghost use Rattle.std.specs.Arc.{arc_value};
+ghost use Rattle.std.specs.Prelude.{◌≡◌, IfOk, length, max};
 ghost use Rattle.assign_core.specs.Rows.{IsAmong, IsSize};
 ghost use Rattle.rectangles.specs.Sparse.{IsTripleAmong};
 
 use assign_core::{
     Certificate, Cost, HallSet, Object, Outcome, Person, Price, Prices, Problem, Sense,
 };
-use dual_checker::{HallVerdict, Verdict, VerdictAmong, check_among, check_hall};
+use augmenting_paths::{Unobserved, Wishes, copy_rows};
+use dual_checker::{
+    CostRows, HallVerdict, Verdict, VerdictAmong, check_among, check_hall_among,
+};
 use rectangles::sparse_among;
-use scaled_values::{Scaled, scale};
-use shortest_paths::{solve_paths_among, solve_paths_among_from, solve_with_dummies};
+use shortest_paths::{solve_paths, solve_with_dummies};
 use std::alloc::{AllocError, Global};
-use std::sync::Arc;
 use test_helpers::{Pair, cost_in_range, first_prices, number, plain_best, problem_of};
 
 // A person of n and an object of m with a cost.
@@ -40,23 +40,6 @@ pub fn rectangle(alloc: Global, n: u16, m: u16, pairs: &[Pair]) -> Result<Proble
         triples.push(triple_among(n, m, *pair))?;
     }
     sparse_among(alloc, n, m, triples.as_slice())
-}
-
-// The same problem with its benefits.
-pub fn scaled_rectangle(
-    alloc: Global,
-    n: u16,
-    m: u16,
-    pairs: &[Pair],
-    sense: Sense,
-) -> Result<Arc<Scaled>, AllocError>
-    requires persons { IsSize n }
-    requires objects { IsSize m }
-    ensures few { IfOk result (λ scaled. n ≤ length (arc_value scaled).problem) }
-    ensures count { IfOk result (λ scaled. length (arc_value scaled).problem ≡ max n m) }
-{
-    let problem = rectangle(alloc, n, m, pairs)?;
-    Ok(Arc::new(alloc, scale(alloc, problem, sense)?)?)
 }
 
 // The sum of the costs of the objects of persons 1, 2, ..
@@ -92,8 +75,9 @@ fn came_of_best(
 ) -> Result<Came, AllocError>
     requires { IsAmong n m problem.now }
 {
+    let rows = CostRows::first(problem, n, m);
     let objects = best.assignment.objects();
-    let verdict = check_among(alloc, problem, n, m, sense, objects, best.prices.as_slice())?;
+    let verdict = check_among(alloc, &rows, sense, objects, best.prices.as_slice())?;
     if verdict == VerdictAmong::Usual(Verdict::Yes) {
         Ok(Came::Best(sum_of(problem, objects)))
     } else {
@@ -105,10 +89,14 @@ fn came_of_hall(
     alloc: Global,
     problem: &Problem,
     n: u16,
+    m: u16,
     hall: &HallSet,
-) -> Result<Came, AllocError> {
-    let verdict = check_hall(alloc, problem, hall.persons(), hall.objects())?;
-    if verdict == HallVerdict::Yes && hall.persons().iter().all(|person| person.0 <= n) {
+) -> Result<Came, AllocError>
+    requires { IsAmong n m problem.now }
+{
+    let rows = CostRows::first(problem, n, m);
+    let verdict = check_hall_among(alloc, &rows, hall.persons(), hall.objects())?;
+    if verdict == HallVerdict::Yes {
         Ok(Came::Hall)
     } else {
         Ok(Came::Nothing)
@@ -130,8 +118,30 @@ pub fn came_of(
     let problem = rectangle(alloc, n, m, pairs)?;
     match outcome {
         Outcome::Best(best) => came_of_best(alloc, &problem, n, m, sense, best),
-        Outcome::Hall(hall) => came_of_hall(alloc, &problem, n, hall),
+        Outcome::Hall(hall) => came_of_hall(alloc, &problem, n, m, hall),
     }
+}
+
+// The solver's outcome, from first prices if they are given.
+fn outcome_of(
+    alloc: Global,
+    n: u16,
+    m: u16,
+    pairs: &[Pair],
+    sense: Sense,
+    prices: Option<&[Price]>,
+) -> Result<Outcome, AllocError>
+    requires persons { IsSize n }
+    requires objects { IsSize m }
+{
+    let problem = rectangle(alloc, n, m, pairs)?;
+    let rows = CostRows::first(&problem, n, m);
+    let copy = copy_rows(alloc, &rows, sense)?;
+    let wishes = Wishes {
+        prices,
+        observer: &Unobserved,
+    };
+    solve_paths(alloc, &rows, sense, copy, wishes)
 }
 
 // The kind of the solver's answer.
@@ -145,13 +155,11 @@ pub fn solved(
     requires persons { IsSize n }
     requires objects { IsSize m }
 {
-    let scaled = scaled_rectangle(alloc, n, m, pairs, sense)?;
-    let outcome = solve_paths_among(alloc, scaled, n)?;
+    let outcome = outcome_of(alloc, n, m, pairs, sense, None)?;
     came_of(alloc, n, m, pairs, sense, &outcome)
 }
 
-// The kind of the solver's answer from first prices, one for each of as many objects as there are
-// persons or objects.
+// The kind of the solver's answer from first prices. Those beyond the last object aren't used.
 pub fn solved_from(
     alloc: Global,
     n: u16,
@@ -162,10 +170,9 @@ pub fn solved_from(
 ) -> Result<Came, AllocError>
     requires persons { IsSize n }
     requires objects { IsSize m }
-    requires prices { length prices ≡ max n m }
 {
-    let scaled = scaled_rectangle(alloc, n, m, pairs, sense)?;
-    let outcome = solve_paths_among_from(alloc, scaled, n, prices)?;
+    let first = prices.as_slice().get(..m as usize);
+    let outcome = outcome_of(alloc, n, m, pairs, sense, first)?;
     came_of(alloc, n, m, pairs, sense, &outcome)
 }
 
@@ -180,8 +187,8 @@ pub fn solved_with_dummies(
     requires persons { IsSize n }
     requires objects { IsSize m }
 {
-    let scaled = scaled_rectangle(alloc, n, m, pairs, sense)?;
-    let outcome = solve_with_dummies(alloc, &scaled, n)?;
+    let problem = rectangle(alloc, n, m, pairs)?;
+    let outcome = solve_with_dummies(alloc, &problem, sense, n)?;
     came_of(alloc, n, m, pairs, sense, &outcome)
 }
 
@@ -204,10 +211,8 @@ pub fn prices_from(
 ) -> Result<Vec<Price>, AllocError>
     requires persons { IsSize n }
     requires objects { IsSize m }
-    requires prices { length prices ≡ max n m }
 {
-    let scaled = scaled_rectangle(alloc, n, m, pairs, sense)?;
-    let outcome = solve_paths_among_from(alloc, scaled, n, prices)?;
+    let outcome = outcome_of(alloc, n, m, pairs, sense, Some(prices.as_slice()))?;
     prices_of(alloc, &outcome)
 }
 
@@ -223,8 +228,7 @@ pub fn solved_after(
     requires persons { IsSize n }
     requires objects { IsSize m }
 {
-    let scaled = scaled_rectangle(alloc, n, m, other, sense)?;
-    let outcome = solve_paths_among(alloc, scaled, n)?;
+    let outcome = outcome_of(alloc, n, m, other, sense, None)?;
     let given = prices_of(alloc, &outcome)?;
     let first = first_prices(alloc, n.max(m), given.as_slice())?;
     solved_from(alloc, n, m, pairs, sense, first)

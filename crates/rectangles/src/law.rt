@@ -12,7 +12,7 @@ ghost use Rattle.rectangles.specs.Filled.{filled_up, of_first};
 /// certificate without the dummies' objects is one among all objects, since a dummy has slackness 1
 /// only at an object whose price is at most 1 above any other. A Hall set names no dummy, since a
 /// dummy lists all objects.
-pub fn dummies_change_nothing()
+pub fn proofs_hold_without_dummies()
     ensures certificate { (sense : Sense) (n : ℕ) (rows : List Listing) (xs : List ℕ) (prices : List ℤ)
         → IsProblem rows → n ≤ length rows → IsCertificate sense (filled_up n rows) xs prices
         → IsCertificateAmong sense (length rows) (take n rows) (take n xs) prices }

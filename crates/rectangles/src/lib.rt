@@ -1,14 +1,12 @@
 //! Few persons among many objects: the first `n` of a problem's persons. Their problem from its
-//! pairs, the costs of their assignments, and dummies that fill the problem up to a square, where a
-//! proof for the square is one for the problem.
+//! pairs, and dummies that fill the problem up to a square, where a proof for the square is one for
+//! the problem.
 #![tactic(auto)]
 
 mod filled;
 mod law;
 mod sparse;
-mod total;
 
 pub use filled::{filled_up, of_first};
-pub use law::{dummies_change_nothing, persons_of_a_hall_set};
+pub use law::{persons_of_a_hall_set, proofs_hold_without_dummies};
 pub use sparse::sparse_among;
-pub use total::total_of_first;

@@ -1,5 +1,5 @@
 // Problems from their pairs.
-ghost use Rattle.std.specs.Prelude.{◌≡◌, All, IfOk, length, max, take};
+ghost use Rattle.std.specs.Prelude.{◌≡◌, ◌-◌, [], All, IfOk, drop, length, max, replicate, take};
 ghost use Rattle.assign_core.specs.Rows.{IsAmong, IsSize};
 ghost use Rattle.rectangles.specs.Sparse.{IsSparseAmong, IsTripleAmong};
 
@@ -25,6 +25,7 @@ pub fn sparse_among(
     requires objects { IsSize m }
     requires triples { All (IsTripleAmong n m) triples.now }
     ensures rows { IfOk result (λ problem. IsSparseAmong n m triples.now (take n problem)) }
+    ensures others { IfOk result (λ problem. drop n problem ≡ replicate (m - n) []) }
     ensures among { IfOk result (IsAmong n m) }
     ensures count { IfOk result (λ problem. length problem ≡ max n m) }
 {

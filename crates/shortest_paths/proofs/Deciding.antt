@@ -1,21 +1,35 @@
--- A proof for the first n persons, which decides whether they have an assignment.
-use Rattle.std.proofs.Common.{◌≡◌, ℕ, ◌-◌, ◌++◌, List, length, replicate, take, ap, append-nil, arith, ◌∙◌}
+-- What a proof decides, and proofs among as many objects as persons.
+use Rattle.std.proofs.Common.{◌≡◌, ℕ, List, length, take, arith, subst, sym}
+use Rattle.std.specs.List.{All}
 use Rattle.std.proofs.lemmas.List.{take_all}
+use Rattle.std.proofs.lemmas.List.Elements.{All-take}
 use Rattle.assign_core.specs.declared.sense.Sense.{Sense}
 use Rattle.assign_core.specs.declared.outcome.Outcome.{Outcome}
 use Rattle.assign_core.specs.declared.outcome.Outcome.TheVariants.{Best, Hall}
-use Rattle.assign_core.specs.Outcomes.{IsDecided, IsProofAmong}
-use Rattle.assign_core.specs.Rows.{Listing}
+use Rattle.assign_core.specs.Outcomes.{IsDecided, IsProof, IsProofAmong}
+use Rattle.assign_core.specs.Rows.{Listing, IsAmong, IsProblem, IsRow, IsSize}
 use Rattle.assign_core.proofs.HallSets.{no_assignment}
-use Rattle.rectangles.specs.Filled.{dummy_row, filled_up}
 
 pub decides_among : (sense : Sense) (m : ℕ) (rows : List Listing) (outcome : Outcome) → IsProofAmong sense m rows outcome → IsDecided rows outcome
 decides_among sense m rows (Best c) proof = (c.assignment, proof.assigned)
 decides_among sense m rows (Hall h) proof = λ xs a. no_assignment rows h.persons h.objects xs proof a
 
--- no dummy is needed for all persons
-pub whole_filled : (n : ℕ) (rows : List Listing) → n ≡ length rows → filled_up n rows ≡ rows
-whole_filled n rows e =
-    let front : take n rows ≡ rows = take_all n rows (omega arith) in
-    let none : length rows - n ≡ 0 = omega arith in
-    ap (λ k. take n rows ++ replicate k (dummy_row (length rows))) none ∙ append-nil (take n rows) ∙ front
+-- all rows of a problem are one of as many persons as objects
+pub all_among : (n : ℕ) (rows : List Listing) → n ≡ length rows → IsProblem rows → IsAmong n n rows
+all_among n rows e h = record {
+  persons = omega arith;
+  objects = subst IsSize (sym e) h.size;
+  each = subst (λ k. All (IsRow k) (take n rows)) (sym e) (All-take (IsRow (length rows)) n rows h.each);
+}
+
+proof_of_rows : (sense : Sense) (rows : List Listing) (outcome : Outcome) → IsProofAmong sense (length rows) rows outcome → IsProof sense rows outcome
+proof_of_rows sense rows (Best c) p = record { assigned = p.assigned; priced = p.priced; in_range = p.in_range; slack = p.slack }
+proof_of_rows sense rows (Hall h) p = p
+
+-- a proof for all persons, among as many objects, is one of the problem
+pub proof_of_all : (sense : Sense) (n m : ℕ) (rows : List Listing) (outcome : Outcome) → n ≡ length rows → m ≡ length rows →
+    IsProofAmong sense m (take n rows) outcome → IsProof sense rows outcome
+proof_of_all sense n m rows outcome persons objects p =
+    let all : take n rows ≡ rows = take_all n rows (omega arith) in
+    proof_of_rows sense rows outcome
+    (subst (λ k. IsProofAmong sense k rows outcome) objects (subst (λ (r : List Listing). IsProofAmong sense m r outcome) all p))

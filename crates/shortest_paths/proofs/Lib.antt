@@ -1,1 +1,3 @@
 pub mod Deciding
+pub mod Fewer
+mod Filled

@@ -1,8 +1,9 @@
 //! Shortest augmenting paths, with rounds of offers in case the checkers refuse what they find.
 #![tactic(auto)]
 
-mod among;
+mod copied;
+mod dummies;
 mod solve;
 
-pub use among::{solve_paths_among, solve_paths_among_from, solve_with_dummies};
-pub use solve::{solve_paths, solve_paths_from, solve_paths_from_watched, solve_paths_watched};
+pub use dummies::solve_with_dummies;
+pub use solve::solve_paths;

@@ -1,107 +1,68 @@
-// The solver for as many persons as objects.
-ghost use Rattle.std.specs.Prelude.{◌≡◌, length, IfOk, IfSome};
-ghost use Rattle.std.specs.Arc.{arc_value};
-ghost use Rattle.rounds.specs.Outcomes.{IsDecided, IsProof};
+// The solver of persons among objects.
+ghost use Rattle.std.specs.Prelude.{IfOk};
+ghost use Rattle.assign_core.specs.Outcomes.{IsDecided, IsProofAmong};
 
-use assign_core::{Outcome, Prices};
-use augmenting_paths::{Observer, Unobserved, try_paths_from_watched, try_paths_watched};
-use rounds::solve_rounds_alone;
-use scaled_values::Scaled;
+use super::copied::problem_of;
+use super::dummies::solve_with_dummies;
+use assign_core::{Outcome, Sense};
+use augmenting_paths::{CostCopy, Observer, Wishes, try_paths};
+use dual_checker::CostRows;
 use std::alloc::{AllocError, Global};
-use std::sync::Arc;
 
-// The result, or the outcome of rounds if there is none.
-fn settled(
-    alloc: Global,
-    scaled: Arc<Scaled>,
-    found: Option<Outcome>,
-) -> Result<Outcome, AllocError>
-    requires { IfSome found (IsProof (arc_value scaled)) }
-    ensures proof { IfOk result (IsProof (arc_value scaled)) }
-    ensures decided { IfOk result (IsDecided (arc_value scaled)) }
+// The outcome by way of a square.
+fn solve_by_square(alloc: Global, rows: &CostRows<'_>, sense: Sense) -> Result<Outcome, AllocError>
+    ensures { IfOk result (IsProofAmong sense rows.now.m rows.now.rows) }
 {
-    match found {
+    let problem = problem_of(alloc, rows)?;
+    solve_with_dummies(alloc, &problem, sense, rows.persons())
+}
+
+// The outcome of paths, or the one by way of a square if the checkers refuse what paths find.
+fn solve<O: Observer>(
+    alloc: Global,
+    rows: &CostRows<'_>,
+    sense: Sense,
+    copy: CostCopy,
+    wishes: Wishes<'_, O>,
+) -> Result<Outcome, AllocError>
+    ensures { IfOk result (IsProofAmong sense rows.now.m rows.now.rows) }
+{
+    match try_paths(alloc, rows, sense, copy, wishes)? {
         Some(outcome) => Ok(outcome),
-        None => match solve_rounds_alone(alloc, scaled) {
-            Ok(outcome) => Ok(outcome),
-            // Rounds have only one fault: memory was refused.
-            Err(_) => Err(AllocError),
-        },
+        None => solve_by_square(alloc, rows, sense),
     }
 }
 
-/// Solves by shortest augmenting paths, and by rounds of offers in the calling thread if these find
-/// no proof: an optimal assignment with prices that prove it if an assignment exists, and a Hall
-/// set otherwise.
+/// Solves by shortest augmenting paths: an optimal assignment with prices that prove it if an
+/// assignment exists, and a Hall set otherwise. The copy is that of these rows. From first prices,
+/// one for each object, it searches less if they fit; any prices are allowed.
+///
+/// If the checkers refuse the result, which is not known to happen, a square answers as in
+/// `solve_with_dummies`, without first prices. No clause says what the observer hears.
 ///
 /// # Errors
 /// `AllocError` if memory is refused.
 ///
 /// # Example
-/// The body of `calling::least_cost`:
+/// The body of `calling::solve_costs`:
 /// ```
-/// let scaled = Arc::new(alloc, scale(alloc, problem, Sense::Min)?)?;
-/// let outcome = solve_paths(alloc, scaled.clone()?)?;
-/// match outcome {
-///     Outcome::Best(best) => Ok(Some(cost_of_best(scaled.problem(), &best))),
-///     Outcome::Hall(_) => Ok(None),
-/// }
+/// let rows = CostRows::dense(n, m, costs);
+/// let copy = copy_dense(alloc, n, m, sense, costs)?;
+/// let wishes = Wishes {
+///     prices: None,
+///     observer: &Unobserved,
+/// };
+/// solve_paths(alloc, &rows, sense, copy, wishes)
 /// ```
-pub fn solve_paths(alloc: Global, scaled: Arc<Scaled>) -> Result<Outcome, AllocError>
-    ensures proof { IfOk result (IsProof (arc_value scaled)) }
-    ensures decided { IfOk result (IsDecided (arc_value scaled)) }
-{
-    solve_paths_watched(alloc, scaled, &Unobserved)
-}
-
-/// Does what `solve_paths` does, and calls an observer with the number of persons who have an
-/// object. No clause says what the observer hears. Rounds, if they are needed, don't call it.
-///
-/// # Errors
-/// `AllocError` if memory is refused.
-pub fn solve_paths_watched<O: Observer>(
+pub fn solve_paths<O: Observer>(
     alloc: Global,
-    scaled: Arc<Scaled>,
-    observer: &O,
+    rows: &CostRows<'_>,
+    sense: Sense,
+    copy: CostCopy,
+    wishes: Wishes<'_, O>,
 ) -> Result<Outcome, AllocError>
-    ensures proof { IfOk result (IsProof (arc_value scaled)) }
-    ensures decided { IfOk result (IsDecided (arc_value scaled)) }
+    ensures proof { IfOk result (IsProofAmong sense rows.now.m rows.now.rows) }
+    ensures decided { IfOk result (IsDecided rows.now.rows) }
 {
-    let found = try_paths_watched(alloc, &scaled, observer)?;
-    settled(alloc, scaled, found)
-}
-
-/// Solves as `solve_paths` does, from these first prices, one for each object. Rounds, if they are
-/// needed, begin at prices of 0.
-///
-/// # Errors
-/// `AllocError` if memory is refused.
-pub fn solve_paths_from(
-    alloc: Global,
-    scaled: Arc<Scaled>,
-    prices: Prices,
-) -> Result<Outcome, AllocError>
-    requires { length prices ≡ length (arc_value scaled).problem }
-    ensures proof { IfOk result (IsProof (arc_value scaled)) }
-    ensures decided { IfOk result (IsDecided (arc_value scaled)) }
-{
-    solve_paths_from_watched(alloc, scaled, prices, &Unobserved)
-}
-
-/// Does what `solve_paths_from` does, and calls an observer as `solve_paths_watched` does.
-///
-/// # Errors
-/// `AllocError` if memory is refused.
-pub fn solve_paths_from_watched<O: Observer>(
-    alloc: Global,
-    scaled: Arc<Scaled>,
-    prices: Prices,
-    observer: &O,
-) -> Result<Outcome, AllocError>
-    requires { length prices ≡ length (arc_value scaled).problem }
-    ensures proof { IfOk result (IsProof (arc_value scaled)) }
-    ensures decided { IfOk result (IsDecided (arc_value scaled)) }
-{
-    let found = try_paths_from_watched(alloc, &scaled, &prices, observer)?;
-    settled(alloc, scaled, found)
+    solve(alloc, rows, sense, copy, wishes)
 }

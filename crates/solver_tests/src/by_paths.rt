@@ -1,20 +1,17 @@
 // Shortest paths: problems of all kinds, compared with a slow search and with rounds. The contract
 // also allows a search that finds nothing; only these tests show that it finds answers.
-ghost use Rattle.rounds.specs.Outcomes.{IsProof};
-
 mod kinds;
 mod starts;
 mod wide;
 mod worked;
 
 use assign_core::{
-    Cost, GREATEST_COST, GREATEST_FIRST_PRICE, MOST_PERSONS, Object, Outcome, Person, Price, Sense,
+    Cost, GREATEST_COST, GREATEST_FIRST_PRICE, MOST_PERSONS, Object, Outcome, Person, Price, Problem,
+    Sense,
 };
-use augmenting_paths::{Observer, try_paths, try_paths_from};
-use scaled_values::{Scaled, scale};
-use shortest_paths::{
-    solve_paths, solve_paths_from, solve_paths_from_watched, solve_paths_watched,
-};
+use augmenting_paths::{Observer, Unobserved, Wishes, copy_rows, try_paths};
+use dual_checker::CostRows;
+use shortest_paths::solve_paths;
 use std::alloc::{AllocError, Global};
 use test_helpers::{Pair, best_cost, first_prices, next_number, problem_of, scaled_of, size};
 
@@ -35,20 +32,41 @@ fn are_exact(n: u16, prices: &[Price]) -> bool {
     prices.iter().all(|price| price.wrapping_rem(step) == 0)
 }
 
-fn found_in(scaled: &Scaled, outcome: &Outcome) -> Finding
-    requires { IsProof scaled.now outcome.now }
-{
+// The sum of the costs of the objects of persons 1, 2, ..
+fn cost_by(problem: &Problem, objects: &[Object]) -> Cost {
+    let mut sum: Cost = 0;
+    for i in 0..problem.n() {
+        if let Some(object) = objects.get(i as usize) {
+            let cost = problem.cost_of(Person(i + 1), *object);
+            sum = sum.wrapping_add(cost.unwrap_or(0));
+        }
+    }
+    sum
+}
+
+fn found_in(problem: &Problem, outcome: &Outcome) -> Finding {
     match outcome {
         Outcome::Hall(_) => Finding::Hall,
         Outcome::Best(best) => {
-            let cost = scaled.problem().total(&best.assignment);
-            if are_exact(scaled.n(), best.prices.as_slice()) {
+            let cost = cost_by(problem, best.assignment.objects());
+            if are_exact(problem.n(), best.prices.as_slice()) {
                 Finding::Best(cost)
             } else {
                 Finding::Inexact(cost)
             }
         }
     }
+}
+
+// All rows of a problem.
+fn rows_of(problem: &Problem) -> CostRows<'_> {
+    let n = problem.n();
+    CostRows::first(problem, n, n)
+}
+
+// These prices, if first prices are given.
+fn wished<'a>(first: Option<&[Price]>, prices: &'a [Price]) -> Option<&'a [Price]> {
+    first.is_some().then_some(prices)
 }
 
 // What paths find, from first prices if they are given.
@@ -59,14 +77,33 @@ fn found(
     sense: Sense,
     first: Option<&[Price]>,
 ) -> Result<Finding, AllocError> {
-    let n = size(n);
-    let scaled = scale(alloc, problem_of(alloc, n, pairs)?, sense)?;
-    let outcome = match first {
-        Some(first) => try_paths_from(alloc, &scaled, &first_prices(alloc, n, first)?)?,
-        None => try_paths(alloc, &scaled)?,
+    let problem = problem_of(alloc, size(n), pairs)?;
+    let rows = rows_of(&problem);
+    let copy = copy_rows(alloc, &rows, sense)?;
+    let prices = first_prices(alloc, size(n), first.unwrap_or(&[]))?;
+    let wishes = Wishes {
+        prices: wished(first, prices.as_slice()),
+        observer: &Unobserved,
     };
-    match outcome {
-        Some(outcome) => Ok(found_in(&scaled, &outcome)),
+    match try_paths(alloc, &rows, sense, copy, wishes)? {
+        Some(outcome) => Ok(found_in(&problem, &outcome)),
         None => Ok(Finding::Nothing),
     }
+}
+
+// The solver's outcome, from first prices if they are given, while this observer hears of it.
+fn solved_by<O: Observer>(
+    alloc: Global,
+    problem: &Problem,
+    first: Option<&[Price]>,
+    observer: &O,
+) -> Result<Outcome, AllocError> {
+    let rows = rows_of(problem);
+    let copy = copy_rows(alloc, &rows, Sense::Min)?;
+    let prices = first_prices(alloc, problem.n(), first.unwrap_or(&[]))?;
+    let wishes = Wishes {
+        prices: wished(first, prices.as_slice()),
+        observer,
+    };
+    solve_paths(alloc, &rows, Sense::Min, copy, wishes)
 }

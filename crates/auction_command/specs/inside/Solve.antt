@@ -1,17 +1,28 @@
 -- Runs of `solve` after the problem is read.
-use Rattle.std.specs.Prelude.{ℕ, ℤ, List, Option, Result, Ok, Err, IfSome, ⊤}
+use Rattle.std.specs.Prelude.{◌≡◌, ℕ, ℤ, List, Option, Result, Ok, Err, IfSome, ⊤}
 use Rattle.std.specs.Option.{IsSomeAnd}
 use Rattle.std.specs.Io.KnownBytes.{Appends, Keeps}
 use Rattle.assign_core.specs.Rows.{Listing}
+use Rattle.assign_core.specs.declared.outcome.Outcome.{Outcome}
+use Rattle.command_line.specs.declared.words.SolveOpts.{SolveOpts}
 use Rattle.report.specs.Answers.{Answers}
+use Rattle.report.specs.Lines.{report_text}
+use Rattle.report.specs.Outcomes.{outcome_report}
 use Rattle.report.specs.Reports as reports
 use Rattle.report.specs.Starts.{HasStartFault}
 use Rattle.report.specs.Writing.{IsCutOff}
-use Rattle.auction_command.specs.Solve.{IsReportOn}
+use Rattle.auction_command.specs.Solve.{IsReportOn, end_of}
 use Rattle.auction_command.specs.declared.run.Solver.{Solver}
 use Rattle.auction_command.specs.declared.run.Ended.{Ended}
 use Rattle.auction_command.specs.declared.run.CliFault.{CliFault}
 use Rattle.auction_command.specs.declared.run.CliFault.TheVariants.{Report, Start, Write, Memory}
+
+-- by the end of the writing of the report on an outcome: it was written, or a beginning of it
+abbrev pub Puts : SolveOpts → List Listing → Outcome → Option (List ℕ) → Option (List ℕ) → Result Ended CliFault → Type 0
+Puts options rows outcome old new (Ok ended) =
+    (ended ≡ end_of outcome) × Appends old new (report_text (outcome_report rows options.sense outcome options.prices))
+Puts options rows outcome old new (Err Write) = IsCutOff old new (report_text (outcome_report rows options.sense outcome options.prices))
+Puts options rows outcome old new (Err fault) = ⊥
 
 -- by the end of a run over a problem and first prices: the report was written, or a beginning of
 -- it, or nothing

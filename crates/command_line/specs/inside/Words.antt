@@ -1,6 +1,6 @@
 -- Words on their way through the program.
-use Rattle.std.specs.Prelude.{◌≡◌, ◌≢◌, ◌⊎◌, ℕ, List, Option, Some, codes, ⊤}
-use Rattle.clap.specs.Words.{Row, Text, kind_of, one_of}
+use Rattle.std.specs.Prelude.{◌≡◌, ◌≢◌, ◌⊎◌, ℕ, List, Option, Some, codes, false, true, ⊤}
+use Rattle.clap.specs.Words.{App, Row, Text, kind_of, one_of}
 use Rattle.clap.specs.declared.error.Error.{Error}
 use Rattle.clap.specs.declared.error.kind.ErrorKind.TheVariants.{OutOfMemory}
 use Rattle.command_line.specs.Words.{Chooses, IsNumberFor, NamesNoMode, NamesNoSense}
@@ -9,6 +9,13 @@ use Rattle.command_line.specs.declared.words.Words.{Words}
 use Rattle.command_line.specs.declared.words.WordsFault.{WordsFault}
 use Rattle.command_line.specs.declared.words.WordsFault.TheVariants as wrong
 use Rattle.command_line.specs.declared.words.WordsFault.TheVariants.{Clap, Memory}
+
+-- a command before and after it has a version
+abbrev pub without_version : App → App
+without_version app = record app { top = record app.top { has_version = false } }
+
+abbrev pub with_version : App → App
+with_version app = record app { top = record app.top { has_version = true } }
 
 -- the text is a number in range
 abbrev pub IsNumberIn : Option Text → ℕ → ℕ → Type 0

@@ -1,10 +1,10 @@
 // Verdicts on persons among more or fewer objects, worked by hand.
-ghost use Rattle.std.specs.Prelude.{IfOk};
-ghost use Rattle.assign_core.specs.Rows.{IsAmong};
+ghost use Rattle.std.specs.Prelude.{◌≡◌, ◌*◌, length, All, IfOk};
+ghost use Rattle.assign_core.specs.Rows.{IsAmong, IsCost, IsSize};
 
 use super::by_digits;
 use assign_core::{Cost, Object, Person, Price, Problem, Sense};
-use dual_checker::{Verdict, VerdictAmong, check_among, confirm_best_among};
+use dual_checker::{CostRows, Verdict, VerdictAmong, check_among, confirm_best_among};
 use std::alloc::{AllocError, Global};
 use std::test::Fail;
 
@@ -12,12 +12,6 @@ fn two_among_three(alloc: Global) -> Result<Problem, AllocError>
     ensures { IfOk result (IsAmong 2 3) }
 {
     Problem::dense_among(alloc, 2, 3, &[1, 2, 9, 3, 5, 4])
-}
-
-fn three_among_two(alloc: Global) -> Result<Problem, AllocError>
-    ensures { IfOk result (IsAmong 3 2) }
-{
-    Problem::dense_among(alloc, 3, 2, &[1, 2, 3, 4, 5, 6])
 }
 
 // The number of rows, the length of the last one, and the cost of object 3 for person 2.
@@ -33,23 +27,37 @@ fn rows_of_persons_among_more_objects(rt: HostRuntime) -> Result<(), Fail> {
     Ok(())
 }
 
-// The verdict on two persons' objects from digits, among three.
-fn verdict_of_two(
+// The verdicts on the same rows, by a problem and by a list of costs.
+pub fn both_verdicts(
+    alloc: Global,
+    n: u16,
+    m: u16,
+    costs: &[Cost],
+    sense: Sense,
+    objects: &[Object],
+    prices: &[Price],
+) -> Result<(VerdictAmong, VerdictAmong), AllocError>
+    requires persons { IsSize n }
+    requires objects { IsSize m }
+    requires count { length costs.now ≡ n * m }
+    requires costs { All IsCost costs.now }
+{
+    let problem = Problem::dense_among(alloc, n, m, costs)?;
+    let rows = CostRows::first(&problem, n, m);
+    let first = check_among(alloc, &rows, sense, objects, prices)?;
+    let rows = CostRows::dense(n, m, costs);
+    Ok((first, check_among(alloc, &rows, sense, objects, prices)?))
+}
+
+// The verdicts on two persons' objects from digits, among three.
+fn verdicts_of_two(
     alloc: Global,
     objects: &str,
     prices: &[Price],
-) -> Result<VerdictAmong, AllocError> {
-    let problem = two_among_three(alloc)?;
+) -> Result<(VerdictAmong, VerdictAmong), AllocError> {
     let objects: Vec<Object> = by_digits(alloc, objects)?;
-    check_among(
-        alloc,
-        &problem,
-        2,
-        3,
-        Sense::Min,
-        objects.as_slice(),
-        prices,
-    )
+    let costs = [1, 2, 9, 3, 5, 4];
+    both_verdicts(alloc, 2, 3, &costs, Sense::Min, objects.as_slice(), prices)
 }
 
 #[test]
@@ -85,43 +93,44 @@ fn two_persons_among_three_objects(rt: HostRuntime) -> Result<(), Fail> {
         ("213", &[4, 0, 0], VerdictAmong::Usual(Verdict::Length)),
     ];
     for (objects, prices, verdict) in table {
-        let said = verdict_of_two(rt.alloc(), objects, prices)?;
-        assert!(rt; said == verdict);
+        let (problem, list) = verdicts_of_two(rt.alloc(), objects, prices)?;
+        assert!(rt; problem == verdict);
+        assert!(rt; list == verdict);
     }
     Ok(())
 }
 
-// The verdict on three persons' objects from digits, among two.
-fn verdict_of_three(alloc: Global, objects: &str) -> Result<VerdictAmong, AllocError> {
-    let problem = three_among_two(alloc)?;
+// The verdicts on three persons' objects from digits, among two.
+fn verdicts_of_three(
+    alloc: Global,
+    objects: &str,
+) -> Result<(VerdictAmong, VerdictAmong), AllocError> {
     let objects: Vec<Object> = by_digits(alloc, objects)?;
-    check_among(
-        alloc,
-        &problem,
-        3,
-        2,
-        Sense::Max,
-        objects.as_slice(),
-        &[0, 0],
-    )
+    let costs = [1, 2, 3, 4, 5, 6];
+    both_verdicts(alloc, 3, 2, &costs, Sense::Max, objects.as_slice(), &[0, 0])
 }
 
 #[test]
 fn three_persons_among_two_objects(rt: HostRuntime) -> Result<(), Fail> {
-    let twice = verdict_of_three(rt.alloc(), "121")?;
-    assert!(rt; twice == VerdictAmong::Usual(Verdict::Twice(Object(1))));
-    let unlisted = verdict_of_three(rt.alloc(), "123")?;
-    assert!(rt; unlisted == VerdictAmong::Usual(Verdict::Unlisted(Person(3))));
+    for (objects, verdict) in [
+        ("121", Verdict::Twice(Object(1))),
+        ("123", Verdict::Unlisted(Person(3))),
+        ("12", Verdict::Length),
+    ] {
+        let (problem, list) = verdicts_of_three(rt.alloc(), objects)?;
+        assert!(rt; problem == VerdictAmong::Usual(verdict));
+        assert!(rt; list == VerdictAmong::Usual(verdict));
+    }
     Ok(())
 }
 
 // Whether two persons' objects from digits are accepted at these prices.
 fn is_taken(alloc: Global, objects: &str, prices: [Price; 3]) -> Result<bool, AllocError> {
-    let problem = two_among_three(alloc)?;
+    let costs = [1, 2, 9, 3, 5, 4];
+    let rows = CostRows::dense(2, 3, &costs);
     let objects: Vec<Object> = by_digits(alloc, objects)?;
     let prices = prices.as_slice().to_vec(alloc)?;
-    let taken = confirm_best_among(alloc, &problem, 2, 3, Sense::Min, objects, prices)?;
-    Ok(taken.is_some())
+    Ok(confirm_best_among(alloc, &rows, Sense::Min, objects, prices)?.is_some())
 }
 
 #[test]

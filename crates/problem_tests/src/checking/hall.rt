@@ -1,7 +1,10 @@
 // Verdicts on lists of persons and objects, worked by hand.
+ghost use Rattle.std.specs.Prelude.{◌≡◌, ◌*◌};
+ghost use Rattle.assign_core.specs.Rows.{IsSize};
+
 use super::{all, by_digits, of_one_object};
 use assign_core::{Object, Person, Problem};
-use dual_checker::{HallVerdict, check_hall};
+use dual_checker::{CostRows, HallVerdict, check_hall, check_hall_among, confirm_hall_among};
 use std::alloc::{AllocError, Global};
 use std::test::Fail;
 
@@ -41,6 +44,82 @@ fn lists_for_three_persons(rt: HostRuntime) -> Result<(), Fail> {
     ] {
         assert!(rt; verdict_of(rt.alloc(), persons, objects)? == verdict);
     }
+    Ok(())
+}
+
+// The verdicts on persons and objects from digits among n persons who list each of m objects, by a
+// problem and by a list of costs.
+fn full_verdicts(
+    alloc: Global,
+    n: u16,
+    m: u16,
+    persons: &str,
+    objects: &str,
+) -> Result<(HallVerdict, HallVerdict), AllocError>
+    requires persons { IsSize n }
+    requires objects { IsSize m }
+    requires count { n * m ≡ 6 }
+{
+    let costs = [1, 2, 3, 4, 5, 6];
+    let problem = Problem::dense_among(alloc, n, m, &costs)?;
+    let persons: Vec<Person> = by_digits(alloc, persons)?;
+    let objects: Vec<Object> = by_digits(alloc, objects)?;
+    let (persons, objects) = (persons.as_slice(), objects.as_slice());
+    let rows = CostRows::first(&problem, n, m);
+    let first = check_hall_among(alloc, &rows, persons, objects)?;
+    let rows = CostRows::dense(n, m, &costs);
+    Ok((first, check_hall_among(alloc, &rows, persons, objects)?))
+}
+
+#[test]
+fn lists_for_three_persons_among_two_objects(rt: HostRuntime) -> Result<(), Fail> {
+    for (persons, objects, verdict) in [
+        ("123", "12", HallVerdict::Yes),
+        ("23", "12", HallVerdict::Count),
+        ("123", "1", HallVerdict::Missing(Person(1), Object(2))),
+        ("3", "", HallVerdict::Missing(Person(3), Object(1))),
+        ("", "2", HallVerdict::Extra(Object(2))),
+        ("", "", HallVerdict::Count),
+        ("132", "12", HallVerdict::Order),
+        ("124", "12", HallVerdict::Range),
+        ("123", "123", HallVerdict::Range),
+    ] {
+        let (problem, list) = full_verdicts(rt.alloc(), 3, 2, persons, objects)?;
+        assert!(rt; problem == verdict);
+        assert!(rt; list == verdict);
+    }
+    Ok(())
+}
+
+#[test]
+fn lists_for_two_persons_among_three_objects(rt: HostRuntime) -> Result<(), Fail> {
+    for (persons, objects, verdict) in [
+        ("12", "123", HallVerdict::Count),
+        ("12", "12", HallVerdict::Missing(Person(1), Object(3))),
+        ("", "3", HallVerdict::Extra(Object(3))),
+        ("123", "123", HallVerdict::Range),
+        ("12", "1234", HallVerdict::Range),
+    ] {
+        let (problem, list) = full_verdicts(rt.alloc(), 2, 3, persons, objects)?;
+        assert!(rt; problem == verdict);
+        assert!(rt; list == verdict);
+    }
+    Ok(())
+}
+
+// Whether persons and objects from digits are accepted among three persons who list both objects.
+fn is_taken(alloc: Global, persons: &str, objects: &str) -> Result<bool, AllocError> {
+    let costs = [1, 2, 3, 4, 5, 6];
+    let rows = CostRows::dense(3, 2, &costs);
+    let persons: Vec<Person> = by_digits(alloc, persons)?;
+    let objects: Vec<Object> = by_digits(alloc, objects)?;
+    Ok(confirm_hall_among(alloc, &rows, persons, objects)?.is_some())
+}
+
+#[test]
+fn lists_of_all_persons_and_objects(rt: HostRuntime) -> Result<(), Fail> {
+    assert!(rt; is_taken(rt.alloc(), "123", "12")?);
+    assert!(rt; !is_taken(rt.alloc(), "12", "12")?);
     Ok(())
 }
 

@@ -110,7 +110,7 @@ fn found_by_rounds(alloc: Global, n: u16, pairs: &[Pair]) -> Result<Option<Cost>
     let scaled = scaled_of(alloc, size(n), pairs, Sense::Min)?;
     let again = scaled.clone()?;
     match solve_rounds_alone(alloc, scaled) {
-        Ok(outcome) => Ok(cost_of(found_in(&again, &outcome))),
+        Ok(outcome) => Ok(cost_of(found_in(again.problem(), &outcome))),
         Err(_) => Err(AllocError),
     }
 }

@@ -17,13 +17,11 @@ impl Observer for Least {
 
 // The least number reported for a problem of two persons from first prices.
 fn least_told(alloc: Global, pairs: &[Pair], first: &[Price]) -> Result<u64, AllocError> {
-    let n = size(2);
-    let scaled = scaled_of(alloc, n, pairs, Sense::Min)?;
+    let problem = problem_of(alloc, size(2), pairs)?;
     let least = Least {
         persons: AtomicU64::new(u64::MAX),
     };
-    let first = first_prices(alloc, n, first)?;
-    solve_paths_from_watched(alloc, scaled, first, &least)?;
+    let _outcome = solved_by(alloc, &problem, Some(first), &least)?;
     Ok(least.persons.load(Ordering::SeqCst))
 }
 

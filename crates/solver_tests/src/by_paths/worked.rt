@@ -73,37 +73,24 @@ fn as_many_persons_as_there_may_be(rt: HostRuntime) -> Result<(), Fail> {
     Ok(())
 }
 
-// The sum of the costs of the objects of persons 1, 2, ..
-fn cost_by(scaled: &Scaled, objects: &[Object]) -> Cost {
-    let mut sum: Cost = 0;
-    for i in 0..scaled.n() {
-        if let Some(object) = objects.get(i as usize) {
-            let cost = scaled.problem().cost_of(Person(i + 1), *object);
-            sum = sum.wrapping_add(cost.unwrap_or(0));
-        }
+// The cost of an outcome, or none if no assignment exists.
+fn cost_in(problem: &Problem, outcome: &Outcome) -> Option<Cost> {
+    match outcome {
+        Outcome::Best(best) => Some(cost_by(problem, best.assignment.objects())),
+        Outcome::Hall(_) => None,
     }
-    sum
 }
 
-// The result of the public calls, from first prices if they are given: the cost, or none if no
-// assignment exists.
+// The result of the public call, from first prices if they are given.
 fn solved(
     alloc: Global,
     n: u16,
     pairs: &[Pair],
     first: Option<&[Price]>,
 ) -> Result<Option<Cost>, AllocError> {
-    let n = size(n);
-    let scaled = scaled_of(alloc, n, pairs, Sense::Min)?;
-    let again = scaled.clone()?;
-    let outcome = match first {
-        Some(first) => solve_paths_from(alloc, scaled, first_prices(alloc, n, first)?)?,
-        None => solve_paths(alloc, scaled)?,
-    };
-    match outcome {
-        Outcome::Best(best) => Ok(Some(cost_by(&again, best.assignment.objects()))),
-        Outcome::Hall(_) => Ok(None),
-    }
+    let problem = problem_of(alloc, size(n), pairs)?;
+    let outcome = solved_by(alloc, &problem, first, &Unobserved)?;
+    Ok(cost_in(&problem, &outcome))
 }
 
 #[test]
@@ -157,20 +144,9 @@ fn followed(
     first: Option<&[Price]>,
     follower: &Follower,
 ) -> Result<Option<Cost>, AllocError> {
-    let n = size(follower.persons);
-    let scaled = scaled_of(alloc, n, pairs, Sense::Min)?;
-    let again = scaled.clone()?;
-    let outcome = match first {
-        Some(first) => {
-            let first = first_prices(alloc, n, first)?;
-            solve_paths_from_watched(alloc, scaled, first, follower)?
-        }
-        None => solve_paths_watched(alloc, scaled, follower)?,
-    };
-    match outcome {
-        Outcome::Best(best) => Ok(Some(cost_by(&again, best.assignment.objects()))),
-        Outcome::Hall(_) => Ok(None),
-    }
+    let problem = problem_of(alloc, size(follower.persons), pairs)?;
+    let outcome = solved_by(alloc, &problem, first, follower)?;
+    Ok(cost_in(&problem, &outcome))
 }
 
 // The cost of a pair is the product of its two numbers, which takes long searches.

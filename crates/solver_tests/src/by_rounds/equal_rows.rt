@@ -103,12 +103,13 @@ fn larger_problems_of_a_few_kinds(rt: HostRuntime) -> Result<(), Fail> {
     Ok(())
 }
 
-// Makes for each person who waits its own offer. Counts the rounds, the persons who waited in all
-// of them, and the most offers that one round requested.
+// Makes the offers that a round requests. Counts the rounds, the persons who waited in all of them,
+// the offers made, and the most offers made in one round.
 #[derive(Drop)]
 struct Counted {
     rounds: u64,
     waited: u64,
+    made: usize,
     most: usize,
 }
 
@@ -128,21 +129,27 @@ impl Offering for Counted {
         persons: &[Person],
         offers: &mut Vec<Offer>,
     ) -> Result<(), AllocError> {
+        self.made = self.made.wrapping_add(persons.len());
         self.most = self.most.max(persons.len());
         Alone.make(scaled, prices, ask, persons, offers)
     }
 }
 
-// The number of rounds, the number of persons who waited in all of them, and the most offers made
-// in one round.
-fn counts_of(alloc: Global, n: u16, pairs: &[Pair]) -> Result<(u64, u64, usize), AllocError> {
+// The number of rounds, the number of persons who waited in all of them, the number of offers made,
+// and the most of them in one round.
+fn counts_of(
+    alloc: Global,
+    n: u16,
+    pairs: &[Pair],
+) -> Result<(u64, u64, usize, usize), AllocError> {
     let mut counted = Counted {
         rounds: 0,
         waited: 0,
+        made: 0,
         most: 0,
     };
     solved_by(&mut counted, alloc, n, pairs, Sense::Min, &[])?;
-    Ok((counted.rounds, counted.waited, counted.most))
+    Ok((counted.rounds, counted.waited, counted.made, counted.most))
 }
 
 // All costs are 1, so eps is 1 in the only phase, and each person bids a price of 1 for the first
@@ -151,6 +158,45 @@ fn counts_of(alloc: Global, n: u16, pairs: &[Pair]) -> Result<(u64, u64, usize),
 #[test]
 fn equal_persons_make_one_offer(rt: HostRuntime) -> Result<(), Fail> {
     let pairs = dense(rt.alloc(), 4, &[1; 16])?;
-    assert_eq!(rt; counts_of(rt.alloc(), 4, pairs.as_slice())?, (4, 10, 1));
+    assert_eq!(rt; counts_of(rt.alloc(), 4, pairs.as_slice())?, (4, 10, 4, 1));
+    Ok(())
+}
+
+// Persons 1, 3 and 5 list objects 1 to 3, and persons 2 and 4 objects 4 and 5.
+const TWO_KINDS: [Pair; 13] = [
+    (1, 1, 1),
+    (1, 2, 1),
+    (1, 3, 1),
+    (2, 4, 1),
+    (2, 5, 1),
+    (3, 1, 1),
+    (3, 2, 1),
+    (3, 3, 1),
+    (4, 4, 1),
+    (4, 5, 1),
+    (5, 1, 1),
+    (5, 2, 1),
+    (5, 3, 1),
+];
+
+// Person 1 lists object 1, persons 2 and 4 objects 2 and 3, and persons 3 and 5 objects 4 and 5.
+const THREE_KINDS: [Pair; 9] = [
+    (1, 1, 1),
+    (2, 2, 1),
+    (2, 3, 1),
+    (3, 4, 1),
+    (3, 5, 1),
+    (4, 2, 1),
+    (4, 3, 1),
+    (5, 4, 1),
+    (5, 5, 1),
+];
+
+// All costs are 1, so each round gives one person of each kind an object. Of two kinds 5 persons
+// wait, then 3 and then 1: 2, 2 and 1 offers. Of three kinds 5 wait, then 2: 3 and 2 offers.
+#[test]
+fn each_kind_makes_one_offer_a_round(rt: HostRuntime) -> Result<(), Fail> {
+    assert_eq!(rt; counts_of(rt.alloc(), 5, &TWO_KINDS)?, (3, 9, 5, 2));
+    assert_eq!(rt; counts_of(rt.alloc(), 5, &THREE_KINDS)?, (2, 7, 5, 3));
     Ok(())
 }

@@ -1,4 +1,4 @@
-use Rattle.std.proofs.Common.{◌≡◌, None}
+use Rattle.std.proofs.Common.{◌≡◌, None, false}
 use Rattle.assign_core.specs.Numbered.{numbered}
 use Rattle.auction_book.specs.Follows.{GoesOn}
 use Rattle.auction_book.specs.Free.{IsFree}
@@ -9,4 +9,5 @@ invariant-loop g l = record {
   goes_on : GoesOn l.fn.book l.book;
   free : IsFree l.book;
   none : numbered l.book.claims 1 None ≡ None;
+  resumed : l.book.stopped ≡ false;
 }

@@ -6,7 +6,7 @@ use Rattle.auction_book.specs.Book.{BookData, prices_of}
 use Rattle.auction_book.specs.Claims.{IsAsked}
 use Rattle.auction_book.proofs.Following.{goes_on_through}
 use Rattle.auction_book.proofs.Runs.{after_claim-base}
-use Rattle.async_workers.proofs.Single.{alone_claimed, alone_prepared}
+use Rattle.async_workers.proofs.Single.{after_claim-stopped, alone_claimed, alone_prepared}
 use Rattle.async_workers.proofs.alone.offer_alone.Goals as goal
 
 pub prepare-offer-requires-clause-table : goal.prepare-offer-requires-clause-table
@@ -38,3 +38,7 @@ pub returns-clause-goes_on : goal.returns-clause-goes_on
 returns-clause-goes_on c =
     let claimed = alone_claimed c.args.book.now c.claim-claim.new.self c.claim-claim.result c.claim-claim.ensures.book in
     goes_on_through c.args.book.now c.claim-claim.new.self c.submit_offer.new.book claimed.goes_on c.submit_offer.ensures.ends.follows.goes_on
+
+pub returns-clause-stopped : goal.returns-clause-stopped
+returns-clause-stopped c =
+    c.submit_offer.ensures.ends.stopped ∙ ap (λ (b : BookData). b.stopped) c.claim-claim.ensures.book ∙ after_claim-stopped c.args.book.now 1 c.claim-claim.result

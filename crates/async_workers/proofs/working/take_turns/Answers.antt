@@ -21,7 +21,7 @@ returns-in-Ok-Done g c = record {
   can_turn = c.turn.ensures.can_turn;
   works = works g (goal.at.returns-in-Ok-Done g c).After-turn;
   fault = tt;
-  last = (c.loop.desk, (turn.Done, subst (Turned c.args.refresh c.loop.desk c.turn.new.desk) c.in-Ok-Done.field-0-is c.in-Ok-Done.ensures.turned, tt));
+  last = (c.loop.desk, c.loop.invariant.can_turn, c.loop.invariant.works, (turn.Done, subst (Turned c.args.refresh c.loop.desk c.turn.new.desk) c.in-Ok-Done.field-0-is c.in-Ok-Done.ensures.turned, tt));
 }
 
 pub returns-in-Ok-Refuted : goal.returns-in-Ok-Refuted
@@ -29,7 +29,7 @@ returns-in-Ok-Refuted g c = record {
   can_turn = c.turn.ensures.can_turn;
   works = works g (goal.at.returns-in-Ok-Refuted g c).After-turn;
   fault = tt;
-  last = (c.loop.desk, (turn.Refuted, subst (Turned c.args.refresh c.loop.desk c.turn.new.desk) c.in-Ok-Refuted.field-0-is c.in-Ok-Refuted.ensures.turned, tt));
+  last = (c.loop.desk, c.loop.invariant.can_turn, c.loop.invariant.works, (turn.Refuted, subst (Turned c.args.refresh c.loop.desk c.turn.new.desk) c.in-Ok-Refuted.field-0-is c.in-Ok-Refuted.ensures.turned, tt));
 }
 
 pub returns-in-Ok-Stopped : goal.returns-in-Ok-Stopped
@@ -37,11 +37,11 @@ returns-in-Ok-Stopped g c = record {
   can_turn = c.turn.ensures.can_turn;
   works = works g (goal.at.returns-in-Ok-Stopped g c).After-turn;
   fault = tt;
-  last = (c.loop.desk, (turn.Stopped, subst (Turned c.args.refresh c.loop.desk c.turn.new.desk) c.in-Ok-Stopped.field-0-is c.in-Ok-Stopped.ensures.turned, tt));
+  last = (c.loop.desk, c.loop.invariant.can_turn, c.loop.invariant.works, (turn.Stopped, subst (Turned c.args.refresh c.loop.desk c.turn.new.desk) c.in-Ok-Stopped.field-0-is c.in-Ok-Stopped.ensures.turned, tt));
 }
 
 pub returns-in-Err-clause-works : goal.returns-in-Err-clause-works
 returns-in-Err-clause-works g c = works g (goal.at.returns-in-Err-clause-works g c).After-turn
 
 pub returns-in-Err-clause-last : goal.returns-in-Err-clause-last
-returns-in-Err-clause-last g c = (c.loop.desk, c.in-Err.ensures.fault.1)
+returns-in-Err-clause-last g c = (c.loop.desk, c.loop.invariant.can_turn, c.loop.invariant.works, c.in-Err.ensures.fault.1)

@@ -1,16 +1,12 @@
-use Rattle.std.proofs.Common.{◌≡◌, ◌∙◌, ap, ap₂, rules}
-use Rattle.std.proofs.lemmas.Result.{IfOk-weaker}
-use Rattle.clap.specs.Words.{App, app_of, with_rule, with_subcommand}
-use Rattle.clap.proofs.SimpleLemmas.{plain_fields}
-use Rattle.command_line.specs.Words.{bare_program, plain_program, solve_app}
+use Rattle.std.proofs.Common.{◌≡◌, ◌∙◌, ap}
+use Rattle.clap.specs.Simple.{app_of_fields}
+use Rattle.clap.specs.Words.{App, app_of}
+use Rattle.command_line.specs.Words.{program}
+use Rattle.command_line.specs.inside.Words.{with_version}
 use Rattle.command_line.proofs.words.command.Goals as goal
 
-pub returns : goal.returns
-returns c =
-    let at = c.in_ok-solve_command.ensures.0 in
-    let plain : app_of c.subcommand_required.result ≡ plain_program = search rules in
-    let start : app_of c.in_ok-arg.field-0 ≡ bare_program = c.in_ok-arg.ensures.shape (search rules) ∙ ap₂ with_rule plain c.version_flag.ensures.rule in
-    let solve = ap (λ (a : App). a.top) c.in_ok-solve_command.ensures.1 in
-    let verify = ap (λ (a : App). a.top) c.in_ok-verify_command.ensures in
-    let first : app_of c.in_ok-subcommand.field-0 ≡ with_subcommand bare_program (solve_app at).top = c.in_ok-subcommand.ensures.shape (plain_fields c.in_ok-solve_command.field-0 (ap (λ (a : App). a.top.is_plain) c.in_ok-solve_command.ensures.1)).globals ∙ ap₂ with_subcommand start solve in
-    IfOk-weaker c.subcommand-2.result _ _ (λ r h. (at, h.shape (plain_fields c.in_ok-verify_command.field-0 (ap (λ (a : App). a.top.is_plain) c.in_ok-verify_command.ensures)).globals ∙ ap₂ with_subcommand first verify)) c.subcommand-2.ensures
+pub returns-clause-program : goal.returns-clause-program
+returns-clause-program c =
+    let plain = c.in_ok-unversioned_command.ensures in
+    let shown : app_of c.version.result ≡ with_version (app_of c.in_ok-unversioned_command.field-0) = ap app_of_fields c.version.ensures in
+    (plain.0, shown ∙ ap with_version plain.1)

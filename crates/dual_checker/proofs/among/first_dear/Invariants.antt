@@ -1,4 +1,4 @@
-use Rattle.std.proofs.Common.{ℕ, ◌<◌, ◌⊎◌, ◌≤ℤ◌, ◌+ℤ◌, pos}
+use Rattle.std.proofs.Common.{ℕ, ◌<◌, ◌⊎◌, ◌≤ℤ◌}
 use Rattle.assign_core.specs.Numbered.{IsNumber, numbered}
 use Rattle.assign_core.specs.Prices.{price_of}
 use Rattle.dual_checker.proofs.among.first_dear.Given as goal

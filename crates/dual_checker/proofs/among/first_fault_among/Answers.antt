@@ -1,4 +1,5 @@
-use Rattle.std.proofs.Common.{◌≡◌, ℕ, length, take, rules, sym, ◌∙◌, subst}
+use Rattle.std.proofs.Common.{◌≡◌, ℕ, rules, subst, sym, ◌∙◌}
+use Rattle.assign_core.specs.Rows.{IsSize}
 use Rattle.assign_core.specs.Slackness.{AreLow}
 use Rattle.dual_checker.specs.declared.verdict.Verdict.TheVariants.{Yes}
 use Rattle.dual_checker.specs.Faults.{IsDear, IsFirst}
@@ -8,8 +9,8 @@ use Rattle.dual_checker.proofs.among.first_fault_among.Goals as goal
 
 pub returns-in-Some : goal.returns-in-Some
 returns-in-Some c =
-    let m : ℕ = length c.args.counts.now in
-    let rows = take c.args.n c.args.problem.now in
+    let m : ℕ = c.args.rows.now.m in
+    let rows = c.args.rows.now.rows in
     let xs = c.args.objects.now in
     let prices = c.args.prices.now in
     let yes : c.first_fault-fault.result ≡ Yes = search rules in
@@ -20,8 +21,8 @@ returns-in-Some c =
 
 pub returns-in-None : goal.returns-in-None
 returns-in-None c =
-    let m : ℕ = length c.args.counts.now in
-    let rows = take c.args.n c.args.problem.now in
+    let m : ℕ = c.args.rows.now.m in
+    let rows = c.args.rows.now.rows in
     let xs = c.args.objects.now in
     let prices = c.args.prices.now in
     let yes : c.first_fault-fault.result ≡ Yes = search rules in
@@ -35,3 +36,9 @@ returns-in-None c =
       slack = slack.slack;
       low = subst (λ k. AreLow k prices xs) slack.priced low;
     }
+
+pub first_dear-requires-clause-size : goal.first_dear-requires-clause-size
+first_dear-requires-clause-size c =
+    let yes : c.first_fault-fault.result ≡ Yes = search rules in
+    let slack : IsSlackAssignment c.args.sense c.args.rows.now.m c.args.rows.now.rows c.args.objects.now c.args.prices.now = subst (IsFault c.args.sense c.args.rows.now.m c.args.rows.now.rows c.args.objects.now c.args.prices.now) yes c.first_fault-fault.ensures.fault in
+    subst IsSize (sym slack.priced) c.requires.size

@@ -1,16 +1,31 @@
-use Rattle.std.proofs.Common.{subst}
-use Rattle.assign_core.proofs.HallSets.{no_assignment}
+use Rattle.std.proofs.Common.{◌≡◌, ◌↔◌, ℕ, List, IfOk}
+use Rattle.std.proofs.lemmas.Result.{IfOk-weaker}
+use Rattle.assign_core.specs.Assignment.{IsAssignment}
+use Rattle.assign_core.specs.Hall.{IsHallSet}
 use Rattle.dual_checker.specs.declared.hall_verdict.HallVerdict.TheVariants.{Yes}
+use Rattle.dual_checker.specs.HallSets.{IsHallVerdictAmong}
 use Rattle.dual_checker.specs.HallVerdicts.{IsHallVerdict}
-use Rattle.dual_checker.proofs.HallDifferences.{halls_differ}
+use Rattle.dual_checker.proofs.Fronts.{among_whole, of_whole}
+use Rattle.dual_checker.proofs.HallDifferences.{hall_verdict_of}
 use Rattle.dual_checker.proofs.hall.check_hall.Goals as goal
 
+pub first-requires : goal.first-requires
+first-requires c = among_whole c.args.problem.now c.n-n.result c.n-n.result c.n-n.ensures.count c.n-n.ensures.count c.n-n.ensures.problem
+
+pub returns-clause-verdict : goal.returns-clause-verdict
+returns-clause-verdict c =
+    let rows = c.args.problem.now in
+    let persons = c.args.persons.now in
+    let objects = c.args.objects.now in
+    IfOk-weaker c.check_hall_among.result (IsHallVerdictAmong _ rows persons objects) (IsHallVerdict rows persons objects) (hall_verdict_of rows persons objects)
+    (of_whole (λ m r. IfOk c.check_hall_among.result (IsHallVerdictAmong m r persons objects)) rows c.n-n.result c.first.result c.n-n.ensures.count c.first.ensures c.check_hall_among.ensures.verdict)
+
 pub returns-clause-yes : goal.returns-clause-yes
-returns-clause-yes c = (
-  (λ e. subst (IsHallVerdict c.args.problem.now c.args.persons.now c.args.objects.now) e c.first_hall_fault.ensures),
-  (λ h. halls_differ c.args.problem.now c.args.persons.now c.args.objects.now c.first_hall_fault.result Yes c.n-n.ensures.problem c.first_hall_fault.ensures h),
-)
+returns-clause-yes c =
+    of_whole (λ m r. IfOk c.check_hall_among.result (λ v. (v ≡ Yes) ↔ IsHallSet r c.args.persons.now c.args.objects.now))
+    c.args.problem.now c.n-n.result c.first.result c.n-n.ensures.count c.first.ensures c.check_hall_among.ensures.yes
 
 pub returns-clause-none : goal.returns-clause-none
-returns-clause-none c = λ e xs a.
-    no_assignment c.args.problem.now c.args.persons.now c.args.objects.now xs (subst (IsHallVerdict c.args.problem.now c.args.persons.now c.args.objects.now) e c.first_hall_fault.ensures) a
+returns-clause-none c =
+    of_whole (λ m r. IfOk c.check_hall_among.result (λ v. v ≡ Yes → (xs : List ℕ) → IsAssignment r xs → ⊥))
+    c.args.problem.now c.n-n.result c.first.result c.n-n.ensures.count c.first.ensures c.check_hall_among.ensures.none

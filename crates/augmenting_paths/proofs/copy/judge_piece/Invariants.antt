@@ -1,0 +1,10 @@
+use Rattle.std.proofs.Common.{All, take, ◌≤ℤ◌}
+use Rattle.augmenting_paths.specs.Copies.{IsBetween}
+use Rattle.augmenting_paths.proofs.copy.judge_piece.Given as goal
+
+abbrev pub invariant-loop-k : goal.invariant-loop-k
+invariant-loop-k l = record {
+  between : All (IsBetween l.span.least l.span.greatest) (take l.k l.costs);
+  least : l.span.least ≤ℤ l.fn.span.least;
+  greatest : l.fn.span.greatest ≤ℤ l.span.greatest;
+}

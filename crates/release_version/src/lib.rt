@@ -1,0 +1,13 @@
+//! The version of a release, which the program and the library for C have. A new version proves
+//! again only what stands on this crate.
+#![tactic(auto)]
+
+ghost use Rattle.std.specs.Prelude.{◌≡◌, codes};
+
+/// The version, as the file VERSION at the top has it.
+pub const VERSION: &str = "3.0.0";
+
+/// The version as a text.
+pub fn version_text()
+    ensures { VERSION.now ≡ codes "3.0.0" }
+{}

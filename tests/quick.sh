@@ -1,0 +1,87 @@
+#!/usr/bin/env bash
+# Tests what needs no proof, in some minutes: tests/quick.sh [NAME..]. It takes the program and the library that are
+# built here, or else those of release/. With names of crates and the kit, `rt ci NAME..` comes first. It lists what it
+# left out and why. The last line is 'N passed, M failed'.
+set -uo pipefail
+cd "$(dirname "$0")/.." || exit 1
+top=$PWD
+work=$(mktemp -d)
+trap 'rm -rf "$work" ${borrowed:+"$top/c/out"}' EXIT
+borrowed=
+passed=0
+failed=0
+left_out=()
+
+# has COMMAND..: whether all are there.
+has() {
+    local one
+    for one in "$@"; do
+        command -v "$one" > /dev/null 2>&1 || return 1
+    done
+}
+
+# run COMMAND..: counts how it ends; what it prints is shown.
+run() {
+    local start=$SECONDS
+    if "$@"; then
+        passed=$((passed + 1))
+        echo "passed in $((SECONDS - start)) s: $*"
+    else
+        failed=$((failed + 1))
+        echo "FAILED: $*"
+    fi
+}
+
+# needs COMMANDS COMMAND..: runs a script if the commands, joined by blanks, are there.
+needs() {
+    local commands=$1
+    shift
+    # shellcheck disable=SC2086
+    if has $commands; then
+        run "$@"
+    else
+        left_out+=("$1: it needs $commands")
+    fi
+}
+
+# The built program, or that of the release.
+program=$top/crates/auction_cli/out/auction_cli
+if [ ! -x "$program" ]; then
+    program=$top/release/auction_cli
+fi
+# borrow MACHINE FOLDER: the library of the release.
+borrow() {
+    mkdir -p "$work/$1" "$2"
+    tar -xzf release/nushbaret-*-linux-"$1".tar.gz -C "$work/$1"
+    cp "$work/$1/lib/libnushbaret.a" "$2/"
+    cp -L "$work/$1/lib/libnushbaret.so" "$2/"
+    ln -sf libnushbaret.so "$2/libnushbaret.so.$(cut -d. -f1 VERSION)"
+}
+
+# The built library, or for this run that of the release.
+if [ ! -e c/out/libnushbaret.so ] || [ ! -e c/out/libnushbaret.a ]; then
+    borrowed=yes
+    borrow x86_64 c/out
+    borrow aarch64 c/out/aarch64
+fi
+
+if [ $# -gt 0 ] && has rt; then
+    run rt ci "$@"
+elif [ $# -gt 0 ]; then
+    left_out+=("rt ci $*: it needs the kit")
+fi
+run tests/statuses.sh "$program"
+run tests/interrupts.sh "$program"
+needs python3 tests/progress.sh "$program"
+needs cc tests/refused_growths.sh "$program"
+needs 'rt cc' tests/programs.sh
+needs 'cc c++ python3 nm' tests/door.sh built
+needs rt tests/programs.sh
+needs python3 tests/pages.py "$program"
+needs python3 tests/python.sh
+needs 'python3 git readelf' tests/release.sh
+for one in "${left_out[@]}"; do
+    echo "left out: $one"
+done
+echo "$passed passed, $failed failed"
+[ "$failed" = 0 ]
