@@ -240,23 +240,23 @@ fn widened<O: Observer>(
 
 /// Searches for a proof by shortest augmenting paths (Jonker and Volgenant, A shortest augmenting
 /// path algorithm for dense and sparse linear assignment problems, 1987): an optimal assignment of
-/// all persons, with prices that prove it, or a Hall set. `None` if the result is no proof, which is
-/// not known to happen. Where there are more persons than objects, all persons are a Hall set.
+/// all persons, with prices that prove it, or a Hall set. `None` if the result is no proof, which
+/// is not known to happen. Where there are more persons than objects, all persons are a Hall set.
 ///
-/// `copy` is that of these rows under this sense; with another one the search finds nothing. The
-/// search runs in 32 bits, on costs shifted to the right where they don't fit. It goes on in 64 bits
-/// where costs were shifted or a distance left the range of 32 bits, and begins again there if the
+/// `copy` is that of these rows under this sense; with another one its pass is in vain. The search
+/// runs in 32 bits, on costs shifted to the right where they don't fit. It goes on in 64 bits where
+/// costs were shifted or a distance left the range of 32 bits, and begins again there if the
 /// checkers refuse the result. Distances of every problem fit 64 bits.
 ///
 /// The prices of an optimal assignment are multiples of `m + 1` at which each person has slackness
 /// 0. First prices are used by their differences, cut to fit and rounded down to multiples of
-/// `m + 1`. If few persons can be matched at them, or the searches for the others turn out long, the
-/// search begins again without them. In a square the time is at most that of some times `n`
+/// `m + 1`. If few persons can be matched at them, or the searches for the others turn out long,
+/// the search begins again without them. In a square the time is at most that of some times `n`
 /// searches over all listed pairs and of some auctions' bids, and mostly far less. None of this is
 /// proved.
 ///
-/// Beside the copy the search takes 8 bytes a listed pair at most, once the copy is dropped, and
-/// some 50 bytes a person and an object.
+/// It takes at most 8 bytes a listed pair, once the copy is dropped, and some 50 bytes a person and
+/// an object.
 ///
 /// # Errors
 /// `AllocError` if memory is refused.
