@@ -4,6 +4,7 @@ ghost use Rattle.std.specs.Arc.{arc_value};
 ghost use Rattle.std.specs.Option.{option_map};
 ghost use Rattle.assign_core.specs.Rows.{Listing};
 ghost use Rattle.rounds.specs.Outcomes.{IsDecided, IsProof};
+ghost use Rattle.report.specs.Outcomes.{IsOutcome};
 ghost use Rattle.report.specs.Reports.{IsReport};
 ghost use Rattle.report.specs.SeenReports.{seen_report};
 ghost use Rattle.report.specs.Starts.{IsFirstPrice, IsStart};
@@ -317,6 +318,7 @@ fn put_report<V: Watch, W: Write>(
     options: SolveOpts,
     outcome: &Outcome,
 ) -> Result<Ended, CliFault>
+    requires { IsOutcome problem.now outcome.now }
     ensures { Puts options problem.now outcome.now (W.contents w.old) (W.contents w.new) result }
 {
     watch.over();
