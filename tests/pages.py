@@ -24,7 +24,7 @@ import tokenize
 
 TOP = os.path.dirname(os.path.dirname(os.path.abspath(__file__)))
 PROGRAM = os.path.join(TOP, "crates/auction_cli/out/auction_cli")
-RUN = ["README.md", "docs/MODELLING.md", "docs/MODES.md", "docs/SCRIPTS.md"]
+RUN = ["README.md", "docs/MODELLING.md", "docs/SCRIPTS.md"]
 # A command that uses a release, or the environment that it was installed in.
 RELEASED = re.compile(r"\brelease/|\bplanner\b")
 GENERATED = "docs/DEFINITIONS.md"
