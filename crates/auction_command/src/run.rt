@@ -357,6 +357,8 @@ fn report_paths<V: Watch, W: Write>(
     ensures { Reports (solver_of Method.Paths options) problem.now prices.now
         (W.contents w.old) (W.contents w.new) result }
 {
+    // This call shows the prover that it is a problem.
+    let _persons = problem.n();
     match solve_by_paths(alloc, problem, options.sense, prices, watch) {
         Ok(outcome) => put_report(watch, problem, w, options, &outcome),
         Err(_) => Err(CliFault::Memory),

@@ -111,6 +111,11 @@ whole_range n rounded few f =
       greatest = steps_below (n + 1) (MOST_PERSONS + 1) rounded MOST_ROUNDED (omega arith) f.least f.greatest;
     }
 
+pub scaled_price : (n : ℕ) (rounded a b : ℤ) → a ≡ pos n → b ≡ rounded → (a +ℤ pos 1) *ℤ b ≡ pos (n + 1) *ℤ rounded
+scaled_price n rounded a b number same =
+    let factor : a +ℤ pos 1 ≡ pos (n + 1) = omega (arith, ints) in
+    ap (λ k. k *ℤ b) factor ∙ ap (λ k. pos (n + 1) *ℤ k) same
+
 -- a price among m objects, rounded down
 pub record IsRoundedOf (m : ℕ) (price rounded : ℤ) : Type 0 where
   pub range : IsRounded rounded

@@ -9,4 +9,4 @@ returns-in-Ok g c =
     let rows = c.args.problem.now in
     let solver = solver_of Paths c.args.options in
     reports solver rows c.args.prices.now outcome _ _ _
-    (solution_of solver rows c.args.prices.now outcome ? c.in-Ok.ensures.decided c.in-Ok.ensures.proof) c.put_report.ensures
+    (solution_of solver rows c.args.prices.now outcome c.n-persons.ensures.problem c.in-Ok.ensures.decided c.in-Ok.ensures.proof) c.put_report.ensures
