@@ -36,6 +36,9 @@ def run(checkout, path):
     child = os.fork()
     if child == 0:
         os.environ["PYTHONPATH"] = os.path.join(checkout, "python")
+        # Modules are compiled once, as where they are installed.
+        os.environ.pop("PYTHONDONTWRITEBYTECODE", None)
+        os.environ["PYTHONPYCACHEPREFIX"] = os.path.join(os.path.dirname(path), "compiled")
         os.dup2(os.open(os.devnull, os.O_WRONLY), 1)
         os.execv(sys.executable, [sys.executable, "-m", "nushbaret", path])
     _, status, used = os.wait4(child, 0)

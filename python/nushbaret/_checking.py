@@ -81,7 +81,7 @@ def check_problem(problem: Problem, rows: Sequence[int], columns: Sequence[int],
     pairs = list(zip(rows, columns))
     if not pairs:
         return _verdict_on_none(problem)
-    costs = costs_of_pairs(problem, pairs)
+    costs = costs_of_pairs(problem, rows, columns)
     given_columns = set()
     for (row, column), cost in zip(pairs, costs):
         if cost is None:
@@ -330,7 +330,7 @@ def compare(costs: Any, columns: Any, rows: Any = None, maximize: bool = False,
     source = Source(sources.lasting(costs), None, None, None, exact.manner(maximize, decimals, missing))
     problem = source.read()
     pairs = _pairs_of(problem, columns, rows)
-    held = costs_of_pairs(problem, pairs)
+    held = costs_of_pairs(problem, [row for row, _ in pairs], [column for _, column in pairs])
     seen = set()
     for (row, column), cost in zip(pairs, held):
         if cost is None:

@@ -8,21 +8,16 @@ import io
 import os
 import re
 import sys
-from typing import List, Optional, Sequence
+from typing import List, Optional, Sequence, Tuple
 
 from ._answer import Answer, Plan, Wish, answer_of, listed
-from ._by_counts import answer_by_counts
 from ._exact import MOST_PLACES
-from ._fair import fair_answer
 from ._files import STANDARD_OUTPUT, Output, OutputFault, print_content, refuse_existing, write_files
 from ._groups import missing_of, read_counts, read_groups, refuse_two_of_a_group, with_rules
-from ._json import as_json
-from ._page import page
 from ._roster import OldPlan, PlanLine, Roster, read_old_plan, read_plan, read_roster
 from ._sheets import RosterFault, quoted
-from ._texts import Report, as_csv, first_lines, gone_line, printed, read_lines
+from ._texts import Fair, Report, as_csv, first_lines, gone_line, printed, read_lines
 from ._words import Options, read_words
-from ._workbook import as_xlsx, need_openpyxl
 
 PLANNED, NONE, WORDS, REFUSED, DEVICE = range(5)
 INTERRUPTED = 130
@@ -77,6 +72,7 @@ def _run(options: Options) -> int:
         if not options.force and not output.is_standard:
             refuse_existing(output.path)
         if output.kind == "xlsx":
+            from ._workbook import need_openpyxl
             need_openpyxl(output.path)
     report = _report(options, _read(options))
     answer = report.answer
@@ -98,14 +94,25 @@ def _report(options: Options, roster: Roster) -> Report:
     kept = read_old_plan(options.keep, roster, not roster.ruled) if options.keep else None
     pairs = None if kept is None else {(pair.person, pair.object) for pair in kept.known}
     wish = Wish(fixed, options.max, options.as_many_as_can, pairs, change_cost(options, roster), options.others, options.plans)
-    solve = answer_by_counts if roster.ruled else answer_of
     try:
-        answer, fair = fair_answer(roster, wish, solve) if options.fair else (solve(roster, wish), None)
+        answer, fair = _answered(roster, wish, options.fair)
     except ValueError as fault:
         raise RosterFault(options.roster, str(fault)) from fault
     if hand is not None and answer.plan is not None:
         judge_hand(roster, hand, answer.plan)
     return Report(options, roster, answer, kept, hand, fair)
+
+
+def _answered(roster: Roster, wish: Wish, is_fair: bool) -> Tuple[Answer, Optional[Fair]]:
+    """The answer, and what is to be said of a fair one. What few rosters need is imported here: loading takes a small one's time."""
+    solve = answer_of
+    if roster.ruled:
+        from ._by_counts import answer_by_counts
+        solve = answer_by_counts
+    if not is_fair:
+        return solve(roster, wish), None
+    from ._fair import fair_answer
+    return fair_answer(roster, wish, solve)
 
 
 def _read(options: Options) -> Roster:
@@ -206,13 +213,18 @@ def _write(report: Report, lines: List[str]) -> bool:
 def content_of(report: Report, lines: List[str], kind: str) -> bytes:
     """What is written of a kind."""
     if kind == "json":
+        from ._json import as_json
         return as_json(report, lines).encode()
     if kind == "html":
+        from ._page import page
         return page(report, os.path.splitext(os.path.basename(report.options.roster))[0], lines).encode()
     plan = report.answer.plan
     if plan is None:
         raise ValueError("there is no plan")
-    return as_xlsx(report, plan) if kind == "xlsx" else as_csv(report.roster, plan).encode()
+    if kind == "xlsx":
+        from ._workbook import as_xlsx
+        return as_xlsx(report, plan)
+    return as_csv(report.roster, plan).encode()
 
 
 def _print_lines(lines: List[str], is_content: bool) -> None:

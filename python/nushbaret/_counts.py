@@ -4,13 +4,15 @@ from collections import Counter
 from functools import cached_property
 from typing import Any, Collection, Dict, List, NamedTuple, Optional, Tuple
 
-from . import _source as sources
+from . import _library as library
 from ._exact import manner
 from ._gadgets import Bounds, Counted, Pair, best_pairs, trimmed
-from ._infeasible import Infeasible, numbered
+from ._infeasible import Infeasible, Labels, numbered
 from ._lack import Lack, lacks_of
 from ._numbers import Number
 from ._problem import Problem, in_whole_numbers, lists_of
+from ._result import Lasting, in_frames
+from ._source import lasting, problem_of
 
 ONE_AT_MOST = Bounds(0, 1)
 
@@ -47,25 +49,26 @@ class CountsInfeasible(Infeasible):
         The rows and columns of each shortage, and those of the first one.
     """
 
-    def __init__(self, shortages: List[Shortage]):
-        super().__init__([(sorted({*short.rows, *(row for row, _ in short.once)}), short.columns) for short in shortages])
+    def __init__(self, shortages: List[Shortage], labels: Labels = None):
+        super().__init__([(sorted({*short.rows, *(row for row, _ in short.once)}), short.columns) for short in shortages], labels)
         self.shortages = shortages
         more = f" (the first of {len(shortages)} groups)" if len(shortages) > 1 else ""
-        self.args = (f"counts can't be met: {_why(shortages[0])}{more}",)
+        self.args = (f"counts can't be met: {_why(shortages[0], labels)}{more}",)
 
     def __reduce__(self) -> Tuple[Any, ...]:
-        return type(self), (self.shortages,)
+        return type(self), (self.shortages, self._labels)
 
 
-def _why(short: Shortage) -> str:
+def _why(short: Shortage, labels: Labels) -> str:
     """A shortage in words."""
-    need, own, word = ("column", short.columns, "row") if short.of_columns else ("row", short.rows, "column")
-    others = short.rows if short.of_columns else short.columns
-    parts = [f"{short.had - len(short.once)} by the most of {numbered(word, others)}"] if others else []
+    rows = numbered("row", short.rows, labels and labels[0])
+    columns = numbered("column", short.columns, labels and labels[1])
+    need, word, others, by = (columns, "row", short.rows, rows) if short.of_columns else (rows, "column", short.columns, columns)
+    parts = [f"{short.had - len(short.once)} by the most of {by}"] if others else []
     if short.once:
         parts.append(f"{len(short.once)} where a pair or a group counts once")
     had = f"can have {short.had}: {', '.join(parts)}" if parts else "may have none"
-    return f"{numbered(need, own)} must have {short.wanted} {word}{'s' if short.wanted > 1 else ''}, and {had}"
+    return f"{need} must have {short.wanted} {word}{'s' if short.wanted > 1 else ''}, and {had}"
 
 
 def shortages_of(counted: Counted, lacks: List[Lack]) -> List[Shortage]:
@@ -83,11 +86,11 @@ def shortages_of(counted: Counted, lacks: List[Lack]) -> List[Shortage]:
     return found
 
 
-class CountsResult:
+class CountsResult(Lasting):
     """A best plan by counts.
 
     Row `rows[k]` has column `columns[k]`, each pair once; numbers are from 0, and rows rise, then columns. They are NumPy arrays if the
-    costs are one, and lists otherwise.
+    costs are one, and lists otherwise. A result can be pickled and copied, and its attributes can't be set.
 
     Attributes
     ----------
@@ -108,17 +111,25 @@ class CountsResult:
     ([0, 1, 1], [2, 0, 1], 5)
     """
 
+    rows: Any
+    columns: Any
+    cost: Number
+    missing_rows: Dict[int, int]
+    missing_columns: Dict[int, int]
+    maximize: bool
+    _labels: Labels
+    _found: List[Pair]
+    _costs: List[Number]
+
     def __init__(self, problem: Problem, counted: Counted, pairs: List[Pair]):
-        self._labels, self._found = problem.labels, pairs
-        costs = _costs_of(counted, pairs)
-        total = sum(costs)
-        self._costs = [problem.unit.shown(-cost if problem.maximize else cost) for cost in costs]
-        self.cost: Number = problem.unit.shown(-total if problem.maximize else total)
-        self.rows = problem.numbers([row for row, _ in pairs])
-        self.columns = problem.numbers([column for _, column in pairs])
-        self.missing_rows = missing(counted.row_bounds, Counter(row for row, _ in pairs))
-        self.missing_columns = missing(counted.column_bounds, Counter(column for _, column in pairs))
-        self.maximize = problem.maximize
+        sign = -1 if problem.maximize else 1
+        numbers = [sign * cost for cost in _costs_of(counted, pairs)]
+        rows, columns = ([pair[side] for pair in pairs] for side in range(2))
+        self.__dict__.update(
+            rows=problem.numbers(rows), columns=problem.numbers(columns), maximize=problem.maximize,
+            cost=problem.unit.shown(sum(numbers)), missing_rows=missing(counted.row_bounds, Counter(rows)),
+            missing_columns=missing(counted.column_bounds, Counter(columns)), _labels=problem.labels, _found=pairs,
+            _costs=list(map(problem.unit.shown, numbers)))
 
     def __repr__(self) -> str:
         return f"<nushbaret.CountsResult: cost {self.cost}, {len(self._found)} pairs>"
@@ -147,7 +158,7 @@ class CountsResult:
         """
         import pandas  # type: ignore
         rows, columns = zip(*self.pairs) if self.pairs else ((), ())
-        return pandas.DataFrame({"row": list(rows), "column": list(columns), "cost": self._costs})
+        return pandas.DataFrame({"row": list(rows), "column": list(columns), "cost": in_frames(self._costs)})
 
 
 def _costs_of(counted: Counted, pairs: List[Pair]) -> List[int]:
@@ -276,7 +287,8 @@ def _counted(problem: Problem, rows: List[Bounds], columns: List[Bounds], groups
 
 
 def assign_counts(costs: Any, row_counts: Any = None, column_counts: Any = None, column_groups: Any = None, maximize: bool = False,
-                  decimals: Optional[int] = None, partial: bool = False, missing: str = "refuse") -> CountsResult:
+                  decimals: Optional[int] = None, partial: bool = False, missing: str = "refuse",
+                  timeout: Optional[float] = None) -> CountsResult:
     """A best plan in which each row takes from so many to so many columns, and each column rows.
 
     Each pair is made at most once, and of a group of columns a row takes at most one.
@@ -290,7 +302,7 @@ def assign_counts(costs: Any, row_counts: Any = None, column_counts: Any = None,
         list with one for each. None is (0, 1); not both may be None.
     column_groups : list, optional
         Groups of columns, no two of which share any: a list of lists of column numbers, or a label for each column, None for no group.
-    maximize, decimals, missing
+    maximize, decimals, missing, timeout
         As in `solve`.
     partial : bool, optional
         If not all least counts can be met, misses them by as little as can be, summed over all rows and columns, and takes a plan of the
@@ -304,7 +316,7 @@ def assign_counts(costs: Any, row_counts: Any = None, column_counts: Any = None,
     ------
     Infeasible
         If there is no plan; `shortages` prove it. A ValueError.
-    ValueError, TypeError, MemoryError, LibraryNotFound
+    ValueError, TypeError, TimeoutError, MemoryError, LibraryNotFound
         As in `solve`, or if a count or a group is none.
 
     Notes
@@ -320,10 +332,11 @@ def assign_counts(costs: Any, row_counts: Any = None, column_counts: Any = None,
     """
     if row_counts is None and column_counts is None:
         raise TypeError("row_counts and column_counts are both missing: give one, or call solve")
-    problem = in_whole_numbers(sources.problem_of(sources.lasting(costs), None, None, None, manner(maximize, decimals, missing)))
+    problem = in_whole_numbers(problem_of(lasting(costs), None, None, None, manner(maximize, decimals, missing)))
     rows, columns = bounds_of(row_counts, problem.n_rows, "row_counts"), bounds_of(column_counts, problem.n_columns, "column_counts")
     counted = _counted(problem, rows, columns, groups_of(column_groups, problem.n_columns))
-    lacks, pairs = planned(counted, partial)
+    with library.limited(timeout):
+        lacks, pairs = planned(counted, partial)
     if pairs is None:
-        raise CountsInfeasible(shortages_of(counted, lacks))
+        raise CountsInfeasible(shortages_of(counted, lacks), problem.labels)
     return CountsResult(problem, counted, pairs)

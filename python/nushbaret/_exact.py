@@ -302,6 +302,8 @@ def _block_scaled(block: List[Any], least: int) -> Tuple[Numbers, int]:
 def of_array(numpy: Any, values: Any, manner: Manner, where: Where) -> Costs:
     """The costs of a NumPy array, whatever its shape, in the order of C."""
     mask = getattr(values, "mask", None) if isinstance(values, numpy.ma.MaskedArray) else None
+    if mask is None and values.dtype.kind in "biu":
+        return _of_whole_array(numpy, numpy.asarray(values).ravel(), manner, where)
     with numpy.errstate(all="ignore"):
         values = numpy.asarray(values)
         if mask is None or manner.doubles or not mask.any():

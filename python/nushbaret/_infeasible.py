@@ -8,6 +8,9 @@ from . import _library as library
 from ._problem import Problem
 
 
+Labels = Optional[Tuple[List[Any], List[Any]]]
+
+
 def numbered(kind: str, numbers: Any, labels: Optional[List[Any]] = None) -> str:
     """Numbers or their labels, at most ten, after what they are of: row 3, rows 3, 4, no row."""
     if not len(numbers):
@@ -38,7 +41,7 @@ class Infeasible(ValueError):
     cost matrix is infeasible: rows 0, 1 may have column 0 only
     """
 
-    def __init__(self, groups: List[Tuple[Any, Any]], labels: Optional[Tuple[List[Any], List[Any]]] = None):
+    def __init__(self, groups: List[Tuple[Any, Any]], labels: Labels = None):
         rows, columns = groups[0]
         first, second = numbered("row", rows, labels and labels[0]), numbered("column", columns, labels and labels[1])
         why = f"{first} may have {second}" if len(rows) > len(columns) else f"{second} may go to {first}"

@@ -187,21 +187,23 @@ def plain(values: Any) -> Any:
     return values.reshape(-1) if hasattr(values, "reshape") else values
 
 
-def costs_of_pairs(problem: Problem, pairs: Sequence[Tuple[int, int]]) -> List[Any]:
+def costs_of_pairs(problem: Problem, rows: Any, columns: Any) -> List[Any]:
     """The costs of some pairs, no two of one row; None where one is forbidden. Of a pair that is given several times the least."""
     if problem.persons is None:
         costs = plain(problem.costs)
-        found = [costs[row * problem.n_columns + column] for row, column in pairs]
-        return [cost.item() for cost in found] if problem.numpy else found
+        if problem.numpy:
+            places = problem.numpy.asarray(rows, problem.numpy.intp) * problem.n_columns + columns
+            return list(costs[places.astype(problem.numpy.intp)].tolist())
+        return [costs[row * problem.n_columns + column] for row, column in zip(rows, columns)]
     own = [0] * (problem.n_rows + 1)
-    for row, column in pairs:
+    for row, column in zip(rows, columns):
         own[row + 1] = column + 1
     persons = problem.persons.tolist()
     wanted = map(operator.eq, map(own.__getitem__, persons), problem.objects.tolist())
     least: Dict[int, Any] = {}
     for person, cost in compress(zip(persons, listed_costs(problem)), wanted):
         least[person] = min(cost, least.get(person, cost))
-    return [least.get(row + 1) for row, _ in pairs]
+    return [least.get(row + 1) for row in map(int, rows)]
 
 
 def listed_costs(problem: Problem) -> List[Any]:

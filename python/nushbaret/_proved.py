@@ -11,7 +11,7 @@ from typing import Any, List, NamedTuple, NoReturn, Optional, Sequence, Tuple, U
 from . import _library as library
 from ._library import GREATEST_FIRST_PRICE, MOST_PERSONS, Halves
 from ._numbers import ratio_of
-from ._problem import Problem, costs_of_pairs, listed, lists_of, plain
+from ._problem import Problem, listed, lists_of, plain
 
 
 class Given(NamedTuple):

@@ -46,7 +46,23 @@ class Plan(NamedTuple):
     cost: Number
 
 
-class Result:
+class Lasting:
+    """What can be pickled and copied, and whose attributes can't be set."""
+
+    def __setattr__(self, name: str, value: Any) -> None:
+        raise AttributeError(f"a result's {name} can't be set")
+
+    def __delattr__(self, name: str) -> None:
+        raise AttributeError(f"a result's {name} can't be deleted")
+
+    def __getstate__(self) -> Dict[str, Any]:
+        return dict(self.__dict__)
+
+    def __setstate__(self, state: Dict[str, Any]) -> None:
+        self.__dict__.update(state)
+
+
+class Result(Lasting):
     """A best assignment, with exact duals that prove it.
 
     Row `rows[k]` has column `columns[k]`; numbers are from 0, and rows rise. They are NumPy arrays if the costs are one, and
@@ -68,33 +84,24 @@ class Result:
     _source: Union[Source, Held]
     _shape: Problem
     _answer: proved.Answer
-    _pairs: Tuple[List[int], List[int]]
     _costs: List[Any]
     _as_arrays: bool
 
     def __init__(self, source: Union[Source, Held], problem: Problem, answer: proved.Answer):
         rows, columns = rows_and_columns(problem, answer)
-        pairs = proved.pairs_of(problem, answer) if problem.arrays else (rows, columns)
-        pairs = list(pairs[0]), list(pairs[1])
+        costs = costs_of_pairs(problem, rows, columns)
         # Without its lists the problem is small.
         shape = problem._replace(costs=None, persons=None, objects=None, numpy=None, arrays=None)
         self.__dict__.update(rows=rows, columns=columns, maximize=problem.maximize, _source=source, _shape=shape, _answer=answer,
-                             _pairs=pairs, _costs=costs_of_pairs(problem, list(zip(*pairs))), _as_arrays=problem.arrays is not None)
-
-    def __setattr__(self, name: str, value: Any) -> None:
-        raise AttributeError(f"a result's {name} can't be set")
-
-    def __delattr__(self, name: str) -> None:
-        raise AttributeError(f"a result's {name} can't be deleted")
-
-    def __getstate__(self) -> Dict[str, Any]:
-        return dict(self.__dict__)
-
-    def __setstate__(self, state: Dict[str, Any]) -> None:
-        self.__dict__.update(state)
+                             _costs=costs, _as_arrays=problem.arrays is not None)
 
     def __repr__(self) -> str:
         return f"<nushbaret.Result: cost {self.cost}, {len(self.rows)} pairs>"
+
+    @cached_property
+    def _pairs(self) -> Tuple[List[int], List[int]]:
+        """Rows and columns of the pairs, which nobody can change."""
+        return proved.pairs_of(self._shape, self._answer)
 
     @cached_property
     def _ratios(self) -> List[Ratio]:
@@ -135,7 +142,7 @@ class Result:
         problem = self._source.read()
         if (problem.n_rows, problem.n_columns) != (self._shape.n_rows, self._shape.n_columns):
             raise ValueError(CHANGED)
-        now = costs_of_pairs(problem, list(zip(*self._pairs)))
+        now = costs_of_pairs(problem, *self._pairs)
         if None in now or [Fraction(*problem.ratio(cost)) for cost in now] != [Fraction(*ratio) for ratio in self._ratios]:
             raise ValueError(CHANGED)
         return problem
@@ -251,10 +258,8 @@ class Result:
         shape = self._shape
         costs: List[Any] = (all_shown(self._ratios, shape.fractions) if shape.raw
                             else [shape.unit.shown(number) for number, _ in self._ratios])
-        if costs and all(isinstance(cost, decimal.Decimal) and _prints_so(cost) for cost in costs):
-            costs = list(map(float, costs))
         rows, columns = zip(*self.pairs) if self.pairs else ((), ())
-        return pandas.DataFrame({"row": list(rows), "column": list(columns), "cost": costs})
+        return pandas.DataFrame({"row": list(rows), "column": list(columns), "cost": in_frames(costs)})
 
     def verify(self, costs: Any = None, rows: Any = None, columns: Any = None, missing: str = "refuse") -> "Verdict":
         """Checks the plan and its duals against a problem.
@@ -324,6 +329,12 @@ class Result:
         """
         from ._solving import solve_without
         return solve_without(self, row, column, timeout)
+
+
+def in_frames(costs: List[Any]) -> List[Any]:
+    """Costs as a frame has them: floats in place of Decimals where all print as these."""
+    printed = costs and all(isinstance(cost, decimal.Decimal) and _prints_so(cost) for cost in costs)
+    return list(map(float, costs)) if printed else costs
 
 
 def _prints_so(cost: decimal.Decimal) -> bool:

@@ -7,13 +7,15 @@ import re
 import sys
 import unicodedata
 from itertools import accumulate, islice
-from typing import Any, Iterable, Iterator, List, NamedTuple, NoReturn, Optional, Sequence, Tuple
+from typing import Any, Generator, Iterable, Iterator, List, NamedTuple, NoReturn, Optional, Sequence, Tuple
 
 MOST_BYTES = 2**30
 SEPARATORS = ";\t,"
 WIDE_BOMS = (b"\xff\xfe", b"\xfe\xff")
 BOMS = (b"\xef\xbb\xbf", *WIDE_BOMS)
 SAVE = "save the sheet as 'CSV UTF-8'"
+# Lines, and cells column by column.
+Block = Tuple[Sequence[int], List[Sequence[str]]]
 # So many records, and letters of a text, are looked at in one go.
 BLOCK = 1024
 PIECE = 2**20
@@ -205,11 +207,12 @@ class Sheet:
                 self.refuse(f"{len(cells)} cells, where the title line has {width}{hint}", line)
             yield line, cells[:width]
 
-    def blocks(self, width: int) -> Iterator[Tuple[Sequence[int], List[Sequence[str]]]]:
+    def blocks(self, width: int) -> Iterator[Block]:
         """The records of `body`, many at a time: their lines, and their cells column by column, maybe with white space around them, and
         among them records without any content. A fault comes after the records before it."""
-        begun = False
-        for lines, rows in self._raw_blocks():
+        begin, line = yield from self._plain_blocks(width)
+        begun = begin > 0
+        for lines, rows in self._raw_blocks(begin, line):
             columns = _columns(rows, width) if begun else None
             if columns is not None:
                 yield lines, columns
@@ -227,13 +230,36 @@ class Sheet:
             if fault is not None:
                 raise fault
 
-    def _raw_blocks(self) -> Iterator[Tuple[Sequence[int], List[List[str]]]]:
-        """All records as they are, many at a time, with their lines. A fault comes after the records before it."""
+    def _plain_blocks(self, width: int) -> Generator[Block, None, Tuple[int, int]]:
+        """The first records after the title, as long as no cell is in quotes and each line has so many cells. Returns where in the text the
+        next record begins, and its line; 0 and the first line where the title isn't plain."""
+        begin, line = 0 if self.rows is not None else self._after_title(), self.skipped + 2
+        if begin == 0:
+            return 0, self.skipped + 1
+        while begin < len(self.text):
+            end = self.text.find("\n", begin + PIECE) + 1 or len(self.text)
+            columns = _plain_columns(self.text[begin:end], self.separator, width)
+            if columns is None:
+                break
+            yield range(line, line + len(columns[0])), columns
+            begin, line = end, line + len(columns[0])
+        return begin, line
+
+    def _after_title(self) -> int:
+        """Where the second line begins, if the first one is the title and has no quotes; else 0."""
+        end = self.text.find("\n") + 1
+        title = self.text[:end].replace("\r\n", "\n")
+        is_plain = not self.has_hint and title.replace(self.separator, "").strip() and '"' not in title and "\r" not in title
+        return end if is_plain else 0
+
+    def _raw_blocks(self, begin: int, line: int) -> Iterator[Tuple[Sequence[int], List[List[str]]]]:
+        """All records from a place of the text, and its line, as they are, many at a time, with their lines. A fault comes after the records
+        before it."""
         if self.rows is not None:
             yield range(self.skipped + 1, self.skipped + len(self.rows) + 1), self.rows
             return
-        reader = csv.reader(_lines_of(self.text), delimiter=self.separator, strict=True)
-        lines: Sequence[int] = (self.skipped + 1,)
+        reader = csv.reader(_lines_of(self.text, begin), delimiter=self.separator, strict=True)
+        lines: Sequence[int] = (line,)
         fault: Optional[csv.Error] = None
         while fault is None:
             rows: List[List[str]] = []
@@ -241,7 +267,7 @@ class Sheet:
                 rows.extend(islice(reader, BLOCK))
             except csv.Error as found:
                 fault = found
-            lines = _numbered(rows, lines[-1], None if fault else self.skipped + reader.line_num)
+            lines = _numbered(rows, lines[-1], None if fault else line - 1 + reader.line_num)
             if rows:
                 yield lines[:-1], rows
             elif fault is None:
@@ -272,9 +298,8 @@ def _after_lines(text: str, count: int) -> str:
     return text[end.end():] if end else ""
 
 
-def _lines_of(text: str) -> Iterator[str]:
-    """The lines of a text with their ends, of any make."""
-    begin = 0
+def _lines_of(text: str, begin: int = 0) -> Iterator[str]:
+    """The lines of a text from a place on, with their ends, of any make."""
     while begin < len(text):
         end = text.find("\n", begin + PIECE) + 1 or len(text)
         piece = text[begin:end]
@@ -297,6 +322,19 @@ def _stripped(cells: List[str]) -> List[str]:
     if rest.split(None, 1) == [rest]:
         return [cells[0].strip(), *cells[1:]]
     return [cell.strip() for cell in cells]
+
+
+def _plain_columns(piece: str, separator: str, width: int) -> Optional[List[Sequence[str]]]:
+    """The cells of whole lines column by column, if none is in quotes and each line has so many."""
+    piece = piece.replace("\r\n", "\n")
+    if any(mark in piece for mark in ('"', "\r", "\0")):
+        return None
+    piece += "" if piece.endswith("\n") else "\n"
+    marks = piece.encode("utf-8", "surrogatepass").translate(None, bytes({*range(256)} - {*separator.encode(), *b"\n"}))
+    if marks != (separator * (width - 1) + "\n").encode() * piece.count("\n"):
+        return None
+    cells = piece[:-1].replace("\n", separator).split(separator)
+    return [cells[column::width] for column in range(width)]
 
 
 def _columns(rows: List[List[str]], width: int) -> Optional[List[Sequence[str]]]:

@@ -59,8 +59,14 @@ def _answer(problem: Problem, start: Start, partial: bool) -> proved.Answer:
 
 
 def start_prices(problem: Problem, start: Start) -> Prices:
-    """First prices of columns, from a result or from the caller."""
-    return proved.exact_prices(problem, start._exact_rents if isinstance(start, Result) else start)
+    """First prices of columns, from a result or from the caller. None where those of a result need costs that were changed since."""
+    if not isinstance(start, Result):
+        return proved.exact_prices(problem, start)
+    try:
+        prices = start._exact_rents
+    except ValueError:
+        return None
+    return proved.exact_prices(problem, prices)
 
 
 def solve_problem(problem: Problem, start: Start = None, partial: bool = False, source: Optional[Source] = None) -> Result:

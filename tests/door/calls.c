@@ -430,6 +430,10 @@ static void verdicts(void) {
     WANT(check_hall(&c) == NUSHBARET_HALL_RANGE);
     c.told.persons = 1, c.told.objects = 1;
     WANT(check_hall(&c) == NUSHBARET_HALL_COUNT);
+    c.told.persons = 0;
+    WANT(check_hall(&c) == NUSHBARET_HALL_EXTRA && c.told.object == c.objects[0]);
+    c.told.objects = 0;
+    WANT(check_hall(&c) == NUSHBARET_HALL_COUNT);
 }
 
 static struct nushbaret_price low(uint64_t price) {

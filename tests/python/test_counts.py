@@ -5,6 +5,7 @@ import random
 import sys
 import unittest
 from decimal import Decimal
+from fractions import Fraction
 from unittest import mock
 
 sys.path.insert(0, str(pathlib.Path(__file__).resolve().parents[2] / "python"))
@@ -125,6 +126,25 @@ class Plans(unittest.TestCase):
             self.assertEqual(nushbaret.assign_counts(some, (4, 5), (10, 13)).cost, wanted)
 
 
+class AnyNumbers(unittest.TestCase):
+    def test_doubles_of_every_kind_beside_all_plans(self):
+        """The plan is best for the decimals that the costs print as, and its cost is exact."""
+        draw = drawn.drawing(5)
+        for case, (roster, maximize) in enumerate(rosters(5, SMALL)):
+            roster.costs = drawn.doubles(draw, len(roster.rows), len(roster.columns), list(drawn.KINDS)[case % len(drawn.KINDS)], 0.8)
+            result = roster.assign(maximize=maximize, partial=True)
+            roster.costs = drawn.exactly(roster.costs, True)
+            with self.subTest(case=case):
+                missed = sum(result.missing_rows.values()) + sum(result.missing_columns.values())
+                least = min(plan[:2] for plan in roster.plans(maximize))
+                self.assertEqual((missed, Fraction(result.cost) * (-1 if maximize else 1)), least)
+
+    def test_kinds(self):
+        self.assertEqual(nushbaret.assign_counts([[Fraction(1, 3), 0.5]], 2, 1).cost, Fraction(5, 6))
+        self.assertEqual(nushbaret.assign_counts([[10**40, 1]], 2, 1).cost, 10**40 + 1)
+        self.assertEqual(nushbaret.assign_counts([[10.0**17, 1e-6]], 2, 1).cost, Decimal("100000000000000000.000001"))
+
+
 class Shortages(unittest.TestCase):
     def test_each_is_true_by_itself(self):
         """Of just the rows, columns, counts and groups that a shortage names there is no plan."""
@@ -214,6 +234,8 @@ class Words(unittest.TestCase):
         self.assertEqual((partial.cost, partial.missing_rows, partial.missing_columns), (6, {0: 1}, {}))
         self.assertEqual(repr(partial), "<nushbaret.CountsResult: cost 6, 3 pairs>")
         self.assertEqual(pickle.loads(pickle.dumps(partial)).pairs, partial.pairs)
+        with self.assertRaises(AttributeError):
+            partial.cost = 5
 
     def test_refusals(self):
         cases = [
@@ -235,6 +257,12 @@ class Words(unittest.TestCase):
             with self.subTest(words=words), self.assertRaises(kind) as caught:
                 nushbaret.assign_counts(self.COSTS, *words)
             self.assertEqual(str(caught.exception), text)
+
+    def test_timeout(self):
+        draw = random.Random(2)
+        costs = [[draw.randint(1, 10**6) for _ in range(93)] for _ in range(100)]
+        with self.assertRaises(TimeoutError):
+            nushbaret.assign_counts(costs, (18, 20), (18, 22), timeout=0)
 
     def test_too_many_nodes(self):
         costs = [[1] * 100 for _ in range(100)]
@@ -260,6 +288,10 @@ class Words(unittest.TestCase):
         result = nushbaret.assign_counts(frame, pandas.Series([2, 1], frame.index), 1, groups)
         self.assertEqual(result.pairs, [("Ada", "late"), ("Ada", "office"), ("Ben", "early")])
         self.assertEqual(result.to_frame().values.tolist(), [["Ada", "late", 1], ["Ada", "office", 3], ["Ben", "early", 2]])
+        with self.assertRaises(nushbaret.Infeasible) as caught:
+            nushbaret.assign_counts(frame, (0, 1), [3, 0, 0])
+        self.assertEqual(str(pickle.loads(pickle.dumps(caught.exception))),
+                         "counts can't be met: column early must have 3 rows, and can have 2: 2 where a pair or a group counts once")
 
 
 if __name__ == "__main__":

@@ -27,7 +27,7 @@ def sum_of(exact, rows, columns):
 
 
 class Small(unittest.TestCase):
-    """Up to 5 x 5, beside all plans: squares, rectangles, forbidden pairs, partial plans; lists and arrays."""
+    """Up to 6 x 6, beside all plans: squares, rectangles, forbidden pairs, partial plans; lists and arrays."""
 
     def forms(self, costs, maximize):
         return [costs] + ([as_array(costs, maximize)] if np else [])
@@ -36,7 +36,8 @@ class Small(unittest.TestCase):
         draw, partial = drawing(61), 0
         for turn in range(1200):
             kind = list(KINDS)[turn % len(KINDS)]
-            n_rows, n_columns, maximize = draw.randint(1, 5), draw.randint(1, 5), draw.random() < 0.5
+            most, maximize = 6 if turn % 20 == 0 else 5, draw.random() < 0.5
+            n_rows, n_columns = draw.randint(1, most), draw.randint(1, most)
             costs = doubles(draw, n_rows, n_columns, kind, draw.choice([1, 1, 0.8, 0.5]))
             served = len(nushbaret.solve([[0 if cost is not None else None for cost in row] for row in costs], partial=True).rows)
             partial += served < min(n_rows, n_columns)

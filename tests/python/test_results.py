@@ -95,6 +95,13 @@ class Changed(unittest.TestCase):
         costs[1][1] = 9.0
         self.assertEqual((result.next_best().cost, result.without(0, 1).cost, bool(result.verify())), (10, 10, True))
 
+    def test_start_at_a_result_of_costs_that_were_changed(self):
+        for costs in self.EXACT, self.LEVELS:
+            for form in forms_of(costs):
+                result = nushbaret.solve(form)
+                fill(form, 3.0)
+                self.assertEqual(nushbaret.solve(form, start=result).cost, 6)
+
     @unittest.skipUnless(np, "NumPy isn't there")
     def test_next_best_ends(self):
         costs = np.random.default_rng(7).integers(0, 9, (4, 4))

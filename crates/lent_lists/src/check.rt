@@ -14,9 +14,7 @@ use crate::rows::{problem_of, rows_of};
 use crate::split_price::SplitPrice;
 use crate::told::Told;
 use assign_core::{Object, Person, Sense};
-use dual_checker::{
-    CostRows, HallVerdict, Verdict, VerdictAmong, check_among, check_hall_among,
-};
+use dual_checker::{CostRows, HallVerdict, Verdict, VerdictAmong, check_among, check_hall_among};
 use std::alloc::{AllocError, Global};
 
 // The verdict of rows on these objects and prices.

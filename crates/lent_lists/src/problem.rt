@@ -37,11 +37,7 @@ fn triples(
 ///
 /// # Errors
 /// `AllocError` if memory is refused.
-pub fn sparse_problem(
-    alloc: Global,
-    shape: Shape,
-    given: &Given<'_>,
-) -> Result<Problem, AllocError>
+pub fn sparse_problem(alloc: Global, shape: Shape, given: &Given<'_>) -> Result<Problem, AllocError>
     requires form { given.now.form ≡ Form.Sparse }
     requires shape { IsShape given.now shape }
     requires whole { IsWhole given.now }

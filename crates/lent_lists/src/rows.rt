@@ -32,11 +32,7 @@ pub fn problem_of(
 }
 
 /// The rows of dense costs, where they are, or those of the problem.
-pub fn rows_of<'a>(
-    shape: Shape,
-    given: &'a Given<'_>,
-    problem: &'a Option<Problem>,
-) -> CostRows<'a>
+pub fn rows_of<'a>(shape: Shape, given: &'a Given<'_>, problem: &'a Option<Problem>) -> CostRows<'a>
     requires shape { IsShape given.now shape }
     requires whole { IsWhole given.now }
     requires source { IsSource given.now problem.now }

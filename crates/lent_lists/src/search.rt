@@ -19,17 +19,31 @@ use dual_checker::CostRows;
 use shortest_paths::solve_paths;
 use std::alloc::{AllocError, Global};
 
-// The solver's outcome, from first prices if there are any.
+// Whether first prices may save time. With far more objects than persons and few pairs for each
+// object, a search from equal prices is about as short as a look at first prices. The numbers come
+// from measurements.
+fn may_save_time(persons: u16, objects: u16, pairs: usize) -> bool {
+    persons as usize * 8 >= objects as usize * 7 || pairs / 64 >= objects as usize
+}
+
+// The solver's outcome for `pairs` given pairs, from first prices if there are any and they may
+// save time.
 fn outcome_of(
     alloc: Global,
     rows: &CostRows<'_>,
     sense: Sense,
     copy: CostCopy,
+    pairs: usize,
     first: &[SplitPrice],
 ) -> Result<Outcome, AllocError>
     ensures { IfOk result (IsProofAmong sense rows.now.m rows.now.rows) }
 {
-    let first = prices_of(alloc, first)?;
+    let useful = if may_save_time(rows.persons(), rows.objects(), pairs) {
+        first
+    } else {
+        &[]
+    };
+    let first = prices_of(alloc, useful)?;
     let wishes = Wishes {
         prices: given_prices(first.as_slice()),
         observer: &Unobserved,
@@ -87,7 +101,8 @@ fn find_dense(alloc: Global, given: &Given<'_>) -> Result<Found, Fault>
     let shape = shape_of(given)?;
     let copy = judged_copy(alloc, shape, given)?;
     let rows = CostRows::dense(shape.n, shape.m, given.costs);
-    let outcome = outcome_of(alloc, &rows, shape.sense, copy, given.first)?;
+    let pairs = given.costs.len();
+    let outcome = outcome_of(alloc, &rows, shape.sense, copy, pairs, given.first)?;
     Ok(Found {
         shape,
         problem: None,
@@ -105,7 +120,8 @@ fn find_sparse(alloc: Global, given: &Given<'_>) -> Result<Found, Fault>
     let problem = sparse_problem(alloc, shape, given)?;
     let rows = CostRows::first(&problem, shape.n, shape.m);
     let copy = copy_rows(alloc, &rows, shape.sense)?;
-    let outcome = outcome_of(alloc, &rows, shape.sense, copy, given.first)?;
+    let pairs = given.costs.len();
+    let outcome = outcome_of(alloc, &rows, shape.sense, copy, pairs, given.first)?;
     Ok(Found {
         shape,
         problem: Some(problem),

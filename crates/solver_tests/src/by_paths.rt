@@ -3,11 +3,12 @@
 mod kinds;
 mod starts;
 mod wide;
+mod widths;
 mod worked;
 
 use assign_core::{
-    Cost, GREATEST_COST, GREATEST_FIRST_PRICE, MOST_PERSONS, Object, Outcome, Person, Price, Problem,
-    Sense,
+    Cost, GREATEST_COST, GREATEST_FIRST_PRICE, MOST_PERSONS, Object, Outcome, Person, Price,
+    Problem, Sense,
 };
 use augmenting_paths::{Observer, Unobserved, Wishes, copy_rows, try_paths};
 use dual_checker::CostRows;

@@ -21,7 +21,7 @@ fn drawn_costs(alloc: Global, seed: &mut u64, count: usize) -> Result<Vec<Cost>,
         GREATEST_COST / 3
     };
     let mut costs = Vec::with_capacity(alloc, count)?;
-    for _ in 0..count {
+    for _pair in 0..count {
         let cost = (Cost::from(draw(seed, 7)) - 3).wrapping_mul(unit);
         costs.push(cost_in_range(cost.wrapping_add(Cost::from(draw(seed, 3)))))?;
     }
@@ -199,7 +199,7 @@ fn kind(verdict: VerdictAmong) -> usize {
 // Counts a case by its kind, and apart from the others if it has a price above a multiple.
 fn count(came: &Came, counts: &mut [u32]) {
     let place = if came.has_rest { 7 } else { 0 };
-    if let Some(count) = counts.get_mut(kind(came.plain) + place) {
+    if let Some(count) = counts.get_mut(kind(came.plain).saturating_add(place)) {
         *count = (*count).saturating_add(1);
     }
 }

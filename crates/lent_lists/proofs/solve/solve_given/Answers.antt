@@ -63,9 +63,9 @@ returns-in-Best c =
     let law = c.slack_means_best_among.ensures shape.sense g.m rows best.assignment best.prices within proof in
     let wide : SFits w64 c.total_of-room.result = search rules in
     let sum = to_z-of_z w64 c.total_of-room.result wide ∙ c.total_of-room.ensures
-        ∙ ap (λ (l : Listings). total l.rows c.objects-in-Best.result.now) c.rows_of-rows.ensures ∙ ap (total rows) c.objects-in-Best.ensures.objects in
+    ∙ ap (λ (l : Listings). total l.rows c.objects-in-Best.result.now) c.rows_of-rows.ensures ∙ ap (total rows) c.objects-in-Best.ensures.objects in
     let held = best_held shape.sense g.m rows best room.objects.now room.persons.now c.put_numbers.new.buffer room.prices.now c.put_prices.new.buffer room.told.now _ proof law buffer
-        (c.put_prices.ensures ∙ c.as_slice.ensures.prices) sum in
+    (c.put_prices.ensures ∙ c.as_slice.ensures.prices) sum in
     let fits : SFits w32 c.code_of_end.result = search rules in
     record {
       end = Ok Best;
@@ -94,8 +94,8 @@ returns c =
     let rows = source_rows g c.in-Ok.found.problem in
     let proof = subst (IsProofAmong shape.sense g.m rows) c.in-Hall.is found.proof in
     let held = hall_held rows hall room.objects.now room.persons.now c.put_numbers-in-Hall-2.new.buffer c.put_numbers-in-Hall.new.buffer c.persons.result.now c.objects-in-Hall.result.now
-        room.prices.now room.told.now _ _ proof c.persons.ensures.persons c.objects-in-Hall.ensures.objects c.put_numbers-in-Hall.ensures c.put_numbers-in-Hall-2.ensures
-        (ap (λ xs. length xs) c.persons-in-Hall.ensures.persons) (ap (λ xs. length xs) c.objects-in-Hall-2.ensures.objects) in
+    room.prices.now room.told.now _ _ proof c.persons.ensures.persons c.objects-in-Hall.ensures.objects c.put_numbers-in-Hall.ensures c.put_numbers-in-Hall-2.ensures
+    (ap (λ xs. length xs) c.persons-in-Hall.ensures.persons) (ap (λ xs. length xs) c.objects-in-Hall-2.ensures.objects) in
     let fits : SFits w32 c.code_of_end-in-Hall.result = search rules in
     record {
       end = Ok Hall;
