@@ -218,7 +218,8 @@ struct nushbaret_answer {
     struct nushbaret_told told;
 };
 
-/* Solves a problem, by one of the four calls above; the code and what it writes are those of that call. */
+/* Solves a problem as nushbaret_dense or nushbaret_sparse does, from first prices where there are any; the code and what
+   it writes are those of that call. */
 static inline int32_t nushbaret_solve(const struct nushbaret_problem *problem, struct nushbaret_answer *answer) {
     const size_t n = problem->n, m = problem->m, count = problem->count;
     if (problem->persons == NULL && problem->first == NULL)

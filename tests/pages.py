@@ -8,10 +8,11 @@ virtual environment, they are shown as not run. With --text it runs nothing, and
 
 Then it looks at the text of all pages: links and names of files that lead nowhere, lines of more than 100 characters,
 sentences of more than 35 words, and words that docs/CONTRIBUTING.md lists to avoid. Tables, code and quoted output are
-exempt. It compares docs/DEFINITIONS.md with what docs/definitions.py makes, whose sentences come from the sources. The
-doc comments of crates, the comments of their specs, and comments and texts of the Python command avoid the same words. And it looks for each block below
-`# Example` in the documentation of calls, and for each block that docs/CALLING.md shows other crates, among the lines
-of crates/calling, which the gate proves. Prints what is wrong, and ends with status 1 then.
+exempt; they count where the words of a page, or of all pages, are too many. It compares docs/DEFINITIONS.md with what
+docs/definitions.py makes, whose sentences come from the sources. The doc comments of crates, the comments of their specs,
+and comments and texts of the Python command avoid the same words. And it looks for each block below `# Example` in the
+documentation of calls, and for each block that docs/CALLING.md shows other crates, among the lines of crates/calling,
+which the gate proves. Prints what is wrong, and ends with status 1 then.
 """
 import glob
 import importlib.util
@@ -24,10 +25,14 @@ import tokenize
 
 TOP = os.path.dirname(os.path.dirname(os.path.abspath(__file__)))
 PROGRAM = os.path.join(TOP, "crates/auction_cli/out/auction_cli")
-RUN = ["README.md", "docs/MODELLING.md", "docs/MODES.md", "docs/SCRIPTS.md"]
+RUN = ["README.md", "docs/MODELLING.md", "docs/SCRIPTS.md"]
 # A command that uses a release, or the environment that it was installed in.
 RELEASED = re.compile(r"\brelease/|\bplanner\b")
 GENERATED = "docs/DEFINITIONS.md"
+# The most words of a page, and of all pages together except the generated one and the list of changes.
+MOST_OF_PAGE = {"docs/PYTHON.md": 1500, "docs/ROSTERS.md": 2000}
+MOST_OF_ALL = 18500
+UNCOUNTED = (GENERATED, "CHANGELOG.md")
 # The sources whose comments avoid the same words, the beginning of these comments, and code in them.
 COMMENTS = {"crates/*/src/**/*.rt": re.compile(r"\s*//[/!]"), "crates/*/specs/**/*.antt": re.compile(r"\s*--")}
 # The modules of the command for rosters.
@@ -279,6 +284,15 @@ def look_at_examples(told):
             told.append(f"{path}:{number}: this example isn't in {EXAMPLES}")
 
 
+def count_words(told):
+    """Compares the words of some pages, and of all together, with the most that they may have."""
+    counts = {page: len(" ".join(lines_of(page)).split()) for page in pages() if page not in UNCOUNTED}
+    limits = [(page, counts[page], most) for page, most in MOST_OF_PAGE.items()]
+    for name, count, most in limits + [("all pages", sum(counts.values()), MOST_OF_ALL)]:
+        if count > most:
+            told.append(f"{name}: {count} words, at most {most}")
+
+
 def look_at_text(told):
     words_to_avoid = avoided()
     for page in pages():
@@ -286,6 +300,7 @@ def look_at_text(told):
         look_for_wide_lines(page, told)
         if page != GENERATED:
             look_at_sentences(page, words_to_avoid, told)
+    count_words(told)
     look_at_comments(words_to_avoid, told)
     look_at_command(words_to_avoid, told)
     look_at_generated(told)
