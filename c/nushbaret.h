@@ -136,7 +136,8 @@ int32_t nushbaret_dense(uint32_t sense, size_t n, size_t m,
     struct nushbaret_price *prices, size_t prices_count,
     struct nushbaret_told *told);
 
-/* The same, with m first prices, as those of a similar problem. The search begins at them if they fit and n is at most m.
+/* The same, with m first prices, as those of a similar problem. The search begins at them if they fit, n is at most m, and
+   either n is at least 7/8 of m or there are 64 pairs or more for each object; elsewhere they would save no time.
    Whatever they are, the answer is optimal. */
 int32_t nushbaret_dense_from(uint32_t sense, size_t n, size_t m,
     const int64_t *costs, size_t costs_count,
