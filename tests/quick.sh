@@ -76,7 +76,6 @@ needs python3 tests/progress.sh "$program"
 needs cc tests/refused_growths.sh "$program"
 needs 'rt cc' tests/programs.sh
 needs 'cc c++ python3 nm' tests/door.sh built
-needs rt tests/programs.sh
 needs python3 tests/pages.py "$program"
 needs python3 tests/python.sh
 needs 'python3 git readelf' tests/release.sh
