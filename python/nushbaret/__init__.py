@@ -10,17 +10,45 @@ and `compare` judge plans from elsewhere. Plans are best for the costs as given,
 that are up to 10**12 multiples of one unit, and proves the plan; for any others it solves rounded ones, level by level. What this
 package adds is tested, not proved: how costs are read, levels, dummies where some stay out, and the order of plans.
 """
-from ._bottleneck import bottleneck
-from ._checking import Comparison, Verdict, check, compare
-from ._counts import CountsResult, Shortage, assign_counts
-from ._infeasible import Infeasible
-from ._library import GREATEST_COST, MOST_PERSONS, VERSION as _VERSION, LibraryNotFound
-from ._plans import k_best
-from ._result import Plan, Result
-from ._solving import linear_sum_assignment, solve, solve_sparse
+import importlib
+from typing import TYPE_CHECKING, Any, List
 
-__version__ = _VERSION
+if TYPE_CHECKING:
+    from ._bottleneck import bottleneck
+    from ._checking import Comparison, Verdict, check, compare
+    from ._counts import CountsResult, Shortage, assign_counts
+    from ._infeasible import Infeasible
+    from ._library import GREATEST_COST, MOST_PERSONS, VERSION as __version__, LibraryNotFound
+    from ._plans import k_best
+    from ._result import Plan, Result
+    from ._solving import linear_sum_assignment, solve, solve_sparse
+
 __all__ = [
     "GREATEST_COST", "MOST_PERSONS", "Comparison", "CountsResult", "Infeasible", "LibraryNotFound", "Plan", "Result", "Shortage",
     "Verdict", "assign_counts", "bottleneck", "check", "compare", "k_best", "linear_sum_assignment", "solve", "solve_sparse",
 ]
+
+# The module of each name. It is loaded when the name is first used, so that the command can set what Ctrl-C does before that.
+_MODULES = {
+    "_bottleneck": ("bottleneck",),
+    "_checking": ("Comparison", "Verdict", "check", "compare"),
+    "_counts": ("CountsResult", "Shortage", "assign_counts"),
+    "_infeasible": ("Infeasible",),
+    "_library": ("GREATEST_COST", "MOST_PERSONS", "VERSION", "LibraryNotFound"),
+    "_plans": ("k_best",),
+    "_result": ("Plan", "Result"),
+    "_solving": ("linear_sum_assignment", "solve", "solve_sparse"),
+}
+
+
+def __getattr__(name: str) -> Any:
+    held = "VERSION" if name == "__version__" else name
+    for module, names in _MODULES.items():
+        if held in names and name != "VERSION":
+            globals()[name] = getattr(importlib.import_module(f".{module}", __name__), held)
+            return globals()[name]
+    raise AttributeError(f"module {__name__!r} has no attribute {name!r}")
+
+
+def __dir__() -> List[str]:
+    return sorted({*globals(), *__all__, "__version__"})
