@@ -78,4 +78,3 @@ pub fn solve_dense_among(
     let scaled = Arc::new(alloc, scale(alloc, problem, Sense::Min)?)?;
     solve_paths_among(alloc, scaled, n)
 }
-

@@ -21,11 +21,7 @@ use std::thread::Threads;
 ///
 /// # Errors
 /// `AllocError` if memory is refused.
-pub fn solve_problem(
-    alloc: Global,
-    problem: &Problem,
-    sense: Sense,
-) -> Result<Outcome, AllocError>
+pub fn solve_problem(alloc: Global, problem: &Problem, sense: Sense) -> Result<Outcome, AllocError>
     ensures proof { IfOk result (core.IsProof sense problem.now) }
     ensures decided { IfOk result (core.IsDecided problem.now) }
 {

@@ -7,9 +7,7 @@ use assign_core::{
     Certificate, Cost, HallSet, Object, Outcome, Person, Price, Prices, Problem, Sense,
 };
 use augmenting_paths::{Unobserved, Wishes, copy_rows};
-use dual_checker::{
-    CostRows, HallVerdict, Verdict, VerdictAmong, check_among, check_hall_among,
-};
+use dual_checker::{CostRows, HallVerdict, Verdict, VerdictAmong, check_among, check_hall_among};
 use rectangles::sparse_among;
 use shortest_paths::{solve_paths, solve_with_dummies};
 use std::alloc::{AllocError, Global};

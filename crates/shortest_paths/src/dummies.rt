@@ -7,7 +7,7 @@ ghost use Rattle.rectangles.specs.Filled.{filled_up};
 use assign_core::{Outcome, Problem, Sense};
 use augmenting_paths::{Unobserved, Wishes, copy_rows, try_paths};
 use dual_checker::CostRows;
-use rectangles::{proofs_hold_without_dummies, filled_up, of_first};
+use rectangles::{filled_up, of_first, proofs_hold_without_dummies};
 use rounds::solve_rounds_alone;
 use scaled_values::scale;
 use std::alloc::{AllocError, Global};
