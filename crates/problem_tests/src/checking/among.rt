@@ -113,13 +113,13 @@ fn verdicts_of_three(
 #[test]
 fn three_persons_among_two_objects(rt: HostRuntime) -> Result<(), Fail> {
     for (objects, verdict) in [
-        ("121", Verdict::Twice(Object(1))),
-        ("123", Verdict::Unlisted(Person(3))),
-        ("12", Verdict::Length),
+        ("121", VerdictAmong::Usual(Verdict::Twice(Object(1)))),
+        ("123", VerdictAmong::Usual(Verdict::Unlisted(Person(3)))),
+        ("12", VerdictAmong::Usual(Verdict::Length)),
     ] {
         let (problem, list) = verdicts_of_three(rt.alloc(), objects)?;
-        assert!(rt; problem == VerdictAmong::Usual(verdict));
-        assert!(rt; list == VerdictAmong::Usual(verdict));
+        assert!(rt; problem == verdict);
+        assert!(rt; list == verdict);
     }
     Ok(())
 }
