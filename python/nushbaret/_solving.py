@@ -135,7 +135,10 @@ def solve(costs: Any, maximize: bool = False, decimals: Optional[int] = None, st
     >>> nushbaret.solve([[0.1 + 0.2, 2.5], [3, 1e15]]).cost
     Decimal('5.5')
     """
-    return solve_source(Source(sources.lasting(costs), None, None, None, exact.manner(maximize, decimals, missing)), start, partial, timeout)
+    source = Source(sources.lasting(costs), None, None, None, exact.manner(maximize, decimals, missing))
+    arrays = small_arrays() if start is None and decimals is None and timeout is None else None
+    found = arrays and arrays.answer(source.costs, source.manner.maximize)
+    return Result(source, *found) if found else solve_source(source, start, partial, timeout)
 
 
 def solve_sparse(n_rows: Any, n_columns: Optional[int] = None, rows: Any = None, columns: Any = None, costs: Any = None,
@@ -209,7 +212,7 @@ def linear_sum_assignment(cost_matrix: Any, maximize: bool = False, *, missing: 
     >>> nushbaret.linear_sum_assignment([[0.3, 0.1, 1e15], [0.1, 0.3, 1e15], [1e15, 1e15, 0.5]])
     ([0, 1, 2], [1, 0, 2])
     """
-    arrays = small_arrays()
+    arrays = small_arrays() if timeout is None and missing == "refuse" else None
     found = arrays and (arrays.assignment(cost_matrix, maximize) or arrays.of_rows(cost_matrix, maximize))
     if found:
         return found
