@@ -2,17 +2,18 @@
 import math
 import struct
 from array import array
+from collections import deque
 from typing import Any, Dict, List, Optional, Tuple
 
 from . import _array_levels as arrays, _exact as exact, _levels as levels, _library as library, _proved as proved
 from ._library import FEW, MOST_PERSONS
 from ._problem import Problem
+from ._result import Found
 
 # Beyond such powers of two the double that rounds is none.
 MOST_SHIFT = 850
 # With more costs the library's second call would take longer than to look at reduced costs.
 SMALL = 2**14
-_KINDS = ({float}, {int})
 
 
 class SmallArrays:
@@ -41,53 +42,64 @@ class SmallArrays:
         room = self._solved(costs.T if turned else costs, maximize, False)
         if room is None:
             return None
-        rows, columns = room.rows.copy(), self.from_zero(room.objects)
+        found = self._pairs_of(room, turned)
         room.give_back()
-        if not turned:
-            return rows, columns
-        order = columns.argsort()
-        return columns.take(order), order
+        return found
 
     def of_rows(self, rows: Any, maximize: bool) -> Optional[Tuple[List[int], List[int]]]:
         """As `assignment`, for a list of lists of floats or of ints; the answer is of lists."""
         flat = _flat(rows)
-        costs = flat and self._matrix(flat, len(rows))
+        costs = None if flat is None else self._matrix(flat, len(rows))
         if costs is None:
             return None
-        n, m = costs.shape
-        room = self._solved(costs.T if n > m else costs, maximize, False)
+        turned = len(rows) > len(rows[0])
+        room = self._solved(costs.T if turned else costs, maximize, False)
         if room is None:
             return None
-        columns = [item - 1 for item in room.objects.tolist()]
+        found = _listed_pairs_of(room, turned)
         room.give_back()
-        if n <= m:
-            return list(range(n)), columns
-        order = sorted(range(m), key=columns.__getitem__)
-        return [columns[place] for place in order], order
+        return found
 
-    def answer(self, costs: Any, maximize: bool) -> Optional[Tuple[Problem, proved.Answer]]:
-        """The problem of a small array, or of a list of lists, and its answer, where floats are the decimals that they print as. None as
-        in `assignment`, and where costs may have few decimal places, which the longer way makes whole."""
+    def found(self, costs: Any, maximize: bool) -> Optional[Found]:
+        """What a result is made of, for a small array or a list of lists, where floats are the decimals that they print as. None as in
+        `assignment`, and where costs may have few decimal places, which the longer way makes whole."""
         if type(costs) is self.array and costs.ndim == 2:
-            matrix, held, of_numpy = costs, None, self.numpy
+            matrix, flat = costs, None
         else:
-            held, of_numpy = _flat(costs), None
-            matrix = held and self._matrix(held, len(costs))
+            flat = _flat(costs)
+            matrix = None if flat is None else self._matrix(flat, len(costs))
             if matrix is None:
                 return None
         n_rows, n_columns = matrix.shape
-        room = self._solved(matrix.T if n_rows > n_columns else matrix, maximize, True)
+        turned = n_rows > n_columns
+        room = self._solved(matrix.T if turned else matrix, maximize, True)
         if room is None:
             return None
-        numbers = matrix.ravel() if held is None else held
-        problem = Problem(n_rows, n_columns, maximize, numbers, raw=room.is_rounded, numpy=of_numpy, arrays=of_numpy)
-        found = _answer_of(room)
+        shape = Problem(n_rows, n_columns, maximize, None, raw=room.is_rounded)
+        answer = _answer_of(room)
+        if flat is None:
+            rows, columns = self._pairs_of(room, turned)
+            own = matrix[rows, columns].tolist()
+        else:
+            rows, columns = _listed_pairs_of(room, turned)
+            own = [flat[n_columns * row + column] for row, column in zip(rows, columns)]
         room.give_back()
-        return problem, found
+        return Found(shape, answer, rows, columns, own, flat is None)
+
+    def _pairs_of(self, room: library.Room, turned: bool) -> Tuple[Any, Any]:
+        """Rows and columns of the plan in a room."""
+        persons, objects = room.rows.copy(), self.from_zero(room.objects)
+        if not turned:
+            return persons, objects
+        order = objects.argsort()
+        return objects.take(order), order
 
     def _matrix(self, flat: List[Any], height: int) -> Any:
-        """An array of floats or of ints; None where one has more than 64 bits."""
-        kind, letter = (self.float64, "d") if type(flat[0]) is float else (self.int64, "q")
+        """An array of floats, or of ints of 64 bits; None where there are others among them."""
+        kind, letter = (self.int64, "q") if type(flat[0]) is int else (self.float64, "d")
+        # What holds whole numbers refuses floats by itself.
+        if letter == "d" and {float} != set(map(type, flat)):
+            return None
         try:
             return self.of_bytes(struct.pack(f"{len(flat)}{letter}", *flat), kind).reshape(height, -1)
         except struct.error:
@@ -99,17 +111,16 @@ class SmallArrays:
         if not n or n * n * m >= library.LONG or m > MOST_PERSONS or not costs.flags.aligned:
             return None
         room = library.room_for(self.numpy, n, m)
-        sense = room.maximized if maximize else room.minimized
         if costs.dtype is self.int64:
-            return room if self._of_whole(costs.ravel(), room, sense) else None
-        return room if costs.dtype is self.float64 and self._of_doubles(costs, room, sense, maximize, printed) else None
+            return room if self._of_whole(costs.ravel(), room, maximize) else None
+        return room if costs.dtype is self.float64 and self._of_doubles(costs, room, maximize, printed) else None
 
-    def _of_whole(self, costs: Any, room: library.Room, sense: Any) -> bool:
+    def _of_whole(self, costs: Any, room: library.Room, maximize: bool) -> bool:
         """Whether the room has a best plan for whole numbers."""
-        lent, room.is_rounded = costs.tobytes() if costs.size <= FEW else room.held(costs), False
-        return not room.call(sense, *room.sizes, lent, *room.rest)
+        lent, room.is_rounded = costs.tobytes() if costs.size <= FEW else library.address_of(costs), False
+        return not room.call(room.maximized if maximize else room.minimized, *room.sizes, lent, *room.rest)
 
-    def _of_doubles(self, costs: Any, room: library.Room, sense: Any, maximize: bool, printed: bool) -> bool:
+    def _of_doubles(self, costs: Any, room: library.Room, maximize: bool, printed: bool) -> bool:
         """Whether the room has a plan that is best for doubles."""
         # Reading them in their order in memory is faster.
         seen = costs if costs.flags.c_contiguous else costs.T
@@ -118,35 +129,21 @@ class SmallArrays:
         if item(0).is_integer():
             whole = exact.whole_numbers(self.numpy, costs.ravel())
             if whole is not None:
-                return self._of_whole(whole, room, sense)
-        if printed and not (_is_long(item(0)) or _is_long(item(-1))):
-            return False
+                return self._of_whole(whole, room, maximize)
         most = max(item(seen.argmax()), -item(seen.argmin()))
-        if not 0 < most < math.inf:
+        if not 0 < most < math.inf or printed and not (_is_long(item(0)) or _is_long(most)):
             return False
         shift = levels.BITS - math.frexp(most)[1]
-        lent, room.is_rounded = self._scaled(costs, room, shift), True
-        if lent is None or room.call(sense, *room.sizes, lent, *room.rest):
+        if not self._scaled(costs, room, shift) or room.call(*room.calls[maximize]):
             return False
-        dearer = (-1 if maximize else 1) * (2 if printed else 1)
-        if costs.size > SMALL or not self._is_alone(room, (sense, *room.sizes, lent, *room.rest), dearer):
+        if costs.size > SMALL or not _is_alone(room, maximize, 2 if printed else 1):
             self._by_levels(costs, room, shift, maximize, printed)
         return True
-
-    def _is_alone(self, room: library.Room, call: Tuple[Any, ...], dearer: int) -> bool:
-        """Whether the room's plan stays the best where its pairs are dearer. The room has it afterwards."""
-        objects, places = room.objects.tobytes(), self.add(room.before, room.objects)
-        room.flat[places] += dearer
-        if not room.call(*call) and room.objects.tobytes() == objects:
-            return True
-        room.flat[places] -= dearer
-        room.call(*call)
-        return False
 
     def _by_levels(self, costs: Any, room: library.Room, shift: int, maximize: bool, printed: bool) -> None:
         """Gives the room a best plan, from the one of the first level that it has."""
         n, m = costs.shape
-        asked = proved.Given(n, m, proved.NONE, proved.NONE, room.flat)
+        asked = proved.Given(n, m, proved.NONE, proved.NONE, room.numbers.ravel())
         sign = -1 if maximize else 1
         duals = arrays.duals_of(asked, proved.Answer(n, m, None, room.objects, room.halves), sign)
         level = levels.Level(asked, room.objects, *duals, shift, sign)
@@ -156,16 +153,17 @@ class SmallArrays:
             with levels.quiet(problem):
                 room.objects[:] = levels.finer(problem, level, pairs)
 
-    def _scaled(self, costs: Any, room: library.Room, shift: int) -> Any:
-        """The costs times 2**shift, rounded to the nearest whole numbers."""
+    def _scaled(self, costs: Any, room: library.Room, shift: int) -> bool:
+        """Gives the room the costs times 2**shift, rounded to the nearest whole numbers; false where doubles don't suffice for it."""
         adder = self.adders.get(shift) or self._adder(shift)
         if adder is None:
-            return None
+            return False
         if room.doubles is None:
             room.hold_doubles(self.numpy, costs.shape)
         self.add(costs, adder[0], room.doubles)
         self.subtract(room.numbers, adder[1], room.numbers)
-        return room.own
+        room.is_rounded = True
+        return True
 
     def _adder(self, shift: int) -> Optional[Tuple[Any, Any]]:
         """A double whose last place is 2**-shift, so that what is added to it is rounded there, and its bits, to be subtracted from those
@@ -178,13 +176,21 @@ class SmallArrays:
 
 
 def _flat(rows: Any) -> Optional[List[Any]]:
-    """The numbers of a list of lists of one length, all floats or all ints; None where it is none."""
+    """What a list of lists of one length holds; None where it is none."""
     if type(rows) is not list or not rows or {list} != set(map(type, rows)) or {len(rows[0])} != set(map(len, rows)):
         return None
     flat: List[Any] = []
-    for row in rows:
-        flat += row
-    return flat if set(map(type, flat)) in _KINDS else None
+    deque(map(flat.extend, rows), 0)
+    return flat or None
+
+
+def _listed_pairs_of(room: library.Room, turned: bool) -> Tuple[List[int], List[int]]:
+    """Rows and columns of the plan in a room, as lists."""
+    persons, objects = list(range(len(room.objects))), [item - 1 for item in room.objects.tolist()]
+    if not turned:
+        return persons, objects
+    persons.sort(key=objects.__getitem__)
+    return [objects[person] for person in persons], persons
 
 
 def _answer_of(room: library.Room) -> proved.Answer:
@@ -196,6 +202,19 @@ def _answer_of(room: library.Room) -> proved.Answer:
     halves = library.Halves()
     halves.words = array("Q", room.halves.words.tobytes())
     return proved.Answer(n, m, room.total.value, objects, halves)
+
+
+def _is_alone(room: library.Room, maximize: bool, dearer: int) -> bool:
+    """Whether a room's plan stays the best where its pairs are dearer. The room has it afterwards."""
+    flat, objects, call, more = room.flat, room.objects.tolist(), room.calls[maximize], -dearer if maximize else dearer
+    for before, item in zip(room.before, objects):
+        flat[before + item] += more
+    if not room.call(*call) and room.objects.tolist() == objects:
+        return True
+    for before, item in zip(room.before, objects):
+        flat[before + item] -= more
+    room.call(*call)
+    return False
 
 
 def _is_long(cost: float) -> bool:

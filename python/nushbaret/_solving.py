@@ -135,10 +135,12 @@ def solve(costs: Any, maximize: bool = False, decimals: Optional[int] = None, st
     >>> nushbaret.solve([[0.1 + 0.2, 2.5], [3, 1e15]]).cost
     Decimal('5.5')
     """
-    source = Source(sources.lasting(costs), None, None, None, exact.manner(maximize, decimals, missing))
-    arrays = small_arrays() if start is None and decimals is None and timeout is None else None
-    found = arrays and arrays.answer(source.costs, source.manner.maximize)
-    return Result(source, *found) if found else solve_source(source, start, partial, timeout)
+    if decimals is None and start is None and timeout is None and missing == "refuse":
+        arrays = small_arrays()
+        found = arrays and arrays.found(costs, bool(maximize))
+        if found:
+            return Result._of(Source(costs, None, None, None, exact.Manner(found.shape.maximize)), found)
+    return solve_source(Source(sources.lasting(costs), None, None, None, exact.manner(maximize, decimals, missing)), start, partial, timeout)
 
 
 def solve_sparse(n_rows: Any, n_columns: Optional[int] = None, rows: Any = None, columns: Any = None, costs: Any = None,
