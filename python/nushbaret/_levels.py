@@ -74,7 +74,7 @@ def _solved(problem: Problem, served: Optional[int], prices: Any) -> Union[prove
         level, pairs = found, kept(found, found.asked.n + MORE)
     objects = level.objects
     if not is_only_plan(level, pairs):
-        objects = _finer(problem, level, pairs)
+        objects = finer(problem, level, pairs)
     return proved.Answer(level.asked.n, level.asked.m, None, objects, None)
 
 
@@ -257,7 +257,7 @@ def ratios_at(problem: Problem, asked: proved.Given, places: Sequence[int]) -> L
     return [known[key] for key in keys]
 
 
-def _finer(problem: Problem, level: Level, pairs: Pairs) -> Any:
+def finer(problem: Problem, level: Level, pairs: Pairs) -> Any:
     """The objects of a best plan along pairs that a level left."""
     numpy = loaded_numpy()
     if problem.numpy and problem.raw:

@@ -231,10 +231,12 @@ def _waited_for(work: Callable[[], int], end: Optional[float], *lists: Any) -> i
 class Room:
     """What a dense call on an array of NumPy's fills, with its arguments made ready, since to convert them takes as long as a small
     problem: a sense, sizes, costs, and the rest. The call answers 0 where it found a best assignment, whose objects stand here
-    then. `doubles` and `numbers` are one memory, for costs that are to become whole numbers, and `own` is its address."""
+    then. `doubles`, `numbers` and `flat` are one memory, for costs that are to become whole numbers, and
+    `calls` has the arguments for these under minimize and maximize. `home` is the
+    list that the room goes back to after a call, if it is kept, and `is_rounded` says whether costs were rounded."""
 
-    def __init__(self, numpy: Any, n: int, m: int):
-        self.words = array("Q", bytes(_TOLD + 16 * m + 4 * n + 8 - 4 * n % 8))
+    def __init__(self, numpy: Any, n: int, m: int, home: Optional[List["Room"]]):
+        self.words, self.shape, self.home = array("Q", bytes(_TOLD + 16 * m + 4 * n + 8 - 4 * n % 8)), (n, m), home
         self.rows, self.objects = numpy.arange(n), numpy.frombuffer(self.words, numpy.uint16, n, _TOLD + 16 * m)
         told = self.words.buffer_info()[0]
         prices, objects, persons = told + _TOLD, told + _TOLD + 16 * m, told + _TOLD + 16 * m + 2 * n
@@ -244,40 +246,57 @@ class Room:
         self.rest = count(n * m), address(objects), few, address(persons), few, address(prices), many, address(told)
         self.call = _calls["dense, made ready"]
         # Where the costs of each row begin, less 1.
-        self.before = numpy.arange(-1, n * m - 1, m)
+        self.before = range(-1, n * m - 1, m)
         self.halves = Halves()
         self.halves.words = numpy.frombuffer(self.words, numpy.uint64, 2 * m, _TOLD)
+        self.total = ctypes.c_int64.from_buffer(self.words)
         self.doubles: Any = None
         self.numbers: Any = None
         self.flat: Any = None
-        self.own: Any = None
+        self.calls: Any = None
+        self.is_rounded = False
 
-    def held(self, numbers: Any) -> Any:
-        """The address of an array of 64-bit numbers, which lives as long as this does."""
-        self.numbers = numbers
-        return ctypes.c_void_p.from_param(numbers.__array_interface__["data"][0])
+    def give_back(self) -> None:
+        """Lets another call have the room."""
+        if self.home is not None:
+            self.home.append(self)
 
     def hold_doubles(self, numpy: Any, shape: Tuple[int, int]) -> None:
         """Makes memory for costs that are to become whole numbers."""
         self.doubles = numpy.empty(shape)
-        self.own = self.held(self.doubles.view(numpy.int64))
-        self.flat = self.numbers.reshape(-1)
+        self.numbers = self.doubles.view(numpy.int64)
+        self.flat = memoryview(self.numbers).cast("B").cast("q")
+        own = address_of(self.numbers)
+        self.calls = tuple((sense, *self.sizes, own, *self.rest) for sense in (self.minimized, self.maximized))
+
+
+def address_of(numbers: Any) -> Any:
+    """The address of an array, which must live until the call ends."""
+    return ctypes.c_void_p.from_param(numbers.__array_interface__["data"][0])
 
 
 # Rooms of calls that have ended, by their sizes; at most so many sizes.
 _MOST_SIZES = 256
+_MOST_KEPT = 4096
 _rooms: Dict[Tuple[int, int], List[Room]] = {}
 
 
-def rooms_for(n: int, m: int) -> List[Room]:
-    """A list of rooms that no call has: take one of it, and put it back after the call."""
+def room_for(numpy: Any, n: int, m: int) -> Room:
+    """A room that no other call has: give it back after the call."""
     rooms = _rooms.get((n, m))
-    if rooms is None:
-        _loaded()
-        if len(_rooms) >= _MOST_SIZES:
-            _rooms.clear()
-        rooms = []
-        # Larger rooms aren't kept: making one takes little time compared with the problem, and it holds much memory.
-        if n * m <= FEW:
-            _rooms[n, m] = rooms
-    return rooms
+    if rooms:
+        try:
+            return rooms.pop()
+        except IndexError:
+            pass
+    return Room(numpy, n, m, rooms if rooms is not None else _rooms_for(n, m))
+
+
+def _rooms_for(n: int, m: int) -> Optional[List[Room]]:
+    """A new list of rooms. Larger ones aren't kept: making one takes little time compared with the problem, and it holds much memory."""
+    _loaded()
+    if n * m > _MOST_KEPT:
+        return None
+    if len(_rooms) >= _MOST_SIZES:
+        _rooms.clear()
+    return _rooms.setdefault((n, m), [])

@@ -33,6 +33,17 @@ def _arrays_of(numpy: Any, problem: Problem, answer: proved.Answer) -> Tuple[Any
     return own[order], persons[order]
 
 
+class Found(NamedTuple):
+    """What a result is made of: its problem without lists, the answer, the pairs with their costs, and whether they are arrays."""
+
+    shape: Problem
+    answer: proved.Answer
+    rows: Any
+    columns: Any
+    costs: List[Any]
+    as_arrays: bool
+
+
 class Plan(NamedTuple):
     """A plan: row rows[k] has column columns[k], and all pairs together cost `cost`.
 
@@ -92,8 +103,19 @@ class Result(Lasting):
         costs = costs_of_pairs(problem, rows, columns)
         # Without its lists the problem is small.
         shape = problem._replace(costs=None, persons=None, objects=None, numpy=None, arrays=None)
-        self.__dict__.update(rows=rows, columns=columns, maximize=problem.maximize, _source=source, _shape=shape, _answer=answer,
-                             _costs=costs, _as_arrays=problem.arrays is not None)
+        self._take(source, Found(shape, answer, rows, columns, costs, problem.arrays is not None))
+
+    def _take(self, source: Union[Source, Held], found: Found) -> None:
+        held = self.__dict__
+        held["_source"], held["maximize"] = source, found.shape.maximize
+        held["_shape"], held["_answer"], held["rows"], held["columns"], held["_costs"], held["_as_arrays"] = found
+
+    @classmethod
+    def _of(cls, source: Source, found: Found) -> "Result":
+        """The result of what was found to be a best plan."""
+        result = cls.__new__(cls)
+        result._take(source, found)
+        return result
 
     def __repr__(self) -> str:
         return f"<nushbaret.Result: cost {self.cost}, {len(self.rows)} pairs>"

@@ -135,6 +135,11 @@ def solve(costs: Any, maximize: bool = False, decimals: Optional[int] = None, st
     >>> nushbaret.solve([[0.1 + 0.2, 2.5], [3, 1e15]]).cost
     Decimal('5.5')
     """
+    if decimals is None and start is None and timeout is None and missing == "refuse":
+        arrays = small_arrays()
+        found = arrays and arrays.found(costs, bool(maximize))
+        if found:
+            return Result._of(Source(costs, None, None, None, exact.Manner(found.shape.maximize)), found)
     return solve_source(Source(sources.lasting(costs), None, None, None, exact.manner(maximize, decimals, missing)), start, partial, timeout)
 
 
@@ -209,7 +214,7 @@ def linear_sum_assignment(cost_matrix: Any, maximize: bool = False, *, missing: 
     >>> nushbaret.linear_sum_assignment([[0.3, 0.1, 1e15], [0.1, 0.3, 1e15], [1e15, 1e15, 0.5]])
     ([0, 1, 2], [1, 0, 2])
     """
-    arrays = small_arrays()
+    arrays = small_arrays() if timeout is None and missing == "refuse" else None
     found = arrays and (arrays.assignment(cost_matrix, maximize) or arrays.of_rows(cost_matrix, maximize))
     if found:
         return found
