@@ -175,9 +175,17 @@ class SmallArrays:
         return self.adders[shift]
 
 
+def _may_be_shorter(rows: Any) -> bool:
+    """Whether the first row of a list says that this way may serve, and is the faster one: many ints are read faster row by row."""
+    if type(rows) is not list or not rows or type(rows[0]) is not list or not rows[0]:
+        return False
+    n, m = sorted((len(rows), len(rows[0])))
+    return n * n * m < library.LONG and (n * m <= SMALL or type(rows[0][0]) is float)
+
+
 def _flat(rows: Any) -> Optional[List[Any]]:
-    """What a list of lists of one length holds; None where it is none."""
-    if type(rows) is not list or not rows or {list} != set(map(type, rows)) or {len(rows[0])} != set(map(len, rows)):
+    """What a list of lists of one length holds; None where it is none, or where the longer way is faster."""
+    if not _may_be_shorter(rows) or {list} != set(map(type, rows)) or {len(rows[0])} != set(map(len, rows)):
         return None
     flat: List[Any] = []
     deque(map(flat.extend, rows), 0)
