@@ -93,17 +93,16 @@ fn found(
 }
 
 // The solver's outcome, from first prices if they are given, while this observer hears of it.
-fn solved_by<O: Observer>(
+fn solved_by<'a, O: Observer>(
     alloc: Global,
     problem: &Problem,
-    first: Option<&[Price]>,
-    observer: &O,
+    first: Option<&'a [Price]>,
+    observer: &'a O,
 ) -> Result<Outcome, AllocError> {
     let rows = rows_of(problem);
     let copy = copy_rows(alloc, &rows, Sense::Min)?;
-    let prices = first_prices(alloc, problem.n(), first.unwrap_or(&[]))?;
     let wishes = Wishes {
-        prices: wished(first, prices.as_slice()),
+        prices: first,
         observer,
     };
     solve_paths(alloc, &rows, Sense::Min, copy, wishes)
