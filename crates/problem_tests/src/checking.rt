@@ -1,7 +1,6 @@
 // Verdicts on small tables, worked by hand.
 mod among;
 mod confirmed;
-mod drawn;
 mod hall;
 mod plain;
 
