@@ -2,7 +2,6 @@
 mod among;
 mod confirmed;
 mod hall;
-mod plain;
 
 use assign_core::{MOST_PERSONS, Numbered, Object, PRICE_END, Person, Price, Problem, Sense};
 use dual_checker::{Verdict, check};
