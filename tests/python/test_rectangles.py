@@ -14,13 +14,26 @@ except ImportError:
 
 def asked(run):
     """The names, sizes and numbers of pairs of the library's calls that something makes."""
-    calls, call = [], library.call
+    calls, call, room_for = [], library.call, library.room_for
 
     def noted(name, sense, n, m, *lists):
         calls.append((name, n, m, len(lists[0])))
         return call(name, sense, n, m, *lists)
 
-    with mock.patch.object(library, "call", noted):
+    def noting_room(numpy, n, m):
+        room = room_for(numpy, n, m)
+        own = room.call
+
+        def noted_ready(*words):
+            calls.append(("dense", n, m, n * m))
+            return own(*words)
+
+        room.call = noted_ready
+        return room
+
+    # Rooms made meanwhile are dropped afterwards.
+    with mock.patch.object(library, "call", noted), mock.patch.object(library, "room_for", noting_room), \
+            mock.patch.dict(library._rooms, clear=True):
         run()
     return calls
 
