@@ -176,7 +176,9 @@ fn products_followed(
 // The first persons get the last objects: the sum of i * (n + 1 - i) is n (n + 1) (n + 2) / 6.
 #[test]
 fn numbers_of_assigned_persons(rt: HostRuntime) -> Result<(), Fail> {
-    for first in [None, Some([5].as_slice())] {
+    let mut prices: [Price; 120] = [0; 120];
+    prices[0] = 5;
+    for first in [None, Some(prices.as_slice())] {
         let (cost, [told, last], wrong) = products_followed(rt.alloc(), first)?;
         assert_eq!(rt; cost, Some(295_240));
         assert!(rt; told > 2 && last > 0 && !wrong);
