@@ -5,14 +5,14 @@
      door drawn N M MOST COUNT TIMES [alone]   so many dense problems of N persons and M objects, costs 1..MOST
      door memory N M MOST       the greatest memory of a call and of a check, next to the caller's lists, as shares of the costs
      door starts TIMES          N = 2000, costs 1..1000: cold, then from the prices of the same problem, of one with one
-                                row drawn anew, and with more and more of them; seconds
+                                redrawn row, and with more and more of them; seconds
      door neighbours TIMES      N = 1000, six drawn problems each: cold, then from the prices before one row in 200, 50, 30
-                                and 20 was drawn anew; seconds
-     door poor TIMES            a dense problem from standard input: cold, then from first prices that tell nothing of
+                                and 20 was redrawn; seconds
+     door poor TIMES            a dense problem from standard input: cold, then from first prices of
                                 it: drawn, drawn up to 10^21, one of 10^21, and the prices of it turned round; seconds
      door wide                  three equal objects with first prices 0, 0 and 10^21, and prices 1, 5 and 7: seconds
      door rectangle N M EACH MOST TIMES   N persons with EACH pairs of M objects, costs 1..MOST: cold, then from the prices of the
-                                same problem and of ones with rows drawn anew, and from prices that tell nothing; seconds */
+                                same problem and of ones with redrawn rows, and from useless prices; seconds */
 #define _DEFAULT_SOURCE
 #include "../c/nushbaret.h"
 #include <stdio.h>
@@ -72,7 +72,7 @@ static double proved(struct problem *p, const struct nushbaret_price *first) {
     begin = now() - begin;
     p->given.first = NULL;
     if (code != NUSHBARET_BEST && code != NUSHBARET_HALL) exit(3);
-    p->total = code == NUSHBARET_BEST ? p->answer.told.total : INT64_MIN;
+    p->total = code == NUSHBARET_BEST ? p->answer.info.total : INT64_MIN;
     return begin;
 }
 
@@ -215,7 +215,7 @@ static void draw_objects(struct problem *p, size_t person, size_t each) {
     }
 }
 
-/* Draws one row in `every` anew, with costs up to `most`. */
+/* Redraws one row in `every`, with costs up to `most`. */
 static void draw_rows(struct problem *p, int64_t most, size_t every) {
     size_t i, each = p->given.count / p->given.n;
     for (i = 0; every > 0 && i < p->given.n; i += every) {
@@ -263,7 +263,7 @@ static void neighbours(int times) {
             }
 }
 
-/* First prices that tell nothing of a problem. `own` are the prices that a cold call found. */
+/* Useless first prices. `own` are the prices that a cold call found. */
 static struct nushbaret_price poor_price(int kind, size_t n, struct nushbaret_price own, size_t place) {
     struct nushbaret_price price = {0, 0};
     int64_t drawn[2];

@@ -5,10 +5,10 @@
 
 Each folder is a fresh clone of a state that has not passed on this machine, since `rt ci` doesn't prove again what
 has. Several gates run side by side from the same moment, each on its own share of the
-processors, so that what disturbs one disturbs the others as much; the last line of each tells it as a ratio to the
-first. What a gate prints goes to FOLDER.log. A process is told by its session and its command; one that lives less
+processors, so that what disturbs one disturbs the others as much; the last line of each is its ratio to the
+first. What a gate prints goes to FOLDER.log. A process is known by its session and its command; one that lives less
 than half a second counts as rest, and the sum of all is the system's own. An interrupt ends the gates, and what they
-took up to then is told.
+took up to then is printed.
 """
 import collections
 import os

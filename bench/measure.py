@@ -1,5 +1,5 @@
 #!/usr/bin/env python3
-"""Measures `auction_cli solve` beside a plain Rust program of the same rounds, on the same inputs, in one run.
+"""Measures `auction_cli solve` next to a plain Rust program of the same rounds, on the same inputs, in one run.
 
 Run it at the top of the repository after `rt run` built the program: bench/measure.py [PROGRAM].
 It writes its inputs below bench/out and needs rustc and cc; scipy is measured too where python3 has it.
@@ -53,7 +53,7 @@ class Run:
         with open(peak) as file:
             memory, processor = file.read().split()
         self.memory, self.processor = int(memory) / 1024, int(processor) / 1e6
-        self.printed, self.told = ran.stdout, ran.stderr
+        self.printed, self.errors = ran.stdout, ran.stderr
 
 
 def fastest(programs, stdin, wanted, processors=None, repeats=REPEATS):
@@ -72,7 +72,7 @@ def line(what, ran, note=""):
 
 
 def reading():
-    """A text with something behind its last cost is read whole and then refused."""
+    """A text with something after its last cost is read whole and then refused."""
     n = 2700
     path = problem("reading.txt", str(n), "1", "999999", "7", tail="x\n")
     size = os.path.getsize(path) / 1e6
@@ -100,7 +100,7 @@ def solved_beside(path, wanted, words=(), processors=None, repeats=REPEATS):
     best = fastest(programs, path, wanted, processors, repeats)
     answers = [answer(ran.printed) for ran in best.values()]
     assert answers[0] == answers[1] == answers[2], "the answers differ"
-    rounds, bids, accepted = (int(word) for word in best["plain Rust"].told.split())
+    rounds, bids, accepted = (int(word) for word in best["plain Rust"].errors.split())
     print(f"  {processors or 'all processors'}: {rounds} rounds, {bids} bids, {accepted} accepted")
     proved = best["auction_cli solve"]
     for name, ran in best.items():

@@ -1,5 +1,5 @@
 #!/usr/bin/env python3
-"""Measures `auction_cli solve` in both modes, and what first prices save, beside plain Rust, in one run.
+"""Measures `auction_cli solve` in both modes, and what first prices save, next to plain Rust, in one run.
 
 Run it at the top of the repository after `rt run` built the program: bench/modes.py [PROGRAM [modes|starts]].
 It writes its inputs below bench/out and needs rustc and cc; scipy is measured too where python3 has it. Programs
@@ -29,7 +29,7 @@ def compared(what, path, wanted=0, words=(), repeats=3, refresh="1"):
     costs = {answer(ran.printed)[0] for ran in best.values()}
     assert len(costs) == 1, costs
     for name, ran in best.items():
-        line(name, ran, ran.told.decode().strip())
+        line(name, ran, ran.errors.decode().strip())
 
 
 def modes():
@@ -51,7 +51,7 @@ def modes():
 
 
 def changed(path, part, seed):
-    """The problem with a part of its rows drawn anew."""
+    """The problem with a part of its rows redrawn."""
     with open(path) as file:
         first, *rows = file.read().splitlines()
     n = int(first)
@@ -71,9 +71,9 @@ def starts():
     report = os.path.join(OUT, "start.txt")
     with open(path) as read, open(report, "w") as file:
         subprocess.run([PROGRAM, "solve", "--prices"], stdin=read, stdout=file, check=True)
-    for part, told in ((100, "1 %"), (10, "10 %"), (n, "one row")):
+    for part, changed in ((100, "1 %"), (10, "10 %"), (n, "one row")):
         other = changed(path, part, 11)
-        print(f"n = {n}, costs 1..1000, {told} of the rows changed")
+        print(f"n = {n}, costs 1..1000, {changed} of the rows changed")
         programs = []
         for mode in ("rounds", "workers"):
             programs.append((f"  {mode}, cold", PROGRAM, ["solve", "--mode", mode]))
@@ -83,7 +83,7 @@ def starts():
         best = fastest(programs, other, 0)
         assert len({answer(ran.printed)[0] for ran in best.values()}) == 1
         for name, ran in best.items():
-            line(name, ran, ran.told.decode().strip())
+            line(name, ran, ran.errors.decode().strip())
 
 
 def main():

@@ -64,8 +64,8 @@ def text_of(kind, n):
 
 def door(*words, stdin=None, program=DOOR):
     """Seconds of the library, of plain Rust, of plain C, and of a check, by name."""
-    told = subprocess.run([program, *map(str, words)], stdin=stdin, stdout=subprocess.PIPE, check=True, text=True).stdout
-    for line in told.splitlines():
+    printed = subprocess.run([program, *map(str, words)], stdin=stdin, stdout=subprocess.PIPE, check=True, text=True).stdout
+    for line in printed.splitlines():
         name, *numbers = line.rsplit(" ", 4)
         yield name, [float(number) for number in numbers]
 
@@ -107,7 +107,7 @@ def alone(words, path, bad, repeats):
     return max(min(runs) - min(readings), 0.001)
 
 
-def told(seconds):
+def printed(seconds):
     return f"over {LIMIT}" if seconds is None else f"{seconds:.4f}"
 
 
@@ -124,7 +124,7 @@ def kind(name, n, runs=TIMES, words_of_door=()):
     (call, rust, c, _), (earlier, *_) = both(("text", 1, "sparse" if sparse else "dense", *words_of_door), path)
     words = ["--sparse"] if sparse else []
     rounds, worker = (alone([*words, *mode], path, bad, runs) for mode in (ROUNDS, WORKER))
-    print(f"| {name}, n = {n} | {call:.4f} | {ratio(call, earlier)} | {ratio(call, rust)} | {ratio(call, c)} | {told(rounds)} | {told(worker)} |", flush=True)
+    print(f"| {name}, n = {n} | {call:.4f} | {ratio(call, earlier)} | {ratio(call, rust)} | {ratio(call, c)} | {printed(rounds)} | {printed(worker)} |", flush=True)
 
 
 def kinds():
@@ -174,7 +174,7 @@ def neighbours():
 
 
 def poor():
-    """First prices that tell nothing: a call from them next to a cold one."""
+    """Useless first prices: a call from them next to a cold one."""
     print("| kind | drawn | drawn up to 10^21 | one of 10^21 | turned round |")
     for name in DENSE:
         with open(text_of(name, 1000)) as file:

@@ -1,5 +1,5 @@
 #!/usr/bin/env python3
-"""Measures Nushbaret beside other solvers of the assignment problem, on the same inputs, in one run.
+"""Measures Nushbaret next to other solvers of the assignment problem, on the same inputs, in one run.
 
 bench/peers.py [PROGRAM] at the top of the repository, after `rt run` built the program and c/build.sh the library. Of the
 others it takes those that it finds, and says which: SciPy where python3 has it, LEMON and dlib where c++ finds their headers
@@ -7,7 +7,7 @@ others it takes those that it finds, and says which: SciPy where python3 has it,
 the least of three times counts; all find the same cost, or it stops. It prints two tables of seconds, of processor time and
 by the clock: of a whole run, reading and printing included, and in brackets of solving alone, when the costs lie in memory.
 
-A third table has rectangles, costs 1..10^6, from Python beside SciPy: processor time of solving alone, and by how much the
+A third table has rectangles, costs 1..10^6, from Python, next to SciPy: processor time of solving alone, and by how much the
 first call in a process raises its peak of memory. bench/peers.py rectangles prints this table alone.
 """
 import os
@@ -56,7 +56,7 @@ def built(name, *flags):
     return program if made.returncode == 0 else None
 
 
-def cost_told(printed):
+def cost_printed(printed):
     return next(int(line.split()[1]) for line in printed.decode().splitlines() if line.startswith("cost"))
 
 
@@ -64,15 +64,15 @@ class Times:
     """The least seconds that a solver took: of whole runs by the clock and of processor time, and of solving alone."""
 
     def __init__(self):
-        self.told = {}
+        self.least = {}
 
     def take(self, **seconds):
         for kind, taken in seconds.items():
-            self.told[kind] = min(taken, self.told.get(kind, taken))
+            self.least[kind] = min(taken, self.least.get(kind, taken))
 
     def shown(self, measure):
         forms = (("whole_" + measure, "{:.3f}"), ("alone_" + measure, "({:.3f})"))
-        return " ".join(form.format(self.told[kind]) for kind, form in forms if kind in self.told)
+        return " ".join(form.format(self.least[kind]) for kind, form in forms if kind in self.least)
 
 
 def of_children():
@@ -81,7 +81,7 @@ def of_children():
 
 
 def whole_run(words):
-    """A solver that is a program. A peer tells the processor time of solving alone."""
+    """A solver that is a program. A peer prints the processor time of solving alone."""
     def run(path, _, times):
         with open(path) as text:
             clock, processor = time.perf_counter(), of_children()
@@ -89,7 +89,7 @@ def whole_run(words):
             times.take(whole_clock=time.perf_counter() - clock, whole_processor=of_children() - processor)
         if ran.stderr:
             times.take(alone_processor=float(ran.stderr))
-        return cost_told(ran.stdout)
+        return cost_printed(ran.stdout)
     return run
 
 
@@ -175,9 +175,9 @@ def tell_memory(place, name):
 
 
 def memory(place, name):
-    """What a process of its own tells of its memory; empty where the system can't say."""
-    told = subprocess.run([sys.executable, os.path.abspath(__file__), "memory", str(place), name], stdout=subprocess.PIPE, stderr=subprocess.DEVNULL)
-    return told.stdout.decode().strip()
+    """What a process of its own reports of its memory; empty where the system can't."""
+    ran = subprocess.run([sys.executable, os.path.abspath(__file__), "memory", str(place), name], stdout=subprocess.PIPE, stderr=subprocess.DEVNULL)
+    return ran.stdout.decode().strip()
 
 
 def calls_on(pairs):
@@ -194,13 +194,13 @@ def rectangles():
             for name, solve in calls.items():
                 answers.add(solve_alone(solve)(None, costs, times.setdefault(name, Times())))
         assert len(answers) == 1, (n_rows, n_columns, answers)
-        own, theirs = (times[name].told["alone_processor"] for name in calls)
+        own, theirs = (times[name].least["alone_processor"] for name in calls)
         taken = " | ".join(memory(place, name) for name in calls)
         yield f"| {n_rows}, {n_columns}, {pairs or n_columns} | {own:.4f} | {theirs:.4f} | {own / theirs:.2f} | {taken} |"
 
 
 def solvers(is_sparse, lemon, dlib):
-    """Those that are there and take such a problem."""
+    """Those that are there and take this kind of problem."""
     kind = "sparse" if is_sparse else "dense"
     flags = ["--sparse"] if is_sparse else []
     program = [PROGRAM, "solve", *flags]

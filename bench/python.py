@@ -1,6 +1,6 @@
 #!/usr/bin/env python3
-"""Times the Python package, beside the bare call of the library and, where it is there, SciPy: seconds of processor time, the least
-of three or ten runs in turns. Wants c/out/libnushbaret.so; PYTHONPATH=python."""
+"""Times the Python package, next to the bare call of the library and, where it is there, SciPy: seconds of processor time, the least
+of three or ten runs in turns. Needs c/out/libnushbaret.so; PYTHONPATH=python."""
 import random
 import time
 from array import array

@@ -1,5 +1,5 @@
 #!/usr/bin/env python3
-"""Measures rounds on all processors beside rounds on one, idle and with as many busy loops beside as there are processors.
+"""Compares rounds on all processors with rounds on one, idle and with as many busy loops as there are processors.
 
 Run it at the top of the repository after `rt run` built the program: bench/steady.py [PROGRAM [idle|busy]].
 It writes its inputs below bench/out and needs rustc and cc. Runs on all processors and on one take turns, five of each, and the

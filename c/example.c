@@ -9,7 +9,7 @@ int main(void) {
     struct nushbaret_problem problem = {NUSHBARET_MIN, 2, 3, costs, NULL, NULL, 6, NULL};
     struct nushbaret_answer answer = {objects, persons, prices, {0, 0, 0, 0, 0, 0}};
     if (nushbaret_solve(&problem, &answer) != NUSHBARET_BEST) return 1;
-    printf("cost %lld: person 1 has object %d, person 2 has object %d\n", (long long)answer.told.total, objects[0], objects[1]);
+    printf("cost %lld: person 1 has object %d, person 2 has object %d\n", (long long)answer.info.total, objects[0], objects[1]);
     puts(nushbaret_verify(&problem, &answer) == NUSHBARET_BEST ? "proved optimal" : "not proved");
     return 0;
 }

@@ -12,7 +12,7 @@
 
    - Each pointer is valid for as many values as the count after it says, and aligned as its type requires. No pointer
      is NULL, even where its count is 0. (In struct nushbaret_problem three pointers may be NULL: see there.)
-   - What a call writes (each list that isn't const, and `told`) overlaps nothing else that is passed to it. While the
+   - What a call writes (each list that isn't const, and `info`) overlaps nothing else that is passed to it. While the
      call runs, nobody else reads or writes these, and nobody changes what the call reads.
    - malloc, realloc and free are those of the C library, or any three that belong together and align as C requires.
    - The thread has 32 KB of stack left; calls were seen to take a third of it.
@@ -33,21 +33,22 @@
    follows the written part of a list.
 
    code                  written
-   NUSHBARET_BEST        solving: objects (of person 1, 2, .., n), prices (of object 1, 2, .., m) and told->total;
+   NUSHBARET_BEST        solving: objects (of person 1, 2, .., n), prices (of object 1, 2, .., m) and info->total;
                          nushbaret_check: nothing
-   NUSHBARET_HALL        solving: told->persons and told->objects say how many numbers stand at the beginning of persons
+   NUSHBARET_HALL        solving: info->persons and info->objects say how many numbers stand at the beginning of persons
                          and of objects, rising; nushbaret_check_hall: nothing
-   NUSHBARET_PERSON, NUSHBARET_OBJECT, NUSHBARET_COST, NUSHBARET_PRICE       told->place
-   NUSHBARET_UNLISTED                                                        told->person
-   NUSHBARET_TWICE, NUSHBARET_PRICE_RANGE, NUSHBARET_DEAR, NUSHBARET_HALL_EXTRA   told->object
-   NUSHBARET_SLACK, NUSHBARET_HALL_MISSING                                   told->person and told->object
+   NUSHBARET_PERSON, NUSHBARET_OBJECT, NUSHBARET_COST, NUSHBARET_PRICE                  info->place
+   NUSHBARET_UNLISTED                                                                   info->person
+   NUSHBARET_TWICE, NUSHBARET_PRICE_RANGE, NUSHBARET_OVERPRICED, NUSHBARET_HALL_EXTRA   info->object
+   NUSHBARET_SLACK, NUSHBARET_HALL_MISSING                                              info->person and info->object
    any other             nothing
 
    Of several faults a call returns the first in this order: the codes from NUSHBARET_SENSE to NUSHBARET_PRICE as they
-   are numbered; then, in nushbaret_check, those from NUSHBARET_ANSWER_LENGTH to NUSHBARET_SLACK and NUSHBARET_DEAR, and
-   in nushbaret_check_hall those from NUSHBARET_HALL_RANGE to NUSHBARET_HALL_COUNT. told->place is the first place with
-   this fault. NUSHBARET_MEMORY comes only where nothing is wrong with the problem: memory was refused that the call can't
-   do without. nushbaret_check_hall may return a fault of the persons and objects before it asks for that memory.
+   are numbered; then, in nushbaret_check, those from NUSHBARET_ANSWER_LENGTH to NUSHBARET_SLACK and
+   NUSHBARET_OVERPRICED, and in nushbaret_check_hall those from NUSHBARET_HALL_RANGE to NUSHBARET_HALL_COUNT.
+   info->place is the first place with this fault. NUSHBARET_MEMORY comes only where nothing is wrong with the problem:
+   memory was refused that the call can't do without. nushbaret_check_hall may return a fault of the persons and objects
+   before it asks for that memory.
 
    A WORKED EXAMPLE
 
@@ -58,7 +59,7 @@
        struct nushbaret_answer answer = {objects, persons, prices, {0, 0, 0, 0, 0, 0}};
        int32_t code = nushbaret_solve(&problem, &answer);
 
-   Now code is NUSHBARET_BEST, objects is {2, 1}: person 1 has object 2, person 2 has object 1; answer.told.total is 3.
+   Now code is NUSHBARET_BEST, objects is {2, 1}: person 1 has object 2, person 2 has object 1; answer.info.total is 3.
    The prices prove that no assignment costs less: `nushbaret_verify` looks at them. c/example.c is the whole program.
 
    docs/PROVED.md says what is proved of each call, and what is only tested. The functions that take structs are plain C
@@ -86,28 +87,28 @@ enum nushbaret_code {
     NUSHBARET_BEST = 0,          /* an optimal assignment; from nushbaret_check: the prices prove it optimal */
     NUSHBARET_HALL = 1,          /* there is no assignment: a Hall set; from nushbaret_check_hall: it is one */
 
-    NUSHBARET_SENSE = 2,         /* sense is neither NUSHBARET_MIN nor NUSHBARET_MAX */
+    NUSHBARET_SENSE = 2,         /* sense isn't NUSHBARET_MIN or NUSHBARET_MAX */
     NUSHBARET_SIZE = 3,          /* n or m isn't from 1 to NUSHBARET_MOST_PERSONS */
     NUSHBARET_LENGTH = 4,        /* a list isn't as long as the call says */
-    NUSHBARET_PERSON = 5,        /* of_persons[told->place] isn't from 1 to n */
-    NUSHBARET_OBJECT = 6,        /* of_objects[told->place] isn't from 1 to m */
-    NUSHBARET_COST = 7,          /* costs[told->place] is beyond NUSHBARET_GREATEST_COST either way */
-    NUSHBARET_PRICE = 8,         /* first[told->place] isn't from 0 to 10^21 */
+    NUSHBARET_PERSON = 5,        /* of_persons[info->place] isn't from 1 to n */
+    NUSHBARET_OBJECT = 6,        /* of_objects[info->place] isn't from 1 to m */
+    NUSHBARET_COST = 7,          /* costs[info->place] is beyond NUSHBARET_GREATEST_COST either way */
+    NUSHBARET_PRICE = 8,         /* first[info->place] isn't from 0 to 10^21 */
     NUSHBARET_MEMORY = 9,        /* memory was refused that the call can't do without */
 
     NUSHBARET_ANSWER_LENGTH = 10, /* there aren't n objects and m prices */
-    NUSHBARET_UNLISTED = 11,     /* told->person, the lowest, doesn't list its object */
-    NUSHBARET_TWICE = 12,        /* told->object, the lowest, is given twice */
-    NUSHBARET_PRICE_RANGE = 13,  /* the price of told->object, the lowest, isn't from 0 to 10^22 - 1 */
-    NUSHBARET_SLACK = 14,        /* told->person, the lowest, would gain more than 1 with told->object, its lowest */
+    NUSHBARET_UNLISTED = 11,     /* info->person, the lowest, doesn't list its object */
+    NUSHBARET_TWICE = 12,        /* info->object, the lowest, is given twice */
+    NUSHBARET_PRICE_RANGE = 13,  /* the price of info->object, the lowest, isn't from 0 to 10^22 - 1 */
+    NUSHBARET_SLACK = 14,        /* info->person, the lowest, would gain more than 1 with info->object, its lowest */
 
     NUSHBARET_HALL_RANGE = 15,   /* a person isn't from 1 to n, or an object isn't from 1 to m */
     NUSHBARET_HALL_ORDER = 16,   /* a list doesn't rise */
-    NUSHBARET_HALL_MISSING = 17, /* told->person, the lowest, lists told->object, its lowest that isn't named */
-    NUSHBARET_HALL_EXTRA = 18,   /* told->object, the lowest, is named, and no named person lists it */
+    NUSHBARET_HALL_MISSING = 17, /* info->person, the lowest, lists info->object, its lowest that isn't named */
+    NUSHBARET_HALL_EXTRA = 18,   /* info->object, the lowest, is named, and no named person lists it */
     NUSHBARET_HALL_COUNT = 19,   /* there aren't fewer objects than persons */
 
-    NUSHBARET_DEAR = 20          /* nobody has told->object, the lowest, and it costs over 1 more than the cheapest */
+    NUSHBARET_OVERPRICED = 20    /* nobody has info->object, the lowest, and it costs over 1 more than the cheapest */
 };
 
 /* A price in two halves: low + 2^64 * high. Prices are in the unit of costs times K + 1, where K is the greater of n and m:
@@ -118,7 +119,7 @@ struct nushbaret_price {
 };
 
 /* What a call reports in addition to its lists. */
-struct nushbaret_told {
+struct nushbaret_info {
     int64_t total;    /* the sum of the costs of an optimal assignment */
     uint64_t place;   /* the place of a fault in a list */
     uint64_t persons; /* how many persons a Hall set has */
@@ -134,7 +135,7 @@ int32_t nushbaret_dense(uint32_t sense, size_t n, size_t m,
     uint16_t *objects, size_t objects_count,
     uint16_t *persons, size_t persons_count,
     struct nushbaret_price *prices, size_t prices_count,
-    struct nushbaret_told *told);
+    struct nushbaret_info *info);
 
 /* The same, with m first prices, as those of a similar problem. The search begins at them if they fit, n is at most m, and
    either n is at least 7/8 of m or there are 64 pairs or more for each object; elsewhere they would save no time.
@@ -145,7 +146,7 @@ int32_t nushbaret_dense_from(uint32_t sense, size_t n, size_t m,
     uint16_t *objects, size_t objects_count,
     uint16_t *persons, size_t persons_count,
     struct nushbaret_price *prices, size_t prices_count,
-    struct nushbaret_told *told);
+    struct nushbaret_info *info);
 
 /* Solves a sparse problem: of_persons[k] lists of_objects[k] at costs[k]. These three lists are of one length. A pair that
    stands there several times counts once, at its least cost, under either sense. The other lists are as in
@@ -157,7 +158,7 @@ int32_t nushbaret_sparse(uint32_t sense, size_t n, size_t m,
     uint16_t *objects, size_t objects_count,
     uint16_t *persons, size_t persons_count,
     struct nushbaret_price *prices, size_t prices_count,
-    struct nushbaret_told *told);
+    struct nushbaret_info *info);
 
 /* The same, with m first prices. */
 int32_t nushbaret_sparse_from(uint32_t sense, size_t n, size_t m,
@@ -168,7 +169,7 @@ int32_t nushbaret_sparse_from(uint32_t sense, size_t n, size_t m,
     uint16_t *objects, size_t objects_count,
     uint16_t *persons, size_t persons_count,
     struct nushbaret_price *prices, size_t prices_count,
-    struct nushbaret_told *told);
+    struct nushbaret_info *info);
 
 /* Checks an assignment of any origin: NUSHBARET_BEST says that these prices prove these objects optimal. Each person's
    object is then worth as much to it, at these prices, as any other to within 1 (slackness 1), and each object that nobody
@@ -182,7 +183,7 @@ int32_t nushbaret_check(uint32_t sense, size_t n, size_t m,
     const int64_t *costs, size_t costs_count,
     const uint16_t *objects, size_t objects_count,
     const struct nushbaret_price *prices, size_t prices_count,
-    struct nushbaret_told *told);
+    struct nushbaret_info *info);
 
 /* Checks persons and objects against a problem, which is given as for nushbaret_check: NUSHBARET_HALL says that they are a
    Hall set, so that there is no assignment. In a problem without pairs any persons without objects are one: mind the
@@ -193,7 +194,7 @@ int32_t nushbaret_check_hall(size_t n, size_t m,
     const int64_t *costs, size_t costs_count,
     const uint16_t *persons, size_t persons_count,
     const uint16_t *objects, size_t objects_count,
-    struct nushbaret_told *told);
+    struct nushbaret_info *info);
 
 /* Writes the version of the library and a 0 into a room of 6 bytes or more, leaves a smaller one as it is, and
    returns the length of the version without the 0. */
@@ -216,7 +217,7 @@ struct nushbaret_answer {
     uint16_t *objects;
     uint16_t *persons;
     struct nushbaret_price *prices;
-    struct nushbaret_told told;
+    struct nushbaret_info info;
 };
 
 /* Solves a problem as nushbaret_dense or nushbaret_sparse does, from first prices where there are any; the code and what
@@ -225,36 +226,36 @@ static inline int32_t nushbaret_solve(const struct nushbaret_problem *problem, s
     const size_t n = problem->n, m = problem->m, count = problem->count;
     if (problem->persons == NULL && problem->first == NULL)
         return nushbaret_dense(problem->sense, n, m, problem->costs, count,
-            answer->objects, n, answer->persons, n, answer->prices, m, &answer->told);
+            answer->objects, n, answer->persons, n, answer->prices, m, &answer->info);
     if (problem->persons == NULL)
         return nushbaret_dense_from(problem->sense, n, m, problem->costs, count, problem->first, m,
-            answer->objects, n, answer->persons, n, answer->prices, m, &answer->told);
+            answer->objects, n, answer->persons, n, answer->prices, m, &answer->info);
     if (problem->first == NULL)
         return nushbaret_sparse(problem->sense, n, m, problem->persons, count, problem->objects, count,
-            problem->costs, count, answer->objects, n, answer->persons, n, answer->prices, m, &answer->told);
+            problem->costs, count, answer->objects, n, answer->persons, n, answer->prices, m, &answer->info);
     return nushbaret_sparse_from(problem->sense, n, m, problem->persons, count, problem->objects, count,
-        problem->costs, count, problem->first, m, answer->objects, n, answer->persons, n, answer->prices, m, &answer->told);
+        problem->costs, count, problem->first, m, answer->objects, n, answer->persons, n, answer->prices, m, &answer->info);
 }
 
 /* Checks the n objects and m prices of an answer, by nushbaret_check: NUSHBARET_BEST says that they prove each other. The
-   problem has a pair: with count 0 it is a sparse one, also where persons and objects are NULL. Only told of the answer is
+   problem has a pair: with count 0 it is a sparse one, also where persons and objects are NULL. Only info of the answer is
    written. */
 static inline int32_t nushbaret_verify(const struct nushbaret_problem *problem, struct nushbaret_answer *answer) {
     const size_t pairs = problem->persons == NULL ? 0 : problem->count;
     return nushbaret_check(problem->sense, problem->n, problem->m,
         problem->persons == NULL ? answer->objects : problem->persons, pairs,
         problem->persons == NULL ? answer->objects : problem->objects, pairs, problem->costs, problem->count,
-        answer->objects, problem->n, answer->prices, problem->m, &answer->told);
+        answer->objects, problem->n, answer->prices, problem->m, &answer->info);
 }
 
-/* Checks the Hall set of an answer, told.persons persons and told.objects objects, by nushbaret_check_hall. The problem has
-   a pair. Only told of the answer is written. */
+/* Checks the Hall set of an answer, info.persons persons and info.objects objects, by nushbaret_check_hall. The problem has
+   a pair. Only info of the answer is written. */
 static inline int32_t nushbaret_verify_hall(const struct nushbaret_problem *problem, struct nushbaret_answer *answer) {
     const size_t pairs = problem->persons == NULL ? 0 : problem->count;
     return nushbaret_check_hall(problem->n, problem->m,
         problem->persons == NULL ? answer->objects : problem->persons, pairs,
         problem->persons == NULL ? answer->objects : problem->objects, pairs, problem->costs, problem->count,
-        answer->persons, (size_t)answer->told.persons, answer->objects, (size_t)answer->told.objects, &answer->told);
+        answer->persons, (size_t)answer->info.persons, answer->objects, (size_t)answer->info.objects, &answer->info);
 }
 
 #ifdef __cplusplus

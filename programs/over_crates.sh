@@ -1,6 +1,6 @@
 # For scripts that read it: copies crates of a tree of this project into a folder, with small programs over them.
 #
-# Each folder here is such a program: main.rt.txt is its code, proofs/ has its proofs, if any, and uses.txt the libraries
+# Each folder here is one of these programs: main.rt.txt is its code, proofs/ has its proofs, if any, and uses.txt the libraries
 # that it uses. The names of its files end in .txt since rt ci takes no .rt or .antt file outside of a listed crate.
 programs=$(cd "$(dirname "${BASH_SOURCE[0]}")" && pwd)
 

@@ -22,7 +22,7 @@ PLATFORM = sysconfig.get_platform()
 DESCRIPTIONS = (TOP / "PYTHON.md", TOP.parent / "docs" / "PYTHON.md")
 
 
-def _told(word):
+def _text(word):
     """A word of pyproject.toml, where each stands once."""
     return re.search(rf'^{word} = "(.*)"$', _project(), re.M)[1]
 
@@ -36,7 +36,7 @@ def _project():
     return (TOP / "pyproject.toml").read_text(encoding="utf-8")
 
 
-VERSION = _told("version")
+VERSION = _text("version")
 INFO = f"nushbaret-{VERSION}.dist-info"
 DATA = f"nushbaret-{VERSION}.data/data"
 
@@ -59,8 +59,8 @@ def _tag():
 
 
 def _metadata():
-    fields = [("Metadata-Version", "2.1"), ("Name", "nushbaret"), ("Version", VERSION), ("Summary", _told("description")),
-              ("Keywords", ",".join(_listed("keywords"))), ("License", "MIT OR Apache-2.0"), ("Requires-Python", _told("requires-python")),
+    fields = [("Metadata-Version", "2.1"), ("Name", "nushbaret"), ("Version", VERSION), ("Summary", _text("description")),
+              ("Keywords", ",".join(_listed("keywords"))), ("License", "MIT OR Apache-2.0"), ("Requires-Python", _text("requires-python")),
               *(("Classifier", text) for text in _listed("classifiers")), ("Description-Content-Type", "text/markdown")]
     return "".join(f"{name}: {text}\n" for name, text in fields) + "\n" + _description()
 
@@ -70,7 +70,7 @@ def _description():
     for file in DESCRIPTIONS:
         if file.exists():
             return re.sub(r"\[([^][]+)\]\((?!https?:)[^()]*\)", r"\1", file.read_text(encoding="utf-8"))
-    return _told("description") + "\n"
+    return _text("description") + "\n"
 
 
 def _manual():
@@ -151,7 +151,7 @@ def build_editable(wheel_directory, config_settings=None, metadata_directory=Non
 
 
 def build_sdist(sdist_directory, config_settings=None):
-    """The sources with the library beside them, so that a wheel can be made of them alone."""
+    """The sources with the library next to them, so that a wheel can be made of them alone."""
     front = f"nushbaret-{VERSION}"
     files = {name: TOP / name for name in ("pyproject.toml", "nushbaret_build.py", "nushbaret_manual.py")}
     files.update({"PYTHON.md": file for file in DESCRIPTIONS if file.exists()})

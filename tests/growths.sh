@@ -3,7 +3,7 @@
 # to leave things as its contract says, and the run has to go on to the answer that ample memory gives;
 # a run whose problem, log, book or place can't be made writes nothing. The crates are copied, with a small
 # program over them (programs/growths), which is proved and built there.
-# Wants cc: tests/growths.sh [FOLDER]
+# Needs cc: tests/growths.sh [FOLDER]
 set -euo pipefail
 top=$(cd "$(dirname "$0")/.." && pwd)
 work=${1:-$(mktemp -d)}
@@ -22,19 +22,19 @@ run() {
 
 # Refuses growth 1, 2, .. of the run that a word names, up to as many as it has with ample memory.
 try_all() {
-    local wanted growths growth told unmade=0 went_on=0 untouched=0
-    wanted=$(GROWTHS_TOLD="$work/growths" run 0 "$1")
+    local wanted growths growth printed unmade=0 went_on=0 untouched=0
+    wanted=$(GROWTHS_FILE="$work/growths" run 0 "$1")
     growths=$(cat "$work/growths")
     for growth in $(seq 1 "$growths"); do
-        told=$(run "$growth" "$1")
-        if [ -z "$told" ]; then
+        printed=$(run "$growth" "$1")
+        if [ -z "$printed" ]; then
             unmade=$((unmade + 1))
-        elif [ "$told" = "$wanted" ]; then
+        elif [ "$printed" = "$wanted" ]; then
             untouched=$((untouched + 1))
-        elif [ "$(echo "$told" | cut -d' ' -f1-3)" = "$2" ] && [[ $(echo "$told" | cut -d' ' -f4) = *M* ]]; then
+        elif [ "$(echo "$printed" | cut -d' ' -f1-3)" = "$2" ] && [[ $(echo "$printed" | cut -d' ' -f4) = *M* ]]; then
             went_on=$((went_on + 1))
         else
-            echo "$1: growth $growth refused: $told"
+            echo "$1: growth $growth refused: $printed"
             failed=$((failed + 1))
         fi
     done

@@ -1,6 +1,6 @@
 #!/usr/bin/env bash
 # Interrupts a run that would go on for years, in each mode: it ends at once by the signal of Ctrl-C, with nothing
-# written. Wants the built program (rt run in crates/auction_cli, or rt ci): tests/interrupts.sh [PROGRAM]
+# written. Needs the built program (rt run in crates/auction_cli, or rt ci): tests/interrupts.sh [PROGRAM]
 set -uo pipefail
 top=$(cd "$(dirname "$0")/.." && pwd)
 program=${1:-$top/crates/auction_cli/out/auction_cli}
@@ -16,7 +16,7 @@ for mode in rounds workers; do
     timeout --preserve-status -s INT -k 5 1 env --default-signal=INT \
         "$program" solve --mode "$mode" --start "$work/report" < "$work/problem" > "$work/out" 2> "$work/err" || status=$?
     if [ "$status" != 130 ] || [ -s "$work/out" ] || [ -s "$work/err" ]; then
-        echo "interrupted in mode $mode: status $status, $(wc -c < "$work/out") bytes written, told '$(cat "$work/err")'"
+        echo "interrupted in mode $mode: status $status, $(wc -c < "$work/out") bytes written, standard error '$(cat "$work/err")'"
         failed=$((failed + 1))
     fi
 done

@@ -1,7 +1,7 @@
 #!/usr/bin/env bash
 # Texts of 2^30 bytes and more, which a test of the gate has no time for: endless blanks, zeros and
 # words, and a problem with blanks up to the limit and past it. Prints how long each took.
-# Wants the built program (rt run in crates/auction_cli): tests/long_texts.sh [PROGRAM]
+# Needs the built program (rt run in crates/auction_cli): tests/long_texts.sh [PROGRAM]
 set -uo pipefail
 top=$(cd "$(dirname "$0")/.." && pwd)
 program=${1:-$top/crates/auction_cli/out/auction_cli}

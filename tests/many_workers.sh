@@ -1,7 +1,7 @@
 #!/usr/bin/env bash
 # Many threads that share one book, many times: 64 workers, 200 times on eight persons and 20 times on three hundred.
 # How threads run differs from run to run, so each report is verified, and its cost is that of the rounds.
-# Wants the built program (rt run in crates/auction_cli): tests/many_workers.sh [PROGRAM]
+# Needs the built program (rt run in crates/auction_cli): tests/many_workers.sh [PROGRAM]
 set -euo pipefail
 top=$(cd "$(dirname "$0")/.." && pwd)
 program=${1:-$top/crates/auction_cli/out/auction_cli}

@@ -9,10 +9,10 @@ virtual environment, they are shown as not run. With --text it runs nothing, and
 Then it looks at the text of all pages: links and names of files that lead nowhere, lines of more than 100 characters,
 sentences of more than 35 words, and words that docs/CONTRIBUTING.md lists to avoid. Tables, code and quoted output are
 exempt; they count where the words of a page, or of all pages, are too many. It compares docs/DEFINITIONS.md with what
-docs/definitions.py makes, whose sentences come from the sources. The doc comments of crates, the comments of their specs,
-and comments and texts of the Python command avoid the same words. And it looks for each block below `# Example` in the
-documentation of calls, and for each block that docs/CALLING.md shows other crates, among the lines of crates/calling,
-which the gate proves. Prints what is wrong, and ends with status 1 then.
+docs/definitions.py makes, whose sentences come from the sources. The doc comments of crates, the comments of their specs
+and of all scripts and programs, and the texts of the Python command avoid the same words. And it looks for each block
+below `# Example` in the documentation of calls, and for each block that docs/CALLING.md shows other crates, among the
+lines of crates/calling, which the gate proves. Prints what is wrong, and ends with status 1 then.
 """
 import glob
 import importlib.util
@@ -38,6 +38,10 @@ COMMENTS = {"crates/*/src/**/*.rt": re.compile(r"\s*//[/!]"), "crates/*/specs/**
 # The modules of the command for rosters.
 COMMAND = ("answer", "by_counts", "command", "costs", "days", "exchanges", "fair", "files", "gadgets", "groups", "json", "lack", "nodes",
            "page", "ranked", "roster", "sentences", "sheets", "texts", "words", "workbook")
+# The other sources, and what their comments are, by how their names end; those of Python are found by its own reader.
+SCRIPTED = (".ci/run", "prove", "bench/**/*", "c/*", "docs/*.py", "programs/**/*", "python/**/*.py", "release/**/*", "tests/**/*")
+SCRIPTS = {("/run", ".sh"): re.compile(r'^\s*#.*$|"""[\s\S]*?"""', re.M), (".c", ".h"): re.compile(r"/\*.*?\*/", re.DOTALL),
+           (".rs", ".rt.txt"): re.compile(r"^\s*//.*$", re.M)}
 QUOTED = re.compile(r"```.*?```|`[^`\n]*`", re.DOTALL)
 # The crate of examples, and the section of a page that shows some of them.
 EXAMPLES = "crates/calling/src"
@@ -52,7 +56,7 @@ CODE = re.compile(r"`[^`]*`")
 ITEM = re.compile(r"\A\s*(?:[-*]|\d+\.) ")
 LINK = re.compile(r"\]\(([^)\s]+)\)")
 FILE = re.compile(r"`((?:\.ci|bench|c|crates|docs|examples|programs|release|tests)/[\w./-]+)`")
-# Such a name is no file of a fresh clone: what a build makes, and what release/make.sh does.
+# This is no file of a fresh clone: what a build makes, and what release/make.sh does.
 MADE = re.compile(r"/out(/|$)|/NAME|^release/(auction_cli|SOURCE|SHA256SUMS)$")
 
 
@@ -67,7 +71,7 @@ def pages():
 
 
 def is_whole(command):
-    """Whether the shell wants no further line."""
+    """Whether the shell needs no further line."""
     return subprocess.run(["bash", "-n", "-c", command], capture_output=True).returncode == 0
 
 
@@ -111,7 +115,7 @@ def surroundings(work, command):
     return found if RELEASED.search(command) else {**found, "PYTHONPATH": os.path.join(TOP, "python")}
 
 
-def run_page(page, program, told):
+def run_page(page, program, faults):
     """Runs the commands of a page one after the other in a folder of their own."""
     why = unreleased()
     with tempfile.TemporaryDirectory() as work:
@@ -126,7 +130,7 @@ def run_page(page, program, told):
             ran = subprocess.run(["bash", "-c", command], cwd=work, env=surroundings(work, command), text=True,
                                  stdin=subprocess.DEVNULL, stdout=subprocess.PIPE, stderr=subprocess.STDOUT)
             if ran.stdout.rstrip("\n") != wanted:
-                told.append(f"{page}:{number}: {command}\nwanted:\n{wanted}\ngot:\n{ran.stdout}")
+                faults.append(f"{page}:{number}: {command}\nwanted:\n{wanted}\ngot:\n{ran.stdout}")
 
 
 def heading_name(line):
@@ -143,22 +147,22 @@ def is_there(page, target):
     return not fragment or fragment in [heading_name(line) for line in lines_of(there) if line.startswith("#")]
 
 
-def look_for_links(page, told):
+def look_for_links(page, faults):
     for number, line in enumerate(lines_of(page), 1):
         if is_code(line):
             continue
         for target in LINK.findall(line):
             if "://" not in target and not is_there(page, target):
-                told.append(f"{page}:{number}: {target} leads nowhere")
+                faults.append(f"{page}:{number}: {target} leads nowhere")
         for name in FILE.findall(line):
             if not MADE.search(name) and not os.path.exists(os.path.join(TOP, name)):
-                told.append(f"{page}:{number}: there is no {name}")
+                faults.append(f"{page}:{number}: there is no {name}")
 
 
-def look_for_wide_lines(page, told):
+def look_for_wide_lines(page, faults):
     for number, line in enumerate(lines_of(page), 1):
         if len(line) > WIDEST and not is_code(line) and not line.startswith("|"):
-            told.append(f"{page}:{number}: {len(line)} characters")
+            faults.append(f"{page}:{number}: {len(line)} characters")
 
 
 def paragraphs(page):
@@ -195,17 +199,17 @@ def avoided():
     return re.compile(rf"\b({'|'.join(parts)})\b".replace("\\ ", r"\s+"), re.IGNORECASE)
 
 
-def look_at_sentences(page, words_to_avoid, told):
+def look_at_sentences(page, words_to_avoid, faults):
     for number, text in paragraphs(page):
         for sentence in sentences(text):
             words = [word for word in sentence.split() if re.search(r"[\w`]", word)]
             if len(words) > LONGEST:
-                told.append(f"{page}:{number}: {len(words)} words: {' '.join(words[:8])} ..")
+                faults.append(f"{page}:{number}: {len(words)} words: {' '.join(words[:8])} ..")
             for word in words_to_avoid.findall(sentence):
-                told.append(f"{page}:{number}: avoid '{word}'")
+                faults.append(f"{page}:{number}: avoid '{word}'")
 
 
-def look_at_comments(words_to_avoid, told):
+def look_at_comments(words_to_avoid, faults):
     """Looks for words to avoid in the doc comments of crates and in the comments of their specs."""
     for pattern, mark in COMMENTS.items():
         for path in sorted(glob.glob(os.path.join(TOP, pattern), recursive=True)):
@@ -214,21 +218,47 @@ def look_at_comments(words_to_avoid, told):
             text = "\n".join(line[begins.end():] if begins else "" for begins, line in found)
             text = QUOTED.sub(lambda code: "\n" * code[0].count("\n"), text)
             for word in words_to_avoid.finditer(text):
-                told.append(f"{name}:{text.count(chr(10), 0, word.start()) + 1}: avoid '{' '.join(word[0].split())}'")
+                faults.append(f"{name}:{text.count(chr(10), 0, word.start()) + 1}: avoid '{' '.join(word[0].split())}'")
 
 
-def look_at_command(words_to_avoid, told):
-    """Looks for words to avoid in the comments and texts of the Python command."""
-    for module in COMMAND:
-        name = f"python/nushbaret/_{module}.py"
-        with open(os.path.join(TOP, name), "rb") as file:
-            for token in tokenize.tokenize(file.readline):
-                if token.type in (tokenize.COMMENT, tokenize.STRING, getattr(tokenize, "FSTRING_MIDDLE", None)):
-                    for word in words_to_avoid.finditer(QUOTED.sub("", token.string)):
-                        told.append(f"{name}:{token.start[0]}: avoid '{word[0]}'")
+def comments_of_python(path, every_text):
+    """Each comment and docstring of a Python file, or each comment and text, with the number of its line."""
+    before = None
+    with open(path, "rb") as file:
+        for token in tokenize.tokenize(file.readline):
+            is_text = token.type in (tokenize.STRING, getattr(tokenize, "FSTRING_MIDDLE", None))
+            stands_alone = before in (None, tokenize.NEWLINE, tokenize.INDENT, tokenize.DEDENT, tokenize.ENCODING)
+            if token.type == tokenize.COMMENT or is_text and (every_text or stands_alone):
+                yield token.start[0], token.string
+            if token.type not in (tokenize.NL, tokenize.COMMENT):
+                before = token.type
 
 
-def look_at_generated(told):
+def comments_of(path):
+    """Each comment of a source outside the crates with the number of its first line."""
+    name = os.path.basename(path)
+    if path.endswith(".py") or name == "prove":
+        yield from comments_of_python(path, name in (f"_{module}.py" for module in COMMAND))
+        return
+    for kinds, comment in SCRIPTS.items():
+        if path.endswith(kinds):
+            with open(path, encoding="utf-8") as file:
+                text = file.read()
+            yield from ((text.count("\n", 0, found.start()) + 1, found[0]) for found in comment.finditer(text))
+
+
+def look_at_scripts(words_to_avoid, faults):
+    """Looks for words to avoid in the comments of scripts and programs, and in the texts of the Python command too."""
+    for folder in SCRIPTED:
+        for path in sorted(glob.glob(os.path.join(TOP, folder), recursive=True)):
+            if "/out/" in path or not os.path.isfile(path):
+                continue
+            for number, text in comments_of(path):
+                for word in words_to_avoid.finditer(QUOTED.sub(lambda code: "\n" * code[0].count("\n"), text)):
+                    faults.append(f"{os.path.relpath(path, TOP)}:{number}: avoid '{word[0]}'")
+
+
+def look_at_generated(faults):
     """Compares the generated page with what its script makes of the sources."""
     sys.dont_write_bytecode = True
     spec = importlib.util.spec_from_file_location("definitions", os.path.join(TOP, "docs/definitions.py"))
@@ -236,7 +266,7 @@ def look_at_generated(told):
     spec.loader.exec_module(script)
     with open(os.path.join(TOP, GENERATED), encoding="utf-8") as file:
         if file.read() != script.page():
-            told.append(f"{GENERATED} is old: run docs/definitions.py")
+            faults.append(f"{GENERATED} is old: run docs/definitions.py")
 
 
 def sources(pattern):
@@ -275,51 +305,51 @@ def shown():
             held = []
 
 
-def look_at_examples(told):
+def look_at_examples(faults):
     """Looks for each example that is shown, line for line apart from indentation, in the crate that has them all."""
     proved = ["\n".join(["", *(line.strip() for line in lines_of(path)), ""]) for path in sources(EXAMPLES)]
     blocks = [(path, *block) for path in sources("crates/*/src") for block in documented(path)]
     for path, number, block in blocks + [(SHOWN[0], *block) for block in shown()]:
         if not any("\n".join(["", *block, ""]) in text for text in proved):
-            told.append(f"{path}:{number}: this example isn't in {EXAMPLES}")
+            faults.append(f"{path}:{number}: this example isn't in {EXAMPLES}")
 
 
-def count_words(told):
+def count_words(faults):
     """Compares the words of some pages, and of all together, with the most that they may have."""
     counts = {page: len(" ".join(lines_of(page)).split()) for page in pages() if page not in UNCOUNTED}
     limits = [(page, counts[page], most) for page, most in MOST_OF_PAGE.items()]
     for name, count, most in limits + [("all pages", sum(counts.values()), MOST_OF_ALL)]:
         if count > most:
-            told.append(f"{name}: {count} words, at most {most}")
+            faults.append(f"{name}: {count} words, at most {most}")
 
 
-def look_at_text(told):
+def look_at_text(faults):
     words_to_avoid = avoided()
     for page in pages():
-        look_for_links(page, told)
-        look_for_wide_lines(page, told)
+        look_for_links(page, faults)
+        look_for_wide_lines(page, faults)
         if page != GENERATED:
-            look_at_sentences(page, words_to_avoid, told)
-    count_words(told)
-    look_at_comments(words_to_avoid, told)
-    look_at_command(words_to_avoid, told)
-    look_at_generated(told)
-    look_at_examples(told)
+            look_at_sentences(page, words_to_avoid, faults)
+    count_words(faults)
+    look_at_comments(words_to_avoid, faults)
+    look_at_scripts(words_to_avoid, faults)
+    look_at_generated(faults)
+    look_at_examples(faults)
 
 
 def main():
     words = [word for word in sys.argv[1:] if word != "--text"]
-    told = []
+    faults = []
     if "--text" not in sys.argv:
         program = os.path.abspath(words[0] if words else PROGRAM)
         if not os.access(program, os.X_OK):
             sys.exit(f"tests/pages.py: no program at {program}")
         for page in RUN:
-            run_page(page, program, told)
-    look_at_text(told)
-    for line in told:
+            run_page(page, program, faults)
+    look_at_text(faults)
+    for line in faults:
         print(line)
-    sys.exit(1 if told else 0)
+    sys.exit(1 if faults else 0)
 
 
 if __name__ == "__main__":

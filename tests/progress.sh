@@ -1,8 +1,8 @@
 #!/usr/bin/env bash
-# What is told of a run's progress: on a terminal, which python3's pty stands for, and off it, with --progress and
+# What is shown of a run's progress: on a terminal, which python3's pty stands for, and off it, with --progress and
 # without, in both modes and by shortest paths; and that a report and a status are the same with and without it. And what
-# a terminal is told where the problem is to be typed.
-# Wants the built program (rt run in crates/auction_cli, or rt ci) and python3: tests/progress.sh [PROGRAM]
+# a terminal shows where the problem is to be typed.
+# Needs the built program (rt run in crates/auction_cli, or rt ci) and python3: tests/progress.sh [PROGRAM]
 set -euo pipefail
 top=$(cd "$(dirname "$0")/.." && pwd)
 exec python3 - "${1:-$top/crates/auction_cli/out/auction_cli}" <<'PYTHON'
@@ -34,7 +34,7 @@ def expect(name, holds, seen):
         print(f"{name}: {seen!r}")
 
 
-# Two free objects are bid up to the third one's price, by 1 or 2 a bid, which takes as long as one wants.
+# Two free objects are bid up to the third one's price, by 1 or 2 a bid, which takes as long as is needed.
 WAR = b"3 1 1 1 1 1 1 1 1 1"
 folder = tempfile.TemporaryDirectory()
 
@@ -67,30 +67,30 @@ def off(words, pieces=(WAR,), wait=0.0, err=subprocess.PIPE):
     """Status, standard output and standard error of a run off a terminal, whose input comes in pieces."""
     run = begin(words, err)
     give(run, pieces, wait)
-    out, told = run.communicate()
-    return run.returncode, out, (told or b"").decode()
+    out, errors = run.communicate()
+    return run.returncode, out, (errors or b"").decode()
 
 
 def killed(words, enough, most):
-    """What a run that doesn't end told on standard error, and had written, until so many lines or seconds."""
+    """What a run that doesn't end wrote to standard error, and to standard output, until so many lines or seconds."""
     run = begin(words, subprocess.PIPE)
     give(run, (WAR,), 0.0)
-    told, end = b"", time.monotonic() + most
-    while told.count(b"\n") < enough and time.monotonic() < end:
+    errors, end = b"", time.monotonic() + most
+    while errors.count(b"\n") < enough and time.monotonic() < end:
         if select.select([run.stderr], [], [], 0.1)[0]:
-            told += os.read(run.stderr.fileno(), 4096)
+            errors += os.read(run.stderr.fileno(), 4096)
     run.send_signal(signal.SIGKILL)
     out, rest = run.communicate()
-    return out, (told + rest).decode()
+    return out, (errors + rest).decode()
 
 
 def on(words, pieces=(WAR,), wait=0.0):
-    """Status, standard output, what the terminal was told and the lines that it shows at the end."""
+    """Status, standard output, what the terminal was shown and the lines that it shows at the end."""
     ours, theirs = pty.openpty()
     run = begin(words, theirs)
     os.close(theirs)
     give(run, pieces, wait)
-    told = b""
+    errors = b""
     while True:
         try:
             some = os.read(ours, 4096)
@@ -98,13 +98,13 @@ def on(words, pieces=(WAR,), wait=0.0):
             break
         if not some:
             break
-        told += some
+        errors += some
     out = run.stdout.read()
-    return run.wait(), out, told.decode(), shown(told.decode())
+    return run.wait(), out, errors.decode(), shown(errors.decode())
 
 
 def typed(words, problem):
-    """Status, standard output and what the terminal was told, of a run whose problem is typed at a terminal and ended by Ctrl-D."""
+    """Status, standard output and what the terminal was shown, of a run whose problem is typed at a terminal and ended by Ctrl-D."""
     keys, read = pty.openpty()
     screen, written = pty.openpty()
     run = subprocess.Popen([PROGRAM, *words], stdin=read, stdout=subprocess.PIPE, stderr=written)
@@ -112,21 +112,21 @@ def typed(words, problem):
     os.close(written)
     os.write(keys, problem + b"\x04")
     out = run.stdout.read()
-    status, told = run.wait(), b""
+    status, errors = run.wait(), b""
     while select.select([screen], [], [], 0)[0]:
         try:
-            told += os.read(screen, 4096)
+            errors += os.read(screen, 4096)
         except OSError:
             break
     os.close(keys)
     os.close(screen)
-    return status, out, told.decode()
+    return status, out, errors.decode()
 
 
-def shown(told):
+def shown(errors):
     """The lines of a terminal after these texts, without the blanks at their ends."""
     lines, row, column = [[]], 0, 0
-    for sign in told:
+    for sign in errors:
         if sign == "\r":
             column = 0
         elif sign == "\n":
@@ -138,14 +138,14 @@ def shown(told):
     return ["".join(line).rstrip() for line in lines], column
 
 
-def spaced(told):
+def spaced(errors):
     """Whether half a second lies between any two lines, whose times are cut to tenths."""
-    tenths = [int(whole) * 10 + int(tenth) for whole, tenth in re.findall(r"(\d+)\.(\d) s\n", told)]
+    tenths = [int(whole) * 10 + int(tenth) for whole, tenth in re.findall(r"(\d+)\.(\d) s\n", errors)]
     return len(tenths) > 0 and tenths[0] >= 5 and all(later - earlier >= 4 for earlier, later in zip(tenths, tenths[1:]))
 
 
 def lasting(run, words=()):
-    """The first of runs, each twice as long as the one before, in which something is told, and its start."""
+    """The first of runs, each twice as long as the one before, in which something is shown, and its start."""
     price = 1_000_000
     while True:
         start, began = start_from(price), time.monotonic()
@@ -156,7 +156,7 @@ def lasting(run, words=()):
 
 
 def slow(run, words, pieces, wait):
-    """The first of runs, each waiting twice as long for the rest of its problem, in which something is told."""
+    """The first of runs, each waiting twice as long for the rest of its problem, in which something is shown."""
     seen = run(words, pieces, wait)
     while not seen[2] and wait < 10:
         wait *= 2
@@ -188,15 +188,15 @@ def in_slices(words, problem, enough):
         return run.returncode, out.read(), err.read().decode()
 
 
-def assigned(told):
-    """The numbers of persons that were told by shortest paths: of those with an object, and of all."""
-    return [(int(some), int(every)) for some, every in re.findall(r"paths, (\d+) of (\d+) persons", told)]
+def assigned(errors):
+    """The numbers of persons that shortest paths showed: of those with an object, and of all."""
+    return [(int(some), int(every)) for some, every in re.findall(r"paths, (\d+) of (\d+) persons", errors)]
 
 
 def lasting_paths():
-    """The first of runs by shortest paths, of larger and larger problems, that tells two numbers; and how many persons
+    """The first of runs by shortest paths, of larger and larger problems, that shows two numbers; and how many persons
     it had."""
-    persons, wanted = 300, lambda told: len(assigned(told)) >= 2
+    persons, wanted = 300, lambda errors: len(assigned(errors)) >= 2
     while True:
         seen = in_slices(["--progress", "--method", "paths"], products(persons), wanted)
         if wanted(seen[2]) or persons > 4000:
@@ -204,52 +204,52 @@ def lasting_paths():
         persons = persons * 3 // 2
 
 
-# Off a terminal nothing is told unasked; asked, a line at most twice a second, in each mode.
+# Off a terminal nothing is shown unasked; asked, a line at most twice a second, in each mode.
 for mode, pattern in LINES.items():
     words = ["--mode", mode, *ENDLESS]
-    out, told = killed(words, 1, 1.3)
-    expect(f"{mode} unasked", out == b"" and told == "", told)
-    out, told = killed([*words, "--progress"], 3, 20)
-    expect(f"{mode} asked", out == b"" and pattern.fullmatch(told) and spaced(told), told)
+    out, errors = killed(words, 1, 1.3)
+    expect(f"{mode} unasked", out == b"" and errors == "", errors)
+    out, errors = killed([*words, "--progress"], 3, 20)
+    expect(f"{mode} asked", out == b"" and pattern.fullmatch(errors) and spaced(errors), errors)
 
 # A run that ends.
-SHORT, (status, out, told) = lasting(off, ["--progress"])
-expect("a run asked", status == 0 and LINES["rounds"].fullmatch(told), told)
-status, report, told = off(SHORT)
-expect("a run", status == 0 and report == out and report.startswith(b"sense min\ncost 3\n") and told == "", told)
+SHORT, (status, out, errors) = lasting(off, ["--progress"])
+expect("a run asked", status == 0 and LINES["rounds"].fullmatch(errors), errors)
+status, report, errors = off(SHORT)
+expect("a run", status == 0 and report == out and report.startswith(b"sense min\ncost 3\n") and errors == "", errors)
 
 # On a terminal one line is written over, and nothing stays of it.
-_, (status, report_on, told, (lines, column)) = lasting(on)
-expect("terminal", status == 0 and report_on.startswith(b"sense min\ncost 3\n") and "\r" + "phase 1 of 1" in told, told)
-expect("terminal at the end", lines == [""] and column == 0, told)
-first = re.search(r"(\d+\.\d) s", told)
-expect("terminal unasked", first and float(first.group(1)) >= 2.0, told)
+_, (status, report_on, errors, (lines, column)) = lasting(on)
+expect("terminal", status == 0 and report_on.startswith(b"sense min\ncost 3\n") and "\r" + "phase 1 of 1" in errors, errors)
+expect("terminal at the end", lines == [""] and column == 0, errors)
+first = re.search(r"(\d+\.\d) s", errors)
+expect("terminal unasked", first and float(first.group(1)) >= 2.0, errors)
 for _ in range(3):
-    SOME, (status, out, told, (lines, column)) = lasting(on, ["--progress"])
-    first = re.search(r"(\d+\.\d) s", told)
+    SOME, (status, out, errors, (lines, column)) = lasting(on, ["--progress"])
+    first = re.search(r"(\d+\.\d) s", errors)
     if first and float(first.group(1)) < 2.0:
         break
-expect("terminal asked", status == 0 and first and 0.5 <= float(first.group(1)) < 2.0, told)
-expect("terminal asked, at the end", lines == [""] and column == 0, told)
-expect("terminal asked or not", on(SOME)[:2] == (0, out), told)
-status, out, told, _ = on([])
-expect("terminal, a short run", status == 0 and told == "", told)
+expect("terminal asked", status == 0 and first and 0.5 <= float(first.group(1)) < 2.0, errors)
+expect("terminal asked, at the end", lines == [""] and column == 0, errors)
+expect("terminal asked or not", on(SOME)[:2] == (0, out), errors)
+status, out, errors, _ = on([])
+expect("terminal, a short run", status == 0 and errors == "", errors)
 
-# Reading, and a fault behind it: the terminal keeps the fault's line alone.
+# Reading, and a fault after it: the terminal keeps the fault's line alone.
 SLOW = (b"2 1 2", b" 3 5")
-status, out, told = slow(off, ["--progress"], SLOW, 0.8)
-expect("reading", status == 0 and re.match(rf"progress: 0\.0 MB read, {SECONDS}", told), told)
-status, out, told = off([], SLOW, 0.8)
-expect("reading unasked", status == 0 and told == "", told)
-status, out, told, (lines, column) = slow(on, [], (b"2 1 2", b" x"), 2.4)
-expect("a fault", status == 3 and out == b"" and "MB read" in told, told)
-expect("a fault at the end", lines == ["input: bad number at byte 6", ""] and column == 0, told)
+status, out, errors = slow(off, ["--progress"], SLOW, 0.8)
+expect("reading", status == 0 and re.match(rf"progress: 0\.0 MB read, {SECONDS}", errors), errors)
+status, out, errors = off([], SLOW, 0.8)
+expect("reading unasked", status == 0 and errors == "", errors)
+status, out, errors, (lines, column) = slow(on, [], (b"2 1 2", b" x"), 2.4)
+expect("a fault", status == 3 and out == b"" and "MB read" in errors, errors)
+expect("a fault at the end", lines == ["input: bad number at byte 6", ""] and column == 0, errors)
 
-# Shortest paths tell how many persons have an object. A run that is stopped again and again lasts as long as one wants.
-persons, (status, out, told) = lasting_paths()
-expect("paths", status == 0 and PATHS.fullmatch(told) and spaced(told), told)
+# Shortest paths show how many persons have an object. A run that is stopped again and again lasts as long as is needed.
+persons, (status, out, errors) = lasting_paths()
+expect("paths", status == 0 and PATHS.fullmatch(errors) and spaced(errors), errors)
 expect("paths, their report", out.startswith(b"sense min\ncost ") and out.count(b"\nassign ") == persons, out[:99])
-expect("paths, persons", all(some <= every == persons for some, every in assigned(told)), told)
+expect("paths, persons", all(some <= every == persons for some, every in assigned(errors)), errors)
 
 # Where the problem is to be typed, that is said once.
 waiting = "waiting for a problem on standard input; Ctrl-D ends it, --input names a file\r\n"

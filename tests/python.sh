@@ -1,5 +1,5 @@
 #!/usr/bin/env bash
-# Tests the Python package and its command, with python3 alone; the parts for NumPy and SciPy run where these import. Wants
+# Tests the Python package and its command, with python3 alone; the parts for NumPy and SciPy run where these import. Needs
 # c/out/libnushbaret.so (c/build.sh). PYTHON=.. names another interpreter. The last line says what ran.
 set -euo pipefail
 cd "$(dirname "$0")/.."

@@ -1,5 +1,5 @@
 /* A library to be loaded before a program: refuses the growth whose number REFUSED_GROWTH says, and
-   writes how many there were into the file that GROWTHS_TOLD names. */
+   writes how many there were into the file that GROWTHS_FILE names. */
 #define _GNU_SOURCE
 #include <dlfcn.h>
 #include <errno.h>
@@ -22,7 +22,7 @@ static int refused(void) {
 }
 
 static void tell(void) {
-    const char *path = getenv("GROWTHS_TOLD");
+    const char *path = getenv("GROWTHS_FILE");
     FILE *file = path ? fopen(path, "w") : NULL;
     if (file) {
         fprintf(file, "%ld", calls);

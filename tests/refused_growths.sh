@@ -1,7 +1,7 @@
 #!/usr/bin/env bash
 # Refuses each growth of a run in turn, and looks for an answer other than "memory refused" with
 # status 4 and nothing written, or the answer that ample memory gives.
-# Wants the built program (rt run in crates/auction_cli, or rt ci) and cc: tests/refused_growths.sh [PROGRAM]
+# Needs the built program (rt run in crates/auction_cli, or rt ci) and cc: tests/refused_growths.sh [PROGRAM]
 set -euo pipefail
 top=$(cd "$(dirname "$0")/.." && pwd)
 program=${1:-$top/crates/auction_cli/out/auction_cli}
@@ -22,7 +22,7 @@ try_all() {
     local input=$1 wanted growth status
     refusals=0
     shift
-    wanted=$(GROWTHS_TOLD="$work/growths" run 0 "$input" "$@")
+    wanted=$(GROWTHS_FILE="$work/growths" run 0 "$input" "$@")
     mv "$work/out" "$work/wanted"
     growths=$(cat "$work/growths")
     for growth in $(seq 1 "$growths"); do
@@ -61,7 +61,7 @@ try_all "$top/examples/hundred_persons.txt" solve
 try_all "$top/examples/roster.txt" solve --sparse
 try_all "$top/examples/short_roster.txt" solve --sparse
 try_all "$top/examples/sales.txt" solve --max --prices
-# What is told of these doesn't depend on how the threads run: three growths are done without, and what either worker is
+# What is shown of these doesn't depend on how the threads run: three growths are done without, and what either worker is
 # refused has to be answered.
 printf '3 1 1 4 2 1 6 3 2 1 3 3 2' > "$work/three_persons"
 for refresh in 0 1; do

@@ -1,6 +1,6 @@
 #!/usr/bin/env bash
 # What the built program prints where, and how it ends: each status, and the lines on standard error. Prints what
-# differs. Wants the built program (rt run in crates/auction_cli, or rt ci): tests/statuses.sh [PROGRAM]
+# differs. Needs the built program (rt run in crates/auction_cli, or rt ci): tests/statuses.sh [PROGRAM]
 set -uo pipefail
 top=$(cd "$(dirname "$0")/.." && pwd)
 program=${1:-$top/crates/auction_cli/out/auction_cli}
@@ -200,7 +200,7 @@ closed() {
     compare "stream $stream closed, $*" "$wanted|$(printf "$out")|$err" "$status|$(cat "$work/out")|$(cat "$work/err")"
 }
 
-# The report is a problem too, so that one that is read in place of standard input is told otherwise.
+# The report is a problem too, so that one that is read in place of standard input gives another line.
 for words in 'solve' "verify $work/report" "solve --start $work/report" "verify $work/problem" "solve --start $work/problem"; do
     closed 0 4 '' 'device: read failed' $words
 done

@@ -1,5 +1,5 @@
 #!/usr/bin/env bash
-# Calls of the crates alone, beside the same steps in plain Rust, on one input in one run: sessions
+# Calls of the crates alone, next to the same steps in plain Rust, on one input in one run: sessions
 # with a book and events of several workers, memory of a book after few and many bids, reports
 # written and read; and the offers of a round by one thread and several. The proved crates are
 # copied, with a small program over them (programs/calls), which is proved, built and
@@ -40,9 +40,9 @@ for words in '1 1000000 1' '4 1000000 3'; do
 done
 echo 'memory: a run of the core on 8192 persons, less 4 bytes an event; worker 1 never takes prices'
 for count in 200000 20000000; do
-    told=$("$work/peak" "$work/peaked" "$calls" events 2 $count 2 < "$work/crowded_8192")
+    printed=$("$work/peak" "$work/peaked" "$calls" events 2 $count 2 < "$work/crowded_8192")
     read -r kilobytes _ < "$work/peaked"
-    echo "$count events: $((kilobytes - 4 * count / 1024)) KB; $told"
+    echo "$count events: $((kilobytes - 4 * count / 1024)) KB; $printed"
 done
 echo 'reports of 8192 persons with prices: nanoseconds to write and to read, bytes, prices'
 for _ in 1 2 3; do

@@ -1,5 +1,5 @@
 #!/usr/bin/env bash
-# Workers on a place: whole runs by 1, 2 and 4 threads, and the sessions of one worker beside the same sessions
+# Workers on a place: whole runs by 1, 2 and 4 threads, and the sessions of one worker next to the same sessions
 # with a book that lies in no place, on one input in one run. The proved crates are copied, with a small
 # program over them (programs/place), which is proved, built and run there. bench/place/measure.sh [FOLDER]
 set -euo pipefail
@@ -19,9 +19,9 @@ uptime
 for name in sparse_1000 crowded_1000; do
     echo "$name: nanoseconds, sessions, accepted bids, sum of prices"
     for _ in 1 2 3 4 5; do
-        told=$("$place" solve 1 1 < "$work/$name")
-        echo "one desk:   $told"
-        echo "no place:   $("$place" events "$(echo "$told" | cut -d' ' -f2)" < "$work/$name")"
+        printed=$("$place" solve 1 1 < "$work/$name")
+        echo "one desk:   $printed"
+        echo "no place:   $("$place" events "$(echo "$printed" | cut -d' ' -f2)" < "$work/$name")"
         echo "2 threads:  $("$place" solve 2 1 < "$work/$name")"
         echo "4 threads:  $("$place" solve 4 1 < "$work/$name")"
     done

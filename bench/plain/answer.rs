@@ -1,4 +1,4 @@
-//! Answers and how they are printed, for the programs beside.
+//! Answers and how they are printed, for the other programs here.
 use crate::read::Row;
 use std::io::{self, Write};
 

@@ -1,4 +1,4 @@
-//! The book that workers share and a worker's part with it, for the programs beside.
+//! The book that workers share and a worker's part with it, for the other programs here.
 use crate::read::Row;
 use crate::scan::{Benefits, Price, best_two, range};
 use std::collections::VecDeque;

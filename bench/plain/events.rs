@@ -1,4 +1,4 @@
-//! What the core over lists of events is measured beside: the same events over the same book in
+//! What the core over lists of events is compared with: the same events over the same book in
 //! plain Rust, with nothing proved. `plain_events WORKERS COUNT EVERY` reads a sparse problem.
 #[allow(dead_code)]
 mod book;

@@ -1,6 +1,6 @@
-//! What the library's shortest paths are measured beside: Jonker and Volgenant's method in plain Rust, with nothing
+//! What the library's shortest paths are compared with: Jonker and Volgenant's method in plain Rust, with nothing
 //! proved and no check of what is found. As a program it reads a problem (a sparse one with the word `sparse`), solves
-//! it as often as the word `times=N` says, prints the cost, or that there is none, and tells the nanoseconds of the
+//! it as often as the word `times=N` says, prints the cost, or that there is none, and the nanoseconds of the
 //! fastest solve on standard error. As a library it has two calls for C.
 mod lapjv;
 mod read;
@@ -53,7 +53,7 @@ pub fn main() -> Result<(), String> {
     Ok(())
 }
 
-fn told(found: Option<Vec<usize>>, room: &mut [u16], cost: impl Fn(usize, usize) -> i64) -> i64 {
+fn answered(found: Option<Vec<usize>>, room: &mut [u16], cost: impl Fn(usize, usize) -> i64) -> i64 {
     let Some(found) = found else {
         return i64::MIN;
     };
@@ -71,7 +71,7 @@ fn told(found: Option<Vec<usize>>, room: &mut [u16], cost: impl Fn(usize, usize)
 pub unsafe extern "C" fn plain_dense(n: usize, costs: *const i64, columns: *mut u16) -> i64 {
     let costs = unsafe { std::slice::from_raw_parts(costs, n * n) };
     let room = unsafe { std::slice::from_raw_parts_mut(columns, n) };
-    told(Some(solve_dense(&Dense { n, costs })), room, |row, column| costs[row * n + column])
+    answered(Some(solve_dense(&Dense { n, costs })), room, |row, column| costs[row * n + column])
 }
 
 /// The same of so many pairs, the rows' in order, and of each row in the order of the columns; the least number where
@@ -101,5 +101,5 @@ pub unsafe extern "C" fn plain_sparse(
         let listed: &Row = &rows[row];
         listed[listed.binary_search_by_key(&(column as u16 + 1), |pair| pair.0).unwrap()].1
     };
-    told(solve_sparse(&Sparse { rows: &rows }), room, cost)
+    answered(solve_sparse(&Sparse { rows: &rows }), room, cost)
 }

@@ -1,4 +1,4 @@
-//! Reading of dense and sparse problems, for the programs beside.
+//! Reading of dense and sparse problems, for the other programs here.
 use std::io::Read;
 
 pub type Row = Vec<(u16, i64)>;

@@ -1,4 +1,4 @@
-//! What writing and reading of reports is measured beside, in plain Rust: `plain_report TURNS` writes
+//! What writing and reading of reports is compared with, in plain Rust: `plain_report TURNS` writes
 //! and reads a report of version 2 on 8192 persons, with prices of eight digits, so many times.
 use std::io::Write;
 use std::time::Instant;

@@ -1,7 +1,7 @@
-//! What the program's `solve` is measured beside: the same reading and the same rounds in plain
+//! What the program's `solve` is compared with: the same reading and the same rounds in plain
 //! Rust, with nothing proved. `plain_rounds read` stops after reading, `plain_rounds solve` goes on.
 //! With the word `sparse` the problem is a sparse one, with `narrow` prices are computed in 64 bits
-//! (which costs of 10^12 would overflow), with `counts` rounds and bids are told on standard error, with
+//! (which costs of 10^12 would overflow), with `counts` rounds and bids go to standard error, with
 //! `start=REPORT` the first prices are those of a report.
 mod answer;
 mod read;

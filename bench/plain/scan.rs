@@ -1,4 +1,4 @@
-//! Benefits of persons, and the scan of a row, for the programs beside.
+//! Benefits of persons, and the scan of a row, for the other programs here.
 use crate::read::Row;
 use std::ops::{Add, Sub};
 

@@ -1,6 +1,6 @@
-//! What `solve --mode workers` is measured beside: the same reading, and threads that bid from tables of their own
-//! into one book behind a lock, in plain Rust, with nothing proved. `plain_workers WORKERS REFRESH`; with the word
-//! `sparse` the problem is a sparse one, with `narrow` prices are computed in 64 bits, with `counts` it tells
+//! What `solve --mode workers` is compared with: the same reading, and threads that bid from tables of their own
+//! into one book under a lock, in plain Rust, with nothing proved. `plain_workers WORKERS REFRESH`; with the word
+//! `sparse` the problem is a sparse one, with `narrow` prices are computed in 64 bits, with `counts` it prints
 //! sessions, sessions that found the lock taken, refused bids, accepted bids and idle sessions on standard error.
 mod answer;
 mod book;

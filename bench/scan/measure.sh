@@ -1,9 +1,9 @@
 #!/usr/bin/env bash
-# Scans of rows: best_two_full and best_two beside the same loops in plain Rust, on the same inputs
+# Scans of rows: best_two_full and best_two next to the same loops in plain Rust, on the same inputs
 # in one run. Four rows of 8192 and of 1000 objects in turn, which stay in the cache, and the 4000
 # rows of a problem that doesn't fit. The proved crates are copied, with a small program over them
 # (programs/scan), which is proved, built and run there.
-# With the name of another tree of this project, its scans are measured beside.
+# With the name of another tree of this project, its scans are measured too.
 set -euo pipefail
 here=$(cd "$(dirname "$0")" && pwd)
 top=$(cd "$here/../.." && pwd)

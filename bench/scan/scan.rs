@@ -1,6 +1,6 @@
 //! The same scans in plain Rust, of the rows of a sparse problem on standard input: as one would
 //! write them first, with 128-bit sums throughout; and of full rows by blocks of sixteen objects,
-//! with each price in 64 bits beside it, as the proved scan does.
+//! with each price in 64 bits next to it, as the proved scan does.
 use std::hint::black_box;
 use std::io::Read;
 use std::time::Instant;

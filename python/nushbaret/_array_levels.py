@@ -16,7 +16,7 @@ BLOCK = 2**14
 AT_ONCE = 2**20
 # Whole numbers of 64 bits stay below this, so that sums of two don't overflow.
 MOST_BITS = 61
-# Beyond such powers of two a factor may be no double.
+# Beyond these powers of two a factor may be no double.
 MOST_SHIFT = 900
 # Fewer pairs than this are as fast one by one.
 MANY = 2**14
@@ -94,7 +94,7 @@ def _module(asked: proved.Given) -> Any:
 
 
 def whole_prices(numpy: Any, answer: proved.Answer) -> Any:
-    """As `whole_prices`, mostly at once: the library's prices are multiples of the unit but for one number."""
+    """As `whole_prices`, mostly at once: the library's prices are multiples of the unit, each plus one number."""
     words = numpy.frombuffer(answer.halves.words, numpy.int64).reshape(-1, 2)
     low = words[:, 0]
     if words[:, 1].any() or low.min() < 0:
@@ -131,7 +131,7 @@ def kept(level: "Level", most: int) -> Tuple[Any, Any, Any]:
 
 
 def changes(level: "Level", pairs: "Pairs") -> Tuple[List[int], List[int]]:
-    """Who takes an object, and from whom, where that isn't the person's own; 0 for an unused object."""
+    """Who takes an object, and from which person, where that isn't the person's own; 0 for an unused object."""
     numpy = _module(level.asked)
     own, owner = numpy.zeros(level.asked.n + 1, numpy.uint16), numpy.zeros(level.asked.m + 1, numpy.uint16)
     own[1:] = level.objects
@@ -232,7 +232,7 @@ class _Doubles:
         self.levels = [(taken[places], shift) for taken, shift in self.levels]
 
     def _plainly(self) -> Any:
-        """What the first level left as whole numbers of one unit, exactly, where costs and what was taken off are such too; else None."""
+        """What the first level left as whole numbers of one unit, exactly, where costs and what was taken off are whole too; else None."""
         numpy = self.numpy
         grid = MOST_BITS - math.frexp(max(self.most, math.ldexp(size_of(self.taken), -self.shift)))[1]
         if grid < self.shift:

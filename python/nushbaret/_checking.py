@@ -134,8 +134,8 @@ def _judged(problem: Problem, pairs: List[Tuple[int, int]], costs: List[int], gi
         return None
     halves = library.Halves(prices=of_objects + [dearest + less * unit] * dummies)
     asked = proved.given(problem, len(pairs), -sign * less)
-    code, told = library.call("check", problem.maximize, *asked, _objects(problem, pairs, n, m - dummies), halves)
-    return _in_words(problem, pairs, prices, code, told)
+    code, info = library.call("check", problem.maximize, *asked, _objects(problem, pairs, n, m - dummies), halves)
+    return _in_words(problem, pairs, prices, code, info)
 
 
 def _objects(problem: Problem, pairs: List[Tuple[int, int]], n: int, most: int) -> Any:
@@ -153,29 +153,29 @@ def _objects(problem: Problem, pairs: List[Tuple[int, int]], n: int, most: int) 
     return objects
 
 
-def _in_words(problem: Problem, pairs: List[Tuple[int, int]], prices: List[int], code: str, told: library.Told) -> Optional[Verdict]:
+def _in_words(problem: Problem, pairs: List[Tuple[int, int]], prices: List[int], code: str, info: library.Info) -> Optional[Verdict]:
     if code == "SLACK":
-        row, column = told.person - 1, told.object - 1
+        row, column = info.person - 1, info.object - 1
         if proved.is_turned(problem):
             row, column = column, row
         return _better_off(problem, row, column)
-    if code == "DEAR":
-        return _dear(problem, prices, told.object - 1, 1)
+    if code == "OVERPRICED":
+        return _overpriced(problem, prices, info.object - 1, 1)
     if code in ("PRICE_RANGE", "COST"):
         return None
     if code != "BEST":
-        return proved.refuse(code, told)
+        return proved.refuse(code, info)
     # Where rows are more the library has seen the prices of the matched columns alone.
     used = {column for _, column in pairs}
-    dear = [column for column, price in enumerate(prices) if price > 1 and column not in used]
-    return _dear(problem, prices, dear[0], 1) if dear else Verdict()
+    overpriced = [column for column, price in enumerate(prices) if price > 1 and column not in used]
+    return _overpriced(problem, prices, overpriced[0], 1) if overpriced else Verdict()
 
 
 def _better_off(problem: Problem, row: int, column: int) -> Verdict:
     return Verdict(f"row {problem.row_name(row)} would be better off with column {problem.column_name(column)}, at these prices", row, column)
 
 
-def _dear(problem: Problem, prices: List[int], unused: int, more: int) -> Verdict:
+def _overpriced(problem: Problem, prices: List[int], unused: int, more: int) -> Verdict:
     cheaper = next(column for column, price in enumerate(prices) if price + more < prices[unused])
     return Verdict(f"column {problem.column_name(unused)} stays unused, and column {problem.column_name(cheaper)} is cheaper", None, cheaper)
 
@@ -207,14 +207,14 @@ def _judged_exactly(problem: Problem, pairs: List[Tuple[int, int]], costs: List[
     dearest = max(paid.values())
     slack = {row: max(paid.get(row, dearest) - own.paid, 0) for row, own in enumerate(rows) if own is not None}
     used = {column for _, column in pairs}
-    dear = {column: price - lowest for column, price in enumerate(prices) if column not in used}
-    whole = sum(slack.values()) + sum(dear.values())
+    overpriced = {column: price - lowest for column, price in enumerate(prices) if column not in used}
+    whole = sum(slack.values()) + sum(overpriced.values())
     if not whole or whole * _unit_of_all(problem).denominator < unit.denominator:
         return Verdict()
     row = next((row for row, more in slack.items() if more), None)
     if row is not None:
         return _better_off(problem, row, rows[row].column)  # type: ignore[union-attr]
-    return _dear(problem, prices, next(column for column, more in dear.items() if more), 0)
+    return _overpriced(problem, prices, next(column for column, more in overpriced.items() if more), 0)
 
 
 def _unit_of_all(problem: Problem) -> Unit:

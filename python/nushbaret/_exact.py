@@ -199,7 +199,7 @@ def _by_array(numpy: Any, rows: Any, length: int, manner: Manner, where: Where) 
 
 
 def _of_numbers(found: List[Any], forbidden: List[int], manner: Manner) -> Costs:
-    """The costs of exact numbers: whole ones of 64 bits where one unit makes them such."""
+    """The costs of exact numbers: whole ones of 64 bits where one unit makes them whole."""
     if manner.decimals is not None:
         found = [_to_places(value, manner.decimals, manner.doubles) for value in found]
         unit = of_places(manner.decimals)
@@ -251,7 +251,7 @@ def _packed(rows: Any, length: int) -> Optional[Numbers]:
 
 
 def _pack(pack: Callable[..., None], numbers_: Numbers, place: int, row: Any) -> None:
-    """Writes a row of whole numbers, or one of floats that hold such. An `array` would take floats as well, and in Python 3.9
+    """Writes a row of whole numbers, or one of floats that hold whole numbers. An `array` would take floats as well, and in Python 3.9
     cut off what stands after the point."""
     try:
         pack(numbers_, place, *row)
@@ -389,7 +389,7 @@ def whole_numbers(numpy: Any, flat: Any) -> Any:
     # Mostly the first ones show that not all are whole.
     if flat.size > FEW and whole_numbers(numpy, flat[:_SAMPLE]) is None:
         return None
-    # With such a sum of squares none is beyond 2**53, and none is infinite or NaN.
+    # With this sum of squares none is beyond 2**53, and none is infinite or NaN.
     if not (flat.dot(flat) <= 2.0**105 if flat.size <= FEW else size_of(flat) < _MOST_WHOLE):
         return None
     numbers_ = flat.astype(numpy.int64)

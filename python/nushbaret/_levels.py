@@ -161,7 +161,7 @@ def is_only_plan(level: Level, pairs: Pairs) -> bool:
 
 
 def _changes(level: Level, pairs: Pairs) -> Tuple[List[int], List[int]]:
-    """Who takes an object, and from whom, where that isn't the person's own; 0 for an unused object."""
+    """Who takes an object, and from which person, where that isn't the person's own; 0 for an unused object."""
     own, owner = level.objects, [0] * (level.asked.m + 1)
     for person, item in enumerate(own, 1):
         owner[item] = person

@@ -23,7 +23,7 @@ CODES = (
     "SENSE", "SIZE", "LENGTH", "PERSON", "OBJECT", "COST", "PRICE", "MEMORY",
     "ANSWER_LENGTH", "UNLISTED", "TWICE", "PRICE_RANGE", "SLACK",
     "HALL_RANGE", "HALL_ORDER", "HALL_MISSING", "HALL_EXTRA", "HALL_COUNT",
-    "DEAR",
+    "OVERPRICED",
 )
 
 NAME = "libnushbaret.so"
@@ -40,14 +40,14 @@ class LibraryNotFound(OSError):
     """
 
 
-class Told(ctypes.Structure):
+class Info(ctypes.Structure):
     """What a call reports in addition to its lists."""
 
     _fields_ = [(name, ctypes.c_int64 if name == "total" else ctypes.c_uint64)
                 for name in ("total", "place", "persons", "objects", "person", "object")]
 
 
-_TOLD = ctypes.sizeof(Told)
+_INFO = ctypes.sizeof(Info)
 # How many lists each call takes.
 _LISTS = {"dense": 4, "dense_from": 5, "sparse": 6, "sparse_from": 7, "check": 5, "check_hall": 5}
 _loading = threading.Lock()
@@ -149,10 +149,10 @@ def _loaded() -> Dict[str, Any]:
     return _calls
 
 
-def call(name: str, sense: Optional[bool], n: int, m: int, *lists: Any) -> Tuple[str, Told]:
-    """The name of the code, and what is told. `sense` is None for `check_hall`; MemoryError where memory is refused, and TimeoutError
+def call(name: str, sense: Optional[bool], n: int, m: int, *lists: Any) -> Tuple[str, Info]:
+    """The name of the code, and its record. `sense` is None for `check_hall`; MemoryError where memory is refused, and TimeoutError
     where the time of `limited` is over."""
-    told = Told()
+    info = Info()
     end = getattr(_limits, "end", None)
     in_thread = end is not None or n * max(map(len, lists)) >= LONG and threading.current_thread() is threading.main_thread()
     if in_thread:
@@ -161,11 +161,11 @@ def call(name: str, sense: Optional[bool], n: int, m: int, *lists: Any) -> Tuple
     for values in lists:
         words += _lend(values)
     function = _loaded()[name]
-    words.append(ctypes.addressof(told))
-    code = CODES[_waited_for(lambda: int(function(*words)), end, lists, told) if in_thread else function(*words)]
+    words.append(ctypes.addressof(info))
+    code = CODES[_waited_for(lambda: int(function(*words)), end, lists, info) if in_thread else function(*words)]
     if code == "MEMORY":
         raise MemoryError("the library was refused memory")
-    return code, told
+    return code, info
 
 
 # The time at which a thread's calls have to end.
@@ -236,19 +236,19 @@ class Room:
     list that the room goes back to after a call, if it is kept, and `is_rounded` says whether costs were rounded."""
 
     def __init__(self, numpy: Any, n: int, m: int, home: Optional[List["Room"]]):
-        self.words, self.shape, self.home = array("Q", bytes(_TOLD + 16 * m + 4 * n + 8 - 4 * n % 8)), (n, m), home
-        self.rows, self.objects = numpy.arange(n), numpy.frombuffer(self.words, numpy.uint16, n, _TOLD + 16 * m)
-        told = self.words.buffer_info()[0]
-        prices, objects, persons = told + _TOLD, told + _TOLD + 16 * m, told + _TOLD + 16 * m + 2 * n
+        self.words, self.shape, self.home = array("Q", bytes(_INFO + 16 * m + 4 * n + 8 - 4 * n % 8)), (n, m), home
+        self.rows, self.objects = numpy.arange(n), numpy.frombuffer(self.words, numpy.uint16, n, _INFO + 16 * m)
+        info = self.words.buffer_info()[0]
+        prices, objects, persons = info + _INFO, info + _INFO + 16 * m, info + _INFO + 16 * m + 2 * n
         sense, count, address = ctypes.c_uint32.from_param, ctypes.c_size_t.from_param, ctypes.c_void_p.from_param
         many, few = count(m), count(n)
         self.minimized, self.maximized, self.sizes = sense(0), sense(1), (few, many)
-        self.rest = count(n * m), address(objects), few, address(persons), few, address(prices), many, address(told)
+        self.rest = count(n * m), address(objects), few, address(persons), few, address(prices), many, address(info)
         self.call = _calls["dense, made ready"]
         # Where the costs of each row begin, less 1.
         self.before = range(-1, n * m - 1, m)
         self.halves = Halves()
-        self.halves.words = numpy.frombuffer(self.words, numpy.uint64, 2 * m, _TOLD)
+        self.halves.words = numpy.frombuffer(self.words, numpy.uint64, 2 * m, _INFO)
         self.total = ctypes.c_int64.from_buffer(self.words)
         self.doubles: Any = None
         self.numbers: Any = None

@@ -1,7 +1,7 @@
 """Plans in the order of their costs.
 
 Murty (1968): all plans but a best one are split by the first row whose column differs from that plan's. The best plan of each part is
-one shortest alternating path away, in reduced costs, which are never below 0; the duals that the path leaves behind belong to that
+one shortest alternating path away, in reduced costs, which are never below 0; the duals that the path leaves belong to that
 part. Rows and columns that stay out are held by one dummy column and one dummy row, which cost nothing.
 
 The library checks each plan before it is handed out: the duals of its part prove that it is a best plan of the part. That the parts
@@ -199,7 +199,7 @@ class Ranking:
 
     def _after(self, part: _Part, found: _Search, row: int, first: int, banned: FrozenSet[int]) -> _Part:
         """The part whose best plan is the one after a row's path. Columns that are nearer than the path is long get cheaper by the rest of
-        it, and whoever holds them gains as much."""
+        it, and the row that holds them gains as much."""
         rows, columns, whole = part.row_duals, part.column_duals, found.length or 0
         if whole:
             rows, columns = rows.copy(), columns.copy()

@@ -27,7 +27,7 @@ class Given(NamedTuple):
 
 class Answer(NamedTuple):
     """A best assignment: an object for each person, from 1 on, and prices in the unit of costs times m + 1. Where levels found it, there
-    are neither prices nor a total."""
+    are no prices and no total."""
 
     n: int
     m: int
@@ -106,9 +106,9 @@ def _joined(numpy: Any, own: Any, more: Any) -> Any:
     return numpy.concatenate((own, more)) if numpy else own + more
 
 
-def refuse(code: str, told: library.Told) -> NoReturn:
+def refuse(code: str, info: library.Info) -> NoReturn:
     """Raises what a code of the library means that no lists of this package should get."""
-    raise RuntimeError(f"the library refused its lists: {code} at {told.place}")
+    raise RuntimeError(f"the library refused its lists: {code} at {info.place}")
 
 
 def answer(problem: Problem, asked: Given, first: Optional[Halves] = None) -> Union[Answer, Short, None]:
@@ -120,12 +120,12 @@ def answer(problem: Problem, asked: Given, first: Optional[Halves] = None) -> Un
     name = "dense" if is_dense else "sparse"
     if first is not None:
         name, lists = name + "_from", lists + [first]
-    code, told = library.call(name, problem.maximize, n, m, *lists, objects, persons, halves)
+    code, info = library.call(name, problem.maximize, n, m, *lists, objects, persons, halves)
     if code == "BEST":
-        return Answer(n, m, told.total, objects, halves)
+        return Answer(n, m, info.total, objects, halves)
     if code == "HALL":
-        return Short(persons[:told.persons], objects[:told.objects])
-    return None if code == "COST" else refuse(code, told)
+        return Short(persons[:info.persons], objects[:info.objects])
+    return None if code == "COST" else refuse(code, info)
 
 
 def found(asked: Given, maximize: bool, first: Optional[Halves] = None) -> Union[Answer, Short]:
@@ -133,10 +133,10 @@ def found(asked: Given, maximize: bool, first: Optional[Halves] = None) -> Union
     n, m = asked.n, asked.m
     objects, persons, halves = array("H", bytes(2 * n)), array("H", bytes(2 * n)), Halves(m)
     lists = [asked.persons, asked.objects, asked.costs] + ([] if first is None else [first])
-    code, told = library.call("sparse" if first is None else "sparse_from", maximize, n, m, *lists, objects, persons, halves)
+    code, info = library.call("sparse" if first is None else "sparse_from", maximize, n, m, *lists, objects, persons, halves)
     if code == "BEST":
-        return Answer(n, m, told.total, objects, halves)
-    return Short(persons[:told.persons], objects[:told.objects]) if code == "HALL" else refuse(code, told)
+        return Answer(n, m, info.total, objects, halves)
+    return Short(persons[:info.persons], objects[:info.objects]) if code == "HALL" else refuse(code, info)
 
 
 def best_of(asked: Given) -> Answer:

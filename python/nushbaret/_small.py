@@ -10,7 +10,7 @@ from ._library import FEW, MOST_PERSONS
 from ._problem import Problem
 from ._result import Found
 
-# Beyond such powers of two the double that rounds is none.
+# Beyond these powers of two the double that rounds is none.
 MOST_SHIFT = 850
 # With more costs the library's second call would take longer than to look at reduced costs.
 SMALL = 2**14
@@ -167,7 +167,7 @@ class SmallArrays:
 
     def _adder(self, shift: int) -> Optional[Tuple[Any, Any]]:
         """A double whose last place is 2**-shift, so that what is added to it is rounded there, and its bits, to be subtracted from those
-        of the sum; None if there is no such double."""
+        of the sum; None if there is none."""
         if not -MOST_SHIFT < shift < MOST_SHIFT:
             return None
         adder = self.numpy.array(1.5 * 2.0**(52 - shift))

@@ -98,18 +98,18 @@ def _bash_value(name, entry):
     return f"        {entry.name}) return ;;"
 
 
-def _bash_words(name, told):
+def _bash_words(name, described):
     """What sets the words that may stand here, and what else may."""
-    return f'words="{_words(told.options)}"; plain={f"_{name}_files" if told.arguments else ":"}'
+    return f'words="{_words(described.options)}"; plain={f"_{name}_files" if described.arguments else ":"}'
 
 
 def bash(name, top, commands):
     """The script for bash."""
-    valued = {entry.name: entry for told in (top, *commands.values()) for entry in told.options if entry.value}
+    valued = {entry.name: entry for described in (top, *commands.values()) for entry in described.options if entry.value}
     values = [_bash_value(name, valued[option]) for option in sorted(valued)]
     if not commands:
         return _filled(BASH, VALUES=values, PLACE=["    " + _bash_words(name, top)], NAME=[name])
-    after = [f"        {command}) {_bash_words(name, told)} ;;" for command, told in commands.items()]
+    after = [f"        {command}) {_bash_words(name, described)} ;;" for command, described in commands.items()]
     after += [f'        help) words="{" ".join(commands)}"; plain=: ;;',
               f'        *) words="{_words(top.options)} {" ".join(entry.name for entry in top.commands)}"; plain=: ;;']
     place = _filled(BASH_COMMANDS, COMMANDS=after, NAMES=["|".join(entry.name for entry in top.commands)])
@@ -137,17 +137,17 @@ def _bare(name):
     return name.strip("<>")
 
 
-def _zsh_arguments(told, indent):
+def _zsh_arguments(described, indent):
     """The lines that complete the options and arguments of a help."""
-    words = [_zsh_option(entry) for entry in told.options]
-    words += [f"'{at}:{_bare(entry.name)}:_files'" for at, entry in enumerate(told.arguments, 1)]
+    words = [_zsh_option(entry) for entry in described.options]
+    words += [f"'{at}:{_bare(entry.name)}:_files'" for at, entry in enumerate(described.arguments, 1)]
     inner = f" \\\n{indent}    "
     return [f"{indent}_arguments \\", inner.join([f"{indent}    {words[0]}", *words[1:]])]
 
 
-def _zsh_after(command, told):
+def _zsh_after(command, described):
     """The lines of a case that complete the words after a command."""
-    lines = [f"                {command})", *_zsh_arguments(told, " " * 20)]
+    lines = [f"                {command})", *_zsh_arguments(described, " " * 20)]
     return [*lines[:-1], lines[-1] + " ;;"]
 
 
@@ -155,7 +155,7 @@ def zsh(name, top, commands):
     """The script for zsh."""
     if not commands:
         return _filled(ZSH, BODY=_zsh_arguments(top, "    "), NAME=[name])
-    words = [line for command, told in commands.items() for line in _zsh_after(command, told)]
+    words = [line for command, described in commands.items() for line in _zsh_after(command, described)]
     words.append(f"                help) _values command {' '.join(commands)} ;;")
     body = _filled(ZSH_COMMANDS, OPTIONS=[f"        {_zsh_option(entry)} \\" for entry in top.options], WORDS=words,
                    COMMANDS=[f"                '{_zsh_text(entry.name)}:{_zsh_text(entry.text)}'" for entry in top.commands])
@@ -188,10 +188,10 @@ def fish(name, top, commands):
     lines = [f"# Completes the words of {name} in fish.", *([f"complete -c {name} -f"] if commands else [])]
     lines += [_fish_option(name, first, entry) for entry in top.options]
     lines += [_fish(name, first, f"-a {entry.name} -d {_fish_text(entry.text)}") for entry in top.commands]
-    for command, told in commands.items():
+    for command, described in commands.items():
         condition = f"__fish_seen_subcommand_from {command}"
-        lines += [_fish_option(name, condition, entry) for entry in told.options]
-        lines += [_fish(name, condition, "-F") for _ in told.arguments]
+        lines += [_fish_option(name, condition, entry) for entry in described.options]
+        lines += [_fish(name, condition, "-F") for _ in described.arguments]
     lines += [_fish(name, "__fish_seen_subcommand_from help", f"-a {_fish_text(' '.join(commands))}")] if commands else []
     return "\n".join([*lines, ""])
 
@@ -201,8 +201,8 @@ PLACES = {"bash-completion/completions/@": bash, "zsh/site-functions/_@": zsh, "
 
 def main():
     share, *program = sys.argv[1:]
-    told = {manual.words.NAME: (roster_help(), {}), **({"auction_cli": read_all(program[0])} if program else {})}
-    for name, helps in told.items():
+    described = {manual.words.NAME: (roster_help(), {}), **({"auction_cli": read_all(program[0])} if program else {})}
+    for name, helps in described.items():
         for place, make in PLACES.items():
             file = pathlib.Path(share) / place.replace("@", name)
             file.parent.mkdir(parents=True, exist_ok=True)

@@ -14,7 +14,7 @@ class Part(NamedTuple):
         return {call_of(text): re.sub(r"\s*\{.*", ";", text, flags=re.S) for text in self.code if call_of(text)}
 
     def others(self):
-        """What is declared beside functions."""
+        """What is declared besides functions."""
         return [text for text in self.code if not call_of(text)]
 
 
@@ -25,7 +25,7 @@ def call_of(text):
 
 
 def _end(header, at):
-    """Where the declaration ends that begins here: behind its semicolon, or behind the body of a function."""
+    """Where the declaration ends that begins here: after its semicolon, or after the body of a function."""
     depth, begin = 0, at
     while at < len(header):
         if header.startswith("/*", at):

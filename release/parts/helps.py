@@ -26,7 +26,7 @@ class Help(NamedTuple):
     notes: List[str]
 
 
-def told(program, *words):
+def printed_by(program, *words):
     """What the program prints."""
     return subprocess.run([program, *words], stdin=subprocess.DEVNULL, capture_output=True, text=True, check=True).stdout
 
@@ -56,7 +56,7 @@ def _entries(block):
 
 def read_help(program, *command):
     """The help of the program, or of this command."""
-    blocks = [block for block in told(program, *command, "--help").strip("\n").split("\n\n") if block]
+    blocks = [block for block in printed_by(program, *command, "--help").strip("\n").split("\n\n") if block]
     begins = next(at for at, block in enumerate(blocks) if block.startswith("Usage:"))
     lists = {head: [] for head in HEADS}
     behind = begins + 1
@@ -68,7 +68,7 @@ def read_help(program, *command):
 
 
 def read_all(program):
-    """The help of the program, and that of each of its commands by name, but for `help` itself."""
+    """The help of the program, and that of each of its commands by name, except `help` itself."""
     top = read_help(program)
     return top, {entry.name: read_help(program, entry.name) for entry in top.commands if entry.name != "help"}
 

@@ -46,14 +46,14 @@ def program_page(program, version):
     """The page of the program, of its help and that of each command."""
     top, commands = read_all(program)
     lines = heading("auction_cli", 1, version) + [".SH NAME", f"auction_cli \\- {escaped(top.about)}", ".SH SYNOPSIS"]
-    for told in commands.values():
-        lines += [f"\\fB{escaped(told.usage)}\\fR", ".br"]
+    for described in commands.values():
+        lines += [f"\\fB{escaped(described.usage)}\\fR", ".br"]
     lines += [f"\\fB{escaped(top.usage)}\\fR", ".SH OPTIONS", *option_lines(top.options), ".SH COMMANDS"]
     lines += [line for entry in top.commands for line in (".TP", f"\\fB{entry.name}\\fR", escaped(entry.text))]
     lines += notes_lines(top.notes)
-    for name, told in commands.items():
-        lines += [f".SH {name.upper()}", escaped(told.about), *option_lines([*told.arguments, *told.options])]
-        lines += notes_lines(told.notes)
+    for name, described in commands.items():
+        lines += [f".SH {name.upper()}", escaped(described.about), *option_lines([*described.arguments, *described.options])]
+        lines += notes_lines(described.notes)
     return "\n".join([*lines, ".SH SEE ALSO", "\\fBnushbaret\\fR(1), \\fBnushbaret\\fR(3)", ""])
 
 
@@ -77,7 +77,7 @@ def see_also(names):
 
 
 def summary_of(comment):
-    """The first sentence of a comment, or what stands before its first colon, as the line of a name wants it."""
+    """The first sentence of a comment, or what stands before its first colon, as the line of a name needs it."""
     summary = re.split(r"[:.](?:\s|$)", " ".join(comment.split()))[0]
     return escaped(summary[0].lower() + summary[1:])
 
@@ -97,7 +97,7 @@ def call_page(group, names, version):
 
 
 def header_page(parts, names, version):
-    """The page of the header: its first comment, and all that it declares beside functions."""
+    """The page of the header: its first comment, and all that it declares besides functions."""
     first, *blocks = blocks_of(parts[0].comment)
     summary = " ".join(first.split()).rpartition(": ")[2].rstrip(".")
     lines = heading("nushbaret", 3, version)

@@ -1,5 +1,5 @@
 /* Calls each function of the library, as C and as C++; ends with 0 where all is as it has to be. Problems worked by
-   hand, drawn squares and rectangles beside a slow search, by lists and by structs, each fault and each code, each
+   hand, drawn squares and rectangles compared with a slow search, by lists and by structs, each fault and each code, each
    growth refused in turn, a thread with just the stack that the header names, and eight threads at a time. After each
    call no block may be left. */
 #include "nushbaret.h"
@@ -65,7 +65,7 @@ struct call {
     uint16_t of_persons[PAIRS], of_objects[PAIRS];
     uint16_t objects[MOST], persons[MOST];
     struct nushbaret_price first[MOST], prices[MOST];
-    struct nushbaret_told told;
+    struct nushbaret_info info;
 };
 
 static struct nushbaret_problem problem_of(struct call *c) {
@@ -82,9 +82,9 @@ static int32_t by_struct(struct call *c, int32_t (*call)(const struct nushbaret_
     struct nushbaret_problem problem = problem_of(c);
     struct nushbaret_answer answer;
     int32_t code;
-    answer.objects = c->objects, answer.persons = c->persons, answer.prices = c->prices, answer.told = c->told;
+    answer.objects = c->objects, answer.persons = c->persons, answer.prices = c->prices, answer.info = c->info;
     code = call(&problem, &answer);
-    c->told = answer.told;
+    c->info = answer.info;
     return blocks == 0 ? code : -1;
 }
 
@@ -95,15 +95,15 @@ static int32_t solve(struct call *c) {
         code = by_struct(c, nushbaret_solve);
     else if (c->is_sparse && c->is_from)
         code = nushbaret_sparse_from(c->sense, n, m, c->of_persons, c->pairs, c->of_objects, c->pairs, c->costs, c->pairs,
-            c->first, m, c->objects, n, c->persons, n, c->prices, m, &c->told);
+            c->first, m, c->objects, n, c->persons, n, c->prices, m, &c->info);
     else if (c->is_sparse)
         code = nushbaret_sparse(c->sense, n, m, c->of_persons, c->pairs, c->of_objects, c->pairs, c->costs, c->pairs,
-            c->objects, n, c->persons, n, c->prices, m, &c->told);
+            c->objects, n, c->persons, n, c->prices, m, &c->info);
     else if (c->is_from)
         code = nushbaret_dense_from(c->sense, n, m, c->costs, c->pairs, c->first, m, c->objects, n, c->persons, n,
-            c->prices, m, &c->told);
+            c->prices, m, &c->info);
     else
-        code = nushbaret_dense(c->sense, n, m, c->costs, c->pairs, c->objects, n, c->persons, n, c->prices, m, &c->told);
+        code = nushbaret_dense(c->sense, n, m, c->costs, c->pairs, c->objects, n, c->persons, n, c->prices, m, &c->info);
     return blocks == 0 ? code : -1;
 }
 
@@ -112,7 +112,7 @@ static int32_t check(struct call *c) {
     int32_t code;
     if (c->is_by_struct) return by_struct(c, nushbaret_verify);
     code = nushbaret_check(c->sense, c->n, c->m, c->of_persons, pairs, c->of_objects, pairs, c->costs, c->pairs,
-        c->objects, c->n, c->prices, c->m, &c->told);
+        c->objects, c->n, c->prices, c->m, &c->info);
     return blocks == 0 ? code : -1;
 }
 
@@ -121,7 +121,7 @@ static int32_t check_hall(struct call *c) {
     int32_t code;
     if (c->is_by_struct) return by_struct(c, nushbaret_verify_hall);
     code = nushbaret_check_hall(c->n, c->m, c->of_persons, pairs, c->of_objects, pairs, c->costs, c->pairs,
-        c->persons, (size_t)c->told.persons, c->objects, (size_t)c->told.objects, &c->told);
+        c->persons, (size_t)c->info.persons, c->objects, (size_t)c->info.objects, &c->info);
     return blocks == 0 ? code : -1;
 }
 
@@ -170,52 +170,52 @@ static struct call three(void) {
 static void worked(void) {
     struct call c = two(NUSHBARET_MIN, 1, 2, 3, 5);
     c.persons[0] = 77;
-    WANT(solve(&c) == NUSHBARET_BEST && c.told.total == 5 && c.objects[0] == 2 && c.objects[1] == 1);
-    WANT(c.persons[0] == 77 && c.told.place == 0 && c.told.persons == 0);
+    WANT(solve(&c) == NUSHBARET_BEST && c.info.total == 5 && c.objects[0] == 2 && c.objects[1] == 1);
+    WANT(c.persons[0] == 77 && c.info.place == 0 && c.info.persons == 0);
     WANT(check(&c) == NUSHBARET_BEST);
     memcpy(c.first, c.prices, sizeof c.first);
     c.is_from = 1;
-    WANT(solve(&c) == NUSHBARET_BEST && c.told.total == 5 && check(&c) == NUSHBARET_BEST);
+    WANT(solve(&c) == NUSHBARET_BEST && c.info.total == 5 && check(&c) == NUSHBARET_BEST);
     c = two(NUSHBARET_MAX, 1, 2, 3, 5);
-    WANT(solve(&c) == NUSHBARET_BEST && c.told.total == 6 && c.objects[0] == 1 && c.objects[1] == 2);
+    WANT(solve(&c) == NUSHBARET_BEST && c.info.total == 6 && c.objects[0] == 1 && c.objects[1] == 2);
     c = two(NUSHBARET_MIN, INT64_C(1000000000000), INT64_C(-1000000000000), 0, 0);
-    WANT(solve(&c) == NUSHBARET_BEST && c.told.total == INT64_C(-1000000000000) && check(&c) == NUSHBARET_BEST);
+    WANT(solve(&c) == NUSHBARET_BEST && c.info.total == INT64_C(-1000000000000) && check(&c) == NUSHBARET_BEST);
     c = three();
     c.objects[2] = 88;
-    WANT(solve(&c) == NUSHBARET_HALL && c.told.persons == 2 && c.told.objects == 1);
+    WANT(solve(&c) == NUSHBARET_HALL && c.info.persons == 2 && c.info.objects == 1);
     WANT(c.persons[0] == 1 && c.persons[1] == 2 && c.objects[0] == 1 && c.objects[2] == 88);
     WANT(check_hall(&c) == NUSHBARET_HALL);
     c.is_from = 1;
     WANT(solve(&c) == NUSHBARET_HALL && check_hall(&c) == NUSHBARET_HALL);
     c = three();
     c.n = 1, c.m = 1, c.pairs = 0;
-    WANT(solve(&c) == NUSHBARET_HALL && c.told.persons == 1 && c.told.objects == 0 && c.persons[0] == 1);
+    WANT(solve(&c) == NUSHBARET_HALL && c.info.persons == 1 && c.info.objects == 0 && c.persons[0] == 1);
     c.n = 1, c.pairs = 2, c.sense = NUSHBARET_MAX;
     c.of_persons[1] = 1, c.costs[0] = 7, c.costs[1] = -7;
-    WANT(solve(&c) == NUSHBARET_BEST && c.told.total == -7);
+    WANT(solve(&c) == NUSHBARET_BEST && c.info.total == -7);
 }
 
-/* Persons and objects of unequal numbers: what stands behind n objects and m prices stays, and more persons than objects
+/* Persons and objects of unequal numbers: what follows n objects and m prices stays, and more persons than objects
    have no assignment. */
 static void rectangles(void) {
     struct call c = two_of_three(NUSHBARET_MIN);
     c.objects[2] = 66, c.persons[0] = 77, c.prices[3].low = 88;
-    WANT(solve(&c) == NUSHBARET_BEST && c.told.total == 3 && c.objects[0] == 2 && c.objects[1] == 1 && check(&c) == NUSHBARET_BEST);
+    WANT(solve(&c) == NUSHBARET_BEST && c.info.total == 3 && c.objects[0] == 2 && c.objects[1] == 1 && check(&c) == NUSHBARET_BEST);
     WANT(c.objects[2] == 66 && c.persons[0] == 77 && c.prices[3].low == 88);
     list_pairs(&c);
-    WANT(solve(&c) == NUSHBARET_BEST && c.told.total == 3 && check(&c) == NUSHBARET_BEST);
+    WANT(solve(&c) == NUSHBARET_BEST && c.info.total == 3 && check(&c) == NUSHBARET_BEST);
     c = two_of_three(NUSHBARET_MAX);
-    WANT(solve(&c) == NUSHBARET_BEST && c.told.total == 13 && c.objects[0] == 1 && c.objects[1] == 3 && check(&c) == NUSHBARET_BEST);
+    WANT(solve(&c) == NUSHBARET_BEST && c.info.total == 13 && c.objects[0] == 1 && c.objects[1] == 3 && check(&c) == NUSHBARET_BEST);
     c.n = 3, c.m = 2, c.objects[2] = 66;
-    WANT(solve(&c) == NUSHBARET_HALL && c.told.persons == 3 && c.told.objects == 2 && check_hall(&c) == NUSHBARET_HALL);
+    WANT(solve(&c) == NUSHBARET_HALL && c.info.persons == 3 && c.info.objects == 2 && check_hall(&c) == NUSHBARET_HALL);
     WANT(c.persons[2] == 3 && c.objects[1] == 2 && c.objects[2] == 66);
     c = three();
     c.m = 2;
     WANT(solve(&c) == NUSHBARET_HALL && check_hall(&c) == NUSHBARET_HALL);
     c.n = 2, c.m = 3, c.pairs = 2;
-    WANT(solve(&c) == NUSHBARET_HALL && c.told.persons == 2 && c.told.objects == 1 && check_hall(&c) == NUSHBARET_HALL);
+    WANT(solve(&c) == NUSHBARET_HALL && c.info.persons == 2 && c.info.objects == 1 && check_hall(&c) == NUSHBARET_HALL);
     c.of_objects[1] = 3;
-    WANT(solve(&c) == NUSHBARET_BEST && c.told.total == 10 && c.objects[0] == 1 && c.objects[1] == 3 && check(&c) == NUSHBARET_BEST);
+    WANT(solve(&c) == NUSHBARET_BEST && c.info.total == 10 && c.objects[0] == 1 && c.objects[1] == 3 && check(&c) == NUSHBARET_BEST);
 }
 
 /* The functions that take structs make the calls that they stand for. */
@@ -228,15 +228,15 @@ static void structs(void) {
         lists.is_from = kind >> 2, lists.first[0].low = 5, lists.first[1].low = 3;
         form = lists, form.is_by_struct = 1;
         WANT(solve(&lists) == NUSHBARET_BEST && solve(&form) == NUSHBARET_BEST && check(&form) == NUSHBARET_BEST);
-        WANT(lists.told.total == form.told.total && memcmp(lists.objects, form.objects, sizeof lists.objects) == 0);
+        WANT(lists.info.total == form.info.total && memcmp(lists.objects, form.objects, sizeof lists.objects) == 0);
         WANT(memcmp(lists.prices, form.prices, sizeof lists.prices) == 0);
         form.objects[1] = form.objects[0];
-        WANT(check(&form) == NUSHBARET_TWICE && form.told.object == form.objects[0]);
+        WANT(check(&form) == NUSHBARET_TWICE && form.info.object == form.objects[0]);
     }
     form = three(), form.is_by_struct = 1;
-    WANT(solve(&form) == NUSHBARET_HALL && form.told.persons == 2 && check_hall(&form) == NUSHBARET_HALL);
+    WANT(solve(&form) == NUSHBARET_HALL && form.info.persons == 2 && check_hall(&form) == NUSHBARET_HALL);
     form.persons[1] = 3;
-    WANT(check_hall(&form) == NUSHBARET_HALL_MISSING && form.told.person == 3 && form.told.object == 2);
+    WANT(check_hall(&form) == NUSHBARET_HALL_MISSING && form.info.person == 3 && form.info.object == 2);
     form = two(NUSHBARET_MIN, 1, 2, 3, 5), form.is_by_struct = 1, form.pairs = 3;
     WANT(solve(&form) == NUSHBARET_LENGTH);
     form.m = 0;
@@ -264,7 +264,7 @@ static void starts(void) {
 }
 
 /* Seven persons of eight objects. Person 1 lists object 1 at 0 and object 2 at 3, each other one its own object at 0, and all the
-   rest costs 100. First prices that fit are kept, but for that of object 1, which falls by 4 units with object 2. */
+   rest costs 100. First prices that fit are kept, except that of object 1, which falls by 4 units with object 2. */
 static void rectangle_starts(void) {
     int64_t costs[56];
     uint16_t objects[7], persons[7];
@@ -276,14 +276,14 @@ static void rectangle_starts(void) {
     costs[1] = 3;
     memset(first, 0, sizeof first);
     first[0].low = 63, first[1].low = 9, first[3].low = 18;
-    WANT(nushbaret_solve(&problem, &answer) == NUSHBARET_BEST && answer.told.total == 0);
+    WANT(nushbaret_solve(&problem, &answer) == NUSHBARET_BEST && answer.info.total == 0);
     WANT(prices[0].low == 27 && prices[1].low == 0 && prices[2].low == 0 && prices[3].low == 18);
     problem.first = NULL;
     WANT(nushbaret_solve(&problem, &answer) == NUSHBARET_BEST && prices[3].low != 18);
 }
 
-/* First prices at which an object is dear that nobody wants: it is cheap in the answer. */
-static void dear_starts(void) {
+/* First prices at which an object is overpriced that nobody takes: it is cheap in the answer. */
+static void overpriced_starts(void) {
     struct call c = two_of_three(NUSHBARET_MIN);
     size_t place;
     for (place = 0; place < 6; place++) {
@@ -291,21 +291,21 @@ static void dear_starts(void) {
         memset(c.first, 0, sizeof c.first);
         c.first[place % 3].low = UINT64_C(3875820019684212736), c.first[place % 3].high = 54;
         if (place > 2) list_pairs(&c);
-        WANT(solve(&c) == NUSHBARET_BEST && c.told.total == 3 && check(&c) == NUSHBARET_BEST && c.prices[2].low <= c.prices[0].low + 1);
+        WANT(solve(&c) == NUSHBARET_BEST && c.info.total == 3 && check(&c) == NUSHBARET_BEST && c.prices[2].low <= c.prices[0].low + 1);
     }
 }
 
-/* The code of a spoilt call; what isn't told must be as it was. */
+/* The code of a spoilt call; what isn't reported must be as it was. */
 static int32_t spoilt(struct call c) {
     struct call before;
     int32_t code;
-    c.told.place = 99;
+    c.info.place = 99;
     before = c;
     code = solve(&c);
     if (memcmp(c.objects, before.objects, sizeof c.objects) != 0) return -2;
     if (memcmp(c.persons, before.persons, sizeof c.persons) != 0) return -2;
     if (memcmp(c.prices, before.prices, sizeof c.prices) != 0) return -2;
-    return code * 100 + (int32_t)c.told.place;
+    return code * 100 + (int32_t)c.info.place;
 }
 
 static void sizes(void) {
@@ -319,9 +319,9 @@ static void sizes(void) {
         WANT(spoilt(c) == NUSHBARET_SIZE * 100 + 99);
         c.is_sparse = !c.is_sparse, c.is_from = 1;
         WANT(spoilt(c) == NUSHBARET_SIZE * 100 + 99);
-        WANT(nushbaret_check(0, wrong[k], 2, c.objects, 0, c.objects, 0, c.costs, 4, c.objects, 2, c.prices, 2, &c.told)
+        WANT(nushbaret_check(0, wrong[k], 2, c.objects, 0, c.objects, 0, c.costs, 4, c.objects, 2, c.prices, 2, &c.info)
             == NUSHBARET_SIZE);
-        WANT(nushbaret_check_hall(2, wrong[k], c.objects, 0, c.objects, 0, c.costs, 4, c.persons, 2, c.objects, 1, &c.told)
+        WANT(nushbaret_check_hall(2, wrong[k], c.objects, 0, c.objects, 0, c.costs, 4, c.persons, 2, c.objects, 1, &c.info)
             == NUSHBARET_SIZE);
     }
     c.sense = 2;
@@ -334,7 +334,7 @@ static void sizes(void) {
 static int32_t with_lengths(size_t costs, size_t first, size_t objects, size_t persons, size_t prices) {
     struct call c = two_of_three(NUSHBARET_MIN);
     return nushbaret_dense_from(0, 2, 3, c.costs, costs, c.first, first, c.objects, objects, c.persons, persons, c.prices,
-        prices, &c.told);
+        prices, &c.info);
 }
 
 /* Lengths are those of n persons and m objects, each list by itself. */
@@ -348,22 +348,22 @@ static void lengths(void) {
         WANT(k == 2 || with_lengths(6, 3, k, 2, 3) == NUSHBARET_LENGTH);
         WANT(k == 2 || with_lengths(6, 3, 2, k, 3) == NUSHBARET_LENGTH);
         WANT(k == 3 || with_lengths(6, 3, 2, 2, k) == NUSHBARET_LENGTH);
-        WANT(k == 2 || nushbaret_check(0, 2, 3, c.objects, 0, c.objects, 0, c.costs, 6, c.objects, k, c.prices, 3, &c.told)
+        WANT(k == 2 || nushbaret_check(0, 2, 3, c.objects, 0, c.objects, 0, c.costs, 6, c.objects, k, c.prices, 3, &c.info)
             == NUSHBARET_ANSWER_LENGTH);
-        WANT(k == 3 || nushbaret_check(0, 2, 3, c.objects, 0, c.objects, 0, c.costs, 6, c.objects, 2, c.prices, k, &c.told)
+        WANT(k == 3 || nushbaret_check(0, 2, 3, c.objects, 0, c.objects, 0, c.costs, 6, c.objects, 2, c.prices, k, &c.info)
             == NUSHBARET_ANSWER_LENGTH);
     }
-    WANT(nushbaret_dense(0, 2, 3, c.costs, 4, c.objects, 2, c.persons, 2, c.prices, 3, &c.told) == NUSHBARET_LENGTH);
-    WANT(nushbaret_dense(0, 2, 3, c.costs, 6, c.objects, 3, c.persons, 2, c.prices, 3, &c.told) == NUSHBARET_LENGTH);
-    WANT(nushbaret_dense(0, 2, 3, c.costs, 6, c.objects, 2, c.persons, 2, c.prices, 2, &c.told) == NUSHBARET_LENGTH);
+    WANT(nushbaret_dense(0, 2, 3, c.costs, 4, c.objects, 2, c.persons, 2, c.prices, 3, &c.info) == NUSHBARET_LENGTH);
+    WANT(nushbaret_dense(0, 2, 3, c.costs, 6, c.objects, 3, c.persons, 2, c.prices, 3, &c.info) == NUSHBARET_LENGTH);
+    WANT(nushbaret_dense(0, 2, 3, c.costs, 6, c.objects, 2, c.persons, 2, c.prices, 2, &c.info) == NUSHBARET_LENGTH);
     list_pairs(&c);
     for (k = 0; k < 8; k++) {
         if (k == 4) continue;
         WANT(nushbaret_sparse(0, 2, 3, c.of_persons, k, c.of_objects, 4, c.costs, 4, c.objects, 2, c.persons, 2, c.prices, 3,
-            &c.told) == NUSHBARET_LENGTH);
+            &c.info) == NUSHBARET_LENGTH);
         WANT(nushbaret_sparse(0, 2, 3, c.of_persons, 4, c.of_objects, k, c.costs, 4, c.objects, 2, c.persons, 2, c.prices, 3,
-            &c.told) == NUSHBARET_LENGTH);
-        WANT(nushbaret_check_hall(2, 3, c.of_persons, 4, c.of_objects, k, c.costs, 4, c.persons, 2, c.objects, 1, &c.told)
+            &c.info) == NUSHBARET_LENGTH);
+        WANT(nushbaret_check_hall(2, 3, c.of_persons, 4, c.of_objects, k, c.costs, 4, c.persons, 2, c.objects, 1, &c.info)
             == NUSHBARET_LENGTH);
     }
 }
@@ -404,35 +404,35 @@ static void faults(void) {
 static void verdicts(void) {
     struct call c = two(NUSHBARET_MIN, 1, 2, 3, 5);
     WANT(solve(&c) == NUSHBARET_BEST);
-    WANT(nushbaret_check(0, 2, 2, c.objects, 0, c.objects, 0, c.costs, 4, c.objects, 1, c.prices, 2, &c.told)
+    WANT(nushbaret_check(0, 2, 2, c.objects, 0, c.objects, 0, c.costs, 4, c.objects, 1, c.prices, 2, &c.info)
         == NUSHBARET_ANSWER_LENGTH);
     c.objects[0] = 1;
-    WANT(check(&c) == NUSHBARET_TWICE && c.told.object == 1);
+    WANT(check(&c) == NUSHBARET_TWICE && c.info.object == 1);
     c.objects[1] = 2;
-    WANT(check(&c) == NUSHBARET_SLACK && c.told.person == 2 && c.told.object == 1);
+    WANT(check(&c) == NUSHBARET_SLACK && c.info.person == 2 && c.info.object == 1);
     c.objects[1] = 3;
-    WANT(check(&c) == NUSHBARET_UNLISTED && c.told.person == 2);
+    WANT(check(&c) == NUSHBARET_UNLISTED && c.info.person == 2);
     c.objects[1] = 2, c.prices[1].high = INT64_MIN;
-    WANT(check(&c) == NUSHBARET_PRICE_RANGE && c.told.object == 2);
+    WANT(check(&c) == NUSHBARET_PRICE_RANGE && c.info.object == 2);
     c.sense = 9;
     WANT(check(&c) == NUSHBARET_SENSE);
     c = three();
     WANT(solve(&c) == NUSHBARET_HALL);
     c.persons[1] = 3;
-    WANT(check_hall(&c) == NUSHBARET_HALL_MISSING && c.told.person == 3 && c.told.object == 2);
+    WANT(check_hall(&c) == NUSHBARET_HALL_MISSING && c.info.person == 3 && c.info.object == 2);
     c.persons[1] = 1;
     WANT(check_hall(&c) == NUSHBARET_HALL_ORDER);
     c.persons[1] = 4;
     WANT(check_hall(&c) == NUSHBARET_HALL_RANGE);
-    c.persons[1] = 2, c.objects[1] = 3, c.told.objects = 2;
-    WANT(check_hall(&c) == NUSHBARET_HALL_EXTRA && c.told.object == 3);
+    c.persons[1] = 2, c.objects[1] = 3, c.info.objects = 2;
+    WANT(check_hall(&c) == NUSHBARET_HALL_EXTRA && c.info.object == 3);
     c.objects[1] = 4;
     WANT(check_hall(&c) == NUSHBARET_HALL_RANGE);
-    c.told.persons = 1, c.told.objects = 1;
+    c.info.persons = 1, c.info.objects = 1;
     WANT(check_hall(&c) == NUSHBARET_HALL_COUNT);
-    c.told.persons = 0;
-    WANT(check_hall(&c) == NUSHBARET_HALL_EXTRA && c.told.object == c.objects[0]);
-    c.told.objects = 0;
+    c.info.persons = 0;
+    WANT(check_hall(&c) == NUSHBARET_HALL_EXTRA && c.info.object == c.objects[0]);
+    c.info.objects = 0;
     WANT(check_hall(&c) == NUSHBARET_HALL_COUNT);
 }
 
@@ -443,32 +443,32 @@ static struct nushbaret_price low(uint64_t price) {
 }
 
 /* Two persons and four objects at cost 0 each: an object that nobody has may cost 1 more than the cheapest, no more. */
-static void dear(void) {
+static void overpriced(void) {
     struct call c;
     memset(&c, 0, sizeof c);
-    c.n = 2, c.m = 4, c.pairs = 8, c.objects[0] = 2, c.objects[1] = 4, c.told.object = 99, c.told.person = 99;
+    c.n = 2, c.m = 4, c.pairs = 8, c.objects[0] = 2, c.objects[1] = 4, c.info.object = 99, c.info.person = 99;
     c.prices[0] = low(6), c.prices[1] = low(5), c.prices[2] = low(6), c.prices[3] = low(5);
-    WANT(check(&c) == NUSHBARET_BEST && c.told.object == 99);
+    WANT(check(&c) == NUSHBARET_BEST && c.info.object == 99);
     c.prices[0] = low(7);
-    WANT(check(&c) == NUSHBARET_DEAR && c.told.object == 1 && c.told.person == 99);
+    WANT(check(&c) == NUSHBARET_OVERPRICED && c.info.object == 1 && c.info.person == 99);
     c.prices[0] = low(5), c.prices[2] = low(7);
-    WANT(check(&c) == NUSHBARET_DEAR && c.told.object == 3);
+    WANT(check(&c) == NUSHBARET_OVERPRICED && c.info.object == 3);
     c.prices[0] = low(7);
-    WANT(check(&c) == NUSHBARET_DEAR && c.told.object == 1);
+    WANT(check(&c) == NUSHBARET_OVERPRICED && c.info.object == 1);
     c.prices[0].high = 500, c.prices[2].high = 500;
-    WANT(check(&c) == NUSHBARET_DEAR && c.told.object == 1);
+    WANT(check(&c) == NUSHBARET_OVERPRICED && c.info.object == 1);
     c.prices[1] = low(9);
-    WANT(check(&c) == NUSHBARET_SLACK && c.told.person == 1 && c.told.object == 4);
+    WANT(check(&c) == NUSHBARET_SLACK && c.info.person == 1 && c.info.object == 4);
     c.prices[1] = low(6);
-    WANT(check(&c) == NUSHBARET_DEAR && c.told.object == 1);
+    WANT(check(&c) == NUSHBARET_OVERPRICED && c.info.object == 1);
     c.objects[1] = 1;
-    WANT(check(&c) == NUSHBARET_SLACK && c.told.person == 2 && c.told.object == 2);
+    WANT(check(&c) == NUSHBARET_SLACK && c.info.person == 2 && c.info.object == 2);
     list_pairs(&c);
     c.objects[1] = 4;
-    WANT(check(&c) == NUSHBARET_DEAR && c.told.object == 1);
+    WANT(check(&c) == NUSHBARET_OVERPRICED && c.info.object == 1);
     c.n = 3, c.objects[2] = 1, c.pairs = 9;
     c.of_persons[8] = 3, c.of_objects[8] = 1;
-    WANT(check(&c) == NUSHBARET_DEAR && c.told.object == 3);
+    WANT(check(&c) == NUSHBARET_OVERPRICED && c.info.object == 3);
 }
 
 /* The least sum of costs by trying all; `listed` is 0 for a pair that isn't listed. */
@@ -508,7 +508,7 @@ static int is_certificate(const struct call *c, const int64_t *costs, const char
 }
 
 /* Of all assignments that give persons from i on what isn't used, how many are judged wrongly under the prices that
-   were found: those of the best sum are to pass, whoever found them, and no others; and the library's verdict is that
+   were found: those of the best sum are to pass, and no others; and the library's verdict is that
    of the definition. */
 static int wrongly_judged(struct call *c, const int64_t *costs, const char *listed, int64_t left, size_t i, unsigned used) {
     size_t j;
@@ -556,7 +556,7 @@ static int is_right(unsigned *seed) {
     best = c.n > c.m ? INT64_MAX : least(&c, costs, listed, 0, 0);
     code = solve(&c);
     if (best == INT64_MAX) return code == NUSHBARET_HALL && (c.pairs == 0 || check_hall(&c) == NUSHBARET_HALL);
-    return code == NUSHBARET_BEST && c.told.total == sign * best && check(&c) == NUSHBARET_BEST
+    return code == NUSHBARET_BEST && c.info.total == sign * best && check(&c) == NUSHBARET_BEST
         && is_certificate(&c, costs, listed) && wrongly_judged(&c, costs, listed, best, 0, 0) == 0;
 }
 
@@ -569,7 +569,7 @@ static void *many(void *seed) {
 
 /* Refuses each growth in turn: the call says so, or goes on to its answer. */
 static void refused(struct call c, int32_t wanted, int32_t (*call)(struct call *), const char *name) {
-    long k, told = 0;
+    long k, answered = 0;
     for (k = 1;; k++) {
         struct call now = c;
         int32_t code;
@@ -580,12 +580,12 @@ static void refused(struct call c, int32_t wanted, int32_t (*call)(struct call *
         WANT(code == wanted || memcmp(now.objects, c.objects, sizeof c.objects) == 0);
         WANT(code == wanted || memcmp(now.persons, c.persons, sizeof c.persons) == 0);
         WANT(code == wanted || memcmp(now.prices, c.prices, sizeof c.prices) == 0);
-        WANT(code == wanted || memcmp(&now.told, &c.told, sizeof c.told) == 0);
-        told += code == NUSHBARET_MEMORY;
+        WANT(code == wanted || memcmp(&now.info, &c.info, sizeof c.info) == 0);
+        answered += code == NUSHBARET_MEMORY;
         if (growths < k) break;
     }
-    WANT(told > 0);
-    printf("%s: %ld growths, %ld answered with MEMORY\n", name, k - 1, told);
+    WANT(answered > 0);
+    printf("%s: %ld growths, %ld answered with MEMORY\n", name, k - 1, answered);
 }
 
 static void refusals(void) {
@@ -635,10 +635,10 @@ static void faults_before_memory(void) {
     struct call c = two(NUSHBARET_MIN, 1, 2, 3, 5);
     c.is_from = 1, c.first[1].high = 55;
     growths = 0, refuse_at = 1;
-    WANT(solve(&c) == NUSHBARET_PRICE && c.told.place == 1);
+    WANT(solve(&c) == NUSHBARET_PRICE && c.info.place == 1);
     c.costs[3] = NUSHBARET_GREATEST_COST + 1;
     growths = 0;
-    WANT(solve(&c) == NUSHBARET_COST && c.told.place == 3);
+    WANT(solve(&c) == NUSHBARET_COST && c.info.place == 3);
     refuse_at = 0;
 }
 
@@ -647,7 +647,7 @@ enum { WIDE = 300 };
 static int64_t wide_costs[WIDE * WIDE];
 static uint16_t wide_objects[WIDE], wide_persons[WIDE];
 static struct nushbaret_price wide_prices[WIDE];
-static struct nushbaret_told wide_told;
+static struct nushbaret_info wide_info;
 
 /* NULL where the greatest sum is found, and no block is left: that of the squares, or for two thirds of the persons that of
    each with the object by as much dearer. The calls may not use what is spare of the stack. */
@@ -659,9 +659,9 @@ static void *wide(void *unused) {
     for (n = WIDE; n >= WIDE / 3; n -= WIDE / 3) {
         int64_t sum = 0;
         int32_t code = nushbaret_dense(NUSHBARET_MAX, n, WIDE, wide_costs, n * WIDE, wide_objects, n, wide_persons, n,
-            wide_prices, WIDE, &wide_told);
+            wide_prices, WIDE, &wide_info);
         for (i = 1; i <= n; i++) sum += (int64_t)(i * (i + WIDE - n));
-        if (code != NUSHBARET_BEST || wide_told.total != sum || blocks != 0) return wide_objects;
+        if (code != NUSHBARET_BEST || wide_info.total != sum || blocks != 0) return wide_objects;
     }
     return NULL;
 }
@@ -701,7 +701,7 @@ static void full_size(void) {
         full_costs[k] = 2 - (int64_t)(k % 2);
     }
     WANT(nushbaret_solve(&problem, &answer) == NUSHBARET_BEST);
-    WANT(answer.told.total == FULL && full_objects[0] == 2 && full_objects[FULL - 1] == 1 && blocks == 0);
+    WANT(answer.info.total == FULL && full_objects[0] == 2 && full_objects[FULL - 1] == 1 && blocks == 0);
     WANT(nushbaret_verify(&problem, &answer) == NUSHBARET_BEST);
 }
 
@@ -715,18 +715,18 @@ static void longest_sides(void) {
     for (k = 0; k < 2; k++) {
         problem.n = 1, problem.m = FULL;
         problem.persons = k ? full_of_persons : NULL, problem.objects = k ? full_of_objects : NULL;
-        WANT(nushbaret_solve(&problem, &answer) == NUSHBARET_BEST && answer.told.total == INT64_C(-500000000000));
-        WANT(full_costs[full_objects[0] - 1] == answer.told.total && nushbaret_verify(&problem, &answer) == NUSHBARET_BEST);
+        WANT(nushbaret_solve(&problem, &answer) == NUSHBARET_BEST && answer.info.total == INT64_C(-500000000000));
+        WANT(full_costs[full_objects[0] - 1] == answer.info.total && nushbaret_verify(&problem, &answer) == NUSHBARET_BEST);
         full_prices[full_objects[0] % FULL].low += 2;
-        WANT(nushbaret_verify(&problem, &answer) == NUSHBARET_DEAR && answer.told.object == full_objects[0] % FULL + 1u);
+        WANT(nushbaret_verify(&problem, &answer) == NUSHBARET_OVERPRICED && answer.info.object == full_objects[0] % FULL + 1u);
         problem.n = FULL, problem.m = 1;
         problem.persons = k ? full_of_objects : NULL, problem.objects = k ? full_of_persons : NULL;
-        WANT(nushbaret_solve(&problem, &answer) == NUSHBARET_HALL && answer.told.persons > 1 && answer.told.objects == 1);
+        WANT(nushbaret_solve(&problem, &answer) == NUSHBARET_HALL && answer.info.persons > 1 && answer.info.objects == 1);
         WANT(nushbaret_verify_hall(&problem, &answer) == NUSHBARET_HALL && blocks == 0);
     }
 }
 
-/* Eight threads, each with problems of its own. Their stack takes what the header names beside what this program's functions
+/* Eight threads, each with problems of its own. Their stack takes what the header names and what this program's functions
    take. */
 static void threads(void) {
     pthread_t running[8];
@@ -750,12 +750,12 @@ int main(void) {
     structs();
     starts();
     rectangle_starts();
-    dear_starts();
+    overpriced_starts();
     sizes();
     lengths();
     faults();
     verdicts();
-    dear();
+    overpriced();
     refusals();
     faults_before_memory();
     full_size();

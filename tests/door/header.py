@@ -12,7 +12,7 @@ CALLS = TOP / "crates/nushbaret/src"
 LISTS = TOP / "crates/lent_lists/src"
 HEADER = re.sub(r"/\*.*?\*/", "", (TOP / "c/nushbaret.h").read_text(), flags=re.S)
 NUMBERS = {"u8": "uint8_t", "u16": "uint16_t", "u32": "uint32_t", "u64": "uint64_t", "usize": "size_t", "i32": "int32_t", "i64": "int64_t",
-           "SplitPrice": "struct nushbaret_price", "Told": "struct nushbaret_told"}
+           "SplitPrice": "struct nushbaret_price", "Info": "struct nushbaret_info"}
 # What a code's variant is called in the header, where that isn't its own name.
 CALLED = {"Verdict::Length": "ANSWER_LENGTH", "Verdict::PriceRange": "PRICE_RANGE", "HallVerdict::Range": "HALL_RANGE", "HallVerdict::Order": "HALL_ORDER",
           "HallVerdict::Missing": "HALL_MISSING", "HallVerdict::Extra": "HALL_EXTRA", "HallVerdict::Count": "HALL_COUNT"}
@@ -75,7 +75,7 @@ for name in sorted(calls.keys() & declared.keys()):
     compare(name, declared[name], calls[name])
 compare("codes", dict(sorted((name, int(code)) for name, code in re.findall(r"NUSHBARET_(\w+) = (\d+)", HEADER))), dict(sorted(crate_codes())))
 compare("nushbaret_price", fields("nushbaret_price"), crate_fields("split_price.rt", "SplitPrice"))
-compare("nushbaret_told", fields("nushbaret_told"), crate_fields("told.rt", "Told"))
+compare("nushbaret_info", fields("nushbaret_info"), crate_fields("info.rt", "Info"))
 text = (TOP / "crates/assign_core/src/numbers.rt").read_text().replace("_", "")
 for name in ["MOST_PERSONS", "GREATEST_COST"]:
     compare(name, int(re.search(rf"NUSHBARET_{name} (?:INT64_C\()?(\d+)", HEADER)[1]), int(re.search(rf"{name.replace('_', '')}: \w+ = (\d+)", text)[1]))
@@ -86,8 +86,8 @@ for name in ["MIN", "MAX"]:
 version = (TOP / "VERSION").read_text().strip()
 compare("version of the header", re.search(r'NUSHBARET_VERSION "(.*)"', HEADER)[1], version)
 for file in TOP.glob("crates/*/src/*.rt"):
-    for told in re.findall(r'VERSION: &str = "(.*)"', file.read_text()):
-        compare(f"version of {file.parent.parent.name}", told, version)
+    for found in re.findall(r'VERSION: &str = "(.*)"', file.read_text()):
+        compare(f"version of {file.parent.parent.name}", found, version)
 soname = re.search(r"SONAME.*\[(.*)\]", subprocess.run(["readelf", "-d", BUILT / "libnushbaret.so"], capture_output=True, text=True, check=True).stdout)
 compare("SONAME", soname and soname[1], f"libnushbaret.so.{version.split('.')[0]}")
 mapped = re.findall(r"^\s+(nushbaret_\w+);", (TOP / "c/exports.map").read_text(), flags=re.M)

@@ -288,7 +288,7 @@ class Plans(Runs):
 
 
 def fullest(persons, objects, pairs):
-    """The most pairs that a plan can have, and the least cost of such a plan, by trying all."""
+    """The most pairs that a plan can have, and the least cost of one with so many, by trying all."""
     best = (0, 0)
     for chosen in itertools.product(range(-1, objects), repeat=persons):
         had = [(person, object_) for person, object_ in enumerate(chosen) if object_ >= 0]

@@ -90,7 +90,7 @@ class Forms(Folder):
                 read = self.pairs(self.roster(content, comma=True))
                 self.assertEqual(read, {pair: cost.replace(".", ",") for pair, cost in wanted.items()})
 
-    def test_form_is_told_or_asked_for(self):
+    def test_form_is_found_or_asked_for(self):
         two = "nurse,early,late\nAda,1,2\nBen,3,4\n"
         self.refusal(two, 1, None, "Say --lines or --matrix")
         self.assertEqual(len(self.roster(two, form="matrix").of_persons), 4)

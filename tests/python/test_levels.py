@@ -1,4 +1,4 @@
-"""Costs of any size: plans, duals and verdicts are exact, beside a slow search and a Hungarian method in fractions."""
+"""Costs of any size: plans, duals and verdicts are exact, compared with a slow search and a Hungarian method in fractions."""
 import os
 import subprocess
 import sys
@@ -27,7 +27,7 @@ def sum_of(exact, rows, columns):
 
 
 class Small(unittest.TestCase):
-    """Up to 6 x 6, beside all plans: squares, rectangles, forbidden pairs, partial plans; lists and arrays."""
+    """Up to 6 x 6, compared with all plans: squares, rectangles, forbidden pairs, partial plans; lists and arrays."""
 
     def forms(self, costs, maximize):
         return [costs] + ([as_array(costs, maximize)] if np else [])
@@ -124,12 +124,12 @@ class OtherCalls(unittest.TestCase):
                     found.append((sign * sum(pairs, Fraction(0)), [own.get(row, n_columns) for row in range(n_rows)]))
         return sorted(found)
 
-    def told(self, plan, sign, n_rows, n_columns):
+    def pairs_of(self, plan, sign, n_rows, n_columns):
         own = dict(zip(map(int, plan.rows), map(int, plan.columns)))
         return sign * Fraction(plan.cost), [own.get(row, n_columns) for row in range(n_rows)]
 
     def test_drawn(self):
-        """k_best, next_best, is_unique, bottleneck, without and compare, beside all plans."""
+        """k_best, next_best, is_unique, bottleneck, without and compare, compared with all plans."""
         draw, ties = drawing(63), 0
         for turn in range(240):
             n_rows, n_columns, maximize = draw.randint(1, 4), draw.randint(1, 3), draw.random() < 0.5
@@ -140,12 +140,12 @@ class OtherCalls(unittest.TestCase):
             if not len(result.rows):
                 continue
             wanted = self.all_plans(exact, sign, len(result.rows))
-            found = [self.told(plan, sign, n_rows, n_columns) for plan in nushbaret.k_best(form, 6, maximize, partial=True)]
+            found = [self.pairs_of(plan, sign, n_rows, n_columns) for plan in nushbaret.k_best(form, 6, maximize, partial=True)]
             self.assertEqual(found, wanted[:6])
-            own = self.told(result, sign, n_rows, n_columns)
+            own = self.pairs_of(result, sign, n_rows, n_columns)
             others = [plan for plan in wanted if plan != own]
             other = result.next_best()
-            self.assertEqual(None if other is None else self.told(other, sign, n_rows, n_columns), others[0] if others else None)
+            self.assertEqual(None if other is None else self.pairs_of(other, sign, n_rows, n_columns), others[0] if others else None)
             self.assertEqual(result.is_unique, not others or others[0][0] != own[0])
             ties += not result.is_unique
             self.hold_bottleneck(form, exact, maximize, sign, wanted, n_columns)
@@ -171,7 +171,7 @@ class OtherCalls(unittest.TestCase):
         def worst(plan):
             return max(sign * exact[row][column] for row, column in enumerate(plan[1]) if column < n_columns)
         result = nushbaret.bottleneck(form, maximize, partial=True)
-        own = self.told(result, sign, len(exact), n_columns)
+        own = self.pairs_of(result, sign, len(exact), n_columns)
         self.assertEqual((worst(own), own[0]), min((worst(plan), plan[0]) for plan in wanted))
         self.assertTrue(result.verify())
 
@@ -314,8 +314,8 @@ class Priced(unittest.TestCase):
                 "before = resource.getrusage(resource.RUSAGE_SELF).ru_maxrss\n"
                 "rows, columns = nushbaret.linear_sum_assignment(costs)\n"
                 "print((resource.getrusage(resource.RUSAGE_SELF).ru_maxrss - before) * 1024 / costs.nbytes)\n")
-        told = subprocess.run([sys.executable, "-c", code], capture_output=True, text=True, check=True, env=os.environ)
-        self.assertLess(float(told.stdout), 0.75)
+        ran = subprocess.run([sys.executable, "-c", code], capture_output=True, text=True, check=True, env=os.environ)
+        self.assertLess(float(ran.stdout), 0.75)
 
 
 class Steps(unittest.TestCase):

@@ -1,4 +1,4 @@
-"""Costs in NumPy's arrays: kinds, layouts, what comes back; and, where SciPy is there, drawn problems beside its solver."""
+"""Costs in NumPy's arrays: kinds, layouts, what comes back; and, where SciPy is there, drawn problems compared with its solver."""
 import threading
 import unittest
 from decimal import Decimal
@@ -111,14 +111,14 @@ class Arrays(unittest.TestCase):
         for _ in range(500):
             values = np.round(rng.normal(0, 10.0**rng.integers(0, 6), (2, 3)), int(rng.integers(0, 8)))
             for decimals in None, 0, 2, 6, 9:
-                told = []
+                answers = []
                 for costs in values, values.tolist():
                     try:
                         result = nushbaret.solve(costs, decimals=decimals)
-                        told.append((result.cost, str(result.cost), result.columns[0]))
+                        answers.append((result.cost, str(result.cost), result.columns[0]))
                     except ValueError as fault:
-                        told.append(str(fault))
-                self.assertEqual(*told)
+                        answers.append(str(fault))
+                self.assertEqual(*answers)
 
     def test_refusals(self):
         for costs, kind, words in ((np.zeros(3), ValueError, "expected a matrix"), (np.eye(2).astype(str), TypeError, "Cannot cast array data"),

@@ -34,8 +34,8 @@ class Package(unittest.TestCase):
 
     def solves(self, folder):
         """Whether the package of a folder solves, away from the checkout."""
-        told = subprocess.run([sys.executable, "-I", "-c", SOLVES, folder], capture_output=True, text=True, check=True, cwd=self.folder)
-        self.assertEqual(told.stdout.split(), [os.path.join(folder, "nushbaret", "__init__.py"), "5"])
+        ran = subprocess.run([sys.executable, "-I", "-c", SOLVES, folder], capture_output=True, text=True, check=True, cwd=self.folder)
+        self.assertEqual(ran.stdout.split(), [os.path.join(folder, "nushbaret", "__init__.py"), "5"])
 
     def test_wheel(self):
         build = backend()
@@ -56,12 +56,12 @@ class Package(unittest.TestCase):
 
     def describes(self, metadata):
         """Whether the metadata have what an index shows, and a description without links that lead nowhere."""
-        told = email.message_from_string(metadata)
-        self.assertIn("linear assignment problem", told["Keywords"].split(","))
-        self.assertIn("Operating System :: POSIX :: Linux", told.get_all("Classifier"))
-        self.assertEqual(told["Description-Content-Type"], "text/markdown")
-        self.assertIn("For rosters with names there is a command\n(ROSTERS.md).", told.get_payload())
-        self.assertNotRegex(told.get_payload(), r"\]\((?!https?:)")
+        ran = email.message_from_string(metadata)
+        self.assertIn("linear assignment problem", ran["Keywords"].split(","))
+        self.assertIn("Operating System :: POSIX :: Linux", ran.get_all("Classifier"))
+        self.assertEqual(ran["Description-Content-Type"], "text/markdown")
+        self.assertIn("For rosters with names there is a command\n(ROSTERS.md).", ran.get_payload())
+        self.assertNotRegex(ran.get_payload(), r"\]\((?!https?:)")
 
     def test_sources(self):
         build = backend()
@@ -95,11 +95,11 @@ class Package(unittest.TestCase):
     def test_pip_without_a_network(self):
         words = [sys.executable, "-m", "pip", "--disable-pip-version-check", "install", "--no-index", "--quiet", "--target",
                  str(self.folder / "out"), str(PYTHON)]
-        told = subprocess.run(words, capture_output=True, text=True, cwd=self.folder)
+        ran = subprocess.run(words, capture_output=True, text=True, cwd=self.folder)
         version = subprocess.run([sys.executable, "-m", "pip", "--version"], capture_output=True, text=True).stdout
         if int(re.match(r"pip (\d+)", version)[1]) < 22:
             self.skipTest("this pip copies a folder before it builds it, so that the library of the checkout is out of sight")
-        self.assertEqual(told.returncode, 0, told.stderr)
+        self.assertEqual(ran.returncode, 0, ran.stderr)
         self.solves(str(self.folder / "out"))
 
 

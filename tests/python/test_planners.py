@@ -1,4 +1,4 @@
-"""Places and tasks, kept plans and groups that are short, beside slow searches through all there is."""
+"""Places and tasks, kept plans and groups that are short, compared with slow searches through all there is."""
 import itertools
 import pathlib
 import random
@@ -82,7 +82,7 @@ class PlacesAndTasks(unittest.TestCase):
 
 class Others(unittest.TestCase):
     def judge(self, answer, costs, every, maximize):
-        """Whether there are other best plans; what is told is held against all plans."""
+        """Whether there are other best plans; what it says is compared with all plans."""
         pairs = tuple(sorted((pair.person, pair.object) for pair in answer.plan.pairs))
         every = {tuple(sorted(those)) for those in every}
         every = [those for those in every if len(those) == len(pairs)]
@@ -110,7 +110,7 @@ class Others(unittest.TestCase):
         self.assertGreater(found, 50)
 
     def test_places_and_tasks_beside_all_plans(self):
-        draw, swapped, told = random.Random(5), 0, 0
+        draw, swapped, costlier = random.Random(5), 0, 0
         for case in range(CASES):
             costs, tasks, places = PlacesAndTasks().drawn(draw)
             most, maximize = draw.choice((2, 40)), draw.random() < 0.5
@@ -122,8 +122,8 @@ class Others(unittest.TestCase):
             with self.subTest(case=case):
                 next_cost, is_free = self.judge(answer, costs, every, maximize)
                 self.assertEqual(next_cost is not None, not is_free and len(others) > 1)
-                swapped, told = swapped + is_free, told + (next_cost is not None)
-        self.assertGreater(min(swapped, told), 50)
+                swapped, costlier = swapped + is_free, costlier + (next_cost is not None)
+        self.assertGreater(min(swapped, costlier), 50)
 
 
 class Kept(unittest.TestCase):

@@ -1,4 +1,4 @@
-"""The next plans, and fair ones, beside a search through all plans: with counts, groups and bounds, and without."""
+"""The next plans, and fair ones, compared with a search through all plans: with counts, groups and bounds, and without."""
 import math
 import pathlib
 import sys

@@ -1,4 +1,4 @@
-"""The k best plans, the next best one, whether a plan is the only one, and bottlenecks, beside all plans."""
+"""The k best plans, the next best one, whether a plan is the only one, and bottlenecks, compared with all plans."""
 import heapq
 import itertools
 import unittest
@@ -17,7 +17,7 @@ except ImportError:
 
 
 def ordered(costs, maximize, served):
-    """All plans with so many pairs, in order: their cost, the columns of the rows, those that are out behind all."""
+    """All plans with so many pairs, in order: their cost, the columns of the rows, those that are out after all."""
     n_rows, n_columns = len(costs), len(costs[0]) if costs else 0
     found = []
     for rows in itertools.combinations(range(n_rows), served):
@@ -29,7 +29,7 @@ def ordered(costs, maximize, served):
     return sorted(found, key=lambda plan: (-plan[0] if maximize else plan[0], plan[1]))
 
 
-def told(plan, n_rows, n_columns):
+def pairs_of(plan, n_rows, n_columns):
     own = dict(zip(map(int, plan.rows), map(int, plan.columns)))
     return plan.cost, [own.get(row, n_columns) for row in range(n_rows)]
 
@@ -77,7 +77,7 @@ class Plans(unittest.TestCase):
             whole = nushbaret.solve(form, maximize, partial=True, missing="forbid")
             wanted = ordered(costs, maximize, len(whole.rows))
             found = list(nushbaret.k_best(form, k, maximize, partial=True, missing="forbid"))
-            self.assertEqual([told(plan, n_rows, n_columns) for plan in found], wanted[:k])
+            self.assertEqual([pairs_of(plan, n_rows, n_columns) for plan in found], wanted[:k])
             ties += len({cost for cost, _ in wanted[:k]}) < len(wanted[:k])
             partial += 0 < len(whole.rows) < min(n_rows, n_columns)
         self.assertGreater(min(ties, partial), 40)
@@ -91,7 +91,7 @@ class Plans(unittest.TestCase):
             maximize = turn % 2 == 1
             plans = list(nushbaret.k_best(costs, 12, maximize, partial=True))
             self.assertEqual([plan.cost for plan in plans], split_by_pairs(costs, maximize, 12))
-            self.assertEqual(len({tuple(told(plan, n_rows, n_columns)[1]) for plan in plans}), len(plans))
+            self.assertEqual(len({tuple(pairs_of(plan, n_rows, n_columns)[1]) for plan in plans}), len(plans))
             partial += len(plans[0].rows) < min(n_rows, n_columns)
         self.assertGreater(partial, 5)
 
@@ -101,10 +101,10 @@ class Plans(unittest.TestCase):
             costs, maximize, form = drawn(draw, turn)
             n_rows, n_columns = len(costs), len(costs[0])
             result = nushbaret.solve(form, maximize, partial=True, missing="forbid")
-            own = told(result, n_rows, n_columns)
+            own = pairs_of(result, n_rows, n_columns)
             others = [plan for plan in ordered(costs, maximize, len(result.rows)) if plan[1] != own[1]]
             plan = result.next_best()
-            self.assertEqual(None if plan is None else told(plan, n_rows, n_columns), others[0] if others else None)
+            self.assertEqual(None if plan is None else pairs_of(plan, n_rows, n_columns), others[0] if others else None)
             self.assertEqual(result.is_unique, not others or others[0][0] != result.cost)
             unique += result.is_unique
         self.assertGreater(min(unique, 500 - unique), 100)

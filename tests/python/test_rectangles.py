@@ -39,7 +39,7 @@ def asked(run):
 
 
 def proved(costs, pairs, prices, maximize):
-    """Whether whole prices of columns prove a plan, by the definition: each row has one of its best columns, who is out wants no
+    """Whether whole prices of columns prove a plan, by the definition: each row has one of its best columns, who is out prefers no
     column more than those who are in want theirs, and no unused column costs more than another one."""
     sign = -1 if maximize else 1
     worth = [[None if cost is None else sign * cost + prices[column] for column, cost in enumerate(row)] for row in costs]
@@ -102,7 +102,7 @@ class Asked(unittest.TestCase):
 
 class Prices(unittest.TestCase):
     def test_prices_prove_the_plan(self):
-        """One for each column, whichever side is the longer one."""
+        """One for each column, also where rows are the longer side."""
         draw, more_rows = drawing(41), 0
         for _ in range(500):
             n_rows, n_columns, maximize = draw.randint(1, 5), draw.randint(1, 5), draw.random() < 0.5

@@ -165,8 +165,8 @@ class Limits(unittest.TestCase):
                 "try:\n    nushbaret.solve(view)\nexcept MemoryError as fault:\n    print('refused')\n"
                 "resource.setrlimit(resource.RLIMIT_AS, (resource.RLIM_INFINITY, resource.RLIM_INFINITY))\n"
                 "print(nushbaret.solve(view).cost)\n")
-        told = subprocess.run([sys.executable, "-c", code], capture_output=True, text=True, check=True, env=os.environ)
-        self.assertEqual(told.stdout, "refused\n0\n")
+        ran = subprocess.run([sys.executable, "-c", code], capture_output=True, text=True, check=True, env=os.environ)
+        self.assertEqual(ran.stdout, "refused\n0\n")
 
 
 class Library(unittest.TestCase):
@@ -177,16 +177,16 @@ class Library(unittest.TestCase):
         self.assertIn(f"NUSHBARET_MOST_PERSONS {library.MOST_PERSONS}\n", header)
         self.assertIn(f"NUSHBARET_GREATEST_COST INT64_C({library.GREATEST_COST})\n", header)
         self.assertIn(f'NUSHBARET_VERSION "{library.VERSION}"', header)
-        told = re.search(r"struct nushbaret_told \{(.*?)\n\}", header, re.S)[1]
-        self.assertEqual(re.findall(r"int64_t (\w+);", told), [name for name, _ in library.Told._fields_])
+        fields = re.search(r"struct nushbaret_info \{(.*?)\n\}", header, re.S)[1]
+        self.assertEqual(re.findall(r"int64_t (\w+);", fields), [name for name, _ in library.Info._fields_])
         numbers = (TOP / "crates/assign_core/src/numbers.rt").read_text().replace("_", "")
         self.assertIn(str(library.GREATEST_FIRST_PRICE), numbers)
 
     def test_no_library(self):
         code = ("import pathlib, nushbaret, nushbaret._library as library\nlibrary.PLACES = (pathlib.Path('/nowhere.so'),)\n"
                 "try:\n    nushbaret.solve([[1]])\nexcept OSError as fault:\n    print(type(fault).__name__, fault)\n")
-        told = subprocess.run([sys.executable, "-c", code], capture_output=True, text=True, check=True, env=os.environ)
-        self.assertEqual(told.stdout, "LibraryNotFound libnushbaret.so isn't there: c/build.sh makes it, at the top of a checkout of Nushbaret\n")
+        ran = subprocess.run([sys.executable, "-c", code], capture_output=True, text=True, check=True, env=os.environ)
+        self.assertEqual(ran.stdout, "LibraryNotFound libnushbaret.so isn't there: c/build.sh makes it, at the top of a checkout of Nushbaret\n")
 
     def test_grammar_of_python_3_9(self):
         for file in sorted((TOP / "python").rglob("*.py")):

@@ -149,7 +149,7 @@ class Kept(unittest.TestCase):
         if sparse:
             yield nushbaret.solve(sparse.coo_matrix([[1.5, 0.1], [3, 1 / 3]]))
 
-    def told(self, result):
+    def described(self, result):
         rows, columns = list(map(int, result.rows)), list(map(int, result.columns))
         return (rows, columns, result.cost, result.row_duals, result.column_duals, result.prices, result.pairs, result.is_unique,
                 bool(result.verify()), str(result.next_best()), list(result.unmatched_rows), list(result.unmatched_columns), repr(result))
@@ -157,16 +157,16 @@ class Kept(unittest.TestCase):
     def test_pickled_and_copied(self):
         for result in self.results():
             again = [pickle.loads(pickle.dumps(result)), copy.copy(result), copy.deepcopy(result)]
-            wanted = self.told(result)
+            wanted = self.described(result)
             again += [pickle.loads(pickle.dumps(result))]
             for other in again:
                 self.assertIsInstance(other, nushbaret.Result)
-                self.assertEqual(self.told(other), wanted)
+                self.assertEqual(self.described(other), wanted)
 
     def test_sent_to_a_pool(self):
         results = list(self.results())[:3]
         with multiprocessing.get_context("spawn").Pool(1) as pool:
-            self.assertEqual([told for told in pool.map(_cost_of, results)], [result.cost for result in results])
+            self.assertEqual([described for described in pool.map(_cost_of, results)], [result.cost for result in results])
 
     def test_attributes_cant_be_set(self):
         result = nushbaret.solve([[1, 2], [3, 5]])

@@ -114,8 +114,8 @@ class Errors(unittest.TestCase):
                 "for name in [name for name in sys.modules if name.split('.')[0] in ('numpy', 'scipy', 'pandas')]:\n    del sys.modules[name]\n"
                 "tests.np = tests.optimize = None\ntests.Errors('test_plain').debug()\nprint('numpy' in sys.modules)\n")
         paths = os.pathsep.join(map(os.path.abspath, (os.path.dirname(os.path.dirname(nushbaret.__file__)), os.path.dirname(__file__))))
-        told = subprocess.run([sys.executable, "-c", code], capture_output=True, text=True, check=True, env={**os.environ, "PYTHONPATH": paths})
-        self.assertEqual(told.stdout, "False\n", told.stderr)
+        ran = subprocess.run([sys.executable, "-c", code], capture_output=True, text=True, check=True, env={**os.environ, "PYTHONPATH": paths})
+        self.assertEqual(ran.stdout, "False\n", ran.stderr)
 
 
 if __name__ == "__main__":

@@ -1,4 +1,4 @@
-"""Small matrices take a shorter way where NumPy is loaded: plans beside a slow search in fractions, and results beside the longer way."""
+"""Small matrices take a shorter way where NumPy is loaded: plans are compared with a slow search in fractions, and results with the longer way."""
 import pickle
 import unittest
 from decimal import Decimal
@@ -44,7 +44,7 @@ class Small(unittest.TestCase):
         return [[OWN_KINDS[kind](draw) for _ in range(n_columns)] for _ in range(n_rows)]
 
     def test_near_ties(self):
-        """By the thousand, beside all plans: lists and arrays, for decimals and for doubles."""
+        """By the thousand, compared with all plans: lists and arrays, for decimals and for doubles."""
         draw, kinds = drawing(81), [*OWN_KINDS, "tied", "near ties", "small differences", "thirds and M", "even"]
         small, refined = 0, 0
         with mock.patch.object(_levels, "finer", side_effect=_levels.finer) as finer:
@@ -83,7 +83,7 @@ class Small(unittest.TestCase):
                     self.assertEqual(Fraction(nushbaret.solve(form, maximize).cost), best(exact, maximize, 3))
 
     def test_larger(self):
-        """Beside Kuhn's method in whole numbers, up to 40 rows, with every other cost tied to another."""
+        """Compared with Kuhn's method in whole numbers, up to 40 rows, with every other cost tied to another."""
         draw = drawing(82)
         for turn in range(40):
             n_rows, maximize = draw.randint(8, 40), turn % 2 == 0

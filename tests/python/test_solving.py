@@ -1,4 +1,4 @@
-"""Drawn problems beside a slow search, and what results and proofs are made of."""
+"""Drawn problems compared with a slow search, and what results and proofs are made of."""
 import pickle
 import threading
 import unittest
@@ -28,7 +28,7 @@ class Drawn(unittest.TestCase):
             self.hold(costs, nushbaret.solve(costs, maximize), maximize, n)
 
     def test_whole_numbers_of_every_kind(self):
-        """Rows are read one by one: whole numbers, floats that hold such, and rows of both or of others."""
+        """Rows are read one by one: whole numbers, floats that hold whole numbers, and rows of both or of others."""
         rows = [[4, 1, 3], [2.0, -0.0, 5.0], [True, 2.0, 2], [Decimal(3), 2, Fraction(4, 2)]]
         for size in 1, 2, 3, 40:
             for costs in [row * size for row in rows], [row * size for row in rows[:2]], [row * size for row in rows[1:2]]:
@@ -149,7 +149,7 @@ class Drawn(unittest.TestCase):
 
 class Duals(unittest.TestCase):
     def test_prices_of_any_slack_that_proves_give_whole_duals(self):
-        """Prices needn't be multiples of the unit: here such are raised by 0 or 1, as slackness 1 allows, and all by one number."""
+        """Prices needn't be multiples of the unit: here multiples are raised by 0 or 1, as slackness 1 allows, and all by one number."""
         draw, settled = drawing(8), 0
         for _ in range(300):
             n_rows, n_columns = draw.randint(1, 5), draw.randint(1, 5)

@@ -53,11 +53,11 @@ class Interrupts(unittest.TestCase):
         self.assertEqual(process.stdout.readline(), "ready\n")
         time.sleep(0.2)
         process.send_signal(signal.SIGINT)
-        told = process.stdout.read().split("\n")
+        printed = process.stdout.read().split("\n")
         process.wait()
         # Where the machine is fast the call may have ended before.
-        self.assertIn(told[0].split(" ")[0], ("interrupted", "solved"))
-        self.assertEqual(told[1], "5 True")
+        self.assertIn(printed[0].split(" ")[0], ("interrupted", "solved"))
+        self.assertEqual(printed[1], "5 True")
         process.stdout.close()
 
     @unittest.skipUnless(os.name == "posix", "signals are sent as POSIX has them")

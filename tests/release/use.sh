@@ -30,10 +30,10 @@ has() {
 
 # expect NAME WANTED COMMAND..: the command succeeds, and prints lines of this pattern.
 expect() {
-    local name=$1 wanted=$2 told
+    local name=$1 wanted=$2 printed
     shift 2
-    if ! told=$("$@" 2>&1) || ! [[ $told =~ ^$wanted$ ]]; then
-        fail "$name: wanted $wanted, got $told"
+    if ! printed=$("$@" 2>&1) || ! [[ $printed =~ ^$wanted$ ]]; then
+        fail "$name: wanted $wanted, got $printed"
     fi
 }
 
@@ -243,16 +243,16 @@ package() {
 
 # The package by dpkg, over copies of the system's folders that nobody else sees.
 installed() {
-    local told status=0
+    local printed status=0
     if ! has dpkg || ! has unshare || ! /usr/bin/python3 -c 'import sys; sys.exit(sys.version_info < (3, 9))' 2> /dev/null; then
         without 'dpkg or its Python'
         return
     fi
-    told=$(unshare -m "$top/tests/release/installed.sh" "$folder/nushbaret_${version}_amd64.deb" "$version" "$top/examples/named_roster.csv" 2>&1) || status=$?
-    if [ "$status" = 3 ] || [[ $told == unshare:* ]]; then
+    printed=$(unshare -m "$top/tests/release/installed.sh" "$folder/nushbaret_${version}_amd64.deb" "$version" "$top/examples/named_roster.csv" 2>&1) || status=$?
+    if [ "$status" = 3 ] || [[ $printed == unshare:* ]]; then
         without 'a namespace for dpkg'
-    elif [ "$status" != 0 ] || ! [[ $told =~ ^$roster$ ]]; then
-        fail "installed by dpkg: status $status, $told"
+    elif [ "$status" != 0 ] || ! [[ $printed =~ ^$roster$ ]]; then
+        fail "installed by dpkg: status $status, $printed"
     else
         ran 'installed by dpkg'
     fi

@@ -40,8 +40,8 @@ def help_of(*command):
 
 def roster_help():
     """The help of the roster command, each entry in a line of its own."""
-    told = subprocess.run([COMMAND, "--help"], capture_output=True, text=True, check=True, env={**os.environ, "COLUMNS": "100000"}).stdout
-    return re.sub(r"\n {6,}", "  ", told)
+    described = subprocess.run([COMMAND, "--help"], capture_output=True, text=True, check=True, env={**os.environ, "COLUMNS": "100000"}).stdout
+    return re.sub(r"\n {6,}", "  ", described)
 
 
 def roster_options():
@@ -63,24 +63,24 @@ def look_at_the_program():
     page = plain("man1/auction_cli.1")
     top, *sections = re.split(r" (?:SOLVE|VERIFY) ", page.rpartition(" SEE ALSO ")[0])
     for command, section in zip([[], *([name] for name in COMMANDS)], [top, *sections]):
-        told = help_of(*command)
-        for line in told.splitlines():
+        described = help_of(*command)
+        for line in described.splitlines():
             line = squeezed(line)
             wanted = line[len("Usage: "):] if line.startswith("Usage: ") else line[:-1] if line.endswith(":") else line
             if line not in HEADS and wanted not in (top if line.startswith("Usage: ") else section):
                 differ.append(f"auction_cli.1 has nothing of {' '.join(command)}: {line}")
-        compare(f"options of auction_cli.1, {' '.join(command)}", options_in(section), options_in(told))
+        compare(f"options of auction_cli.1, {' '.join(command)}", options_in(section), options_in(described))
     compare("sections of auction_cli.1", len(sections), len(COMMANDS))
 
 
 def look_at_the_command():
     """Each line of the roster command's help stands on its page, except how its usage begins, and the page has no other option."""
-    page, told = plain("man1/nushbaret.1"), roster_help()
-    for line in told.partition("\n\n")[2].splitlines():
+    page, described = plain("man1/nushbaret.1"), roster_help()
+    for line in described.partition("\n\n")[2].splitlines():
         line = squeezed(line)
         if line.rstrip(":") not in page and line not in ("positional arguments:", "options:"):
             differ.append(f"nushbaret.1 has nothing of: {line}")
-    compare("options of nushbaret.1", options_in(page), options_in(told))
+    compare("options of nushbaret.1", options_in(page), options_in(described))
 
 
 def look_at_its_completions():
@@ -119,10 +119,10 @@ def look_at_the_header():
             if squeezed(what) not in pages.get(name, ""):
                 differ.append(f"{name}.3 has nothing of: {squeezed(what)}")
     every = " ".join(pages.values())
-    told = [line for comment in re.findall(r"^/\*(.*?)\*/", header, flags=re.M | re.S) for line in comment.splitlines()]
-    told += re.findall(r"^#define NUSHBARET_\w+ .*$", header, flags=re.M)
-    told += [line for kind in re.findall(r"^(?:struct|enum) \w+ \{.*?^\};", header, flags=re.M | re.S) for line in kind.splitlines()]
-    for line in told:
+    described = [line for comment in re.findall(r"^/\*(.*?)\*/", header, flags=re.M | re.S) for line in comment.splitlines()]
+    described += re.findall(r"^#define NUSHBARET_\w+ .*$", header, flags=re.M)
+    described += [line for kind in re.findall(r"^(?:struct|enum) \w+ \{.*?^\};", header, flags=re.M | re.S) for line in kind.splitlines()]
+    for line in described:
         line = re.sub(r"^- ", "", squeezed(line)).replace("Nushbaret for C and C++: ", "").rstrip(".")
         if line not in every:
             differ.append(f"no page of section 3 has: {line}")
@@ -143,9 +143,9 @@ def look_at_bash():
     compare("bash, the first word", answers_of_bash("auction_cli", ""), sorted(["-h", "help", *COMMANDS, *listed_options(help_of())]))
     compare("bash, help", answers_of_bash("auction_cli", "help", ""), sorted(COMMANDS))
     for command in COMMANDS:
-        told = help_of(command)
-        compare(f"bash, {command}", answers_of_bash("auction_cli", command, "--"), sorted(listed_options(told)))
-        for option, value in listed_options(told).items():
+        described = help_of(command)
+        compare(f"bash, {command}", answers_of_bash("auction_cli", command, "--"), sorted(listed_options(described)))
+        for option, value in listed_options(described).items():
             if value in ("<FILE>", "<REPORT>"):
                 compare(f"bash, {option}", answers_of_bash("auction_cli", command, option, "ma"), ["man"])
                 compare(f"bash, {option}=", answers_of_bash("auction_cli", command, option, "=", "ma"), ["man"])
@@ -161,14 +161,14 @@ def look_at_the_others():
     zsh = (SHARE / "zsh/site-functions/_auction_cli").read_text()
     fish = (SHARE / "fish/vendor_completions.d/auction_cli.fish").read_text()
     for command in COMMANDS:
-        told = help_of(command)
+        described = help_of(command)
         part = re.search(rf"\n +{command}\)\n(.*?);;", zsh, flags=re.S)[1]
-        compare(f"zsh, {command}", sorted(set(re.findall(r"(--[\w-]+)=?\[|,(--[\w-]+)\}", part))), sorted((name, "") if name != "--help" else ("", name) for name in listed_options(told)))
+        compare(f"zsh, {command}", sorted(set(re.findall(r"(--[\w-]+)=?\[|,(--[\w-]+)\}", part))), sorted((name, "") if name != "--help" else ("", name) for name in listed_options(described)))
         lines = re.findall(rf"__fish_seen_subcommand_from {command}' -l (\S+).* -d '(.*)'$", fish, flags=re.M)
-        compare(f"fish, {command}", sorted(f"--{name}" for name, _ in lines), sorted(listed_options(told)))
+        compare(f"fish, {command}", sorted(f"--{name}" for name, _ in lines), sorted(listed_options(described)))
         for name, text in lines:
             text = text.replace("\\'", "'")
-            if text not in squeezed(told) or text.replace("'", "'\\''") not in re.sub(r"\\([][:])", r"\1", part):
+            if text not in squeezed(described) or text.replace("'", "'\\''") not in re.sub(r"\\([][:])", r"\1", part):
                 differ.append(f"fish or zsh, {command} --{name}: another text")
 
 
