@@ -137,8 +137,8 @@ int32_t nushbaret_dense(uint32_t sense, size_t n, size_t m,
     struct nushbaret_price *prices, size_t prices_count,
     struct nushbaret_info *info);
 
-/* The same, with m first prices, as those of a similar problem. The search begins at them if they fit, n is at most m, and
-   either n is at least 7/8 of m or there are 64 pairs or more for each object; elsewhere they would save no time.
+/* The same with a warm start: m prices, as those of a similar problem. The search begins at them if they fit, n is at most
+   m, and either n is at least 7/8 of m or there are 64 pairs or more for each object; elsewhere they would save no time.
    Whatever they are, the answer is optimal. */
 int32_t nushbaret_dense_from(uint32_t sense, size_t n, size_t m,
     const int64_t *costs, size_t costs_count,
@@ -160,7 +160,7 @@ int32_t nushbaret_sparse(uint32_t sense, size_t n, size_t m,
     struct nushbaret_price *prices, size_t prices_count,
     struct nushbaret_info *info);
 
-/* The same, with m first prices. */
+/* The same with a warm start: m prices. */
 int32_t nushbaret_sparse_from(uint32_t sense, size_t n, size_t m,
     const uint16_t *of_persons, size_t of_persons_count,
     const uint16_t *of_objects, size_t of_objects_count,
@@ -202,7 +202,7 @@ size_t nushbaret_version(uint8_t *room, size_t room_count);
 
 /* A problem. Dense: persons and objects are NULL, and costs has `count` values, n * m of them, row by row. Sparse: persons,
    objects and costs have `count` values each, those that nushbaret_sparse calls of_persons, of_objects and costs. `first`
-   is NULL, or has m first prices. costs is never NULL. */
+   is NULL, or has m prices for a warm start. costs is never NULL. */
 struct nushbaret_problem {
     uint32_t sense;
     size_t n, m;
@@ -220,7 +220,7 @@ struct nushbaret_answer {
     struct nushbaret_info info;
 };
 
-/* Solves a problem as nushbaret_dense or nushbaret_sparse does, from first prices where there are any; the code and what
+/* Solves a problem as nushbaret_dense or nushbaret_sparse does, with a warm start where prices are given; the code and what
    it writes are those of that call. */
 static inline int32_t nushbaret_solve(const struct nushbaret_problem *problem, struct nushbaret_answer *answer) {
     const size_t n = problem->n, m = problem->m, count = problem->count;

@@ -112,7 +112,7 @@ def refuse(code: str, info: library.Info) -> NoReturn:
 
 
 def answer(problem: Problem, asked: Given, first: Optional[Halves] = None) -> Union[Answer, Short, None]:
-    """The library's answer, an Answer or a Short; None where a cost is beyond its range. `first` are first prices."""
+    """The library's answer, an Answer or a Short; None where a cost is beyond its range. `first` are prices to start from."""
     n, m = asked.n, asked.m
     objects, persons, halves = array("H", bytes(2 * n)), array("H", bytes(2 * n)), Halves(m)
     is_dense = problem.persons is None and not len(asked.persons)
@@ -254,7 +254,7 @@ def scaled(problem: Problem, prices: List[Fraction], unit: int) -> Optional[List
 
 
 def first_prices(problem: Problem, prices: List[Fraction], served: Optional[int]) -> Optional[Halves]:
-    """First prices for the library; those of dummies are 0. None where they are too far apart to be of use."""
+    """Prices to start from, for the library; those of dummies are 0. None where they are too far apart to be of use."""
     _, m, dummies = sizes_of(problem, served)
     first = scaled(problem, prices, m + 1)
     if first is None:
@@ -265,7 +265,7 @@ def first_prices(problem: Problem, prices: List[Fraction], served: Optional[int]
 
 
 def _of_rows(problem: Problem, prices: List[int], unit: int) -> List[int]:
-    """First prices of the turned problem, the least 0: what rows gain at prices of the columns."""
+    """Prices to start from in the turned problem, the least 0: what rows gain at prices of the columns."""
     paid = [min((unit * int(cost) + prices[column] for column, cost in zip(*held)), default=None) for held in lists_of(problem)]
     most = max((price for price in paid if price is not None), default=0)
     return [0 if price is None else min(most - price, GREATEST_FIRST_PRICE) for price in paid]

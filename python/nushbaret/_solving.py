@@ -59,7 +59,7 @@ def _answer(problem: Problem, start: Start, partial: bool) -> proved.Answer:
 
 
 def start_prices(problem: Problem, start: Start) -> Prices:
-    """First prices of columns, from a result or from the caller. None where those of a result need costs that were changed since."""
+    """Prices of columns to start from, from a result or from the caller. None where those of a result need costs that were changed since."""
     if not isinstance(start, Result):
         return proved.exact_prices(problem, start)
     try:
@@ -98,7 +98,7 @@ def solve(costs: Any, maximize: bool = False, decimals: Optional[int] = None, st
     decimals : int, optional
         Rounds each cost to so many decimal places first, halves to even. If it isn't given, nothing is rounded.
     start : Result or list of numbers, optional
-        The result of a similar problem, or first prices: one for each column, in the unit of the costs, as those of `check`.
+        The result of a similar problem, or prices to start from: one for each column, in the unit of the costs, as those of `check`.
         The cost is the same whatever they are.
     partial : bool, optional
         If not all can be paired, makes as many pairs as possible, at the best sum among these plans, instead of raising.
