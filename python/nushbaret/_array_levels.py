@@ -3,7 +3,7 @@ import math
 from array import array
 from typing import TYPE_CHECKING, Any, List, Tuple
 
-from . import _proved as proved
+from . import _parts as parts, _proved as proved
 from ._exact import size_of
 from ._problem import Problem
 
@@ -12,8 +12,6 @@ if TYPE_CHECKING:
 
 # So many costs are looked at together, since they stay in the processor's cache.
 BLOCK = 2**14
-# And so many at once where a copy is made, so that Ctrl-C is heeded in between.
-AT_ONCE = 2**20
 # Whole numbers of 64 bits stay below this, so that sums of two don't overflow.
 MOST_BITS = 61
 # Beyond these powers of two a factor may be no double.
@@ -65,10 +63,9 @@ def whole_of(numpy: Any, costs: Any, shift: int) -> Any:
     # Whatever is added to this double is rounded at its last place, and the bits of the sum count these places.
     adder = numpy.array(1.5 * 2.0**(52 - shift))
     found = numpy.empty(costs.shape, numpy.int64)
-    for begin in range(0, len(costs), AT_ONCE):
-        part = found[begin:begin + AT_ONCE]
-        numpy.add(costs[begin:begin + AT_ONCE], adder, part.view(numpy.float64))
-        part -= adder.view(numpy.int64)
+    for part in parts.parts(len(costs)):
+        numpy.add(costs[part], adder, found[part].view(numpy.float64))
+        found[part] -= adder.view(numpy.int64)
     return found
 
 
@@ -80,7 +77,7 @@ def duals_of(asked: proved.Given, answer: proved.Answer, sign: int) -> Tuple[Any
     of_objects[1:] = -whole_prices(numpy, answer)
     of_persons = numpy.zeros(asked.n + 1, numpy.int64)
     if len(asked.persons):
-        places = numpy.flatnonzero(objects[asked.persons.astype(numpy.intp) - 1] == asked.objects)
+        places = parts.places_where(numpy, len(asked.persons), lambda part: objects[asked.persons[part].astype(numpy.intp) - 1] == asked.objects[part])
         of_persons[asked.persons[places]] = sign * asked.costs[places]
     else:
         of_persons[1:] = sign * asked.costs[numpy.arange(0, asked.n * asked.m, asked.m) + objects - 1]
@@ -108,8 +105,10 @@ def kept(level: "Level", most: int) -> Tuple[Any, Any, Any]:
     asked, sign = level.asked, level.sign
     numpy = _module(asked)
     if len(asked.persons):
-        slack = sign * asked.costs - level.of_persons[asked.persons] - level.of_objects[asked.objects]
-        places = numpy.flatnonzero(slack <= most)
+        def are_near(part: slice) -> Any:
+            duals = level.of_persons[asked.persons[part]] + level.of_objects[asked.objects[part]]
+            return sign * asked.costs[part] - duals <= most
+        places = parts.places_where(numpy, len(asked.persons), are_near)
         return asked.persons[places], asked.objects[places], places
     costs, bounds, duals = asked.costs.reshape(asked.n, asked.m), level.of_persons[1:, None] + most, level.of_objects[1:]
     height, found = max(1, BLOCK // asked.m), []
@@ -120,7 +119,7 @@ def kept(level: "Level", most: int) -> Tuple[Any, Any, Any]:
         block = costs[begin:begin + height]
         slack = numpy.subtract(block, duals, room[:len(block)])
         found.append(compare(slack, bounds[begin:begin + height]).ravel().nonzero()[0] + begin * asked.m)
-    places = numpy.concatenate(found)
+    places = parts.joined(numpy, numpy.intp, found)
     if len(places) < 8 * asked.n:
         persons, objects = numpy.divmod(places, asked.m)
         return (persons + 1).astype(numpy.uint16), (objects + 1).astype(numpy.uint16), places
@@ -145,7 +144,8 @@ def taken_off(numpy: Any, level: "Level", pairs: "Pairs") -> Any:
     n, m, of_objects = level.asked.n, level.asked.m, level.of_objects
     if n < m:
         of_objects = numpy.minimum(of_objects + (2 * n + 2), 0)
-    return level.of_persons[pairs.persons] + of_objects[pairs.objects]
+    return parts.filled(numpy, numpy.int64, len(pairs.persons),
+                        lambda part: level.of_persons[pairs.persons[part]] + of_objects[pairs.objects[part]])
 
 
 def _places(numpy: Any, problem: Problem, asked: proved.Given, places: Any) -> Tuple[Any, Any]:
@@ -160,15 +160,18 @@ def _places(numpy: Any, problem: Problem, asked: proved.Given, places: Any) -> T
 
 
 def _costs_at(numpy: Any, problem: Problem, level: "Level", pairs: "Pairs") -> Any:
-    places, dummies = _places(numpy, problem, level.asked, pairs.places)
-    costs = level.sign * problem.costs[places]
-    return costs if dummies is None else numpy.where(dummies, 0, costs)
+    def costs_of(part: slice) -> Any:
+        places, dummies = _places(numpy, problem, level.asked, pairs.places[part])
+        costs = level.sign * problem.costs[places]
+        return costs if dummies is None else numpy.where(dummies, 0, costs)
+    return parts.filled(numpy, problem.costs.dtype, len(pairs.places), costs_of)
 
 
 def left_of_whole(problem: Problem, level: "Level", pairs: "Pairs") -> Any:
     """What a level leaves of whole costs. Sums may wrap around, and what is left is small."""
     numpy = problem.numpy
-    return _costs_at(numpy, problem, level, pairs) - (taken_off(numpy, level, pairs) << -level.shift)
+    left, taken = _costs_at(numpy, problem, level, pairs), taken_off(numpy, level, pairs)
+    return parts.filled(numpy, numpy.int64, len(left), lambda part: left[part] - (taken[part] << -level.shift))
 
 
 def finer_of_doubles(problem: Problem, level: "Level", pairs: "Pairs") -> Any:
@@ -188,16 +191,20 @@ class _Doubles:
         self.costs = _costs_at(self.numpy, problem, level, pairs)
         self.taken, self.shift = taken_off(self.numpy, level, self.pairs), level.shift
         self.levels: List[Tuple[Any, int]] = []
-        self.high, self.low = self.costs, self.numpy.zeros(1)
+        self.high, self.low = self.costs, self.numpy.zeros(len(self.costs))
         self.most = size_of(self.costs)
         self.loose = 0.0 if self.doubles else 2.0**-53 * self.most
 
     def _take_off(self, taken: Any, shift: int) -> None:
         self.levels.append((taken, shift))
-        self.high, lower = _sum(self.high, -self.numpy.ldexp(taken.astype(self.numpy.float64), -shift))
-        lower, lost = _sum(lower, self.low)
-        self.high, self.low = _sum(self.high, lower)
-        self.loose += float(self.numpy.abs(lost).max())
+        numpy, most = self.numpy, 0.0
+        before, self.high = self.high, numpy.empty(len(taken))
+        for part in parts.parts(len(taken)):
+            high, lower = _sum(before[part], -numpy.ldexp(taken[part].astype(numpy.float64), -shift))
+            lower, lost = _sum(lower, self.low[part])
+            self.high[part], self.low[part] = _sum(high, lower)
+            most = max(most, float(numpy.abs(lost).max()))
+        self.loose += most
 
     def objects(self) -> Any:
         """The objects of a best plan; None where only exact numbers of any size can show it."""
@@ -227,8 +234,7 @@ class _Doubles:
 
     def _keep(self, pairs: "Pairs") -> None:
         places = pairs.places
-        self.pairs, self.costs, self.high = pairs, self.costs[places], self.high[places]
-        self.low = self.low[places] if self.low.size > 1 else self.low
+        self.pairs, self.costs, self.high, self.low = pairs, self.costs[places], self.high[places], self.low[places]
         self.levels = [(taken[places], shift) for taken, shift in self.levels]
 
     def _plainly(self) -> Any:
@@ -237,28 +243,43 @@ class _Doubles:
         grid = MOST_BITS - math.frexp(max(self.most, math.ldexp(size_of(self.taken), -self.shift)))[1]
         if grid < self.shift:
             return None
-        scaled = numpy.ldexp(self.costs, grid)
-        left = scaled.astype(numpy.int64)
-        # A smaller power may make a small cost 0.
-        if not (left == scaled).all() or grid < 0 and not (numpy.ldexp(scaled, -grid) == self.costs).all():
-            return None
-        left -= self.taken << grid - self.shift
+        left = numpy.empty(len(self.costs), numpy.int64)
+        for part in parts.parts(len(left)):
+            costs = self.costs[part]
+            scaled = numpy.ldexp(costs, grid)
+            whole = scaled.astype(numpy.int64)
+            # A smaller power may make a small cost 0.
+            if not (whole == scaled).all() or grid < 0 and not (numpy.ldexp(scaled, -grid) == costs).all():
+                return None
+            left[part] = whole - (self.taken[part] << grid - self.shift)
         return left
 
     def _whole(self) -> Any:
         """What is left as whole numbers of one unit, exactly; None where these would have too many bits."""
-        numpy = self.numpy
-        parts, powers = numpy.frexp(self.costs)
-        whole = numpy.ldexp(parts, 53).astype(numpy.int64)
-        last = numpy.frexp((whole & -whole).astype(numpy.float64))[1] - 1
-        grid = int(numpy.where(whole == 0, self.shift, 53 - powers - last).max())
-        grid = max(grid, self.shift)
+        grid = max([self.shift, *(self._grid(part) for part in parts.parts(len(self.costs)))])
         if grid + math.frexp(size_of(self.high))[1] > MOST_BITS:
             return None
-        up = powers.astype(numpy.int64) - 53 + grid
+        return parts.filled(self.numpy, self.numpy.int64, len(self.costs), lambda part: self._whole_on(grid, part))
+
+    def _bits(self, part: slice) -> Tuple[Any, Any]:
+        """Some costs as whole numbers and powers of two."""
+        fractions, powers = self.numpy.frexp(self.costs[part])
+        return self.numpy.ldexp(fractions, 53).astype(self.numpy.int64), powers.astype(self.numpy.int64) - 53
+
+    def _grid(self, part: slice) -> int:
+        """The least power of two, negated, of which some costs are multiples."""
+        whole, powers = self._bits(part)
+        last = self.numpy.frexp((whole & -whole).astype(self.numpy.float64))[1] - 1
+        return int(self.numpy.where(whole == 0, self.shift, -powers - last).max())
+
+    def _whole_on(self, grid: int, part: slice) -> Any:
+        """What is left of some costs, in the unit 2**-grid."""
+        numpy = self.numpy
+        whole, powers = self._bits(part)
+        up = powers + grid
         left = numpy.where(up >= 0, _shifted(numpy, whole, up), whole >> numpy.minimum(numpy.maximum(-up, 0), 63))
         for taken, shift in self.levels:
-            left -= _shifted(numpy, taken, numpy.int64(grid - shift))
+            left -= _shifted(numpy, taken[part], numpy.int64(grid - shift))
         return left
 
 
@@ -279,13 +300,18 @@ def _zeros(whole: int) -> int:
     return max((whole & -whole).bit_length() - 1, 0)
 
 
+def _halved(numpy: Any, whole: Any, shift: int, half: int) -> Any:
+    """Whole numbers plus a number, divided by 2**shift and rounded down."""
+    return parts.filled(numpy, numpy.int64, len(whole), lambda part: whole[part] + half >> shift) if shift else whole
+
+
 def finish(numpy: Any, n: int, m: int, pairs: "Pairs", left: Any) -> Any:
     """The objects of a best plan along some pairs, at whole costs of less than 62 bits."""
     from . import _levels as levels
     while True:
-        left = left >> _zeros(int(numpy.bitwise_or.reduce(left)))
+        left = _halved(numpy, left, _zeros(int(numpy.bitwise_or.reduce(left))), 0)
         shift = max(0, max(int(left.max()).bit_length(), int(left.min()).bit_length()) - levels.BITS)
-        costs = left + (1 << shift >> 1) >> shift if shift else left
+        costs = _halved(numpy, left, shift, 1 << shift >> 1)
         asked = proved.Given(n, m, pairs.persons, pairs.objects, costs)
         answer = proved.best_of(asked)
         if not shift:
@@ -294,7 +320,9 @@ def finish(numpy: Any, n: int, m: int, pairs: "Pairs", left: Any) -> Any:
         kept_ = levels.kept(level, n)
         if levels.is_only_plan(level, kept_):
             return answer.objects
-        left = left[kept_.places] - (taken_off(numpy, level, kept_) << shift)
+        left, taken = left[kept_.places], taken_off(numpy, level, kept_)
+        for part in parts.parts(len(left)):
+            left[part] -= taken[part] << shift
         pairs = kept_
 
 

@@ -11,6 +11,7 @@ from fractions import Fraction
 from itertools import chain
 from typing import Any, Callable, List, NamedTuple, NoReturn, Optional, Tuple
 
+from . import _parts as parts
 from ._library import FEW, GREATEST_COST, Numbers
 from ._numbers import ONE, Ratio, Unit, in_unit, of_places, ratio_of, unit_of
 
@@ -21,7 +22,6 @@ _PLAIN = frozenset((int, float, bool, type(None)))
 # Doubles that are whole stay so below this; a greater one may print as another whole number.
 _MOST_WHOLE = 2.0**53
 _SAMPLE = 32
-_AT_ONCE = 2**20
 
 # What a place in a list of costs is called, for messages.
 Where = Callable[[int], str]
@@ -303,11 +303,11 @@ def of_array(numpy: Any, values: Any, manner: Manner, where: Where) -> Costs:
     """The costs of a NumPy array, whatever its shape, in the order of C."""
     mask = getattr(values, "mask", None) if isinstance(values, numpy.ma.MaskedArray) else None
     if mask is None and values.dtype.kind in "biu":
-        return _of_whole_array(numpy, numpy.asarray(values).ravel(), manner, where)
+        return _of_whole_array(numpy, parts.in_order(numpy, numpy.asarray(values)), manner, where)
     with numpy.errstate(all="ignore"):
         values = numpy.asarray(values)
         if mask is None or manner.doubles or not mask.any():
-            return _of_values(numpy, values.ravel(), manner, where)
+            return _of_values(numpy, parts.in_order(numpy, values), manner, where)
         masked = numpy.flatnonzero(mask)
         if not manner.forbid_nan:
             refuse_invalid(where(int(masked[0])), "-- (masked)")
@@ -392,18 +392,20 @@ def whole_numbers(numpy: Any, flat: Any) -> Any:
     # With this sum of squares none is beyond 2**53, and none is infinite or NaN.
     if not (flat.dot(flat) <= 2.0**105 if flat.size <= FEW else size_of(flat) < _MOST_WHOLE):
         return None
-    numbers_ = flat.astype(numpy.int64)
-    if flat.size <= FEW and numbers_.astype(numpy.float64).tobytes() == flat.tobytes():
-        return numbers_
-    return numbers_ if numpy.logical_and.reduce(numbers_ == flat) else None
+    if flat.size <= FEW:
+        numbers_ = flat.astype(numpy.int64)
+        return numbers_ if numbers_.astype(numpy.float64).tobytes() == flat.tobytes() or (numbers_ == flat).all() else None
+    numbers_ = numpy.empty(flat.size, numpy.int64)
+    for part in parts.parts(flat.size):
+        numbers_[part] = flat[part]
+        if not (numbers_[part] == flat[part]).all():
+            return None
+    return numbers_
 
 
 def _scaled_array(numpy: Any, flat: Any, places: int) -> Any:
-    """Floats times 10**places, rounded to the nearest whole numbers; some at a time, so that Ctrl-C is heeded in between."""
-    whole = numpy.empty(flat.shape, numpy.int64)
-    for begin in range(0, len(flat), _AT_ONCE):
-        whole[begin:begin + _AT_ONCE] = numpy.rint(flat[begin:begin + _AT_ONCE] * 10.0**places)
-    return whole
+    """Floats times 10**places, rounded to the nearest whole numbers."""
+    return parts.filled(numpy, numpy.int64, len(flat), lambda part: numpy.rint(flat[part] * 10.0**places))
 
 
 def _least_places(numpy: Any, flat: Any, most: int) -> Optional[int]:
@@ -412,11 +414,10 @@ def _least_places(numpy: Any, flat: Any, most: int) -> Optional[int]:
     if size_of(flat) > GREATEST_COST:
         return None
     # Mostly a few of them show that this is beyond it.
-    parts = [flat[::max(len(flat) // _SAMPLE, 1)], *(flat[begin:begin + _AT_ONCE] for begin in range(0, len(flat), _AT_ONCE))]
-    places: Optional[int] = 0
-    for part in parts:
+    places = _more_places(numpy, flat[::max(len(flat) // _SAMPLE, 1)], 0, most)
+    for part in parts.parts(len(flat)):
         if places is not None:
-            places = _more_places(numpy, part, places, most)
+            places = _more_places(numpy, flat[part], places, most)
     return places
 
 

@@ -5,7 +5,7 @@ allow join the others, and the library solves again from its prices. Where none 
 rounded matrix. Matrices that take many rounds are left to the library as a whole."""
 from typing import TYPE_CHECKING, Any, List, NamedTuple, Optional, Tuple
 
-from . import _array_levels as arrays, _library as library, _proved as proved
+from . import _array_levels as arrays, _parts as parts, _proved as proved
 from ._problem import Problem
 
 if TYPE_CHECKING:
@@ -100,14 +100,16 @@ class _Matrix:
     def priced(self, level: "Level", most: int) -> Tuple[Any, "Pairs"]:
         """The places of the pairs that are cheaper than duals allow, and the pairs of at most so many units."""
         from ._levels import Pairs
-        numpy, cheaper, found = self.numpy, [], []
+        numpy, cheaper, found = self.numpy, [], Pairs([], [], [])
         for begin in self._blocks():
             block = self.sign * self._whole(self.costs[begin:begin + self.height]) - level.of_objects[1:]
             bounds = level.of_persons[1 + begin:1 + begin + len(block), None]
             near = (block <= bounds + most).ravel().nonzero()[0]
             below = near[(block.ravel()[near] - bounds.ravel()[near // self.m]) < 0]
-            found.append(near + begin * self.m)
+            rows = near // self.m
+            found.persons.append((rows + (begin + 1)).astype(numpy.uint16))
+            found.objects.append((near - rows * self.m + 1).astype(numpy.uint16))
+            found.places.append(near + begin * self.m)
             cheaper.append(below + begin * self.m)
-        places = numpy.concatenate(found)
-        persons, objects = numpy.divmod(places, self.m)
-        return numpy.concatenate(cheaper), Pairs((persons + 1).astype(numpy.uint16), (objects + 1).astype(numpy.uint16), places)
+        kinds = numpy.uint16, numpy.uint16, numpy.intp
+        return numpy.concatenate(cheaper), Pairs(*(parts.joined(numpy, kind, arrays) for kind, arrays in zip(kinds, found)))
