@@ -6,15 +6,7 @@ from fractions import Fraction
 
 import nushbaret
 from drawn import best, drawing
-
-try:
-    import numpy as np
-except ImportError:
-    np = None
-try:
-    from scipy import optimize
-except ImportError:
-    optimize = None
+from optional import np, optimize
 
 
 def cost_of(costs, rows, columns):

@@ -4,15 +4,7 @@ import unittest
 from decimal import Decimal
 
 import nushbaret
-
-try:
-    import numpy as np
-except ImportError:
-    np = None
-try:
-    import pandas as pd
-except ImportError:
-    pd = None
+from optional import np, pd
 
 
 class Missing(unittest.TestCase):

@@ -10,11 +10,7 @@ from unittest import mock
 import nushbaret
 from nushbaret import _duals, _levels, _library as library, _pricing, _small
 from drawn import KINDS, best, doubles, drawing, exactly, hungarian, proves
-
-try:
-    import numpy as np
-except ImportError:
-    np = None
+from optional import np
 
 
 def as_array(costs, maximize):

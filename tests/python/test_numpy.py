@@ -4,15 +4,7 @@ import unittest
 from decimal import Decimal
 
 import nushbaret
-
-try:
-    import numpy as np
-except ImportError:
-    np = None
-try:
-    from scipy import optimize, sparse
-except ImportError:
-    optimize = None
+from optional import np, optimize, sparse
 
 
 @unittest.skipUnless(np, "NumPy isn't there")

@@ -9,11 +9,7 @@ import nushbaret
 from nushbaret import _plans
 from nushbaret._plans import Ranking
 from drawn import drawing, matrix
-
-try:
-    import numpy as np
-except ImportError:
-    np = None
+from optional import np
 
 
 def ordered(costs, maximize, served):

@@ -3,13 +3,9 @@ import unittest
 from unittest import mock
 
 import nushbaret
-from drawn import best, drawing, matrix
 from nushbaret import _library as library
-
-try:
-    import numpy as np
-except ImportError:
-    np = None
+from drawn import best, drawing, matrix
+from optional import np
 
 
 def asked(run):

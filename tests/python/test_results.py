@@ -11,19 +11,8 @@ from fractions import Fraction
 import nushbaret
 from nushbaret import _result
 from drawn import KINDS, doubles, drawing
+from optional import np, pd, sparse
 
-try:
-    import numpy as np
-except ImportError:
-    np = None
-try:
-    import pandas as pd
-except ImportError:
-    pd = None
-try:
-    from scipy import sparse
-except ImportError:
-    sparse = None
 
 CHANGED = "the costs were changed after the call"
 

@@ -8,19 +8,7 @@ from decimal import Decimal
 from fractions import Fraction
 
 import nushbaret
-
-try:
-    import numpy as np
-except ImportError:
-    np = None
-try:
-    import pandas as pd
-except ImportError:
-    pd = None
-try:
-    from scipy import optimize, sparse
-except ImportError:
-    optimize = None
+from optional import np, optimize, pd, sparse
 
 
 class Index:
