@@ -613,6 +613,7 @@ class Statuses(Runs):
         return subprocess.run([sys.executable, "-m", "nushbaret", *words], env={**os.environ, "PYTHONPATH": str(TOP / "python")},
                               stderr=subprocess.PIPE, **options)
 
+    @unittest.skipIf("NUSHBARET_EMULATED" in os.environ, "an emulator takes more memory")
     def test_memory_refused_by_a_limit(self):
         self.file("r.csv", square(500))
         ended = subprocess.run(["bash", "-c", f"ulimit -v 60000; {sys.executable} -m nushbaret r.csv --output p.csv"],
