@@ -234,8 +234,8 @@ pub fn run_refined<W: Number, O: Observer>(
     let run = bid_and_search(alloc, matrix, market, refined_plan(matrix), telling)?;
     if matrix.persons < matrix.objects {
         let price = W::of(0);
-        let dear = unowned_above(alloc, &run.market, price.minus(W::of(1)))?;
-        return settled(alloc, matrix, run, &Base { price, dear });
+        let overpriced = unowned_above(alloc, &run.market, price.minus(W::of(1)))?;
+        return settled(alloc, matrix, run, &Base { price, overpriced });
     }
     if let Some(End::Long) = run.end {
         let eps = eps / EPS_DIVISOR;
