@@ -1,7 +1,7 @@
 // The lists that a caller gives.
 ghost use Rattle.std.specs.Prelude.{◌≡◌, ◌*◌, ◌↔◌, IsTrue};
 ghost use Rattle.assign_core.specs.Rows.{IsSize};
-ghost use Rattle.lent_lists.specs.Given.{GivenLists, HasPairs, problem_alone};
+ghost use Rattle.lent_lists.specs.Given.{GivenLists, HasPairs};
 
 use crate::form::Form;
 use crate::split_price::SplitPrice;
@@ -42,34 +42,6 @@ impl<'a> Model for Given<'a> {
       costs = g.costs.now;
       first = g.first.now;
     } };
-}
-
-impl<'a> Given<'a> {
-    /// A problem alone, without first prices and further lists.
-    pub fn new(
-        form: Form,
-        sense: u32,
-        n: usize,
-        m: usize,
-        persons: &'a [u16],
-        objects: &'a [u16],
-        costs: &'a [Cost],
-    ) -> Given<'a>
-        ensures { result ≡ problem_alone form sense n m persons.now objects.now costs.now }
-    {
-        Given {
-            form,
-            sense,
-            n,
-            m,
-            by_person: &[],
-            by_object: &[],
-            persons,
-            objects,
-            costs,
-            first: &[],
-        }
-    }
 }
 
 // The number of pairs of this many persons and objects.

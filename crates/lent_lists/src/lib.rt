@@ -24,5 +24,5 @@ pub use fault::Fault;
 pub use form::{Form, form_of};
 pub use given::Given;
 pub use info::Info;
-pub use solve::solve_into;
+pub use solve::solve_given;
 pub use split_price::SplitPrice;

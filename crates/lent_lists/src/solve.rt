@@ -1,7 +1,6 @@
 // From given lists to an answer in the caller's buffers.
 ghost use Rattle.std.specs.Prelude.{◌≡◌, length};
-ghost use Rattle.lent_lists.specs.Ends.{IsReported, Solves, buffers};
-ghost use Rattle.std.specs.Option.{option_map};
+ghost use Rattle.lent_lists.specs.Ends.{IsReported, buffers};
 ghost use Rattle.lent_lists.specs.Given.{HasLengths};
 
 use crate::buffers::{Buffers, put_numbers, put_prices};
@@ -9,13 +8,13 @@ use crate::end::{End, code_of_end, refuse};
 use crate::given::Given;
 use crate::rows::rows_of;
 use crate::search::find;
-use crate::split_price::SplitPrice;
 use crate::total::total_of;
 use assign_core::{Outcome, slack_means_best_among};
 use std::alloc::Global;
 
-// Solves the given problem, writes the answer into the buffers, and returns its code.
-fn solve_given(alloc: Global, given: &Given<'_>, room: Buffers<'_>) -> i32
+/// Solves the given problem, writes the answer into the buffers, and returns its code. If there is
+/// no answer, the lists stay as they were.
+pub fn solve_given(alloc: Global, given: &Given<'_>, room: Buffers<'_>) -> i32
     requires objects { HasLengths given.now → length room.objects.now ≡ given.now.n }
     requires persons { HasLengths given.now → length room.persons.now ≡ given.now.n }
     requires prices { HasLengths given.now → length room.prices.now ≡ given.now.m }
@@ -47,44 +46,6 @@ fn solve_given(alloc: Global, given: &Given<'_>, room: Buffers<'_>) -> i32
             room.info.persons = hall.persons().len() as u64;
             room.info.objects = hall.objects().len() as u64;
             code_of_end(End::Hall)
-        }
-    }
-}
-
-/// Solves a problem from these first prices, if there are any, writes the answer into the buffers,
-/// and returns its code. If there is no answer, the lists stay as they were.
-pub fn solve_into(
-    alloc: Global,
-    problem: Given<'_>,
-    first: Option<&[SplitPrice]>,
-    room: Buffers<'_>,
-) -> i32
-    ensures { Solves problem (option_map (λ f. f.now) first)
-        (buffers room.entry.objects.now room.entry.persons.now room.entry.prices.now
-        room.entry.info.now)
-        (buffers room.exit.0.now room.exit.1.0.now room.exit.1.1.0.now room.exit.1.1.1.0.now)
-        result }
-{
-    let by_person = [room.objects.len(), room.persons.len()];
-    match first {
-        None => {
-            let by_object = [room.prices.len()];
-            let given = Given {
-                by_person: &by_person,
-                by_object: &by_object,
-                ..problem
-            };
-            solve_given(alloc, &given, room)
-        }
-        Some(first) => {
-            let by_object = [room.prices.len(), first.len()];
-            let given = Given {
-                by_person: &by_person,
-                by_object: &by_object,
-                first,
-                ..problem
-            };
-            solve_given(alloc, &given, room)
         }
     }
 }

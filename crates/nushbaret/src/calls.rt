@@ -1,14 +1,13 @@
 // The calls, as `c/nushbaret.h` declares them.
-ghost use Rattle.std.specs.Prelude.{[], ◌⊎◌, None, Some, map};
+ghost use Rattle.std.specs.Prelude.{[], ◌∷◌, ◌⊎◌, length, map};
 ghost use Rattle.lent_lists.specs.Checks.{IsHallJudged, IsJudged, IsRefused};
-ghost use Rattle.lent_lists.specs.Ends.{Solves, buffers};
-ghost use Rattle.lent_lists.specs.Given.{either, problem_alone};
-ghost use Rattle.lent_lists.specs.declared.form.Form.TheVariants.{Dense, Sparse};
+ghost use Rattle.lent_lists.specs.Ends.{IsReported, buffers};
+ghost use Rattle.lent_lists.specs.Given.{dense, either, sparse};
 ghost use Rattle.lent_lists.specs.Prices.{price_in};
 
 use lent_lists::{
     Buffers, Form, Given, Info, SplitPrice, form_of, hall_verdict_on, refuse, report_hall_verdict,
-    report_verdict, solve_into, verdict_on,
+    report_verdict, solve_given, verdict_on,
 };
 use std::alloc::Global;
 
@@ -25,18 +24,33 @@ pub extern "C" fn nushbaret_dense(
     prices: &mut [SplitPrice],
     info: &mut Info,
 ) -> i32
-    ensures { Solves (problem_alone Dense sense n m [] [] costs.now) None
+    ensures { IsReported
+        (dense sense n m (length objects.old ∷ length persons.old ∷ []) (length prices.old ∷ [])
+        costs.now [])
         (buffers objects.old persons.old prices.old info.old)
         (buffers objects.new persons.new prices.new info.new) result }
 {
-    let problem = Given::new(Form::Dense, sense, n, m, &[], &[], costs);
+    let by_person = [objects.len(), persons.len()];
+    let by_object = [prices.len()];
+    let given = Given {
+        form: Form::Dense,
+        sense,
+        n,
+        m,
+        by_person: &by_person,
+        by_object: &by_object,
+        persons: &[],
+        objects: &[],
+        costs,
+        first: &[],
+    };
     let room = Buffers {
         objects,
         persons,
         prices,
         info,
     };
-    solve_into(alloc, problem, None, room)
+    solve_given(alloc, &given, room)
 }
 
 /// Solves a dense problem from first prices.
@@ -53,18 +67,34 @@ pub extern "C" fn nushbaret_dense_from(
     prices: &mut [SplitPrice],
     info: &mut Info,
 ) -> i32
-    ensures { Solves (problem_alone Dense sense n m [] [] costs.now) (Some first.now)
+    ensures { IsReported
+        (dense sense n m (length objects.old ∷ length persons.old ∷ [])
+        (length prices.old ∷ length first.now ∷ [])
+        costs.now first.now)
         (buffers objects.old persons.old prices.old info.old)
         (buffers objects.new persons.new prices.new info.new) result }
 {
-    let problem = Given::new(Form::Dense, sense, n, m, &[], &[], costs);
+    let by_person = [objects.len(), persons.len()];
+    let by_object = [prices.len(), first.len()];
+    let given = Given {
+        form: Form::Dense,
+        sense,
+        n,
+        m,
+        by_person: &by_person,
+        by_object: &by_object,
+        persons: &[],
+        objects: &[],
+        costs,
+        first,
+    };
     let room = Buffers {
         objects,
         persons,
         prices,
         info,
     };
-    solve_into(alloc, problem, Some(first), room)
+    solve_given(alloc, &given, room)
 }
 
 /// Solves a sparse problem: `n` persons, `m` objects, and the persons, the objects and the costs of
@@ -83,19 +113,33 @@ pub extern "C" fn nushbaret_sparse(
     prices: &mut [SplitPrice],
     info: &mut Info,
 ) -> i32
-    ensures { Solves (problem_alone Sparse sense n m of_persons.now of_objects.now costs.now)
-        None
+    ensures { IsReported
+        (sparse sense n m (length objects.old ∷ length persons.old ∷ []) (length prices.old ∷ [])
+        of_persons.now of_objects.now costs.now [])
         (buffers objects.old persons.old prices.old info.old)
         (buffers objects.new persons.new prices.new info.new) result }
 {
-    let problem = Given::new(Form::Sparse, sense, n, m, of_persons, of_objects, costs);
+    let by_person = [objects.len(), persons.len()];
+    let by_object = [prices.len()];
+    let given = Given {
+        form: Form::Sparse,
+        sense,
+        n,
+        m,
+        by_person: &by_person,
+        by_object: &by_object,
+        persons: of_persons,
+        objects: of_objects,
+        costs,
+        first: &[],
+    };
     let room = Buffers {
         objects,
         persons,
         prices,
         info,
     };
-    solve_into(alloc, problem, None, room)
+    solve_given(alloc, &given, room)
 }
 
 /// Solves a sparse problem from first prices.
@@ -114,19 +158,34 @@ pub extern "C" fn nushbaret_sparse_from(
     prices: &mut [SplitPrice],
     info: &mut Info,
 ) -> i32
-    ensures { Solves (problem_alone Sparse sense n m of_persons.now of_objects.now costs.now)
-        (Some first.now)
+    ensures { IsReported
+        (sparse sense n m (length objects.old ∷ length persons.old ∷ [])
+        (length prices.old ∷ length first.now ∷ [])
+        of_persons.now of_objects.now costs.now first.now)
         (buffers objects.old persons.old prices.old info.old)
         (buffers objects.new persons.new prices.new info.new) result }
 {
-    let problem = Given::new(Form::Sparse, sense, n, m, of_persons, of_objects, costs);
+    let by_person = [objects.len(), persons.len()];
+    let by_object = [prices.len(), first.len()];
+    let given = Given {
+        form: Form::Sparse,
+        sense,
+        n,
+        m,
+        by_person: &by_person,
+        by_object: &by_object,
+        persons: of_persons,
+        objects: of_objects,
+        costs,
+        first,
+    };
     let room = Buffers {
         objects,
         persons,
         prices,
         info,
     };
-    solve_into(alloc, problem, Some(first), room)
+    solve_given(alloc, &given, room)
 }
 
 /// Checks an assignment with its prices against a problem. The problem is dense if there are costs
@@ -148,8 +207,18 @@ pub extern "C" fn nushbaret_check(
         IsJudged given objects.now (map price_in prices.now) info.old info.new result
         ⊎ IsRefused given info.old info.new result }
 {
-    let form = form_of(of_persons, of_objects, costs);
-    let given = Given::new(form, sense, n, m, of_persons, of_objects, costs);
+    let given = Given {
+        form: form_of(of_persons, of_objects, costs),
+        sense,
+        n,
+        m,
+        by_person: &[],
+        by_object: &[],
+        persons: of_persons,
+        objects: of_objects,
+        costs,
+        first: &[],
+    };
     match verdict_on(alloc, &given, objects, prices) {
         Ok(verdict) => report_verdict(verdict, info),
         Err(fault) => refuse(fault, info),
@@ -173,8 +242,18 @@ pub extern "C" fn nushbaret_check_hall(
         IsHallJudged given persons.now objects.now info.old info.new result
         ⊎ IsRefused given info.old info.new result }
 {
-    let form = form_of(of_persons, of_objects, costs);
-    let given = Given::new(form, 0, n, m, of_persons, of_objects, costs);
+    let given = Given {
+        form: form_of(of_persons, of_objects, costs),
+        sense: 0,
+        n,
+        m,
+        by_person: &[],
+        by_object: &[],
+        persons: of_persons,
+        objects: of_objects,
+        costs,
+        first: &[],
+    };
     match hall_verdict_on(alloc, &given, persons, objects) {
         Ok(verdict) => report_hall_verdict(verdict, info),
         Err(fault) => refuse(fault, info),
