@@ -17,7 +17,6 @@ use Rattle.assign_core.specs.Slackness.{AllSlack, AreLow, IsCertificateAmong, Is
 use Rattle.assign_core.specs.Prices.{price_of}
 use Rattle.assign_core.proofs.Products.{distributes, opposite}
 use Rattle.assign_core.proofs.Distinct.{InRange, sum_z, sums_agree, sums_low, least_among, none_below}
-use Rattle.assign_core.specs.Numbered.{IsNumber}
 use Rattle.assign_core.proofs.Listed.{all_listed, listed_here, listed_later, objects_within}
 
 -- an object is listed with a benefit where it is listed with a cost

@@ -121,11 +121,10 @@ impl Problem {
     /// `AllocError` if memory is refused.
     ///
     /// # Example
-    /// The body of `calling::solve_dense`:
+    /// The body of `calling::cost_of_dense`:
     /// ```
     /// let problem = Problem::dense(alloc, n, costs)?;
-    /// let scaled = Arc::new(alloc, scale(alloc, problem, Sense::Min)?)?;
-    /// solve_paths(alloc, scaled)
+    /// least_cost(alloc, problem)
     /// ```
     pub fn dense(alloc: Global, n: u16, costs: &[Cost]) -> Result<Problem, AllocError>
         requires size { IsSize n }
@@ -147,14 +146,6 @@ impl Problem {
     ///
     /// # Errors
     /// `AllocError` if memory is refused.
-    ///
-    /// # Example
-    /// The body of `calling::solve_dense_among`:
-    /// ```
-    /// let problem = Problem::dense_among(alloc, n, m, costs)?;
-    /// let scaled = Arc::new(alloc, scale(alloc, problem, Sense::Min)?)?;
-    /// solve_paths_among(alloc, scaled, n)
-    /// ```
     pub fn dense_among(alloc: Global, n: u16, m: u16, costs: &[Cost]) -> Result<Problem, AllocError>
         requires persons { IsSize n }
         requires objects { IsSize m }

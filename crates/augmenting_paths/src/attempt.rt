@@ -4,7 +4,7 @@ use super::lowering::{lower_unowned, unowned_above};
 use super::market::Market;
 use super::matrix::Matrix;
 use super::number::Number;
-use super::observer::{Observer, Telling};
+use super::observer::{Announcer, Observer};
 use super::path::{raise, walk_back};
 use super::plan::{Plan, plan_of, refined_plan, started_plan};
 use super::prices::usual_prices;
@@ -47,10 +47,10 @@ fn augment_all<W: Number, O: Observer>(
     market: &mut Market<W>,
     search: &mut Search<W>,
     most: usize,
-    telling: &mut Telling<'_, O>,
+    announcer: &mut Announcer<'_, O>,
 ) -> Result<Option<End>, AllocError> {
     let mut left = most;
-    telling.tell(market);
+    announcer.announce(market);
     for person in 0..matrix.persons {
         if market.object(person).is_none() {
             match augment(matrix, market, search, person)? {
@@ -60,7 +60,7 @@ fn augment_all<W: Number, O: Observer>(
             if left == 0 {
                 return Ok(Some(End::Long));
             }
-            telling.count(search.scanned.len(), market);
+            announcer.count(search.scanned.len(), market);
         }
     }
     Ok(None)
@@ -82,14 +82,14 @@ fn auction<W: Number, O: Observer>(
     market: &mut Market<W>,
     plan: Plan,
     first_eps: i64,
-    telling: &mut Telling<'_, O>,
+    announcer: &mut Announcer<'_, O>,
 ) {
     let mut eps = first_eps;
     for _phase in 0..PHASES {
         if eps >= 4 {
             market.release_all();
             let most = plan.bids(plan.bids_a_phase);
-            bid_all(matrix, market, W::of(eps).rounded(), most, telling);
+            bid_all(matrix, market, W::of(eps).rounded(), most, announcer);
             eps = eps / EPS_DIVISOR;
         }
     }
@@ -110,7 +110,7 @@ fn bid_and_search<W: Number, O: Observer>(
     matrix: &Matrix<W>,
     market: Market<W>,
     plan: Plan,
-    telling: &mut Telling<'_, O>,
+    announcer: &mut Announcer<'_, O>,
 ) -> Result<Run<W>, AllocError> {
     let mut market = market;
     bid_all(
@@ -118,7 +118,7 @@ fn bid_and_search<W: Number, O: Observer>(
         &mut market,
         W::of(0),
         plan.bids(BIDS_BEFORE),
-        telling,
+        announcer,
     );
     let mut search = Search::new(alloc, plan.by_heap);
     let end = if market.unserved() > plan.most_unserved {
@@ -126,7 +126,7 @@ fn bid_and_search<W: Number, O: Observer>(
     } else if !market.is_in_range() {
         Some(End::Lost)
     } else {
-        augment_all(matrix, &mut market, &mut search, plan.most_scans, telling)?
+        augment_all(matrix, &mut market, &mut search, plan.most_scans, announcer)?
     };
     Ok(Run {
         market,
@@ -151,14 +151,14 @@ fn cold_prices<W: Number>(alloc: Global, matrix: &Matrix<W>) -> Result<Vec<W>, A
 pub fn run_cold<W: Number, O: Observer>(
     alloc: Global,
     matrix: &Matrix<W>,
-    telling: &mut Telling<'_, O>,
+    announcer: &mut Announcer<'_, O>,
 ) -> Result<Run<W>, AllocError> {
     let market = Market::new(alloc, cold_prices(alloc, matrix)?, matrix.persons)?;
-    let run = bid_and_search(alloc, matrix, market, plan_of(matrix), telling)?;
+    let run = bid_and_search(alloc, matrix, market, plan_of(matrix), announcer)?;
     if let Some(End::Long) = run.end {
         let prices = cold_prices(alloc, matrix)?;
         let eps = spread_of(matrix) / EPS_DIVISOR;
-        return run_after_auction(alloc, matrix, prices, eps, telling);
+        return run_after_auction(alloc, matrix, prices, eps, announcer);
     }
     Ok(run)
 }
@@ -169,12 +169,12 @@ fn run_after_auction<W: Number, O: Observer>(
     matrix: &Matrix<W>,
     prices: Vec<W>,
     eps: i64,
-    telling: &mut Telling<'_, O>,
+    announcer: &mut Announcer<'_, O>,
 ) -> Result<Run<W>, AllocError> {
     let plan = plan_of(matrix);
     let mut market = Market::new(alloc, prices, matrix.persons)?;
-    auction(matrix, &mut market, plan, eps, telling);
-    bid_and_search(alloc, matrix, market, plan.to_the_end(), telling)
+    auction(matrix, &mut market, plan, eps, announcer);
+    bid_and_search(alloc, matrix, market, plan.to_the_end(), announcer)
 }
 
 // The run with the price of each unowned object brought down to the base. `None` if that takes too
@@ -200,7 +200,7 @@ pub fn run_started<W: Number, O: Observer>(
     alloc: Global,
     matrix: &Matrix<W>,
     prices: Vec<W>,
-    telling: &mut Telling<'_, O>,
+    announcer: &mut Announcer<'_, O>,
 ) -> Result<Option<Run<W>>, AllocError> {
     let plan = started_plan(matrix);
     let mut market = Market::new(alloc, prices, matrix.persons)?;
@@ -209,13 +209,13 @@ pub fn run_started<W: Number, O: Observer>(
     };
     if matrix.persons < matrix.objects {
         let base = base_of(alloc, matrix, &mut market, &ties)?;
-        let run = bid_and_search(alloc, matrix, market, plan, telling)?;
+        let run = bid_and_search(alloc, matrix, market, plan, announcer)?;
         return settled(alloc, matrix, run, &base);
     }
     let unowned = unowned_above(alloc, &market, W::LEAST)?;
     let (values, places) = (ties.values.as_slice(), unowned.as_slice());
     lower_unowned(alloc, matrix, &mut market, values, places, W::LEAST)?;
-    Ok(Some(bid_and_search(alloc, matrix, market, plan, telling)?))
+    Ok(Some(bid_and_search(alloc, matrix, market, plan, announcer)?))
 }
 
 // A run from the prices of a pass whose costs differ by less than `eps` from the ones here. With as
@@ -226,20 +226,20 @@ pub fn run_refined<W: Number, O: Observer>(
     matrix: &Matrix<W>,
     prices: Vec<W>,
     eps: i64,
-    telling: &mut Telling<'_, O>,
+    announcer: &mut Announcer<'_, O>,
 ) -> Result<Option<Run<W>>, AllocError> {
     let mut begun = Vec::with_capacity(alloc, prices.len())?;
     begun.extend_from_slice(prices.as_slice())?;
     let market = Market::new(alloc, begun, matrix.persons)?;
-    let run = bid_and_search(alloc, matrix, market, refined_plan(matrix), telling)?;
+    let run = bid_and_search(alloc, matrix, market, refined_plan(matrix), announcer)?;
     if matrix.persons < matrix.objects {
         let price = W::of(0);
-        let dear = unowned_above(alloc, &run.market, price.minus(W::of(1)))?;
-        return settled(alloc, matrix, run, &Base { price, dear });
+        let overpriced = unowned_above(alloc, &run.market, price.minus(W::of(1)))?;
+        return settled(alloc, matrix, run, &Base { price, overpriced });
     }
     if let Some(End::Long) = run.end {
         let eps = eps / EPS_DIVISOR;
-        return Ok(Some(run_after_auction(alloc, matrix, prices, eps, telling)?));
+        return Ok(Some(run_after_auction(alloc, matrix, prices, eps, announcer)?));
     }
     Ok(Some(run))
 }

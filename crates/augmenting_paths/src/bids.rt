@@ -5,7 +5,7 @@
 use super::market::Market;
 use super::matrix::{Matrix, Row};
 use super::number::Number;
-use super::observer::{Observer, Telling};
+use super::observer::{Announcer, Observer};
 use super::places::place_at;
 
 // The number of objects of a full row that are compared at once.
@@ -165,15 +165,15 @@ pub fn bid_all<W: Number, O: Observer>(
     market: &mut Market<W>,
     eps: W,
     most: Bids,
-    telling: &mut Telling<'_, O>,
+    announcer: &mut Announcer<'_, O>,
 ) {
     let mut left = (matrix.persons as usize).saturating_mul(most.a_person as usize);
-    telling.tell(market);
+    announcer.announce(market);
     for person in 0..matrix.persons {
         if market.object(person).is_none() {
             let made = bid_on(matrix, market, person, eps, left.min(most.in_a_row));
             left = left.saturating_sub(made);
-            telling.count(made, market);
+            announcer.count(made, market);
         }
     }
 }

@@ -40,22 +40,22 @@ const STEPS_A_LOOK: usize = 4096;
 
 // Calls an observer now and then.
 #[derive(Drop)]
-pub struct Telling<'a, O> {
+pub struct Announcer<'a, O> {
     observer: &'a O,
     // The bids and the scanned persons since the observer was last called.
     steps: usize,
 }
 
-impl<'a, O: Observer> Telling<'a, O> {
-    pub fn new(observer: &'a O) -> Telling<'a, O> {
-        Telling { observer, steps: 0 }
+impl<'a, O: Observer> Announcer<'a, O> {
+    pub fn new(observer: &'a O) -> Announcer<'a, O> {
+        Announcer { observer, steps: 0 }
     }
 
     pub fn begin(&mut self, pass: Pass) {
         self.observer.begins(pass);
     }
 
-    pub fn tell<W: Number>(&mut self, market: &Market<W>) {
+    pub fn announce<W: Number>(&mut self, market: &Market<W>) {
         self.steps = 0;
         self.observer.assigned(market.owned);
     }
@@ -64,7 +64,7 @@ impl<'a, O: Observer> Telling<'a, O> {
     pub fn count<W: Number>(&mut self, steps: usize, market: &Market<W>) {
         self.steps = self.steps.saturating_add(steps);
         if self.steps >= STEPS_A_LOOK {
-            self.tell(market);
+            self.announce(market);
         }
     }
 }

@@ -8,7 +8,7 @@ use super::copy::CostCopy;
 use super::market::Market;
 use super::matrix::Matrix;
 use super::number::Number;
-use super::observer::{Observer, Pass, Telling};
+use super::observer::{Announcer, Observer, Pass};
 use super::prices::given_prices;
 use super::scale::{Scale, Span};
 use super::search::End;
@@ -74,12 +74,12 @@ fn started<W: Number, O: Observer>(
     sense: Sense,
     matrix: &Matrix<W>,
     first: &[Price],
-    telling: &mut Telling<'_, O>,
+    announcer: &mut Announcer<'_, O>,
 ) -> Result<Option<Outcome>, AllocError>
     ensures { IfOk result (λ found. IfSome found (IsProofAmong sense rows.now.m rows.now.rows)) }
 {
     let prices = given_prices(alloc, first, matrix.objects)?;
-    let run = run_started(alloc, matrix, prices, telling)?;
+    let run = run_started(alloc, matrix, prices, announcer)?;
     answer_if_any(alloc, rows, sense, run)
 }
 
@@ -166,7 +166,7 @@ fn narrow<O: Observer>(
     sense: Sense,
     copy: CostCopy,
     first: Option<&[Price]>,
-    telling: &mut Telling<'_, O>,
+    announcer: &mut Announcer<'_, O>,
 ) -> Result<Narrowed, AllocError>
     ensures { IfOk result (λ n. IfSome n.found (IsProofAmong sense rows.now.m rows.now.rows)) }
 {
@@ -176,15 +176,15 @@ fn narrow<O: Observer>(
         if shift > 0 {
             return Ok(Narrowed::none());
         }
-        telling.begin(Pass::Narrow);
-        found = started(alloc, rows, sense, &matrix, first, telling)?;
+        announcer.begin(Pass::Narrow);
+        found = started(alloc, rows, sense, &matrix, first, announcer)?;
     }
     if found.is_some() {
         let prices = None;
         return Ok(Narrowed { found, prices });
     }
-    telling.begin(Pass::Narrow);
-    let run = run_cold(alloc, &matrix, telling)?;
+    announcer.begin(Pass::Narrow);
+    let run = run_cold(alloc, &matrix, announcer)?;
     result_of(alloc, rows, sense, &run, shift)
 }
 
@@ -197,19 +197,19 @@ fn refined<O: Observer>(
     span: Span,
     first: Option<&[Price]>,
     prices: Option<Vec<i64>>,
-    telling: &mut Telling<'_, O>,
+    announcer: &mut Announcer<'_, O>,
 ) -> Result<Option<Outcome>, AllocError>
     ensures { IfOk result (λ found. IfSome found (IsProofAmong sense rows.now.m rows.now.rows)) }
 {
     if let Some(first) = first {
-        telling.begin(Pass::Started);
-        return started(alloc, rows, sense, matrix, first, telling);
+        announcer.begin(Pass::Started);
+        return started(alloc, rows, sense, matrix, first, announcer);
     }
     match prices {
         Some(prices) => {
-            telling.begin(Pass::Refined);
+            announcer.begin(Pass::Refined);
             let eps = 4i64.wrapping_shl(span.shift());
-            let run = run_refined(alloc, matrix, prices, eps, telling)?;
+            let run = run_refined(alloc, matrix, prices, eps, announcer)?;
             answer_if_any(alloc, rows, sense, run)
         }
         None => Ok(None),
@@ -224,17 +224,17 @@ fn widened<O: Observer>(
     span: Span,
     first: Option<&[Price]>,
     prices: Option<Vec<i64>>,
-    telling: &mut Telling<'_, O>,
+    announcer: &mut Announcer<'_, O>,
 ) -> Result<Option<Outcome>, AllocError>
     ensures { IfOk result (λ found. IfSome found (IsProofAmong sense rows.now.m rows.now.rows)) }
 {
     let matrix: Matrix<i64> = Scale::new(span, sense, 0).copy_of(alloc, rows)?;
-    let found = refined(alloc, rows, sense, &matrix, span, first, prices, telling)?;
+    let found = refined(alloc, rows, sense, &matrix, span, first, prices, announcer)?;
     if found.is_some() {
         return Ok(found);
     }
-    telling.begin(Pass::Wide);
-    let run = run_cold(alloc, &matrix, telling)?;
+    announcer.begin(Pass::Wide);
+    let run = run_cold(alloc, &matrix, announcer)?;
     answer_of(alloc, rows, sense, &run)
 }
 
@@ -273,11 +273,11 @@ pub fn try_paths<O: Observer>(
         return hall_of_all(alloc, rows);
     }
     let first = fitting(wishes.prices, rows.objects());
-    let mut telling = Telling::new(wishes.observer);
+    let mut announcer = Announcer::new(wishes.observer);
     let span = copy.span();
-    let Narrowed { found, prices } = narrow(alloc, rows, sense, copy, first, &mut telling)?;
+    let Narrowed { found, prices } = narrow(alloc, rows, sense, copy, first, &mut announcer)?;
     match found {
         Some(outcome) => Ok(Some(outcome)),
-        None => widened(alloc, rows, sense, span, first, prices, &mut telling),
+        None => widened(alloc, rows, sense, span, first, prices, &mut announcer),
     }
 }

@@ -1,4 +1,7 @@
-// How much is tried of each method. The numbers come from measurements; no answer depends on them.
+// How much is tried of each method. Persons bid first, and searches serve those who are left. Where
+// too many are left, or searches scan too many persons, an auction with falling slackness gives new
+// prices, from which bids and searches go on. The numbers come from measurements; no answer depends
+// on them.
 use super::bids::Bids;
 use super::matrix::Matrix;
 use super::number::Number;

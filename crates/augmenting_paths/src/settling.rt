@@ -10,7 +10,7 @@ use super::market::Market;
 use super::matrix::Matrix;
 use super::number::Number;
 use super::plan::most_looks;
-use super::ties::{Ties, match_dear};
+use super::ties::{Ties, match_overpriced};
 use std::alloc::{AllocError, Global};
 
 // A reached object. Its price begins to fall once the price of the first object has fallen by
@@ -274,7 +274,7 @@ impl<W: Number> Settling<W> {
 #[derive(Drop)]
 pub struct Base<W> {
     pub price: W,
-    pub dear: Vec<u16>,
+    pub overpriced: Vec<u16>,
 }
 
 // Those of these objects that are still unowned at a price above the floor.
@@ -303,15 +303,15 @@ pub fn base_of<W: Number>(
 ) -> Result<Base<W>, AllocError> {
     let most = W::of(W::PRICE_CUT);
     let floor = market.least_paid(most).minus(W::of(1));
-    let dear = unowned_above(alloc, market, floor)?;
-    match_dear(alloc, matrix, market, ties, dear.as_slice(), floor)?;
+    let overpriced = unowned_above(alloc, market, floor)?;
+    match_overpriced(alloc, matrix, market, ties, overpriced.as_slice(), floor)?;
     let price = market.least_paid(most);
     let floor = price.minus(W::of(1));
-    let dear = still_above(alloc, market, dear.as_slice(), floor)?;
-    let (values, places) = (ties.values.as_slice(), dear.as_slice());
+    let overpriced = still_above(alloc, market, overpriced.as_slice(), floor)?;
+    let (values, places) = (ties.values.as_slice(), overpriced.as_slice());
     lower_unowned(alloc, matrix, market, values, places, floor)?;
     market.raise_unowned(floor);
-    Ok(Base { price, dear })
+    Ok(Base { price, overpriced })
 }
 
 // Brings the price of each unowned object down to the base. Returns whether the looks sufficed.
@@ -322,12 +322,12 @@ pub fn settle<W: Number>(
     base: &Base<W>,
 ) -> Result<bool, AllocError> {
     let floor = base.price.minus(W::of(1));
-    let dear = still_above(alloc, market, base.dear.as_slice(), floor)?;
-    if dear.is_empty() {
+    let overpriced = still_above(alloc, market, base.overpriced.as_slice(), floor)?;
+    if overpriced.is_empty() {
         return Ok(true);
     }
     let mut settling = Settling::new(alloc, matrix, market)?;
-    for object in &dear {
+    for object in &overpriced {
         if !settling.bring_down(matrix, market, *object, base.price)? {
             return Ok(false);
         }

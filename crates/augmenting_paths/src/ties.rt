@@ -295,7 +295,7 @@ pub fn match_ties<W: Number>(
 
 // A person whose object's price is at most the floor leaves it, if ties lead to an unowned object
 // above the floor.
-fn leave_for_dear<W: Number>(
+fn leave_for_overpriced<W: Number>(
     market: &mut Market<W>,
     ties: &Ties<W>,
     reach: &mut Reach<W>,
@@ -316,20 +316,20 @@ fn leave_for_dear<W: Number>(
 }
 
 // Moves persons along ties from objects at the floor to unowned ones above it.
-pub fn match_dear<W: Number>(
+pub fn match_overpriced<W: Number>(
     alloc: Global,
     matrix: &Matrix<W>,
     market: &mut Market<W>,
     ties: &Ties<W>,
-    dear: &[u16],
+    overpriced: &[u16],
     floor: W,
 ) -> Result<(), AllocError> {
-    if dear.is_empty() {
+    if overpriced.is_empty() {
         return Ok(());
     }
     let mut reach = Reach::new(alloc, matrix.objects, floor)?;
     for person in 0..matrix.persons {
-        leave_for_dear(market, ties, &mut reach, person)?;
+        leave_for_overpriced(market, ties, &mut reach, person)?;
     }
     Ok(())
 }

@@ -1,6 +1,8 @@
 // What an optimal assignment costs.
-ghost use Rattle.std.specs.Prelude.{ℕ, List, IfOk, MatchOption};
+ghost use Rattle.std.specs.Prelude.{◌≡◌, ◌*◌, ℕ, List, All, IfOk, MatchOption, length};
 ghost use Rattle.assign_core.specs.Assignment.{IsAssignment};
+ghost use Rattle.assign_core.specs.Dense.{dense_rows};
+ghost use Rattle.assign_core.specs.Rows.{IsCost, IsSize};
 ghost use Rattle.assign_core.specs.Slackness.{IsCertificate};
 ghost use Rattle.calling.specs.Costs.{IsLeastCost};
 
@@ -31,4 +33,20 @@ pub fn least_cost(alloc: Global, problem: Problem) -> Result<Option<Cost>, Alloc
         Outcome::Best(best) => Ok(Some(cost_of_best(&problem, &best))),
         Outcome::Hall(_) => Ok(None),
     }
+}
+
+/// The least cost of an assignment of `n` persons and `n` objects with these costs, row by row.
+/// `None` exactly where there is none.
+///
+/// # Errors
+/// `AllocError` if memory is refused.
+pub fn cost_of_dense(alloc: Global, n: u16, costs: &[Cost]) -> Result<Option<Cost>, AllocError>
+    requires size { IsSize n }
+    requires count { length costs.now ≡ n * n }
+    requires costs { All IsCost costs.now }
+    ensures { IfOk result (λ found. let rows = dense_rows n costs.now in MatchOption found
+        ((xs : List ℕ) → IsAssignment rows xs → ⊥) (IsLeastCost rows)) }
+{
+    let problem = Problem::dense(alloc, n, costs)?;
+    least_cost(alloc, problem)
 }

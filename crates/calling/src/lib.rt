@@ -4,14 +4,12 @@
 
 mod checks;
 mod costs;
-mod paths;
 mod problems;
 mod reports;
 mod solving;
 
 pub use checks::{proves_best, proves_infeasible};
-pub use costs::{cost_of_best, least_cost};
-pub use paths::{solve_dense, solve_dense_among};
+pub use costs::{cost_of_best, cost_of_dense, least_cost};
 pub use problems::problem_of_pairs;
 pub use reports::{confirmed, read_confirmed, write_proved};
 pub use solving::{solve_alone, solve_by_workers, solve_costs, solve_in_threads, solve_problem};

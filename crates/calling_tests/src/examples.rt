@@ -2,8 +2,8 @@
 // 1, 2 and 3, 5 pay least, 5, with objects 2 and 1, and prices 14 and 12 prove it.
 use assign_core::{Cost, GREATEST_COST, Object, Outcome, Person, Problem, Sense};
 use calling::{
-    least_cost, problem_of_pairs, proves_best, proves_infeasible, read_confirmed, solve_alone,
-    solve_by_workers, solve_dense, solve_dense_among, solve_in_threads, write_proved,
+    cost_of_dense, least_cost, problem_of_pairs, proves_best, proves_infeasible, read_confirmed,
+    solve_alone, solve_by_workers, solve_costs, solve_in_threads, write_proved,
 };
 use orlib_reader::InputFault;
 use report::ReportFault;
@@ -64,8 +64,8 @@ fn by_auction<R: Threads + Wait + Sync>(rt: &R, alloc: Global) -> Result<[u16; 3
 
 // What paths give to the first person, of two objects and of three.
 fn by_paths(alloc: Global) -> Result<[u16; 2], AllocError> {
-    let square = first_object(&solve_dense(alloc, 2, &[1, 2, 3, 5])?);
-    let among = first_object(&solve_dense_among(alloc, 2, 3, &[1, 5, 9, 3, 5, 4])?);
+    let square = first_object(&solve_costs(alloc, 2, 2, Sense::Min, &[1, 2, 3, 5])?);
+    let among = first_object(&solve_costs(alloc, 2, 3, Sense::Min, &[1, 5, 9, 3, 5, 4])?);
     Ok([square, among])
 }
 
@@ -73,7 +73,7 @@ fn by_paths(alloc: Global) -> Result<[u16; 2], AllocError> {
 fn problems_are_solved(rt: HostRuntime) -> Result<(), Fail> {
     assert_eq!(rt; by_auction(&rt, rt.alloc())?, [2, 2, 1]);
     assert_eq!(rt; by_paths(rt.alloc())?, [2, 1]);
-    assert_eq!(rt; least_cost(rt.alloc(), two_persons(rt.alloc())?)?, Some(5));
+    assert_eq!(rt; cost_of_dense(rt.alloc(), 2, &[1, 2, 3, 5])?, Some(5));
     Ok(())
 }
 

@@ -5,7 +5,7 @@ pub mod Tallies
 pub mod Worths
 pub mod Differences
 pub mod Fronts
-pub mod Dear
+pub mod Overpriced
 pub mod HallMarking
 pub mod HallFirsts
 pub mod HallDifferences

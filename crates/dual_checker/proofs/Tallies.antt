@@ -73,8 +73,8 @@ some_twice counts xs n j h long f = record {
 }
 
 -- what the table says of the list
-pub told : (counts xs : List ℕ) (n : ℕ) (first : Option ℕ) → AreCounts counts xs → length counts ≡ n → All (IsNumber n) xs →
+pub finds_twice : (counts xs : List ℕ) (n : ℕ) (first : Option ℕ) → AreCounts counts xs → length counts ≡ n → All (IsNumber n) xs →
     MatchOption first ((j : ℕ) → IsNumber (length counts) j → numbered counts j 0 ≤ 1) (λ j. IsFirst (λ k. 1 < numbered counts k 0) (length counts) j) →
     MatchOption first (IsDistinct nat_eq xs) (λ j. IsFirst (IsGivenTwice xs) n j)
-told counts xs n None h long within few = none_twice counts xs n h long within few
-told counts xs n (Some j) h long within f = some_twice counts xs n j h long f
+finds_twice counts xs n None h long within few = none_twice counts xs n h long within few
+finds_twice counts xs n (Some j) h long within f = some_twice counts xs n j h long f

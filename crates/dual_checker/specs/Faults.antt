@@ -48,5 +48,5 @@ abbrev pub IsShort : Sense → ℕ → List Listing → List ℕ → List ℤ �
 IsShort sense m rows xs prices i = (k : ℕ) × BreaksSlackOf sense m rows xs prices i k
 
 -- object j is unowned, and its price is over 1 above that of another of m objects
-abbrev pub IsDear : ℕ → List ℤ → List ℕ → ℕ → Type 0
-IsDear m prices xs j = ¬ Contains xs j × ((k : ℕ) × IsNumber m k × ((price_of prices k +ℤ pos 1) <ℤ price_of prices j))
+abbrev pub IsOverpriced : ℕ → List ℤ → List ℕ → ℕ → Type 0
+IsOverpriced m prices xs j = ¬ Contains xs j × ((k : ℕ) × IsNumber m k × ((price_of prices k +ℤ pos 1) <ℤ price_of prices j))

@@ -9,8 +9,8 @@ use Rattle.assign_core.specs.Slackness.{AllSlack, IsCertificate, IsCertificateAm
 use Rattle.dual_checker.specs.declared.verdict.Verdict.{Verdict}
 use Rattle.dual_checker.specs.declared.verdict.Verdict.TheVariants.{Length, Unlisted, Twice, PriceRange, Slack, Yes}
 use Rattle.dual_checker.specs.declared.among.VerdictAmong.{VerdictAmong}
-use Rattle.dual_checker.specs.declared.among.VerdictAmong.TheVariants.{Usual, Dear}
-use Rattle.dual_checker.specs.Faults.{IsFirst, AreLong, IsUnlisted, IsGivenTwice, IsOutOfRange, BreaksSlackOf, IsShort, IsDear}
+use Rattle.dual_checker.specs.declared.among.VerdictAmong.TheVariants.{Usual, Overpriced}
+use Rattle.dual_checker.specs.Faults.{IsFirst, AreLong, IsUnlisted, IsGivenTwice, IsOutOfRange, BreaksSlackOf, IsShort, IsOverpriced}
 
 -- an assignment among m objects, and prices in range at which each person has slackness 1
 pub record IsSlackAssignment (sense : Sense) (m : ℕ) (rows : List Listing) (xs : List ℕ) (prices : List ℤ) : Type 0 where
@@ -41,7 +41,7 @@ IsVerdict sense rows xs prices fault = IsFault sense (length rows) rows xs price
 abbrev pub IsVerdictAmong : Sense → ℕ → List Listing → List ℕ → List ℤ → VerdictAmong → Type 0
 IsVerdictAmong sense m rows xs prices (Usual Yes) = IsCertificateAmong sense m rows xs prices
 IsVerdictAmong sense m rows xs prices (Usual fault) = IsFault sense m rows xs prices fault
-IsVerdictAmong sense m rows xs prices (Dear j) = IsSlackAssignment sense m rows xs prices × IsFirst (IsDear m prices xs) m j
+IsVerdictAmong sense m rows xs prices (Overpriced j) = IsSlackAssignment sense m rows xs prices × IsFirst (IsOverpriced m prices xs) m j
 
 -- at most one verdict holds of a problem, a sense and two lists
 abbrev pub VerdictsDiffer : Type 0

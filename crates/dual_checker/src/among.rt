@@ -23,7 +23,7 @@ pub enum VerdictAmong {
     /// certificate.
     Usual(Verdict),
     /// The lowest unowned object whose price is over 1 above the least price.
-    Dear(Object),
+    Overpriced(Object),
 }
 
 /// At most one verdict holds of a problem, a sense and two lists.
@@ -48,14 +48,14 @@ fn cheapest(prices: &[Price]) -> Object
 }
 
 // Whether an object is unowned, by its count, and its price is above the greatest allowed.
-fn is_dear(count: u16, price: Price, most: Price) -> bool
+fn is_overpriced(count: u16, price: Price, most: Price) -> bool
     ensures { IsTrue result ↔ ((count ≡ 0) × (most <ℤ price)) }
 {
     count == 0 && price > most
 }
 
 // The lowest object that is unowned and whose price is over 1 above another.
-fn first_dear(counts: &[u16], prices: &[Price]) -> Option<Object>
+fn first_overpriced(counts: &[u16], prices: &[Price]) -> Option<Object>
     requires long { length counts.now ≡ length prices.now }
     requires size { IsSize (length prices.now) }
     requires in_range { All IsPrice prices.now }
@@ -69,7 +69,7 @@ fn first_dear(counts: &[u16], prices: &[Price]) -> Option<Object>
 {
     let most = price_at(prices, cheapest(prices)) + 1;
     for (i, price) in prices.iter().enumerate() {
-        if is_dear(counts[i], *price, most) {
+        if is_overpriced(counts[i], *price, most) {
             return Some(Object(i as u16 + 1));
         }
     }
@@ -94,8 +94,8 @@ fn first_fault_among(
     if fault != Verdict::Yes {
         return VerdictAmong::Usual(fault);
     }
-    match first_dear(counts, prices) {
-        Some(object) => VerdictAmong::Dear(object),
+    match first_overpriced(counts, prices) {
+        Some(object) => VerdictAmong::Overpriced(object),
         None => VerdictAmong::Usual(Verdict::Yes),
     }
 }

@@ -10,7 +10,7 @@ use Rattle.assign_core.specs.Rows.{Listing}
 use Rattle.assign_core.specs.Slackness.{IsCertificateAmong}
 use Rattle.assign_core.proofs.DenseRows.{length-rows_cut}
 use Rattle.lent_lists.specs.declared.split_price.SplitPrice.{SplitPrice}
-use Rattle.lent_lists.specs.declared.told.Told.{Told}
+use Rattle.lent_lists.specs.declared.info.Info.{Info}
 use Rattle.lent_lists.specs.Ends.{HoldsBest, HoldsHall, buffers}
 use Rattle.lent_lists.specs.Faults.{IsOfGiven, IsWhole}
 use Rattle.lent_lists.specs.Given.{GivenLists, HasRows}
@@ -40,13 +40,13 @@ of_given g shape problem Holds is whole source h = record {
   holds = h;
 }
 
-pub best_held : (sense : Sense) (m : ℕ) (rows : List Listing) (c : Certificate) (objects persons put : List ℕ) (prices priced : List SplitPrice) (told : Told) (sum : ℤ) →
+pub best_held : (sense : Sense) (m : ℕ) (rows : List Listing) (c : Certificate) (objects persons put : List ℕ) (prices priced : List SplitPrice) (info : Info) (sum : ℤ) →
     IsCertificateAmong sense m rows c.assignment c.prices → IsBest sense rows c.assignment → put ≡ c.assignment → map price_in priced ≡ c.prices → sum ≡ total rows c.assignment →
-    HoldsBest sense m rows (buffers objects persons prices told) (buffers put persons priced (record told { total = sum }))
-best_held sense m rows c objects persons put prices priced told sum proof best is at adds = record {
+    HoldsBest sense m rows (buffers objects persons prices info) (buffers put persons priced (record info { total = sum }))
+best_held sense m rows c objects persons put prices priced info sum proof best is at adds = record {
   proof = subst (λ (ys : List ℕ). IsCertificateAmong sense m rows ys (map price_in priced)) (sym is) (subst (λ (ps : List ℤ). IsCertificateAmong sense m rows c.assignment ps) (sym at) proof);
   best = subst (λ (ys : List ℕ). IsBest sense rows ys) (sym is) best;
-  sum = ap (λ (x : ℤ). record told { total = x }) (adds ∙ ap (total rows) (sym is));
+  sum = ap (λ (x : ℤ). record info { total = x }) (adds ∙ ap (total rows) (sym is));
   persons = refl;
 }
 
@@ -54,16 +54,16 @@ best_held sense m rows c objects persons put prices priced told sum proof best i
 put_front : (put old xs ys : List ℕ) → put ≡ map (λ x. x) xs ++ drop (length xs) old → xs ≡ ys → put ≡ ys ++ drop (length ys) old
 put_front put old xs ys is same = is ∙ ap (λ l. l ++ drop (length xs) old) (map-id xs) ∙ ap (λ l. l ++ drop (length l) old) same
 
-pub hall_held : (rows : List Listing) (h : HallSet) (objects persons put_objects put_persons some few : List ℕ) (prices : List SplitPrice) (told : Told) (persons_count objects_count : ℕ) →
+pub hall_held : (rows : List Listing) (h : HallSet) (objects persons put_objects put_persons some few : List ℕ) (prices : List SplitPrice) (info : Info) (persons_count objects_count : ℕ) →
     IsHallSet rows h.persons h.objects → some ≡ h.persons → few ≡ h.objects → put_persons ≡ map (λ x. x) some ++ drop (length some) persons → put_objects ≡ map (λ x. x) few ++ drop (length few) objects →
     persons_count ≡ length h.persons → objects_count ≡ length h.objects →
-    HoldsHall rows (buffers objects persons prices told) (buffers put_objects put_persons prices (record told { persons = persons_count; objects = objects_count }))
-hall_held rows h objects persons put_objects put_persons some few prices told persons_count objects_count proof is_some is_few at_persons at_objects many count = record {
+    HoldsHall rows (buffers objects persons prices info) (buffers put_objects put_persons prices (record info { persons = persons_count; objects = objects_count }))
+hall_held rows h objects persons put_objects put_persons some few prices info persons_count objects_count proof is_some is_few at_persons at_objects many count = record {
   some = h.persons;
   few = h.objects;
   proof = proof;
   persons = put_front put_persons persons some h.persons at_persons is_some;
   objects = put_front put_objects objects few h.objects at_objects is_few;
-  counts = ap (λ (k : ℕ). record told { persons = k; objects = objects_count }) many ∙ ap (λ (k : ℕ). record told { persons = length h.persons; objects = k }) count;
+  counts = ap (λ (k : ℕ). record info { persons = k; objects = objects_count }) many ∙ ap (λ (k : ℕ). record info { persons = length h.persons; objects = k }) count;
   prices = refl;
 }

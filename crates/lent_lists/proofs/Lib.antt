@@ -1,4 +1,3 @@
 mod Answering
-mod Bounds
 mod Fitting
 mod Triples

@@ -4,7 +4,7 @@ use Rattle.std.specs.List.{All}
 use Rattle.std.proofs.lemmas.List.Elements.{All-cons, All-head, All-nil, All-tail}
 use Rattle.assign_core.specs.Numbered.{IsNumber}
 use Rattle.assign_core.specs.Rows.{IsCost}
-use Rattle.rectangles.specs.Sparse.{IsTripleAmong}
+use Rattle.assign_core.specs.Sparse.{IsTripleAmong}
 use Rattle.lent_lists.specs.Given.{triples_of}
 
 -- pairs of persons, objects and costs

@@ -7,7 +7,7 @@ use Rattle.dual_checker.specs.declared.hall_verdict.HallVerdict.{HallVerdict}
 use Rattle.dual_checker.specs.declared.hall_verdict.HallVerdict.TheVariants as hall
 use Rattle.dual_checker.specs.Verdicts.{IsVerdictAmong}
 use Rattle.lent_lists.specs.declared.fault.Fault.{Fault}
-use Rattle.lent_lists.specs.declared.told.Told.{Told}
+use Rattle.lent_lists.specs.declared.info.Info.{Info}
 use Rattle.lent_lists.specs.Given.{GivenLists}
 use Rattle.lent_lists.specs.Faults.{HasFault, IsOfGiven}
 use Rattle.lent_lists.specs.Ends.{fault_code, fault_place}
@@ -21,17 +21,17 @@ verdict_code (among.Usual (verdict.Unlisted i)) = pos 11
 verdict_code (among.Usual (verdict.Twice j)) = pos 12
 verdict_code (among.Usual (verdict.PriceRange j)) = pos 13
 verdict_code (among.Usual (verdict.Slack i j)) = pos 14
-verdict_code (among.Dear j) = pos 20
+verdict_code (among.Overpriced j) = pos 20
 
 -- the record with the person and the object that a verdict names
-abbrev pub with_verdict : VerdictAmong → Told → Told
-with_verdict (among.Usual verdict.Yes) told = told
-with_verdict (among.Usual verdict.Length) told = told
-with_verdict (among.Usual (verdict.Unlisted i)) told = record told { person = i }
-with_verdict (among.Usual (verdict.Twice j)) told = record told { object = j }
-with_verdict (among.Usual (verdict.PriceRange j)) told = record told { object = j }
-with_verdict (among.Usual (verdict.Slack i j)) told = record told { person = i; object = j }
-with_verdict (among.Dear j) told = record told { object = j }
+abbrev pub with_verdict : VerdictAmong → Info → Info
+with_verdict (among.Usual verdict.Yes) info = info
+with_verdict (among.Usual verdict.Length) info = info
+with_verdict (among.Usual (verdict.Unlisted i)) info = record info { person = i }
+with_verdict (among.Usual (verdict.Twice j)) info = record info { object = j }
+with_verdict (among.Usual (verdict.PriceRange j)) info = record info { object = j }
+with_verdict (among.Usual (verdict.Slack i j)) info = record info { person = i; object = j }
+with_verdict (among.Overpriced j) info = record info { object = j }
 
 -- the code of a verdict on persons and objects
 abbrev pub hall_code : HallVerdict → ℤ
@@ -43,30 +43,30 @@ hall_code (hall.Extra j) = pos 18
 hall_code hall.Count = pos 19
 
 -- the record with the person and the object that this verdict names
-abbrev pub with_hall_verdict : HallVerdict → Told → Told
-with_hall_verdict hall.Yes told = told
-with_hall_verdict hall.Range told = told
-with_hall_verdict hall.Order told = told
-with_hall_verdict (hall.Missing i j) told = record told { person = i; object = j }
-with_hall_verdict (hall.Extra j) told = record told { object = j }
-with_hall_verdict hall.Count told = told
+abbrev pub with_hall_verdict : HallVerdict → Info → Info
+with_hall_verdict hall.Yes info = info
+with_hall_verdict hall.Range info = info
+with_hall_verdict hall.Order info = info
+with_hall_verdict (hall.Missing i j) info = record info { person = i; object = j }
+with_hall_verdict (hall.Extra j) info = record info { object = j }
+with_hall_verdict hall.Count info = info
 
 -- the first fault, with its code and its place
-pub record IsRefused (g : GivenLists) (before after : Told) (code : ℤ) : Type 0 where
+pub record IsRefused (g : GivenLists) (before after : Info) (code : ℤ) : Type 0 where
   pub fault : Fault
   pub is : code ≡ fault_code fault
   pub first : HasFault g fault
   pub place : after ≡ record before { place = fault_place before.place fault }
 
 -- the verdict on an assignment and prices, with its code and what it names
-pub record IsJudged (g : GivenLists) (objects : List ℕ) (prices : List ℤ) (before after : Told) (code : ℤ) : Type 0 where
+pub record IsJudged (g : GivenLists) (objects : List ℕ) (prices : List ℤ) (before after : Info) (code : ℤ) : Type 0 where
   pub verdict : VerdictAmong
   pub is : code ≡ verdict_code verdict
   pub names : after ≡ with_verdict verdict before
   pub holds : IsOfGiven g (λ sense rows. IsVerdictAmong sense g.m rows objects prices verdict)
 
 -- the verdict on persons and objects, with its code and what it names
-pub record IsHallJudged (g : GivenLists) (persons objects : List ℕ) (before after : Told) (code : ℤ) : Type 0 where
+pub record IsHallJudged (g : GivenLists) (persons objects : List ℕ) (before after : Info) (code : ℤ) : Type 0 where
   pub verdict : HallVerdict
   pub is : code ≡ hall_code verdict
   pub names : after ≡ with_hall_verdict verdict before

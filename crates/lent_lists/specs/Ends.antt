@@ -9,7 +9,7 @@ use Rattle.lent_lists.specs.declared.fault.Fault.{Fault}
 use Rattle.lent_lists.specs.declared.fault.Fault.TheVariants as fault
 use Rattle.lent_lists.specs.declared.end.End.{End}
 use Rattle.lent_lists.specs.declared.end.End.TheVariants.{Best, Hall}
-use Rattle.lent_lists.specs.declared.told.Told.{Told}
+use Rattle.lent_lists.specs.declared.info.Info.{Info}
 use Rattle.lent_lists.specs.declared.split_price.SplitPrice.{SplitPrice}
 use Rattle.lent_lists.specs.Prices.{price_in}
 use Rattle.lent_lists.specs.Given.{GivenLists}
@@ -48,18 +48,18 @@ pub record Buffers : Type 0 where
   pub objects : List ℕ
   pub persons : List ℕ
   pub prices : List SplitPrice
-  pub told : Told
+  pub info : Info
 
 -- the caller's buffers with these lists and this record
-abbrev pub buffers : List ℕ → List ℕ → List SplitPrice → Told → Buffers
-buffers objects persons prices told =
-    record { objects = objects; persons = persons; prices = prices; told = told }
+abbrev pub buffers : List ℕ → List ℕ → List SplitPrice → Info → Buffers
+buffers objects persons prices info =
+    record { objects = objects; persons = persons; prices = prices; info = info }
 
 -- an optimal assignment among m objects, with prices that prove it, and the sum of its costs
 pub record HoldsBest (sense : Sense) (m : ℕ) (rows : List Listing) (before after : Buffers) : Type 0 where
   pub proof : IsCertificateAmong sense m rows after.objects (map price_in after.prices)
   pub best : IsBest sense rows after.objects
-  pub sum : after.told ≡ record before.told { total = total rows after.objects }
+  pub sum : after.info ≡ record before.info { total = total rows after.objects }
   pub persons : after.persons ≡ before.persons
 
 -- a Hall set, at the beginning of two buffers
@@ -69,7 +69,7 @@ pub record HoldsHall (rows : List Listing) (before after : Buffers) : Type 0 whe
   pub proof : IsHallSet rows some few
   pub persons : after.persons ≡ some ++ drop (length some) before.persons
   pub objects : after.objects ≡ few ++ drop (length few) before.objects
-  pub counts : after.told ≡ record before.told { persons = length some; objects = length few }
+  pub counts : after.info ≡ record before.info { persons = length some; objects = length few }
   pub prices : after.prices ≡ before.prices
 
 -- an answer to a problem among m objects
@@ -84,7 +84,7 @@ IsAnswered g before after end = IsOfGiven g (λ sense rows. HoldsEnd sense g.m r
 -- the buffers with the place of a fault, if it has one; otherwise unchanged
 abbrev pub with_place : Fault → Buffers → Buffers
 with_place f before =
-    record before { told = record before.told { place = fault_place before.told.place f } }
+    record before { info = record before.info { place = fault_place before.info.place f } }
 
 -- an answer, or the first fault
 abbrev pub IsSolved : GivenLists → Buffers → Buffers → Result End Fault → Type 0

@@ -4,8 +4,7 @@ use Rattle.assign_core.specs.declared.sense.Sense.{Sense}
 use Rattle.assign_core.specs.declared.sense.Sense.TheVariants.{Min, Max}
 use Rattle.assign_core.specs.Rows.{Listing}
 use Rattle.assign_core.specs.Dense.{rows_cut}
-use Rattle.assign_core.specs.Sparse.{Triple}
-use Rattle.rectangles.specs.Sparse.{IsSparseAmong}
+use Rattle.assign_core.specs.Sparse.{IsSparseAmong, Triple}
 use Rattle.lent_lists.specs.declared.form.Form.{Form}
 use Rattle.lent_lists.specs.declared.form.Form.TheVariants.{Dense, Sparse}
 use Rattle.lent_lists.specs.declared.split_price.SplitPrice.{SplitPrice}

@@ -2,7 +2,7 @@
 use Rattle.std.specs.Prelude.{◌≡◌, List, Option, None, Some, take}
 use Rattle.assign_core.specs.Dense.{rows_cut}
 use Rattle.assign_core.specs.Rows.{IsAmong, Listing}
-use Rattle.rectangles.specs.Sparse.{IsSparseAmong}
+use Rattle.assign_core.specs.Sparse.{IsSparseAmong}
 use Rattle.lent_lists.specs.declared.form.Form.TheVariants.{Dense, Sparse}
 use Rattle.lent_lists.specs.Given.{GivenLists, triples_of}
 

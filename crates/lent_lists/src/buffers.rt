@@ -3,8 +3,8 @@ ghost use Rattle.std.specs.Prelude.{◌≡◌, ◌≤◌, ◌++◌, All, IfOk, d
 ghost use Rattle.assign_core.specs.Prices.{IsPrice};
 ghost use Rattle.lent_lists.specs.Prices.{price_in};
 
+use crate::info::Info;
 use crate::split_price::SplitPrice;
-use crate::told::Told;
 use assign_core::{Numbered, Price};
 use std::alloc::{AllocError, Global};
 
@@ -17,7 +17,7 @@ pub struct Buffers<'a> {
     pub persons: &'a mut [u16],
     /// One place for each object.
     pub prices: &'a mut [SplitPrice],
-    pub told: &'a mut Told,
+    pub info: &'a mut Info,
 }
 
 /// Writes the numbers of persons or objects at the beginning of a buffer.

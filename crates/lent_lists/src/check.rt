@@ -9,10 +9,10 @@ ghost use Rattle.lent_lists.specs.Prices.{price_in};
 use crate::buffers::{numbered, prices_of};
 use crate::fault::Fault;
 use crate::given::Given;
+use crate::info::Info;
 use crate::judge::judge;
 use crate::rows::{problem_of, rows_of};
 use crate::split_price::SplitPrice;
-use crate::told::Told;
 use assign_core::{Object, Person, Sense};
 use dual_checker::{CostRows, HallVerdict, Verdict, VerdictAmong, check_among, check_hall_among};
 use std::alloc::{AllocError, Global};
@@ -84,63 +84,63 @@ pub fn hall_verdict_on(
 }
 
 // The code of a verdict on persons. Records what the verdict names.
-fn report_usual(verdict: Verdict, told: &mut Told) -> i32
+fn report_usual(verdict: Verdict, info: &mut Info) -> i32
     ensures code { result ≡ verdict_code (VerdictAmong.Usual verdict) }
-    ensures names { told.new ≡ with_verdict (VerdictAmong.Usual verdict) told.old }
+    ensures names { info.new ≡ with_verdict (VerdictAmong.Usual verdict) info.old }
 {
     match verdict {
         Verdict::Yes => 0,
         Verdict::Length => 10,
         Verdict::Unlisted(person) => {
-            told.person = u64::from(person.0);
+            info.person = u64::from(person.0);
             11
         }
         Verdict::Twice(object) => {
-            told.object = u64::from(object.0);
+            info.object = u64::from(object.0);
             12
         }
         Verdict::PriceRange(object) => {
-            told.object = u64::from(object.0);
+            info.object = u64::from(object.0);
             13
         }
         Verdict::Slack(person, object) => {
-            told.person = u64::from(person.0);
-            told.object = u64::from(object.0);
+            info.person = u64::from(person.0);
+            info.object = u64::from(object.0);
             14
         }
     }
 }
 
 /// The code of a verdict. Records what the verdict names.
-pub fn report_verdict(verdict: VerdictAmong, told: &mut Told) -> i32
+pub fn report_verdict(verdict: VerdictAmong, info: &mut Info) -> i32
     ensures code { result ≡ verdict_code verdict }
-    ensures names { told.new ≡ with_verdict verdict told.old }
+    ensures names { info.new ≡ with_verdict verdict info.old }
 {
     match verdict {
-        VerdictAmong::Usual(verdict) => report_usual(verdict, told),
-        VerdictAmong::Dear(object) => {
-            told.object = u64::from(object.0);
+        VerdictAmong::Usual(verdict) => report_usual(verdict, info),
+        VerdictAmong::Overpriced(object) => {
+            info.object = u64::from(object.0);
             20
         }
     }
 }
 
 /// The code of a verdict on a Hall set. Records what the verdict names.
-pub fn report_hall_verdict(verdict: HallVerdict, told: &mut Told) -> i32
+pub fn report_hall_verdict(verdict: HallVerdict, info: &mut Info) -> i32
     ensures code { result ≡ hall_code verdict }
-    ensures names { told.new ≡ with_hall_verdict verdict told.old }
+    ensures names { info.new ≡ with_hall_verdict verdict info.old }
 {
     match verdict {
         HallVerdict::Yes => 1,
         HallVerdict::Range => 15,
         HallVerdict::Order => 16,
         HallVerdict::Missing(person, object) => {
-            told.person = u64::from(person.0);
-            told.object = u64::from(object.0);
+            info.person = u64::from(person.0);
+            info.object = u64::from(object.0);
             17
         }
         HallVerdict::Extra(object) => {
-            told.object = u64::from(object.0);
+            info.object = u64::from(object.0);
             18
         }
         HallVerdict::Count => 19,

@@ -3,7 +3,7 @@ ghost use Rattle.std.specs.Prelude.{◌≡◌, Ok};
 ghost use Rattle.lent_lists.specs.Ends.{end_code, fault_code, fault_place};
 
 use crate::fault::Fault;
-use crate::told::Told;
+use crate::info::Info;
 
 /// The kind of answer.
 #[derive(Clone, Copy, PartialEq, Eq)]
@@ -41,16 +41,16 @@ fn code_of(fault: Fault) -> i32
 }
 
 /// The code of a fault. Records its place, if it has one.
-pub fn refuse(fault: Fault, told: &mut Told) -> i32
+pub fn refuse(fault: Fault, info: &mut Info) -> i32
     ensures code { result ≡ fault_code fault }
-    ensures place { told.new ≡ record told.old { place = fault_place told.old.place fault } }
+    ensures place { info.new ≡ record info.old { place = fault_place info.old.place fault } }
 {
     if let Fault::Person(place)
     | Fault::Object(place)
     | Fault::Cost(place)
     | Fault::Price(place) = fault
     {
-        told.place = place as u64;
+        info.place = place as u64;
     }
     code_of(fault)
 }

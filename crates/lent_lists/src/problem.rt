@@ -1,7 +1,7 @@
 // The problem of pairs that a caller gives.
 ghost use Rattle.std.specs.Prelude.{◌≡◌, IfOk, length, take};
 ghost use Rattle.assign_core.specs.Rows.{IsAmong};
-ghost use Rattle.rectangles.specs.Sparse.{IsSparseAmong};
+ghost use Rattle.assign_core.specs.Sparse.{IsSparseAmong};
 ghost use Rattle.lent_lists.specs.Faults.{IsWhole};
 ghost use Rattle.lent_lists.specs.Given.{triples_of};
 ghost use Rattle.lent_lists.specs.Shapes.{IsShape};
@@ -10,7 +10,6 @@ use crate::form::Form;
 use crate::given::Given;
 use crate::judge::Shape;
 use assign_core::{Cost, Object, Person, Problem};
-use rectangles::sparse_among;
 use std::alloc::{AllocError, Global};
 
 // The pairs of three lists as triples.
@@ -47,5 +46,5 @@ pub fn sparse_problem(alloc: Global, shape: Shape, given: &Given<'_>) -> Result<
     ensures among { IfOk result (IsAmong shape.n shape.m) }
 {
     let triples = triples(alloc, given.persons, given.objects, given.costs)?;
-    sparse_among(alloc, shape.n, shape.m, triples.as_slice())
+    Problem::sparse_among(alloc, shape.n, shape.m, triples.as_slice())
 }

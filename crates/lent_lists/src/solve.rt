@@ -20,13 +20,13 @@ pub fn solve_given(alloc: Global, given: &Given<'_>, room: Buffers<'_>) -> i32
     requires prices { HasLengths given.now → length room.prices.now ≡ given.now.m }
     ensures { IsReported given.now
         (buffers room.entry.objects.now room.entry.persons.now room.entry.prices.now
-        room.entry.told.now)
+        room.entry.info.now)
         (buffers room.exit.0.now room.exit.1.0.now room.exit.1.1.0.now room.exit.1.1.1.0.now)
         result }
 {
     let found = match find(alloc, given) {
         Ok(found) => found,
-        Err(fault) => return refuse(fault, room.told),
+        Err(fault) => return refuse(fault, room.info),
     };
     // These calls show the prover that each row is one among these objects, and that an assignment
     // with these prices is optimal.
@@ -37,14 +37,14 @@ pub fn solve_given(alloc: Global, given: &Given<'_>, room: Buffers<'_>) -> i32
         Outcome::Best(best) => {
             put_numbers(room.objects, best.assignment.objects());
             put_prices(room.prices, best.prices.as_slice());
-            room.told.total = total_of(&rows, best.assignment.objects());
+            room.info.total = total_of(&rows, best.assignment.objects());
             code_of_end(End::Best)
         }
         Outcome::Hall(hall) => {
             put_numbers(room.persons, hall.persons());
             put_numbers(room.objects, hall.objects());
-            room.told.persons = hall.persons().len() as u64;
-            room.told.objects = hall.objects().len() as u64;
+            room.info.persons = hall.persons().len() as u64;
+            room.info.objects = hall.objects().len() as u64;
             code_of_end(End::Hall)
         }
     }

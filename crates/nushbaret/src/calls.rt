@@ -6,7 +6,7 @@ ghost use Rattle.lent_lists.specs.Given.{dense, either, sparse};
 ghost use Rattle.lent_lists.specs.Prices.{price_in};
 
 use lent_lists::{
-    Buffers, Form, Given, SplitPrice, Told, form_of, hall_verdict_on, refuse, report_hall_verdict,
+    Buffers, Form, Given, Info, SplitPrice, form_of, hall_verdict_on, refuse, report_hall_verdict,
     report_verdict, solve_given, verdict_on,
 };
 use std::alloc::Global;
@@ -22,13 +22,13 @@ pub extern "C" fn nushbaret_dense(
     objects: &mut [u16],
     persons: &mut [u16],
     prices: &mut [SplitPrice],
-    told: &mut Told,
+    info: &mut Info,
 ) -> i32
     ensures { IsReported
         (dense sense n m (length objects.old ∷ length persons.old ∷ []) (length prices.old ∷ [])
         costs.now [])
-        (buffers objects.old persons.old prices.old told.old)
-        (buffers objects.new persons.new prices.new told.new) result }
+        (buffers objects.old persons.old prices.old info.old)
+        (buffers objects.new persons.new prices.new info.new) result }
 {
     let by_person = [objects.len(), persons.len()];
     let by_object = [prices.len()];
@@ -48,7 +48,7 @@ pub extern "C" fn nushbaret_dense(
         objects,
         persons,
         prices,
-        told,
+        info,
     };
     solve_given(alloc, &given, room)
 }
@@ -65,14 +65,14 @@ pub extern "C" fn nushbaret_dense_from(
     objects: &mut [u16],
     persons: &mut [u16],
     prices: &mut [SplitPrice],
-    told: &mut Told,
+    info: &mut Info,
 ) -> i32
     ensures { IsReported
         (dense sense n m (length objects.old ∷ length persons.old ∷ [])
         (length prices.old ∷ length first.now ∷ [])
         costs.now first.now)
-        (buffers objects.old persons.old prices.old told.old)
-        (buffers objects.new persons.new prices.new told.new) result }
+        (buffers objects.old persons.old prices.old info.old)
+        (buffers objects.new persons.new prices.new info.new) result }
 {
     let by_person = [objects.len(), persons.len()];
     let by_object = [prices.len(), first.len()];
@@ -92,7 +92,7 @@ pub extern "C" fn nushbaret_dense_from(
         objects,
         persons,
         prices,
-        told,
+        info,
     };
     solve_given(alloc, &given, room)
 }
@@ -111,13 +111,13 @@ pub extern "C" fn nushbaret_sparse(
     objects: &mut [u16],
     persons: &mut [u16],
     prices: &mut [SplitPrice],
-    told: &mut Told,
+    info: &mut Info,
 ) -> i32
     ensures { IsReported
         (sparse sense n m (length objects.old ∷ length persons.old ∷ []) (length prices.old ∷ [])
         of_persons.now of_objects.now costs.now [])
-        (buffers objects.old persons.old prices.old told.old)
-        (buffers objects.new persons.new prices.new told.new) result }
+        (buffers objects.old persons.old prices.old info.old)
+        (buffers objects.new persons.new prices.new info.new) result }
 {
     let by_person = [objects.len(), persons.len()];
     let by_object = [prices.len()];
@@ -137,7 +137,7 @@ pub extern "C" fn nushbaret_sparse(
         objects,
         persons,
         prices,
-        told,
+        info,
     };
     solve_given(alloc, &given, room)
 }
@@ -156,14 +156,14 @@ pub extern "C" fn nushbaret_sparse_from(
     objects: &mut [u16],
     persons: &mut [u16],
     prices: &mut [SplitPrice],
-    told: &mut Told,
+    info: &mut Info,
 ) -> i32
     ensures { IsReported
         (sparse sense n m (length objects.old ∷ length persons.old ∷ [])
         (length prices.old ∷ length first.now ∷ [])
         of_persons.now of_objects.now costs.now first.now)
-        (buffers objects.old persons.old prices.old told.old)
-        (buffers objects.new persons.new prices.new told.new) result }
+        (buffers objects.old persons.old prices.old info.old)
+        (buffers objects.new persons.new prices.new info.new) result }
 {
     let by_person = [objects.len(), persons.len()];
     let by_object = [prices.len(), first.len()];
@@ -183,7 +183,7 @@ pub extern "C" fn nushbaret_sparse_from(
         objects,
         persons,
         prices,
-        told,
+        info,
     };
     solve_given(alloc, &given, room)
 }
@@ -201,11 +201,11 @@ pub extern "C" fn nushbaret_check(
     costs: &[i64],
     objects: &[u16],
     prices: &[SplitPrice],
-    told: &mut Told,
+    info: &mut Info,
 ) -> i32
     ensures { let given = either sense n m of_persons.now of_objects.now costs.now in
-        IsJudged given objects.now (map price_in prices.now) told.old told.new result
-        ⊎ IsRefused given told.old told.new result }
+        IsJudged given objects.now (map price_in prices.now) info.old info.new result
+        ⊎ IsRefused given info.old info.new result }
 {
     let given = Given {
         form: form_of(of_persons, of_objects, costs),
@@ -220,8 +220,8 @@ pub extern "C" fn nushbaret_check(
         first: &[],
     };
     match verdict_on(alloc, &given, objects, prices) {
-        Ok(verdict) => report_verdict(verdict, told),
-        Err(fault) => refuse(fault, told),
+        Ok(verdict) => report_verdict(verdict, info),
+        Err(fault) => refuse(fault, info),
     }
 }
 
@@ -236,11 +236,11 @@ pub extern "C" fn nushbaret_check_hall(
     costs: &[i64],
     persons: &[u16],
     objects: &[u16],
-    told: &mut Told,
+    info: &mut Info,
 ) -> i32
     ensures { let given = either 0 n m of_persons.now of_objects.now costs.now in
-        IsHallJudged given persons.now objects.now told.old told.new result
-        ⊎ IsRefused given told.old told.new result }
+        IsHallJudged given persons.now objects.now info.old info.new result
+        ⊎ IsRefused given info.old info.new result }
 {
     let given = Given {
         form: form_of(of_persons, of_objects, costs),
@@ -255,7 +255,7 @@ pub extern "C" fn nushbaret_check_hall(
         first: &[],
     };
     match hall_verdict_on(alloc, &given, persons, objects) {
-        Ok(verdict) => report_hall_verdict(verdict, told),
-        Err(fault) => refuse(fault, told),
+        Ok(verdict) => report_hall_verdict(verdict, info),
+        Err(fault) => refuse(fault, info),
     }
 }

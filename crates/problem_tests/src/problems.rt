@@ -21,7 +21,7 @@ fn two_persons(alloc: Global) -> Result<Problem, AllocError>
 }
 
 // The number of its persons, and the costs of two pairs.
-fn two_told(alloc: Global) -> Result<(u16, [Option<Cost>; 2]), AllocError> {
+fn two_costs(alloc: Global) -> Result<(u16, [Option<Cost>; 2]), AllocError> {
     let problem = two_persons(alloc)?;
     let costs = [
         problem.cost_of(Person(2), Object(1)),
@@ -32,8 +32,8 @@ fn two_told(alloc: Global) -> Result<(u16, [Option<Cost>; 2]), AllocError> {
 
 #[test]
 fn costs_of_a_dense_problem(rt: HostRuntime) -> Result<(), Fail> {
-    let told = two_told(rt.alloc())?;
-    assert_eq!(rt; told, (2, [Some(3), None]));
+    let costs = two_costs(rt.alloc())?;
+    assert_eq!(rt; costs, (2, [Some(3), None]));
     Ok(())
 }
 
@@ -157,8 +157,8 @@ fn all_told(alloc: Global) -> Result<(usize, usize, Option<Person>), AllocError>
 
 #[test]
 fn a_hall_set_of_all_persons(rt: HostRuntime) -> Result<(), Fail> {
-    let told = all_told(rt.alloc())?;
-    assert!(rt; told == (8192, 8191, Some(Person(8192))));
+    let costs = all_told(rt.alloc())?;
+    assert!(rt; costs == (8192, 8191, Some(Person(8192))));
     Ok(())
 }
 
@@ -185,8 +185,8 @@ fn many_told(alloc: Global) -> Result<(u16, usize, [Option<Cost>; 3]), AllocErro
 
 #[test]
 fn a_dense_problem_of_many_persons(rt: HostRuntime) -> Result<(), Fail> {
-    let told = many_told(rt.alloc())?;
-    assert_eq!(rt; told, (2000, 2000, [Some(7), None, None]));
+    let costs = many_told(rt.alloc())?;
+    assert_eq!(rt; costs, (2000, 2000, [Some(7), None, None]));
     Ok(())
 }
 

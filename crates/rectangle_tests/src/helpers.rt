@@ -1,14 +1,13 @@
 // Problems of n persons and m objects, and answers as plain data.
 ghost use Rattle.std.specs.Prelude.{◌≡◌, IfOk, length, max};
 ghost use Rattle.assign_core.specs.Rows.{IsAmong, IsSize};
-ghost use Rattle.rectangles.specs.Sparse.{IsTripleAmong};
+ghost use Rattle.assign_core.specs.Sparse.{IsTripleAmong};
 
 use assign_core::{
     Certificate, Cost, HallSet, Object, Outcome, Person, Price, Prices, Problem, Sense,
 };
 use augmenting_paths::{Unobserved, Wishes, copy_rows};
 use dual_checker::{CostRows, HallVerdict, Verdict, VerdictAmong, check_among, check_hall_among};
-use rectangles::sparse_among;
 use shortest_paths::{solve_paths, solve_with_dummies};
 use std::alloc::{AllocError, Global};
 use test_helpers::{Pair, cost_in_range, first_prices, number, plain_best, problem_of};
@@ -37,7 +36,7 @@ pub fn rectangle(alloc: Global, n: u16, m: u16, pairs: &[Pair]) -> Result<Proble
     for pair in pairs {
         triples.push(triple_among(n, m, *pair))?;
     }
-    sparse_among(alloc, n, m, triples.as_slice())
+    Problem::sparse_among(alloc, n, m, triples.as_slice())
 }
 
 // The sum of the costs of the objects of persons 1, 2, ..

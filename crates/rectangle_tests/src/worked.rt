@@ -124,9 +124,9 @@ fn one_row(alloc: Global, m: u16) -> Result<Vec<Pair>, AllocError> {
 fn one_person_from_first_prices(rt: HostRuntime) -> Result<(), Fail> {
     let alloc = rt.alloc();
     let pairs = one_row(alloc, 4)?;
-    let dear = first_prices(alloc, 4, &[0, 10, 1_000_000, 1_000_000])?;
+    let overpriced = first_prices(alloc, 4, &[0, 10, 1_000_000, 1_000_000])?;
     assert_eq!(rt;
-        solved_from(alloc, 1, 4, pairs.as_slice(), Sense::Min, dear)?,
+        solved_from(alloc, 1, 4, pairs.as_slice(), Sense::Min, overpriced)?,
         Came::Best(1)
     );
     Ok(())

@@ -67,11 +67,9 @@ fn stored_rows(
 /// `AllocError` if memory is refused.
 ///
 /// # Example
-/// The body of `calling::solve_dense`:
+/// From `calling::solve_alone`:
 /// ```
-/// let problem = Problem::dense(alloc, n, costs)?;
-/// let scaled = Arc::new(alloc, scale(alloc, problem, Sense::Min)?)?;
-/// solve_paths(alloc, scaled)
+/// let scaled = Arc::new(alloc, scale(alloc, problem, sense)?)?;
 /// ```
 pub fn scale(alloc: Global, problem: Problem, sense: Sense) -> Result<Scaled, AllocError>
     ensures problem { IfOk result (λ s. s.problem ≡ problem) }

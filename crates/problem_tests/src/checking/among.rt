@@ -66,8 +66,8 @@ fn two_persons_among_three_objects(rt: HostRuntime) -> Result<(), Fail> {
         ("21", &[4, 0, 0], VerdictAmong::Usual(Verdict::Yes)),
         ("21", &[4, 0, 1], VerdictAmong::Usual(Verdict::Yes)),
         ("13", &[4, 0, 0], VerdictAmong::Usual(Verdict::Yes)),
-        ("21", &[4, 0, 2], VerdictAmong::Dear(Object(3))),
-        ("13", &[6, 3, 1], VerdictAmong::Dear(Object(2))),
+        ("21", &[4, 0, 2], VerdictAmong::Overpriced(Object(3))),
+        ("13", &[6, 3, 1], VerdictAmong::Overpriced(Object(2))),
         // Enough if costs are scaled by 3, one more than the persons.
         (
             "21",

@@ -2,14 +2,13 @@
 // shift the wrong way or prices in another unit, no contract refuses: these tests count the passes.
 ghost use Rattle.std.specs.Prelude.{All, IfOk};
 ghost use Rattle.assign_core.specs.Rows.{IsAmong, IsCost, IsSize};
-ghost use Rattle.rectangles.specs.Sparse.{IsTripleAmong};
+ghost use Rattle.assign_core.specs.Sparse.{IsTripleAmong};
 
 use assign_core::{
     Cost, GREATEST_COST, GREATEST_FIRST_PRICE, Object, Outcome, Person, Price, Problem, Sense,
 };
 use augmenting_paths::{CostCopy, Observer, Pass, Wishes, copy_dense, copy_rows, try_paths};
 use dual_checker::CostRows;
-use rectangles::sparse_among;
 use std::alloc::{AllocError, Global};
 use std::sync::atomic::{AtomicU64, Ordering};
 use std::test::Fail;
@@ -186,7 +185,7 @@ fn rectangle(alloc: Global, n: u16, m: u16, pairs: &[Pair]) -> Result<Problem, A
     for pair in pairs {
         triples.push(triple_among(n, m, *pair))?;
     }
-    sparse_among(alloc, n, m, triples.as_slice())
+    Problem::sparse_among(alloc, n, m, triples.as_slice())
 }
 
 // What two searches find in a problem of these pairs.

@@ -1,4 +1,4 @@
-use Rattle.std.proofs.Common.{◌≡◌, ◌-◌, ◌+◌, ◌++◌, ◌∷◌, append-nil, arith, sym, ◌∙◌, ap, map, take}
+use Rattle.std.proofs.Common.{◌-◌, ◌+◌, ◌++◌, ◌∷◌, arith, sym, ◌∙◌, ap, map, take}
 use Rattle.assign_core.specs.Dense.{rows_cut, row_from}
 use Rattle.assign_core.proofs.DenseRows.{rows_cut-step, rows_moved, less_left}
 use Rattle.assign_core.proofs.problem.cut_rows.Goals as goal

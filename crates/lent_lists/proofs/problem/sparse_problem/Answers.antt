@@ -1,6 +1,6 @@
 use Rattle.std.proofs.Common.{◌≡◌, ℕ, All, sym, subst, ap, ◌∙◌}
 use Rattle.assign_core.specs.Numbered.{IsNumber}
-use Rattle.rectangles.specs.Sparse.{IsTripleAmong}
+use Rattle.assign_core.specs.Sparse.{IsTripleAmong}
 use Rattle.lent_lists.specs.Faults.{IsWhole}
 use Rattle.lent_lists.specs.Given.{GivenLists}
 use Rattle.lent_lists.proofs.Triples.{triples_within}

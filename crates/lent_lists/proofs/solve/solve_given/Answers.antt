@@ -64,13 +64,13 @@ returns-in-Best c =
     let wide : SFits w64 c.total_of-room.result = search rules in
     let sum = to_z-of_z w64 c.total_of-room.result wide ∙ c.total_of-room.ensures
     ∙ ap (λ (l : Listings). total l.rows c.objects-in-Best.result.now) c.rows_of-rows.ensures ∙ ap (total rows) c.objects-in-Best.ensures.objects in
-    let held = best_held shape.sense g.m rows best room.objects.now room.persons.now c.put_numbers.new.buffer room.prices.now c.put_prices.new.buffer room.told.now _ proof law buffer
+    let held = best_held shape.sense g.m rows best room.objects.now room.persons.now c.put_numbers.new.buffer room.prices.now c.put_prices.new.buffer room.info.now _ proof law buffer
     (c.put_prices.ensures ∙ c.as_slice.ensures.prices) sum in
     let fits : SFits w32 c.code_of_end.result = search rules in
     record {
       end = Ok Best;
       is = to_z-of_z w32 c.code_of_end.result fits ∙ c.code_of_end.ensures;
-      solved = of_given g shape c.in-Ok.found.problem (λ sense rows. HoldsEnd sense g.m rows (buffers room.objects.now room.persons.now room.prices.now room.told.now) _ Best) found.shape found.whole found.source held;
+      solved = of_given g shape c.in-Ok.found.problem (λ sense rows. HoldsEnd sense g.m rows (buffers room.objects.now room.persons.now room.prices.now room.info.now) _ Best) found.shape found.whole found.source held;
     }
 
 pub put_numbers-requires-in-Hall : goal.put_numbers-requires-in-Hall
@@ -94,11 +94,11 @@ returns c =
     let rows = source_rows g c.in-Ok.found.problem in
     let proof = subst (IsProofAmong shape.sense g.m rows) c.in-Hall.is found.proof in
     let held = hall_held rows hall room.objects.now room.persons.now c.put_numbers-in-Hall-2.new.buffer c.put_numbers-in-Hall.new.buffer c.persons.result.now c.objects-in-Hall.result.now
-    room.prices.now room.told.now _ _ proof c.persons.ensures.persons c.objects-in-Hall.ensures.objects c.put_numbers-in-Hall.ensures c.put_numbers-in-Hall-2.ensures
+    room.prices.now room.info.now _ _ proof c.persons.ensures.persons c.objects-in-Hall.ensures.objects c.put_numbers-in-Hall.ensures c.put_numbers-in-Hall-2.ensures
     (ap (λ xs. length xs) c.persons-in-Hall.ensures.persons) (ap (λ xs. length xs) c.objects-in-Hall-2.ensures.objects) in
     let fits : SFits w32 c.code_of_end-in-Hall.result = search rules in
     record {
       end = Ok Hall;
       is = to_z-of_z w32 c.code_of_end-in-Hall.result fits ∙ c.code_of_end-in-Hall.ensures;
-      solved = of_given g shape c.in-Ok.found.problem (λ sense rows. HoldsEnd sense g.m rows (buffers room.objects.now room.persons.now room.prices.now room.told.now) _ Hall) found.shape found.whole found.source held;
+      solved = of_given g shape c.in-Ok.found.problem (λ sense rows. HoldsEnd sense g.m rows (buffers room.objects.now room.persons.now room.prices.now room.info.now) _ Hall) found.shape found.whole found.source held;
     }

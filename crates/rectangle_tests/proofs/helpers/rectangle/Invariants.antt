@@ -1,5 +1,5 @@
 use Rattle.std.specs.List.{All}
-use Rattle.rectangles.specs.Sparse.{IsTripleAmong}
+use Rattle.assign_core.specs.Sparse.{IsTripleAmong}
 use Rattle.rectangle_tests.proofs.helpers.rectangle.Given as goal
 
 abbrev pub invariant-loop-pair : goal.invariant-loop-pair

@@ -4,7 +4,7 @@
 /// its end.
 #[repr(C)]
 #[derive(Clone, Copy)]
-pub struct Told {
+pub struct Info {
     /// The sum of the costs of an optimal assignment.
     pub total: i64,
     /// The place, from 0, of a fault in a list.

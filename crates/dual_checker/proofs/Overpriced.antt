@@ -9,7 +9,7 @@ use Rattle.assign_core.specs.Prices.{price_of}
 use Rattle.assign_core.specs.Slackness.{AreLow}
 use Rattle.assign_core.proofs.Members.{contains_first, contains_later, first_or_later}
 use Rattle.dual_checker.specs.Counts.{AreCounts}
-use Rattle.dual_checker.specs.Faults.{IsDear, IsFirst}
+use Rattle.dual_checker.specs.Faults.{IsOverpriced, IsFirst}
 use Rattle.dual_checker.proofs.Givings.{count_of, count-more, count-same}
 
 counted : (xs : List ℕ) (j : ℕ) → 0 < count_of xs j → Contains xs j
@@ -50,9 +50,9 @@ none_has counts xs j h n none =
     ]
 
 -- what the counts say of the given objects
-pub dear_from : (counts xs : List ℕ) (prices : List ℤ) (j : ℕ) → AreCounts counts xs → length counts ≡ length prices → IsFirst (IsUnused counts prices) (length prices) j →
-    IsFirst (IsDear (length prices) prices xs) (length prices) j
-dear_from counts xs prices j h long f = record {
+pub overpriced_from : (counts xs : List ℕ) (prices : List ℤ) (j : ℕ) → AreCounts counts xs → length counts ≡ length prices → IsFirst (IsUnused counts prices) (length prices) j →
+    IsFirst (IsOverpriced (length prices) prices xs) (length prices) j
+overpriced_from counts xs prices j h long f = record {
   number = f.number;
   here = (
     uncounted xs j (let e = h j (subst (λ m. IsNumber m j) (sym long) f.number) in sym e ∙ f.here.0),
