@@ -23,8 +23,8 @@ fn run_on_file(
     most: usize,
 ) -> Result<Seen, AllocError> {
     let mut devices = whole_devices(alloc, STANDARD, REPORT, most);
-    devices.problem = whole_text(PROBLEM, most);
-    devices.problem.fails = fails;
+    devices.files.problem = whole_text(PROBLEM, most);
+    devices.files.problem.fails = fails;
     run_on(rt, alloc, line, devices)
 }
 
@@ -57,7 +57,8 @@ fn problems_in_files(rt: HostRuntime) -> Result<(), Fail> {
     Ok(())
 }
 
-// The report is opened first, then the problem's file; nothing is read before.
+// The words are judged first. Then the report is opened, and then the problem's file; nothing is
+// read before.
 #[test]
 fn files_that_cannot_be_read(rt: HostRuntime) -> Result<(), Fail> {
     let no_report = "device: cannot open the report\n";
@@ -83,30 +84,20 @@ fn files_that_cannot_be_read(rt: HostRuntime) -> Result<(), Fail> {
             3,
             "input: bad number at byte 0\n",
         ),
-    ];
-    for (line, status, told) in table {
-        let seen = run_on_file(&rt, rt.alloc(), line, true, 2)?;
-        assert_failed(&rt, &seen, status, told);
-        assert_left_alone(&rt, &seen);
-    }
-    Ok(())
-}
-
-#[test]
-fn words_come_first(rt: HostRuntime) -> Result<(), Fail> {
-    let table = [
         (
             "solve --mode round --input none",
+            2,
             "usage: mode is rounds or workers\n",
         ),
         (
             "verify --sense most --input none none",
+            2,
             "usage: sense is min or max\n",
         ),
     ];
-    for (line, told) in table {
-        let seen = run_on_file(&rt, rt.alloc(), line, false, 100)?;
-        assert_failed(&rt, &seen, 2, told);
+    for (line, status, told) in table {
+        let seen = run_on_file(&rt, rt.alloc(), line, true, 2)?;
+        assert_failed(&rt, &seen, status, told);
         assert_left_alone(&rt, &seen);
     }
     Ok(())
