@@ -11,10 +11,16 @@ returns-in-Err-clause-output g c = λ name opened.
 
 pub returns-in-Ok-None-clause-output : goal.returns-in-Ok-None-clause-output
 returns-in-Ok-None-clause-output g c = λ name opened.
-    let is = subst (λ file. Opens (g.F.Files.may_open c.args.devices.now.files) (option_map string_bytes c.args.input) (option_map g.F.File.Read.remaining file)) c.in-Ok-None.field-0-is c.in-Ok-None.ensures.ok in
-    verify_done c.args.verifier name c.args.input _ _ _ _ _ _ c.verify.result opened (standard_text _ _ _ g.F.File.Read.remaining is) c.verify.ensures.output
+    let files = g.F.Files.may_open c.args.devices.now.files in
+    let wanted = option_map string_bytes c.args.input in
+    let standard = g.R.Read.remaining c.args.devices.now.input in
+    let is = subst (λ file. Opens files wanted (option_map g.F.File.Read.remaining file)) c.in-Ok-None.field-0-is c.in-Ok-None.ensures.ok in
+    verify_done c.args.verifier name c.args.input standard standard files _ _ _ c.verify.result opened (standard_text files wanted standard g.F.File.Read.remaining is) c.verify.ensures.output
 
 pub returns-in-Ok-Some-clause-output : goal.returns-in-Ok-Some-clause-output
 returns-in-Ok-Some-clause-output g c = λ name opened.
-    let is = subst (λ file. Opens (g.F.Files.may_open c.args.devices.now.files) (option_map string_bytes c.args.input) (option_map g.F.File.Read.remaining file)) c.in-Ok-Some.field-0-is c.in-Ok-Some.ensures.ok in
-    verify_done c.args.verifier name c.args.input _ _ _ _ _ _ c.verify-in-Ok-Some.result opened (file_text _ _ _ g.F.File.Read.remaining c.in-Ok-Some.input is) c.verify-in-Ok-Some.ensures.output
+    let files = g.F.Files.may_open c.args.devices.now.files in
+    let wanted = option_map string_bytes c.args.input in
+    let standard = g.R.Read.remaining c.args.devices.now.input in
+    let is = subst (λ file. Opens files wanted (option_map g.F.File.Read.remaining file)) c.in-Ok-Some.field-0-is c.in-Ok-Some.ensures.ok in
+    verify_done c.args.verifier name c.args.input standard (g.F.File.Read.remaining c.in-Ok-Some.input) files _ _ _ c.verify-in-Ok-Some.result opened (file_text files wanted standard g.F.File.Read.remaining c.in-Ok-Some.input is) c.verify-in-Ok-Some.ensures.output
