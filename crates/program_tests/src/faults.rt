@@ -2,7 +2,7 @@
 use crate::starts::TWO;
 use crate::watched::{assert_failed, leaves, run_on, run_with, watched_run, whole_devices};
 use assign_core::{Object, Person};
-use auction_command::{CliFault, NoWords, status_of};
+use auction_command::{CliFault, NoWords, Outputs, status_of};
 use orlib_reader::InputFault;
 use report::{ReportFault, StartFault};
 use std::alloc::{AllocError, Global};
@@ -182,7 +182,10 @@ fn is_cut_off(
         b"infeasible\npersons 1 1\nobjects 0\n",
         100,
     );
-    devices.outputs.output = failing_writer(alloc, front.len(), most, fails);
+    devices.outputs = Outputs {
+        output: failing_writer(alloc, front.len(), most, fails),
+        errors: failing_writer(alloc, 1 << 20, 100, true),
+    };
     let seen = run_on(rt, alloc, line, devices)?;
     Ok(leaves(&seen, 4, front, b"device: write failed\n"))
 }
@@ -230,7 +233,10 @@ fn is_written_in_part(
     front: &[u8],
 ) -> Result<bool, AllocError> {
     let mut devices = whole_devices(alloc, b"x", b"", 100);
-    devices.outputs.errors = failing_writer(alloc, front.len(), 3, false);
+    devices.outputs = Outputs {
+        output: failing_writer(alloc, 1 << 20, 100, true),
+        errors: failing_writer(alloc, front.len(), 3, false),
+    };
     let seen = run_on(rt, alloc, line, devices)?;
     Ok(leaves(&seen, status, b"", front) && !seen.whole)
 }

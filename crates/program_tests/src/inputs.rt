@@ -1,11 +1,11 @@
 // Runs whose problem is in a file that the words name.
-use crate::watched::{Seen, assert_failed, assert_reported, run_on, whole_devices};
+use crate::watched::{Seen, Shelf, assert_failed, assert_reported, run_on, whole_devices};
 use std::alloc::{AllocError, Global};
 use std::process::Abort;
 use std::sync::Wait;
 use std::test::Fail;
 use std::thread::Threads;
-use test_helpers::whole_text;
+use test_helpers::{Pieces, whole_text};
 
 // A problem on standard input, which these runs don't read.
 const STANDARD: &[u8] = b"1 7";
@@ -23,8 +23,14 @@ fn run_on_file(
     most: usize,
 ) -> Result<Seen, AllocError> {
     let mut devices = whole_devices(alloc, STANDARD, REPORT, most);
-    devices.files.problem = whole_text(PROBLEM, most);
-    devices.files.problem.fails = fails;
+    devices.files = Shelf {
+        report: whole_text(REPORT, most),
+        problem: Pieces {
+            text: PROBLEM,
+            most,
+            fails,
+        },
+    };
     run_on(rt, alloc, line, devices)
 }
 
