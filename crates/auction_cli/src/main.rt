@@ -4,7 +4,9 @@
 pub use auction_command::{
     CliFault, Context, Ended, Solver, Verified, run_solve, run_solve_by, run_solve_from, run_verify,
 };
-use auction_command::{Console, Files, NoFile, NoWords, ProgressLines, run_program};
+use auction_command::{
+    Console, Devices, Files, NoFile, NoWords, OpenGate, Outputs, ProgressLines, run_program,
+};
 pub use command_line::{Method, Mode, SolveOpts, Words, WordsFault, read_words};
 use std::fs::File;
 use std::io::{IsTerminal, Write};
@@ -75,20 +77,22 @@ fn given_words(rt: &HostRuntime) -> Result<Vec<String>, NoWords> {
 
 fn main(rt: HostRuntime) -> ExitCode {
     let words = given_words(&rt);
-    let mut reader = rt.reader();
-    let mut writer = io::writer(&rt);
-    let mut errors = rt.stderr();
+    let mut devices = Devices {
+        files: Disk { rt: &rt },
+        input: rt.reader(),
+        outputs: Outputs {
+            output: io::writer(&rt),
+            errors: rt.stderr(),
+        },
+    };
     let typed = rt.stdin().is_terminal();
-    let lines = ProgressLines::new(Machine { rt: &rt }, errors.is_terminal(), typed);
-    let end = run_program(
-        &rt,
-        rt.alloc(),
-        words,
-        &Disk { rt: &rt },
-        &mut reader,
-        &mut writer,
-        &mut errors,
-        &lines,
-    );
+    let in_place = rt.stderr().is_terminal();
+    let context = Context {
+        rt: &rt,
+        alloc: rt.alloc(),
+        gate: &OpenGate,
+        watch: &ProgressLines::new(Machine { rt: &rt }, in_place, typed),
+    };
+    let end = run_program(&context, words, &mut devices);
     ExitCode::from(end.status())
 }

@@ -1,19 +1,19 @@
 -- What the program writes on each stream, and its status, by its words and its end.
-use Rattle.std.specs.Prelude.{◌≡◌, ◌≢◌, ◌⊎◌, ℕ, Bool, List, ◌++◌, Option, None, Some, Result, Ok, Err, codes, ⊤}
+use Rattle.std.specs.Prelude.{◌≡◌, ◌≢◌, ◌⊎◌, ℕ, List, ◌++◌, Option, None, Some, Result, Ok, Err, codes, ⊤}
 use Rattle.std.specs.Io.KnownBytes.{Appends, Keeps}
 use Rattle.clap.specs.Words.{fault_of, IsAmong, Text}
 use Rattle.clap.specs.declared.error.kind.ErrorKind.{ErrorKind}
 use Rattle.clap.specs.declared.error.kind.ErrorKind.TheVariants.{DisplayHelp, DisplayVersion, OutOfMemory}
 use Rattle.std.specs.Option.{IsSomeAnd, option_map}
 use Rattle.std.specs.String.{string_bytes}
-use Rattle.assign_core.specs.declared.sense.Sense.{Sense}
 use Rattle.report.specs.Writing.{IsCutOff}
 use Rattle.auction_command.specs.Solve.{SolveOutcome, end_status, fault_line, solver_of, status}
-use Rattle.auction_command.specs.Verify.{VerifyOutcome}
+use Rattle.auction_command.specs.Verify.{VerifyOutcome, verifier_of}
 use Rattle.command_line.specs.Words.{AskFor, AskForNoMode, AskForNoModeAt, AskForNoSense, AskForNoSenseAt, Places, program}
 use Rattle.command_line.specs.declared.words.Words.{Words}
 use Rattle.command_line.specs.declared.words.Words.TheVariants.{Solve, Verify}
 use Rattle.auction_command.specs.declared.verify.Verified.TheVariants.{Yes, No}
+use Rattle.auction_command.specs.declared.verify.Verifier.{Verifier}
 use Rattle.auction_command.specs.declared.run.Solver.{Solver}
 use Rattle.auction_command.specs.declared.run.CliFault.{CliFault}
 use Rattle.auction_command.specs.declared.run.CliFault.TheVariants.{Write, Memory}
@@ -78,12 +78,12 @@ Openings = Text → Opening → Type 0
 
 -- the report to check, or the one for the first prices
 abbrev pub report_name : Words → Option Text
-report_name (Solve options start asked) = option_map string_bytes start
+report_name (Solve options start method input progress) = option_map string_bytes start
 report_name (Verify sparse sense name input) = Some (string_bytes name)
 
 -- the file with the problem; without one it is on standard input
 abbrev pub input_name : Words → Option Text
-input_name (Solve options start asked) = option_map string_bytes asked.input
+input_name (Solve options start method input progress) = option_map string_bytes input
 input_name (Verify sparse sense name input) = option_map string_bytes input
 
 -- opening a named file gave these bytes, or no file is named and none was opened
@@ -109,11 +109,11 @@ SolveEnd solver input start old new (Failed fault written) = SolveOutcome solver
 SolveEnd solver input start old new end = ⊥
 
 -- how a run of `verify` ends the program
-abbrev pub VerifyEnd : Bool → Option Sense → Option (List ℕ) → Option (List ℕ) → Option (List ℕ) → Option (List ℕ) →
+abbrev pub VerifyEnd : Verifier → Option (List ℕ) → Option (List ℕ) → Option (List ℕ) → Option (List ℕ) →
     ProgramEnd → Type 0
-VerifyEnd sparse wanted input text old new (Checked verified) = VerifyOutcome sparse wanted input text old new (Ok verified)
-VerifyEnd sparse wanted input text old new (Failed fault written) = VerifyOutcome sparse wanted input text old new (Err fault)
-VerifyEnd sparse wanted input text old new end = ⊥
+VerifyEnd verifier input text old new (Checked verified) = VerifyOutcome verifier input text old new (Ok verified)
+VerifyEnd verifier input text old new (Failed fault written) = VerifyOutcome verifier input text old new (Err fault)
+VerifyEnd verifier input text old new end = ⊥
 
 -- the program did what the words request and ended like this: it opened the named files, the report
 -- first, and wrote nothing to standard output if one of them can't be opened or memory is refused
@@ -124,14 +124,14 @@ Does asked standard files old new (Unopened Input written) =
     ((text : Option (Option (List ℕ))) × Opens files (report_name asked) text)
     × FailsToOpen files (input_name asked) no_file.Unopened × Keeps old new
 Does asked standard files old new (Failed Memory written) = Keeps old new
-Does (Solve options start asked) standard files old new end =
+Does (Solve options start method input progress) standard files old new end =
     (text : Option (Option (List ℕ))) × Opens files (option_map string_bytes start) text
-    × (problem : Option (List ℕ)) × IsProblemText files (option_map string_bytes asked.input) standard problem
-    × SolveEnd (solver_of asked.method options) problem text old new end
+    × (problem : Option (List ℕ)) × IsProblemText files (option_map string_bytes input) standard problem
+    × SolveEnd (solver_of method options) problem text old new end
 Does (Verify sparse sense name input) standard files old new end =
     (text : Option (List ℕ)) × files (string_bytes name) (Ok text)
     × (problem : Option (List ℕ)) × IsProblemText files (option_map string_bytes input) standard problem
-    × VerifyEnd sparse sense problem text old new end
+    × VerifyEnd (verifier_of sparse sense) problem text old new end
 
 -- the words are refused, or request help, of which a beginning is written if writing fails, or
 -- memory is refused

@@ -11,8 +11,13 @@ use Rattle.auction_command.specs.Findings.{IsFoundUnder, IsSo, finding_line, ver
 use Rattle.auction_command.specs.declared.finding.Finding.{Finding}
 use Rattle.auction_command.specs.declared.verify.Verified.{Verified}
 use Rattle.auction_command.specs.declared.verify.Verified.TheVariants.{Yes}
+use Rattle.auction_command.specs.declared.verify.Verifier.{Verifier}
 use Rattle.auction_command.specs.declared.run.CliFault.{CliFault}
 use Rattle.auction_command.specs.declared.run.CliFault.TheVariants as faults
+
+-- a text that lists pairs or doesn't, and a requested sense or none
+abbrev pub verifier_of : Bool → Option Sense → Verifier
+verifier_of sparse sense = record { sparse = sparse; sense = sense }
 
 -- a finding's line, with its line feed
 abbrev pub whole_line : Finding → List ℕ
@@ -20,28 +25,28 @@ whole_line finding = finding_line finding ++ codes "\n"
 
 -- known bytes are a problem and a report, with this finding under the requested sense or any; if
 -- there is no fault, the report is right
-pub record IsFinding (sparse : Bool) (wanted : Option Sense) (input text : Option (List ℕ)) (finding : Finding) : Type 0 where
+pub record IsFinding (verifier : Verifier) (input text : Option (List ℕ)) (finding : Finding) : Type 0 where
   pub rows : List Listing
   pub report : Report
-  pub problem : IfSome input (λ bytes. Reads sparse bytes (Ok rows))
+  pub problem : IfSome input (λ bytes. Reads verifier.sparse bytes (Ok rows))
   pub said : IfSome text (λ bytes. reports.Answers bytes (Ok report))
-  pub found : IsFoundUnder wanted rows report finding
+  pub found : IsFoundUnder verifier.sense rows report finding
   pub so : verdict_of finding ≡ Yes → IsSo rows report
 
 -- what a run read, of the problem and of the report, and wrote, by its end: one line, or a
 -- beginning of it if writing failed, or nothing
-abbrev pub VerifyOutcome : Bool → Option Sense → Option (List ℕ) → Option (List ℕ) → Option (List ℕ) →
+abbrev pub VerifyOutcome : Verifier → Option (List ℕ) → Option (List ℕ) → Option (List ℕ) →
     Option (List ℕ) → Result Verified CliFault → Type 0
-VerifyOutcome sparse wanted input text old new (Ok verified) =
-    (finding : Finding) × IsFinding sparse wanted input text finding × (verified ≡ verdict_of finding)
+VerifyOutcome verifier input text old new (Ok verified) =
+    (finding : Finding) × IsFinding verifier input text finding × (verified ≡ verdict_of finding)
     × Appends old new (whole_line finding)
-VerifyOutcome sparse wanted input text old new (Err faults.Write) =
-    (finding : Finding) × IsFinding sparse wanted input text finding
+VerifyOutcome verifier input text old new (Err faults.Write) =
+    (finding : Finding) × IsFinding verifier input text finding
     × IsCutOff old new (whole_line finding)
-VerifyOutcome sparse wanted input text old new (Err (faults.Input fault)) =
-    IsRefused sparse input old new fault
-VerifyOutcome sparse wanted input text old new (Err (faults.Report fault)) =
-    IsRefusedReport sparse input text old new fault
-VerifyOutcome sparse wanted input text old new (Err faults.Memory) = Keeps old new
-VerifyOutcome sparse wanted input text old new (Err (faults.Start fault)) = ⊥
-VerifyOutcome sparse wanted input text old new (Err (faults.Stuck person)) = ⊥
+VerifyOutcome verifier input text old new (Err (faults.Input fault)) =
+    IsRefused verifier.sparse input old new fault
+VerifyOutcome verifier input text old new (Err (faults.Report fault)) =
+    IsRefusedReport verifier.sparse input text old new fault
+VerifyOutcome verifier input text old new (Err faults.Memory) = Keeps old new
+VerifyOutcome verifier input text old new (Err (faults.Start fault)) = ⊥
+VerifyOutcome verifier input text old new (Err (faults.Stuck person)) = ⊥

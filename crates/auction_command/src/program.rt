@@ -1,5 +1,5 @@
 // The whole program: from words and streams to an end with its status.
-ghost use Rattle.std.specs.Prelude.{◌≡◌, ◌<◌, ℕ, List, None, Ok, Err, Option, String, IfOk, IfErr, map};
+ghost use Rattle.std.specs.Prelude.{◌≡◌, ◌<◌, ℕ, Bool, List, None, Ok, Err, Option, String, IfOk, IfErr, map};
 ghost use Rattle.std.specs.Option.{option_map};
 ghost use Rattle.std.specs.String.{string_bytes};
 ghost use Rattle.std.specs.declared.alloc.Global.{Global};
@@ -14,12 +14,11 @@ ghost use Rattle.command_line.specs.declared.words.WordsFault.TheVariants.{Clap}
 
 use crate::progress::Watch;
 use crate::run::{CliFault, Context, Ended, Solver, end_status_of, run_solve_by, status_of};
-use crate::verify::{Verified, run_verify_under};
+use crate::verify::{Verified, Verifier, run_verify_under};
 use arrayvec::ArrayString;
-use assign_core::Sense;
 use async_workers::OpenGate;
 use clap::Error;
-use command_line::{Asked, SolveOpts, Words, WordsFault, read_words};
+use command_line::{Words, WordsFault, read_words};
 use report::{WriteFault, write_text};
 use std::alloc::{AllocError, Global};
 use std::convert::AsStr;
@@ -59,6 +58,25 @@ pub trait Files {
     /// Why it can't be read.
     fn open(&self, name: &str) -> Result<Self::File, NoFile>
         ensures { may_open self.now name.now (opening_of Self.File.remaining result) };
+}
+
+/// Where the program writes.
+#[derive(Drop)]
+pub struct Outputs<W, E> {
+    /// Standard output, for the report, the result of a check, or help.
+    pub output: W,
+    /// Standard error, for a fault.
+    pub errors: E,
+}
+
+/// What the program reads, and where it writes.
+#[derive(Drop)]
+pub struct Devices<F, R, W, E> {
+    /// The files that words can name.
+    pub files: F,
+    /// Standard input.
+    pub input: R,
+    pub outputs: Outputs<W, E>,
 }
 
 /// The use of a file that the words name.
@@ -161,22 +179,26 @@ fn text_of(alloc: Global, error: &Error) -> Result<String, AllocError> {
 }
 
 // Prints the text of clap's error: requested help, or why the words are refused.
-fn refuse<W: Write, E: Write>(alloc: Global, error: Error, w: &mut W, e: &mut E) -> ProgramEnd
+fn refuse<W: Write, E: Write>(
+    alloc: Global,
+    error: Error,
+    outputs: &mut Outputs<W, E>,
+) -> ProgramEnd
     ensures output { (words : List Text) → WordsOutcome words (Err (Clap error))
-        → EndsAtWords (Ok words) (W.contents w.old) (W.contents w.new) result }
+        → EndsAtWords (Ok words) (W.contents outputs.old.output) (W.contents outputs.new.output) result }
     ensures errors { (words : List Text) → WordsOutcome words (Err (Clap error))
-        → ErrorOutcome (Ok words) (E.contents e.old) (E.contents e.new) result }
+        → ErrorOutcome (Ok words) (E.contents outputs.old.errors) (E.contents outputs.new.errors) result }
 {
     let text = match text_of(alloc, &error) {
         Ok(text) => text,
-        Err(_) => return fail(e, CliFault::Memory),
+        Err(_) => return fail(&mut outputs.errors, CliFault::Memory),
     };
     if error.use_stderr() {
-        return ProgramEnd::Refused(write_error(e, text.as_bytes()));
+        return ProgramEnd::Refused(write_error(&mut outputs.errors, text.as_bytes()));
     }
-    match write_text(w, text.as_bytes()) {
+    match write_text(&mut outputs.output, text.as_bytes()) {
         Ok(()) => ProgramEnd::Helped,
-        Err(_) => fail(e, CliFault::Write),
+        Err(_) => fail(&mut outputs.errors, CliFault::Write),
     }
 }
 
@@ -186,20 +208,19 @@ fn solve<T: Threads + Wait + Sync, V: Watch + Sync, Q: Read + Drop, R: Read, W: 
     solver: Solver,
     start: Option<Q>,
     r: &mut R,
-    w: &mut W,
-    e: &mut E,
+    outputs: &mut Outputs<W, E>,
 ) -> ProgramEnd
     requires { 0 < solver.options.workers }
     ensures output { SolveEnd solver (R.remaining r.old) (option_map Q.remaining start)
-        (W.contents w.old) (W.contents w.new) result }
+        (W.contents outputs.old.output) (W.contents outputs.new.output) result }
     ensures errors { (given : Given)
-        → ErrorOutcome given (E.contents e.old) (E.contents e.new) result }
+        → ErrorOutcome given (E.contents outputs.old.errors) (E.contents outputs.new.errors) result }
 {
-    match run_solve_by(context, r, start, w, solver) {
+    match run_solve_by(context, r, start, &mut outputs.output, solver) {
         Ok(ended) => ProgramEnd::Reported(ended),
         Err(fault) => {
             context.watch.over();
-            fail(e, fault)
+            fail(&mut outputs.errors, fault)
         }
     }
 }
@@ -207,21 +228,19 @@ fn solve<T: Threads + Wait + Sync, V: Watch + Sync, Q: Read + Drop, R: Read, W: 
 // Checks a report.
 fn verify<Q: Read + Drop, R: Read, W: Write, E: Write>(
     alloc: Global,
-    sparse: bool,
-    wanted: Option<Sense>,
+    verifier: Verifier,
     mut report: Q,
     r: &mut R,
-    w: &mut W,
-    e: &mut E,
+    outputs: &mut Outputs<W, E>,
 ) -> ProgramEnd
-    ensures output { VerifyEnd sparse wanted (R.remaining r.old) (Q.remaining report)
-        (W.contents w.old) (W.contents w.new) result }
+    ensures output { VerifyEnd verifier (R.remaining r.old) (Q.remaining report)
+        (W.contents outputs.old.output) (W.contents outputs.new.output) result }
     ensures errors { (given : Given)
-        → ErrorOutcome given (E.contents e.old) (E.contents e.new) result }
+        → ErrorOutcome given (E.contents outputs.old.errors) (E.contents outputs.new.errors) result }
 {
-    match run_verify_under(alloc, r, &mut report, sparse, wanted, w) {
+    match run_verify_under(alloc, r, &mut report, &mut outputs.output, verifier) {
         Ok(verified) => ProgramEnd::Checked(verified),
-        Err(fault) => fail(e, fault),
+        Err(fault) => fail(&mut outputs.errors, fault),
     }
 }
 
@@ -263,106 +282,114 @@ fn report_absent<E: Write>(named: Named, absent: NoFile, e: &mut E) -> ProgramEn
     }
 }
 
-// Solves the problem in the named file, or else on the stream.
+// Solves the problem in the named file, or else on standard input.
 fn solve_named<T: Threads + Wait + Sync, V: Watch + Sync, F: Files, R: Read, W: Write, E: Write>(
     context: &Context<'_, T, OpenGate, V>,
-    files: &F,
-    options: SolveOpts,
-    asked: Asked,
+    solver: Solver,
     start: Option<F::File>,
-    r: &mut R,
-    w: &mut W,
-    e: &mut E,
+    input: Option<String>,
+    devices: &mut Devices<F, R, W, E>,
 ) -> ProgramEnd
-    requires { 0 < options.workers }
-    ensures output { (name : Option (String Global))
-        → Opens (F.may_open files.now) (option_map string_bytes name) (option_map F.File.remaining start)
-        → Does (Solve options name asked) (R.remaining r.old) (F.may_open files.now)
-        (W.contents w.old) (W.contents w.new) result }
-    ensures errors { (given : Given)
-        → ErrorOutcome given (E.contents e.old) (E.contents e.new) result }
-    ensures unread { IsReadWhere (option_map string_bytes asked.input ≡ None)
-        (R.remaining r.old) (R.remaining r.new) result }
+    requires { 0 < solver.options.workers }
+    ensures output { (name : Option (String Global)) (progress : Bool)
+        → Opens (F.may_open devices.old.files) (option_map string_bytes name) (option_map F.File.remaining start)
+        → Does (Solve solver.options name solver.method input progress)
+        (R.remaining devices.old.input) (F.may_open devices.old.files)
+        (W.contents devices.old.outputs.output) (W.contents devices.new.outputs.output) result }
+    ensures errors { (given : Given) → ErrorOutcome given
+        (E.contents devices.old.outputs.errors) (E.contents devices.new.outputs.errors) result }
+    ensures unread { IsReadWhere (option_map string_bytes input ≡ None)
+        (R.remaining devices.old.input) (R.remaining devices.new.input) result }
 {
-    let Asked {
-        method,
-        input,
-        progress,
-    } = asked;
-    let solver = Solver { options, method };
-    context.watch.begin(progress, input.is_some());
-    match open_named(files, input) {
-        Ok(None) => solve(context, solver, start, r, w, e),
-        Ok(Some(mut input)) => solve(context, solver, start, &mut input, w, e),
-        Err(absent) => report_absent(Named::Input, absent, e),
+    match open_named(&devices.files, input) {
+        Ok(None) => solve(
+            context,
+            solver,
+            start,
+            &mut devices.input,
+            &mut devices.outputs,
+        ),
+        Ok(Some(mut input)) => solve(context, solver, start, &mut input, &mut devices.outputs),
+        Err(absent) => report_absent(Named::Input, absent, &mut devices.outputs.errors),
     }
 }
 
-// Checks a report on the problem in the named file, or else on the stream.
+// Checks a report on the problem in the named file, or else on standard input.
 fn verify_named<F: Files, R: Read, W: Write, E: Write>(
     alloc: Global,
-    files: &F,
-    sparse: bool,
-    wanted: Option<Sense>,
-    input: Option<String>,
+    verifier: Verifier,
     report: F::File,
-    r: &mut R,
-    w: &mut W,
-    e: &mut E,
+    input: Option<String>,
+    devices: &mut Devices<F, R, W, E>,
 ) -> ProgramEnd
     ensures output { (name : String Global)
-        → F.may_open files.now (string_bytes name) (Ok (F.File.remaining report))
-        → Does (Verify sparse wanted name input) (R.remaining r.old) (F.may_open files.now)
-        (W.contents w.old) (W.contents w.new) result }
-    ensures errors { (given : Given)
-        → ErrorOutcome given (E.contents e.old) (E.contents e.new) result }
+        → F.may_open devices.old.files (string_bytes name) (Ok (F.File.remaining report))
+        → Does (Verify verifier.sparse verifier.sense name input)
+        (R.remaining devices.old.input) (F.may_open devices.old.files)
+        (W.contents devices.old.outputs.output) (W.contents devices.new.outputs.output) result }
+    ensures errors { (given : Given) → ErrorOutcome given
+        (E.contents devices.old.outputs.errors) (E.contents devices.new.outputs.errors) result }
     ensures unread { IsReadWhere (option_map string_bytes input ≡ None)
-        (R.remaining r.old) (R.remaining r.new) result }
+        (R.remaining devices.old.input) (R.remaining devices.new.input) result }
 {
-    match open_named(files, input) {
-        Ok(None) => verify(alloc, sparse, wanted, report, r, w, e),
-        Ok(Some(mut input)) => verify(alloc, sparse, wanted, report, &mut input, w, e),
-        Err(absent) => report_absent(Named::Input, absent, e),
+    match open_named(&devices.files, input) {
+        Ok(None) => verify(
+            alloc,
+            verifier,
+            report,
+            &mut devices.input,
+            &mut devices.outputs,
+        ),
+        Ok(Some(mut input)) => verify(alloc, verifier, report, &mut input, &mut devices.outputs),
+        Err(absent) => report_absent(Named::Input, absent, &mut devices.outputs.errors),
     }
 }
 
 // Does what the words request. Opens the named report first.
 fn run_asked<T: Threads + Wait + Sync, V: Watch + Sync, F: Files, R: Read, W: Write, E: Write>(
     context: &Context<'_, T, OpenGate, V>,
-    files: &F,
     asked: Words,
-    r: &mut R,
-    w: &mut W,
-    e: &mut E,
+    devices: &mut Devices<F, R, W, E>,
 ) -> ProgramEnd
     requires { IsInRanges asked }
-    ensures output { Does asked (R.remaining r.old) (F.may_open files.now)
-        (W.contents w.old) (W.contents w.new) result }
-    ensures errors { (given : Given)
-        → ErrorOutcome given (E.contents e.old) (E.contents e.new) result }
+    ensures output { Does asked (R.remaining devices.old.input) (F.may_open devices.old.files)
+        (W.contents devices.old.outputs.output) (W.contents devices.new.outputs.output) result }
+    ensures errors { (given : Given) → ErrorOutcome given
+        (E.contents devices.old.outputs.errors) (E.contents devices.new.outputs.errors) result }
     ensures unread { IsReadWhere (input_name asked ≡ None)
-        (R.remaining r.old) (R.remaining r.new) result }
+        (R.remaining devices.old.input) (R.remaining devices.new.input) result }
 {
     match asked {
         Words::Solve {
             options,
             start,
-            asked,
-        } => match open_named(files, start) {
-            Ok(start) => solve_named(context, files, options, asked, start, r, w, e),
-            Err(absent) => report_absent(Named::Report, absent, e),
+            method,
+            input,
+            progress,
+        } => match open_named(&devices.files, start) {
+            Ok(start) => {
+                context.watch.begin(progress, input.is_some());
+                solve_named(context, Solver { options, method }, start, input, devices)
+            }
+            Err(absent) => report_absent(Named::Report, absent, &mut devices.outputs.errors),
         },
         Words::Verify {
             sparse,
             sense,
             report,
             input,
-        } => match files.open(report.as_str()) {
+        } => match devices.files.open(report.as_str()) {
             Ok(report) => {
                 context.watch.begin(false, input.is_some());
-                verify_named(context.alloc, files, sparse, sense, input, report, r, w, e)
+                verify_named(
+                    context.alloc,
+                    Verifier { sparse, sense },
+                    report,
+                    input,
+                    devices,
+                )
             }
-            Err(absent) => report_absent(Named::Report, absent, e),
+            Err(absent) => report_absent(Named::Report, absent, &mut devices.outputs.errors),
         },
     }
 }
@@ -378,41 +405,45 @@ fn run_words<
     E: Write,
 >(
     context: &Context<'_, T, OpenGate, V>,
-    files: &F,
     words: &[S],
-    r: &mut R,
-    w: &mut W,
-    e: &mut E,
+    devices: &mut Devices<F, R, W, E>,
 ) -> ProgramEnd
-    ensures output { ProgramOutcome (Ok (map S.text words.entry.now)) (R.remaining r.old)
-        (F.may_open files.now) (W.contents w.old) (W.contents w.new) result }
+    ensures output { ProgramOutcome (Ok (map S.text words.entry.now)) (R.remaining devices.old.input)
+        (F.may_open devices.old.files) (W.contents devices.old.outputs.output)
+        (W.contents devices.new.outputs.output) result }
     ensures errors { ErrorOutcome (Ok (map S.text words.entry.now))
-        (E.contents e.old) (E.contents e.new) result }
+        (E.contents devices.old.outputs.errors) (E.contents devices.new.outputs.errors) result }
     ensures unread { InputOutcome (Ok (map S.text words.entry.now))
-        (R.remaining r.old) (R.remaining r.new) result }
+        (R.remaining devices.old.input) (R.remaining devices.new.input) result }
 {
     match read_words(context.alloc, words) {
-        Ok(asked) => run_asked(context, files, asked, r, w, e),
+        Ok(asked) => run_asked(context, asked, devices),
         Err(WordsFault::Mode) => {
-            ProgramEnd::Refused(write_error(e, b"usage: mode is rounds or workers\n"))
+            ProgramEnd::Refused(write_error(
+                &mut devices.outputs.errors,
+                b"usage: mode is rounds or workers\n",
+            ))
         }
         Err(WordsFault::Sense) => {
-            ProgramEnd::Refused(write_error(e, b"usage: sense is min or max\n"))
+            ProgramEnd::Refused(write_error(
+                &mut devices.outputs.errors,
+                b"usage: sense is min or max\n",
+            ))
         }
-        Err(WordsFault::Clap(error)) => refuse(context.alloc, error, w, e),
-        Err(WordsFault::Memory) => fail(e, CliFault::Memory),
+        Err(WordsFault::Clap(error)) => refuse(context.alloc, error, &mut devices.outputs),
+        Err(WordsFault::Memory) => fail(&mut devices.outputs.errors, CliFault::Memory),
     }
 }
 
 /// Does what the words request, the first of which is the program's own name. It opens the report
-/// and then the problem's file, if the words name them, both in `files`. It reads the problem from
-/// this file, or else from `r`, and then the report. It writes the report, the result of a check,
-/// or help to `w`, and any fault to `e`.
+/// and then the problem's file, if the words name them. It reads the problem from this file, or else
+/// from standard input, and then the report. It writes the report, the result of a check, or help to
+/// standard output, and any fault to standard error.
 ///
-/// Nothing is written to `e` if the program ends with the requested text on `w`. Nothing is written
-/// to `w` if the program fails, except for a beginning of the text if `w` itself fails. Nothing is
-/// read from `r` if the words are refused, request help, or name a file for the problem or one that
-/// can't be opened.
+/// Nothing is written to standard error if the program ends with the requested text on standard
+/// output. Nothing is written to standard output if the program fails, except for a beginning of the
+/// text if this stream itself fails. Nothing is read from standard input if the words are refused,
+/// request help, or name a file for the problem or one that can't be opened.
 ///
 /// The watch is shown how far a run of `solve` is, and what the words say about progress. No clause
 /// says what it is shown, or what it does.
@@ -425,33 +456,26 @@ pub fn run_program<
     W: Write,
     E: Write,
 >(
-    rt: &T,
-    alloc: Global,
+    context: &Context<'_, T, OpenGate, V>,
     words: Result<Vec<S>, NoWords>,
-    files: &F,
-    r: &mut R,
-    w: &mut W,
-    e: &mut E,
-    watch: &V,
+    devices: &mut Devices<F, R, W, E>,
 ) -> ProgramEnd
-    ensures output { ProgramOutcome (given_by (λ v. map S.text v.items) words) (R.remaining r.old)
-        (F.may_open files.now) (W.contents w.old) (W.contents w.new) result }
+    ensures output { ProgramOutcome (given_by (λ v. map S.text v.items) words)
+        (R.remaining devices.old.input) (F.may_open devices.old.files)
+        (W.contents devices.old.outputs.output) (W.contents devices.new.outputs.output) result }
     ensures errors { ErrorOutcome (given_by (λ v. map S.text v.items) words)
-        (E.contents e.old) (E.contents e.new) result }
+        (E.contents devices.old.outputs.errors) (E.contents devices.new.outputs.errors) result }
     ensures unread { InputOutcome (given_by (λ v. map S.text v.items) words)
-        (R.remaining r.old) (R.remaining r.new) result }
+        (R.remaining devices.old.input) (R.remaining devices.new.input) result }
 {
-    let context = Context {
-        rt,
-        alloc,
-        gate: &OpenGate,
-        watch,
-    };
     match words {
-        Ok(words) => run_words(&context, files, words.as_slice(), r, w, e),
+        Ok(words) => run_words(context, words.as_slice(), devices),
         Err(NoWords::NoText) => {
-            ProgramEnd::Refused(write_error(e, b"error: the words are no text\n"))
+            ProgramEnd::Refused(write_error(
+                &mut devices.outputs.errors,
+                b"error: the words are no text\n",
+            ))
         }
-        Err(NoWords::Memory) => fail(e, CliFault::Memory),
+        Err(NoWords::Memory) => fail(&mut devices.outputs.errors, CliFault::Memory),
     }
 }

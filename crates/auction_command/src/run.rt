@@ -348,9 +348,8 @@ fn report_auction<T: Threads + Wait + Sync, G: Gate + Sync, V: Watch + Sync, W: 
 }
 
 // Solves a problem by shortest paths from these prices, and writes the report.
-fn report_paths<V: Watch, W: Write>(
-    alloc: Global,
-    watch: &V,
+fn report_paths<T, G, V: Watch, W: Write>(
+    context: &Context<'_, T, G, V>,
     problem: &Problem,
     prices: &Prices,
     w: &mut W,
@@ -361,8 +360,8 @@ fn report_paths<V: Watch, W: Write>(
 {
     // This call shows the prover that it is a problem.
     let _persons = problem.n();
-    match solve_by_paths(alloc, problem, options.sense, prices, watch) {
-        Ok(outcome) => put_report(watch, problem, w, options, &outcome),
+    match solve_by_paths(context.alloc, problem, options.sense, prices, context.watch) {
+        Ok(outcome) => put_report(context.watch, problem, w, options, &outcome),
         Err(_) => Err(CliFault::Memory),
     }
 }
@@ -383,9 +382,7 @@ fn report_from<T: Threads + Wait + Sync, G: Gate + Sync, V: Watch + Sync, W: Wri
     let options = solver.options;
     match solver.method {
         Method::Auction => report_auction(context, problem, prices, w, options),
-        Method::Paths => {
-            report_paths(context.alloc, context.watch, &problem, &prices, w, options)
-        }
+        Method::Paths => report_paths(context, &problem, &prices, w, options),
     }
 }
 

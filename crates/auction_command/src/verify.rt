@@ -5,7 +5,7 @@ ghost use Rattle.assign_core.specs.Assignment.{total};
 ghost use Rattle.dual_checker.specs.Faults.{IsFirst};
 ghost use Rattle.report.specs.SeenReports.{seen_report};
 ghost use Rattle.auction_command.specs.Findings.{HasOtherCost, HaveCosts, IsFoundInReport, IsFoundInBest, IsFoundInCosts, IsFoundUnder, IsOtherSense, objects_of, report_sense, sense_of};
-ghost use Rattle.auction_command.specs.Verify.{VerifyOutcome};
+ghost use Rattle.auction_command.specs.Verify.{VerifyOutcome, verifier_of};
 
 use crate::finding::Finding;
 use crate::run::{CliFault, read_problem};
@@ -20,6 +20,15 @@ use std::io::{Read, Write};
 pub enum Verified {
     Yes,
     No,
+}
+
+/// How a report is checked.
+#[derive(Clone, Copy, PartialEq, Eq)]
+pub struct Verifier {
+    /// Whether the problem's text lists pairs.
+    pub sparse: bool,
+    /// The sense that the report must have, if one is requested.
+    pub sense: Option<Sense>,
 }
 
 // The object of each person.
@@ -206,10 +215,14 @@ pub fn run_verify<P: Read, Q: Read, W: Write>(
     sparse: bool,
     w: &mut W,
 ) -> Result<Verified, CliFault>
-    ensures { VerifyOutcome sparse None (P.remaining problem.old) (Q.remaining report.old)
+    ensures { VerifyOutcome (verifier_of sparse None) (P.remaining problem.old) (Q.remaining report.old)
         (W.contents w.old) (W.contents w.new) result }
 {
-    run_verify_under(alloc, problem, report, sparse, None, w)
+    let verifier = Verifier {
+        sparse,
+        sense: None,
+    };
+    run_verify_under(alloc, problem, report, w, verifier)
 }
 
 /// Does what `run_verify` does, but first compares the sense, if one is requested: a report on the
@@ -223,16 +236,15 @@ pub fn run_verify_under<P: Read, Q: Read, W: Write>(
     alloc: Global,
     problem: &mut P,
     report: &mut Q,
-    sparse: bool,
-    wanted: Option<Sense>,
     w: &mut W,
+    verifier: Verifier,
 ) -> Result<Verified, CliFault>
-    ensures { VerifyOutcome sparse wanted (P.remaining problem.old) (Q.remaining report.old)
+    ensures { VerifyOutcome verifier (P.remaining problem.old) (Q.remaining report.old)
         (W.contents w.old) (W.contents w.new) result }
 {
-    let problem = read_problem(alloc, problem, sparse)?;
+    let problem = read_problem(alloc, problem, verifier.sparse)?;
     let report = read_report(alloc, report)?;
-    let finding = found_under(alloc, &problem, wanted, &report)?;
+    let finding = found_under(alloc, &problem, verifier.sense, &report)?;
     let line = format!(in alloc; "{finding}\n")?;
     write_text(w, line.as_bytes())?;
     Ok(finding.verified())

@@ -232,7 +232,7 @@ at_least : (text : Option Text) (least most number : ℕ) → IsNumberFor text l
 at_least text least most number h = rw h.value h.in_range.2
 
 pub in_ranges : (found : Option (Text × List Row)) (r : Result Words WordsFault) → IfOk r (Chooses found) → IfOk r IsInRanges
-in_ranges found (Ok (Solve options start asked)) h = record {
+in_ranges found (Ok (Solve options start method input progress)) h = record {
   some_workers = at_least _ _ _ _ h.2.workers;
   few_workers = at_most _ _ _ _ h.2.workers;
   few_sessions = at_most _ _ _ _ h.2.refresh;
@@ -262,11 +262,11 @@ same_method rows Paths Auction h e =
 pub solves : (found : Option (Text × List Row)) (asked : Words) (method : Method) (wanted : SolveOpts) (workers refresh : Text) (start input : Option Text) → flags_of found ≡ Some (solve_flags method wanted workers refresh start input) →
     wanted.workers ≡ digits_value 10 (without_leading_plus workers) → wanted.refresh ≡ digits_value 10 (without_leading_plus refresh) →
     Chooses found asked → SolvesFrom input method wanted start asked
-solves found (Solve options file asked) method wanted workers refresh start input e w r h =
+solves found (Solve options file by problem progress) method wanted workers refresh start input e w r h =
     let told : flags_of (Some (codes "solve", h.0)) ≡ Some (solve_flags method wanted workers refresh start input) = ap flags_of (sym h.1) ∙ e in (
       options_are h.0 method options wanted workers refresh start input told h.2 w r,
       h.3 ∙ ap (λ (q : Flags). q.start) (same_Some _ _ told),
-      same_method h.0 asked.method method h.4 (ap (λ (q : Flags). q.method) (same_Some _ _ told)),
+      same_method h.0 by method h.4 (ap (λ (q : Flags). q.method) (same_Some _ _ told)),
       h.5 ∙ ap (λ (q : Flags). q.input) (same_Some _ _ told),
     )
 solves found (Verify sparse sense report file) method wanted workers refresh start input e w r h =
@@ -284,7 +284,7 @@ no_solve_sense found method wanted workers refresh start input e h = other_comma
 
 pub verifies : (found : Option (Text × List Row)) (asked : Words) (s : Bool) (wanted : Option Sense) (name : Text) (problem : Option Text) → file_of found ≡ Some (verify_file s wanted name problem) →
     Chooses found asked → VerifiesFrom problem s wanted name asked
-verifies found (Solve options start asked) s wanted name problem e h = absurd (other_command (sym (ap (λ (q : File). q.name) (same_Some _ _ (ap file_of (sym h.1) ∙ e)))))
+verifies found (Solve options start method input progress) s wanted name problem e h = absurd (other_command (sym (ap (λ (q : File). q.name) (same_Some _ _ (ap file_of (sym h.1) ∙ e)))))
 verifies found (Verify sparse sense report input) s wanted name problem e h =
     let all = same_Some _ _ (ap file_of (sym h.1) ∙ e) in (
       flag_is _ _ s h.2.sparse (ap (λ (q : File). q.sparse) all),

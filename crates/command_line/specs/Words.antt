@@ -162,10 +162,10 @@ pub record ChoosesFile (rows : List Row) (lists_pairs : Bool) (wanted : Option S
 
 -- the request, by a subcommand and what clap finds after it
 abbrev pub Chooses : Option (Text × List Row) → Words → Type 0
-Chooses found (Solve options start asked) =
+Chooses found (Solve options start method input progress) =
     (rows : List Row) × (found ≡ Some (codes "solve", rows)) × ChoosesSolving rows options
-    × NamesFile (codes "start") rows (option_map string_bytes start) × NamesMethod rows asked.method
-    × NamesFile (codes "input") rows (option_map string_bytes asked.input) × IsFlag (one_of (codes "progress") rows) asked.progress
+    × NamesFile (codes "start") rows (option_map string_bytes start) × NamesMethod rows method
+    × NamesFile (codes "input") rows (option_map string_bytes input) × IsFlag (one_of (codes "progress") rows) progress
 Chooses found (Verify sparse sense report input) =
     (rows : List Row) × (found ≡ Some (codes "verify", rows))
     × ChoosesFile rows sparse sense (string_bytes report) (option_map string_bytes input)
@@ -216,17 +216,17 @@ pub record HasRanges (options : SolveOpts) : Type 0 where
 
 -- the numbers of a request are in range
 abbrev pub IsInRanges : Words → Type 0
-IsInRanges (Solve options start asked) = HasRanges options
+IsInRanges (Solve options start method input progress) = HasRanges options
 IsInRanges (Verify sparse sense report input) = ⊤
 
 -- the request to solve the problem in the file of the first name, or else on standard input, by
 -- this method with these options, and with the first prices of the report in the file of the other
 -- name, if there is one
 abbrev pub SolvesFrom : Option Text → Method → SolveOpts → Option Text → Words → Type 0
-SolvesFrom problem method wanted name (Solve options start asked) =
-    (options ≡ wanted) × (option_map string_bytes start ≡ name) × (asked.method ≡ method)
-    × (option_map string_bytes asked.input ≡ problem)
-SolvesFrom problem method wanted name (Verify lists_pairs sense report input) = ⊥
+SolvesFrom problem by wanted name (Solve options start method input progress) =
+    (options ≡ wanted) × (option_map string_bytes start ≡ name) × (method ≡ by)
+    × (option_map string_bytes input ≡ problem)
+SolvesFrom problem by wanted name (Verify lists_pairs sense report input) = ⊥
 
 -- the same for a problem on standard input
 abbrev pub SolvesBy : Method → SolveOpts → Option Text → Words → Type 0
@@ -251,7 +251,7 @@ full_options = record { sparse = true; mode = Workers; workers = 64; refresh = 0
 -- the request to check a report: the name of the problem's file, or none for standard input,
 -- whether its text lists pairs, the requested sense, if any, and the name of the report's file
 abbrev pub VerifiesFrom : Option Text → Bool → Option Sense → Text → Words → Type 0
-VerifiesFrom problem sparse wanted name (Solve options start asked) = ⊥
+VerifiesFrom problem sparse wanted name (Solve options start method input progress) = ⊥
 VerifiesFrom problem sparse wanted name (Verify lists_pairs sense report input) =
     (lists_pairs ≡ sparse) × (sense ≡ wanted) × (string_bytes report ≡ name) × (option_map string_bytes input ≡ problem)
 

@@ -4,6 +4,5 @@
 mod words;
 
 pub use words::{
-    Asked, MOST_REFRESH, MOST_WORKERS, Method, Mode, SolveOpts, Words, WordsFault, command,
-    read_words,
+    MOST_REFRESH, MOST_WORKERS, Method, Mode, SolveOpts, Words, WordsFault, command, read_words,
 };

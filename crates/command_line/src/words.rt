@@ -127,30 +127,21 @@ pub enum Method {
     Paths,
 }
 
-/// The requests of `solve` that aren't in `SolveOpts`.
-#[derive(Drop)]
-pub struct Asked {
-    /// The auction or shortest paths; mode, workers and refresh belong to the auction.
-    pub method: Method,
-    /// The file with the problem; without one it is on standard input.
-    pub input: Option<String>,
-    /// Whether progress lines are requested.
-    pub progress: bool,
-}
-
-/// The request of the words.
+/// The request of the words. The problem is in the file `input`, or on standard input without one.
 #[derive(Drop)]
 pub enum Words {
-    /// Solve a problem, with the first prices of the report in the file of this name, if one is
-    /// given.
+    /// Solve a problem by a method, to which mode, workers and refresh belong if it is the auction,
+    /// with the first prices of the report in the file `start`, if one is named. Progress lines may
+    /// be requested.
     Solve {
         options: SolveOpts,
         start: Option<String>,
-        asked: Asked,
+        method: Method,
+        input: Option<String>,
+        progress: bool,
     },
     /// Check the report in the file of this name, which must have the requested sense, if any. The
-    /// problem's text lists pairs if `sparse` is true; it is in the file `input`, or on standard
-    /// input without one.
+    /// problem's text lists pairs if `sparse` is true.
     Verify {
         sparse: bool,
         sense: Option<Sense>,
@@ -542,11 +533,9 @@ fn solve_words(alloc: Global, solve: &ArgMatches<'_>) -> Result<Words, WordsFaul
     Ok(Words::Solve {
         options: solve_options(solve, mode),
         start: file_name(alloc, solve, "start")?,
-        asked: Asked {
-            method: chosen_method(solve),
-            input: file_name(alloc, solve, "input")?,
-            progress: progress_flag(solve),
-        },
+        method: chosen_method(solve),
+        input: file_name(alloc, solve, "input")?,
+        progress: progress_flag(solve),
     })
 }
 

@@ -1,5 +1,5 @@
 // Command lines, with the statuses and the first lines that they give.
-use crate::watched::{assert_begins, run_with, watched_run, whole_devices};
+use crate::watched::{assert_begins, assert_words_refused, run_with, watched_run, whole_devices};
 use std::test::Fail;
 
 // Valid in both layouts.
@@ -53,7 +53,64 @@ fn lines_that_are_taken(rt: HostRuntime) -> Result<(), Fail> {
 
 #[test]
 fn lines_that_are_refused(rt: HostRuntime) -> Result<(), Fail> {
+    let mode = "usage: mode is rounds or workers";
     let table = [
+        ("solve --mode round", mode),
+        ("solve --mode=", mode),
+        ("solve --mode Workers --workers 64", mode),
+        ("solve --method paths --mode round", mode),
+        (
+            "solve --mode rounds --mode rounds",
+            "error: the argument '--mode <MODE>' cannot be used multiple times",
+        ),
+        (
+            "solve --workers 0",
+            "error: invalid value '0' for '--workers <K>': 0 is not in 1..=64",
+        ),
+        (
+            "solve --workers=65 --mode=rounds",
+            "error: invalid value '65' for '--workers <K>': 65 is not in 1..=64",
+        ),
+        (
+            "solve --workers four",
+            "error: invalid value 'four' for '--workers <K>': invalid digit found in string",
+        ),
+        (
+            "solve --method paths --workers 0",
+            "error: invalid value '0' for '--workers <K>': 0 is not in 1..=64",
+        ),
+        (
+            "solve --refresh 1000001",
+            "error: invalid value '1000001' for '--refresh <R>': 1000001 is not in 0..=1000000",
+        ),
+        (
+            "solve --method paths --refresh 1000001",
+            "error: invalid value '1000001' for '--refresh <R>': 1000001 is not in 0..=1000000",
+        ),
+        (
+            "solve --method path",
+            "error: invalid value 'path' for '--method <METHOD>'",
+        ),
+        (
+            "solve --method Paths",
+            "error: invalid value 'Paths' for '--method <METHOD>'",
+        ),
+        (
+            "solve --method=rounds",
+            "error: invalid value 'rounds' for '--method <METHOD>'",
+        ),
+        (
+            "solve --method=",
+            "error: a value is required for '--method <METHOD>' but none was supplied",
+        ),
+        (
+            "solve --method paths --method paths",
+            "error: the argument '--method <METHOD>' cannot be used multiple times",
+        ),
+        (
+            "verify --method paths report",
+            "error: unexpected argument '--method' found",
+        ),
         (
             "solve --start",
             "error: a value is required for '--start <REPORT>' but none was supplied",
@@ -117,7 +174,7 @@ fn lines_that_are_refused(rt: HostRuntime) -> Result<(), Fail> {
     ];
     for (line, errors) in table {
         let seen = run_with(&rt, rt.alloc(), line, TEXT, REPORT, 100)?;
-        assert_begins(&rt, &seen, 2, "", errors);
+        assert_words_refused(&rt, &seen, errors);
     }
     Ok(())
 }

@@ -1,7 +1,8 @@
 // Runs that fail, with their expected lines and statuses.
+use crate::starts::TWO;
 use crate::watched::{assert_failed, leaves, run_on, run_with, watched_run, whole_devices};
 use assign_core::{Object, Person};
-use auction_command::{CliFault, NoWords, status_of};
+use auction_command::{CliFault, NoWords, Outputs, status_of};
 use orlib_reader::InputFault;
 use report::{ReportFault, StartFault};
 use std::alloc::{AllocError, Global};
@@ -11,42 +12,112 @@ use std::test::Fail;
 use std::thread::Threads;
 use test_helpers::failing_writer;
 
-// Texts with the line that refuses each, with these words, in bytes and at once.
-fn assert_refused(
-    rt: &(impl Threads + Wait + Sync + Abort + AllocGlobal),
-    line: &str,
-    table: &[(&[u8], &str)],
-) -> Result<(), Fail> {
-    for (text, fault) in table {
-        for most in [1, 65536] {
-            let seen = run_with(rt, rt.alloc(), line, text, b"", most)?;
-            assert_failed(rt, &seen, 3, fault);
+// The words of a run, the problem, the report for the first prices, and the line that refuses one of
+// the two.
+type Refused = (&'static str, &'static [u8], &'static [u8], &'static str);
+
+const REFUSED: [Refused; 22] = [
+    ("solve", b"", b"", "input: empty\n"),
+    ("solve", b" \t\r\n\x0b\x0c", b"", "input: empty\n"),
+    ("solve", b"8193 1", b"", "input: size out of range\n"),
+    ("solve", b"0", b"", "input: size out of range\n"),
+    ("solve", b"x", b"", "input: bad number at byte 0\n"),
+    ("solve", b"1 3.0", b"", "input: bad number at byte 2\n"),
+    (
+        "solve",
+        b"1 1000000000001",
+        b"",
+        "input: cost out of range at byte 2\n",
+    ),
+    ("solve", b"2 1 2", b"", "input: truncated after 3 numbers\n"),
+    (
+        "solve",
+        b"2 1 2 3",
+        b"",
+        "input: truncated after 4 numbers\n",
+    ),
+    ("solve", b"1 7 8", b"", "input: extra data at byte 4\n"),
+    ("solve", b"1 7 x", b"", "input: extra data at byte 4\n"),
+    (
+        "solve --sparse",
+        b"2 1 1 5 2 1",
+        b"",
+        "input: truncated after 6 numbers\n",
+    ),
+    (
+        "solve --sparse",
+        b"2 3 1 5",
+        b"",
+        "input: index out of range at byte 2\n",
+    ),
+    (
+        "solve --start report",
+        b"1 7",
+        b"sense min\ncost 7\nassign 1 1 7\nprice 1 1000000000000000000001\n",
+        "start: price of object 1 too great\n",
+    ),
+    (
+        "solve --start report",
+        b"2 1 2 3 5",
+        b"sense min\ncost 6\nassign 1 1 2\nassign 2 2 2\nassign 3 3 2\nprice 1 1\nprice 2 1\nprice 3 2\n",
+        "start: 3 prices\n",
+    ),
+    ("solve --start report", b"1 7", TWO, "start: 2 prices\n"),
+    (
+        "solve --start report",
+        b"2 1 2 3 5",
+        b"sense min\ninfeasible\npersons 2 1 2\nobjects 1 1\n",
+        "start: no prices\n",
+    ),
+    (
+        "solve --start report",
+        b"2 1 2 3 5",
+        b"sense min\ncost 5\nassign 1 2 2\nassign 2 1 3\n",
+        "start: no prices\n",
+    ),
+    (
+        "solve --start report",
+        b"2 1 2 3 5",
+        b"cost 5\nass",
+        "report: bad line 2\n",
+    ),
+    (
+        "solve --start report",
+        b"2 1 2 3 5",
+        b"",
+        "report: ends before line 1\n",
+    ),
+    (
+        "solve --start report",
+        b"2 1 2 3",
+        b"cost 5\nass",
+        "input: truncated after 4 numbers\n",
+    ),
+    (
+        "solve --start report",
+        b"2 1 2 3",
+        TWO,
+        "input: truncated after 4 numbers\n",
+    ),
+];
+
+// Both methods refuse the same texts, in bytes and at once.
+#[test]
+fn refused_texts(rt: HostRuntime) -> Result<(), Fail> {
+    let runs = [
+        ("", 1),
+        ("", 65536),
+        (" --method auction", 100),
+        (" --method paths", 100),
+    ];
+    for (words, text, report, fault) in REFUSED {
+        for (method, most) in runs {
+            let line = format!(in rt.alloc(); "{words}{method}")?;
+            let seen = run_with(&rt, rt.alloc(), line.as_str(), text, report, most)?;
+            assert_failed(&rt, &seen, 3, fault);
         }
     }
     Ok(())
-}
-
-#[test]
-fn refused_texts(rt: HostRuntime) -> Result<(), Fail> {
-    let dense: [(&[u8], &str); 11] = [
-        (b"", "input: empty\n"),
-        (b" \t\r\n\x0b\x0c", "input: empty\n"),
-        (b"8193 1", "input: size out of range\n"),
-        (b"0", "input: size out of range\n"),
-        (b"x", "input: bad number at byte 0\n"),
-        (b"1 3.0", "input: bad number at byte 2\n"),
-        (b"1 1000000000001", "input: cost out of range at byte 2\n"),
-        (b"2 1 2", "input: truncated after 3 numbers\n"),
-        (b"2 1 2 3", "input: truncated after 4 numbers\n"),
-        (b"1 7 8", "input: extra data at byte 4\n"),
-        (b"1 7 x", "input: extra data at byte 4\n"),
-    ];
-    assert_refused(&rt, "solve", &dense)?;
-    let sparse: [(&[u8], &str); 2] = [
-        (b"2 1 1 5 2 1", "input: truncated after 6 numbers\n"),
-        (b"2 3 1 5", "input: index out of range at byte 2\n"),
-    ];
-    assert_refused(&rt, "solve --sparse", &sparse)
 }
 
 #[test]
@@ -55,7 +126,7 @@ fn input_that_fails(rt: HostRuntime) -> Result<(), Fail> {
     let texts: [&[u8]; 3] = [b"", b"2 1 2", b"2 1 2 3 5"];
     for text in texts {
         let mut devices = whole_devices(alloc, text, b"", 2);
-        devices.text.fails = true;
+        devices.input.fails = true;
         let seen = run_on(&rt, alloc, "solve", devices)?;
         assert_failed(&rt, &seen, 4, "device: read failed\n");
     }
@@ -89,7 +160,7 @@ fn reports_that_cannot_be_read(rt: HostRuntime) -> Result<(), Fail> {
     ];
     for (line, text, status, told) in table {
         let mut devices = whole_devices(alloc, text, b"cost 5\nass", 2);
-        devices.report.fails = true;
+        devices.files.report.fails = true;
         let seen = run_on(&rt, alloc, line, devices)?;
         assert_failed(&rt, &seen, status, told);
     }
@@ -111,7 +182,10 @@ fn is_cut_off(
         b"infeasible\npersons 1 1\nobjects 0\n",
         100,
     );
-    devices.out = failing_writer(alloc, front.len(), most, fails);
+    devices.outputs = Outputs {
+        output: failing_writer(alloc, front.len(), most, fails),
+        errors: failing_writer(alloc, 1 << 20, 100, true),
+    };
     let seen = run_on(rt, alloc, line, devices)?;
     Ok(leaves(&seen, 4, front, b"device: write failed\n"))
 }
@@ -159,7 +233,10 @@ fn is_written_in_part(
     front: &[u8],
 ) -> Result<bool, AllocError> {
     let mut devices = whole_devices(alloc, b"x", b"", 100);
-    devices.errors = failing_writer(alloc, front.len(), 3, false);
+    devices.outputs = Outputs {
+        output: failing_writer(alloc, 1 << 20, 100, true),
+        errors: failing_writer(alloc, front.len(), 3, false),
+    };
     let seen = run_on(rt, alloc, line, devices)?;
     Ok(leaves(&seen, status, b"", front) && !seen.whole)
 }
@@ -207,58 +284,68 @@ fn has_line(alloc: Global, fault: &CliFault, status: u8, line: &str) -> Result<b
 }
 
 #[test]
-fn lines_on_inputs(rt: HostRuntime) -> Result<(), Fail> {
+fn lines_of_faults(rt: HostRuntime) -> Result<(), Fail> {
+    let great = StartFault::Price(Object(7));
     let table = [
-        (InputFault::Empty, 3, "input: empty"),
-        (InputFault::BadToken(12), 3, "input: bad number at byte 12"),
-        (InputFault::Size, 3, "input: size out of range"),
-        (InputFault::Cost(7), 3, "input: cost out of range at byte 7"),
+        (CliFault::Input(InputFault::Empty), 3, "input: empty"),
         (
-            InputFault::Index(7),
+            CliFault::Input(InputFault::BadToken(12)),
+            3,
+            "input: bad number at byte 12",
+        ),
+        (
+            CliFault::Input(InputFault::Size),
+            3,
+            "input: size out of range",
+        ),
+        (
+            CliFault::Input(InputFault::Cost(7)),
+            3,
+            "input: cost out of range at byte 7",
+        ),
+        (
+            CliFault::Input(InputFault::Index(7)),
             3,
             "input: index out of range at byte 7",
         ),
         (
-            InputFault::Truncated(3),
+            CliFault::Input(InputFault::Truncated(3)),
             3,
             "input: truncated after 3 numbers",
         ),
-        (InputFault::Extra(9), 3, "input: extra data at byte 9"),
         (
-            InputFault::TooLong,
+            CliFault::Input(InputFault::Extra(9)),
+            3,
+            "input: extra data at byte 9",
+        ),
+        (
+            CliFault::Input(InputFault::TooLong),
             3,
             "input: longer than 1073741824 bytes",
         ),
-        (InputFault::Read, 4, "device: read failed"),
-        (InputFault::Memory, 4, "memory refused"),
-    ];
-    for (fault, status, line) in table {
-        let fault = CliFault::Input(fault);
-        assert!(rt; has_line(rt.alloc(), &fault, status, line)?, "{line}");
-    }
-    Ok(())
-}
-
-#[test]
-fn lines_on_reports(rt: HostRuntime) -> Result<(), Fail> {
-    let table = [
-        (ReportFault::Line(12), 3, "report: bad line 12"),
-        (ReportFault::TooLong, 3, "report: longer than 1048576 bytes"),
-        (ReportFault::Ends(7), 3, "report: ends before line 7"),
-        (ReportFault::Read, 4, "device: read failed"),
-        (ReportFault::Memory, 4, "memory refused"),
-    ];
-    for (fault, status, line) in table {
-        let fault = CliFault::Report(fault);
-        assert!(rt; has_line(rt.alloc(), &fault, status, line)?, "{line}");
-    }
-    Ok(())
-}
-
-#[test]
-fn other_lines(rt: HostRuntime) -> Result<(), Fail> {
-    let great = StartFault::Price(Object(7));
-    let table = [
+        (CliFault::Input(InputFault::Read), 4, "device: read failed"),
+        (CliFault::Input(InputFault::Memory), 4, "memory refused"),
+        (
+            CliFault::Report(ReportFault::Line(12)),
+            3,
+            "report: bad line 12",
+        ),
+        (
+            CliFault::Report(ReportFault::TooLong),
+            3,
+            "report: longer than 1048576 bytes",
+        ),
+        (
+            CliFault::Report(ReportFault::Ends(7)),
+            3,
+            "report: ends before line 7",
+        ),
+        (
+            CliFault::Report(ReportFault::Read),
+            4,
+            "device: read failed",
+        ),
+        (CliFault::Report(ReportFault::Memory), 4, "memory refused"),
         (CliFault::Start(StartFault::NoPrices), 3, "start: no prices"),
         (
             CliFault::Start(StartFault::Length(12)),

@@ -1,11 +1,11 @@
 // Runs whose problem is in a file that the words name.
-use crate::watched::{Seen, assert_failed, assert_reported, run_on, whole_devices};
+use crate::watched::{Seen, Shelf, assert_failed, assert_reported, run_on, whole_devices};
 use std::alloc::{AllocError, Global};
 use std::process::Abort;
 use std::sync::Wait;
 use std::test::Fail;
 use std::thread::Threads;
-use test_helpers::whole_text;
+use test_helpers::{Pieces, whole_text};
 
 // A problem on standard input, which these runs don't read.
 const STANDARD: &[u8] = b"1 7";
@@ -23,8 +23,14 @@ fn run_on_file(
     most: usize,
 ) -> Result<Seen, AllocError> {
     let mut devices = whole_devices(alloc, STANDARD, REPORT, most);
-    devices.problem = whole_text(PROBLEM, most);
-    devices.problem.fails = fails;
+    devices.files = Shelf {
+        report: whole_text(REPORT, most),
+        problem: Pieces {
+            text: PROBLEM,
+            most,
+            fails,
+        },
+    };
     run_on(rt, alloc, line, devices)
 }
 
@@ -57,7 +63,8 @@ fn problems_in_files(rt: HostRuntime) -> Result<(), Fail> {
     Ok(())
 }
 
-// The report is opened first, then the problem's file; nothing is read before.
+// The words are judged first. Then the report is opened, and then the problem's file; nothing is
+// read before.
 #[test]
 fn files_that_cannot_be_read(rt: HostRuntime) -> Result<(), Fail> {
     let no_report = "device: cannot open the report\n";
@@ -83,30 +90,20 @@ fn files_that_cannot_be_read(rt: HostRuntime) -> Result<(), Fail> {
             3,
             "input: bad number at byte 0\n",
         ),
-    ];
-    for (line, status, told) in table {
-        let seen = run_on_file(&rt, rt.alloc(), line, true, 2)?;
-        assert_failed(&rt, &seen, status, told);
-        assert_left_alone(&rt, &seen);
-    }
-    Ok(())
-}
-
-#[test]
-fn words_come_first(rt: HostRuntime) -> Result<(), Fail> {
-    let table = [
         (
             "solve --mode round --input none",
+            2,
             "usage: mode is rounds or workers\n",
         ),
         (
             "verify --sense most --input none none",
+            2,
             "usage: sense is min or max\n",
         ),
     ];
-    for (line, told) in table {
-        let seen = run_on_file(&rt, rt.alloc(), line, false, 100)?;
-        assert_failed(&rt, &seen, 2, told);
+    for (line, status, told) in table {
+        let seen = run_on_file(&rt, rt.alloc(), line, true, 2)?;
+        assert_failed(&rt, &seen, status, told);
         assert_left_alone(&rt, &seen);
     }
     Ok(())

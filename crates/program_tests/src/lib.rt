@@ -4,8 +4,6 @@
 #[cfg(test)]
 mod command;
 #[cfg(test)]
-mod exact;
-#[cfg(test)]
 mod faults;
 #[cfg(test)]
 mod gates;

@@ -1,6 +1,7 @@
 // Both modes, on problems whose reports, or the compared parts of them, are the same for any
 // threads.
-use crate::watched::{Seen, assert_words_refused, run_with};
+use crate::reports::Worked;
+use crate::watched::{Seen, run_with};
 use assign_core::Sense;
 use async_workers::{Gate, Note};
 use auction_command::{Ended, run_solve};
@@ -34,10 +35,6 @@ const MODES: [&str; 6] = [
     "--mode workers --workers 64",
     "--refresh=1000 --workers=2 --mode=workers",
 ];
-
-// A problem with some options, a report for `--start`, and the expected status and beginning of the
-// report.
-type Worked = (&'static str, &'static [u8], &'static [u8], u8, &'static str);
 
 // The run wrote a report with this beginning, nothing on standard error, and ended with this
 // status.
@@ -118,41 +115,6 @@ fn reports_in_both_modes(rt: HostRuntime) -> Result<(), Fail> {
             let seen = run_with(&rt, rt.alloc(), line.as_str(), text, report, 4096)?;
             assert_starts(&rt, &seen, status, start);
         }
-    }
-    Ok(())
-}
-
-#[test]
-fn refused_modes(rt: HostRuntime) -> Result<(), Fail> {
-    let mode = "usage: mode is rounds or workers";
-    let table = [
-        ("solve --mode round", mode),
-        ("solve --mode=", mode),
-        ("solve --mode Workers --workers 64", mode),
-        (
-            "solve --workers 0",
-            "error: invalid value '0' for '--workers <K>': 0 is not in 1..=64",
-        ),
-        (
-            "solve --workers=65 --mode=rounds",
-            "error: invalid value '65' for '--workers <K>': 65 is not in 1..=64",
-        ),
-        (
-            "solve --workers four",
-            "error: invalid value 'four' for '--workers <K>': invalid digit found in string",
-        ),
-        (
-            "solve --refresh 1000001",
-            "error: invalid value '1000001' for '--refresh <R>': 1000001 is not in 0..=1000000",
-        ),
-        (
-            "solve --mode rounds --mode rounds",
-            "error: the argument '--mode <MODE>' cannot be used multiple times",
-        ),
-    ];
-    for (line, errors) in table {
-        let seen = run_with(&rt, rt.alloc(), line, b"1 7", b"", 4096)?;
-        assert_words_refused(&rt, &seen, errors);
     }
     Ok(())
 }

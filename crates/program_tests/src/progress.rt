@@ -289,21 +289,6 @@ progress: phase 3 of 8, 812 of 1000 persons, 128 sessions, 99 bids, 24.0 s; --me
 progress: shortest paths, 731 of 1000 persons, 30.0 s
 ";
 
-#[test]
-fn lines_on_a_file(rt: HostRuntime) -> Result<(), Fail> {
-    for (step, most, asked, wanted) in [
-        (600, 9, true, ALL),
-        (300, 9, true, SOME),
-        (600, 9, false, ""),
-        (600, 0, true, ""),
-        (6000, 9, true, SLOW),
-    ] {
-        let lines = shown(rt.alloc(), step, most, false, asked, true);
-        assert_eq!(rt; lines.as_slice(), wanted.as_bytes());
-    }
-    Ok(())
-}
-
 // The shorter line covers the rest of the longer one.
 const LEFT: &str = "\rphase 3 of 8, 812 of 1000 persons, 128 sessions, 99 bids, 2.4 s\
     \rshortest paths, 731 of 1000 persons, 3.0 s                     ";
@@ -313,11 +298,19 @@ const ERASED: &str = "\rphase 3 of 8, 812 of 1000 persons, 128 sessions, 99 bids
     \rshortest paths, 731 of 1000 persons, 3.0 s                     \
     \r                                          \r";
 
-// By default, the first line comes after two seconds.
+// On a terminal the first line comes after two seconds, and no progress need be requested.
 #[test]
-fn lines_on_a_terminal(rt: HostRuntime) -> Result<(), Fail> {
-    for (ends, wanted) in [(false, LEFT), (true, ERASED)] {
-        let lines = shown(rt.alloc(), 600, 9, true, false, ends);
+fn lines_on_a_screen(rt: HostRuntime) -> Result<(), Fail> {
+    for (step, most, in_place, asked, ends, wanted) in [
+        (600, 9, false, true, true, ALL),
+        (300, 9, false, true, true, SOME),
+        (600, 9, false, false, true, ""),
+        (600, 0, false, true, true, ""),
+        (6000, 9, false, true, true, SLOW),
+        (600, 9, true, false, false, LEFT),
+        (600, 9, true, false, true, ERASED),
+    ] {
+        let lines = shown(rt.alloc(), step, most, in_place, asked, ends);
         assert_eq!(rt; lines.as_slice(), wanted.as_bytes());
     }
     Ok(())

@@ -1,4 +1,6 @@
 // Texts with their expected reports and statuses.
+use crate::methods::BY_PATHS;
+use crate::starts::FROM_REPORTS;
 use crate::texts::problem_in;
 use crate::watched::{assert_reported, run_with};
 use assign_core::Sense;
@@ -9,17 +11,159 @@ use std::test::Fail;
 use std::thread::Threads;
 use test_helpers::{next_number, plain_best};
 
-// Runs with these words on each text, in bytes and at once, end with this status and this report.
+/// The words of a run, the problem, the report that is named `report`, and the expected status and
+/// report.
+pub type Worked = (&'static str, &'static [u8], &'static [u8], u8, &'static str);
+
+const ROSTER: &[u8] = b"3 1 1 4 2 1 6 3 2 1 3 3 2";
+
+// The pair that is given twice counts once, at 3.
+const TWICE: &[u8] = b"2 1 1 9 1 1 3 1 2 4 2 1 5 2 2 8";
+
+const LEAST_OF_TWO: &str = "sense min\ncost 5\nassign 1 2 2\nassign 2 1 3\n";
+
+const REPORTS: [Worked; 21] = [
+    ("solve", b"1 7", b"", 0, "sense min\ncost 7\nassign 1 1 7\n"),
+    (
+        "solve",
+        b"1 -7",
+        b"",
+        0,
+        "sense min\ncost -7\nassign 1 1 -7\n",
+    ),
+    ("solve", b"1 0", b"", 0, "sense min\ncost 0\nassign 1 1 0\n"),
+    ("solve", b"2 1 2 3 5", b"", 0, LEAST_OF_TWO),
+    (
+        "solve",
+        b"02\r\n\t1\n\n002\n+3\n\x0c\n\x0b5\n\n",
+        b"",
+        0,
+        LEAST_OF_TWO,
+    ),
+    (
+        "solve",
+        b"1 1000000000000",
+        b"",
+        0,
+        "sense min\ncost 1000000000000\nassign 1 1 1000000000000\n",
+    ),
+    (
+        "solve",
+        b"1 -1000000000000",
+        b"",
+        0,
+        "sense min\ncost -1000000000000\nassign 1 1 -1000000000000\n",
+    ),
+    (
+        "solve --prices",
+        b"1 7",
+        b"",
+        0,
+        "sense min\ncost 7\nassign 1 1 7\nprice 1 1\n",
+    ),
+    (
+        "solve --prices",
+        b"2 1 2 3 5",
+        b"",
+        0,
+        "sense min\ncost 5\nassign 1 2 2\nassign 2 1 3\nprice 1 14\nprice 2 12\n",
+    ),
+    (
+        "solve --prices",
+        b"3 2 2 2 2 2 2 2 2 2",
+        b"",
+        0,
+        "sense min\ncost 6\nassign 1 1 2\nassign 2 2 2\nassign 3 3 2\nprice 1 1\nprice 2 1\nprice 3 2\n",
+    ),
+    (
+        "solve --prices",
+        b"2 1000000 -1000000 -1000000 1000000",
+        b"",
+        0,
+        "sense min\ncost -2000000\nassign 1 2 -1000000\nassign 2 1 -1000000\nprice 1 61499999\nprice 2 61499999\n",
+    ),
+    (
+        "solve --prices",
+        b"2 1000000000000 -1000000000000 -1000000000000 1000000000000",
+        b"",
+        0,
+        "sense min\ncost -2000000000000\nassign 1 2 -1000000000000\nassign 2 1 -1000000000000\n\
+         price 1 109499999999997\nprice 2 109499999999997\n",
+    ),
+    (
+        "solve --max",
+        b"1 7",
+        b"",
+        0,
+        "sense max\ncost 7\nassign 1 1 7\n",
+    ),
+    (
+        "solve --max",
+        b"2 1 2 3 5",
+        b"",
+        0,
+        "sense max\ncost 6\nassign 1 1 1\nassign 2 2 5\n",
+    ),
+    (
+        "solve --max --prices",
+        b"2 1 2 3 5",
+        b"",
+        0,
+        "sense max\ncost 6\nassign 1 1 1\nassign 2 2 5\nprice 1 12\nprice 2 14\n",
+    ),
+    (
+        "solve --sparse",
+        ROSTER,
+        b"",
+        1,
+        "sense min\ninfeasible\npersons 2 1 2\nobjects 1 1\n",
+    ),
+    (
+        "solve --sparse",
+        b"2 1 1 5 1 2 6",
+        b"",
+        1,
+        "sense min\ninfeasible\npersons 1 2\nobjects 0\n",
+    ),
+    (
+        "solve --sparse",
+        b"3",
+        b"",
+        1,
+        "sense min\ninfeasible\npersons 1 1\nobjects 0\n",
+    ),
+    (
+        "solve --sparse --max",
+        ROSTER,
+        b"",
+        1,
+        "sense max\ninfeasible\npersons 2 1 2\nobjects 1 1\n",
+    ),
+    (
+        "solve --sparse",
+        TWICE,
+        b"",
+        0,
+        "sense min\ncost 9\nassign 1 2 4\nassign 2 1 5\n",
+    ),
+    (
+        "solve --sparse --max",
+        TWICE,
+        b"",
+        0,
+        "sense max\ncost 11\nassign 1 1 3\nassign 2 2 8\n",
+    ),
+];
+
+// Runs in bytes and at once end with these statuses and reports.
 fn assert_reports(
     rt: &(impl Threads + Wait + Sync + Abort + AllocGlobal),
-    line: &str,
-    status: u8,
-    table: &[(&[u8], &str)],
+    table: &[Worked],
 ) -> Result<(), Fail> {
-    for (text, report) in table {
+    for (line, text, report, status, out) in table {
         for most in [1, 65536] {
-            let seen = run_with(rt, rt.alloc(), line, text, b"", most)?;
-            assert_reported(rt, &seen, status, report);
+            let seen = run_with(rt, rt.alloc(), line, text, report, most)?;
+            assert_reported(rt, &seen, *status, out);
         }
     }
     Ok(())
@@ -27,97 +171,11 @@ fn assert_reports(
 
 #[test]
 fn reports(rt: HostRuntime) -> Result<(), Fail> {
-    let two = "sense min\ncost 5\nassign 1 2 2\nassign 2 1 3\n";
-    let table: [(&[u8], &str); 7] = [
-        (b"1 7", "sense min\ncost 7\nassign 1 1 7\n"),
-        (b"1 -7", "sense min\ncost -7\nassign 1 1 -7\n"),
-        (b"1 0", "sense min\ncost 0\nassign 1 1 0\n"),
-        (b"2 1 2 3 5", two),
-        (b"02\r\n\t1\n\n002\n+3\n\x0c\n\x0b5\n\n", two),
-        (
-            b"1 1000000000000",
-            "sense min\ncost 1000000000000\nassign 1 1 1000000000000\n",
-        ),
-        (
-            b"1 -1000000000000",
-            "sense min\ncost -1000000000000\nassign 1 1 -1000000000000\n",
-        ),
-    ];
-    assert_reports(&rt, "solve", 0, &table)
-}
-
-#[test]
-fn reports_with_prices(rt: HostRuntime) -> Result<(), Fail> {
-    let table: [(&[u8], &str); 5] = [
-        (b"1 7", "sense min\ncost 7\nassign 1 1 7\nprice 1 1\n"),
-        (
-            b"2 1 2 3 5",
-            "sense min\ncost 5\nassign 1 2 2\nassign 2 1 3\nprice 1 14\nprice 2 12\n",
-        ),
-        (
-            b"3 2 2 2 2 2 2 2 2 2",
-            "sense min\ncost 6\nassign 1 1 2\nassign 2 2 2\nassign 3 3 2\nprice 1 1\nprice 2 1\nprice 3 2\n",
-        ),
-        (
-            b"2 1000000 -1000000 -1000000 1000000",
-            "sense min\ncost -2000000\nassign 1 2 -1000000\nassign 2 1 -1000000\nprice 1 61499999\nprice 2 61499999\n",
-        ),
-        (
-            b"2 1000000000000 -1000000000000 -1000000000000 1000000000000",
-            "sense min\ncost -2000000000000\nassign 1 2 -1000000000000\nassign 2 1 -1000000000000\n\
-             price 1 109499999999997\nprice 2 109499999999997\n",
-        ),
-    ];
-    assert_reports(&rt, "solve --prices", 0, &table)
-}
-
-#[test]
-fn reports_on_the_greatest_cost(rt: HostRuntime) -> Result<(), Fail> {
-    let plain: [(&[u8], &str); 2] = [
-        (b"1 7", "sense max\ncost 7\nassign 1 1 7\n"),
-        (
-            b"2 1 2 3 5",
-            "sense max\ncost 6\nassign 1 1 1\nassign 2 2 5\n",
-        ),
-    ];
-    assert_reports(&rt, "solve --max", 0, &plain)?;
-    let priced: [(&[u8], &str); 1] = [(
-        b"2 1 2 3 5",
-        "sense max\ncost 6\nassign 1 1 1\nassign 2 2 5\nprice 1 12\nprice 2 14\n",
-    )];
-    assert_reports(&rt, "solve --max --prices", 0, &priced)
-}
-
-#[test]
-fn sparse_reports(rt: HostRuntime) -> Result<(), Fail> {
-    let roster: &[u8] = b"3 1 1 4 2 1 6 3 2 1 3 3 2";
-    let none: [(&[u8], &str); 3] = [
-        (
-            roster,
-            "sense min\ninfeasible\npersons 2 1 2\nobjects 1 1\n",
-        ),
-        (
-            b"2 1 1 5 1 2 6",
-            "sense min\ninfeasible\npersons 1 2\nobjects 0\n",
-        ),
-        (b"3", "sense min\ninfeasible\npersons 1 1\nobjects 0\n"),
-    ];
-    assert_reports(&rt, "solve --sparse", 1, &none)?;
-    let none = [(
-        roster,
-        "sense max\ninfeasible\npersons 2 1 2\nobjects 1 1\n",
-    )];
-    assert_reports(&rt, "solve --sparse --max", 1, &none)
-}
-
-// The pair that is given twice counts once, at 3.
-#[test]
-fn pairs_given_twice(rt: HostRuntime) -> Result<(), Fail> {
-    let text: &[u8] = b"2 1 1 9 1 1 3 1 2 4 2 1 5 2 2 8";
-    let least = [(text, "sense min\ncost 9\nassign 1 2 4\nassign 2 1 5\n")];
-    assert_reports(&rt, "solve --sparse", 0, &least)?;
-    let greatest = [(text, "sense max\ncost 11\nassign 1 1 3\nassign 2 2 8\n")];
-    assert_reports(&rt, "solve --sparse --max", 0, &greatest)
+    let tables: [&[Worked]; 3] = [&REPORTS, &FROM_REPORTS, &BY_PATHS];
+    for table in tables {
+        assert_reports(&rt, table)?;
+    }
+    Ok(())
 }
 
 // A dense text of at most four persons with costs from -2 to 2.

@@ -1,137 +1,87 @@
 // Runs that begin at the prices of a report.
-use crate::watched::{assert_failed, assert_reported, first_line, run_with};
+use crate::reports::Worked;
+use crate::watched::{first_line, run_with};
 use std::alloc::{AllocError, Global};
 use std::sync::Wait;
 use std::test::Fail;
 use std::thread::Threads;
 use test_helpers::next_number;
 
-// The report with prices on two persons.
-const TWO: &[u8] = b"sense min\ncost 5\nassign 1 2 2\nassign 2 1 3\nprice 1 14\nprice 2 12\n";
+/// The report with prices on two persons.
+pub const TWO: &[u8] = b"sense min\ncost 5\nassign 1 2 2\nassign 2 1 3\nprice 1 14\nprice 2 12\n";
 
 // Worked by hand: with floor -43 the bids are 17, 20 and 19, and then with floor -48 they are 23,
 // 26 and 24.
 const TWO_FROM_TWO: &str =
     "sense min\ncost 5\nassign 1 2 2\nassign 2 1 3\nprice 1 26\nprice 2 24\n";
 
-#[test]
-fn runs_from_reports(rt: HostRuntime) -> Result<(), Fail> {
-    let table: [(&str, &[u8], &[u8], &str); 8] = [
-        (
-            "solve --start report --prices",
-            b"2 1 2 3 5",
-            TWO,
-            TWO_FROM_TWO,
-        ),
-        // A report of version 1, which has no sense.
-        (
-            "solve --start report --prices",
-            b"2 1 2 3 5",
-            b"cost 5\nassign 1 2 2\nassign 2 1 3\nprice 1 14\nprice 2 12\n",
-            TWO_FROM_TWO,
-        ),
-        // Only the prices matter.
-        (
-            "solve --start report --prices",
-            b"2 1 2 3 5",
-            b"sense max\ncost -9\nassign 1 7 7\nassign 2 7 -7\nprice 1 14\nprice 2 12\n",
-            TWO_FROM_TWO,
-        ),
-        (
-            "solve --start report --sparse --prices",
-            b"2 1 1 1 1 2 2 2 1 3 2 2 5",
-            TWO,
-            TWO_FROM_TWO,
-        ),
-        (
-            "solve --start report",
-            b"2 1 2 3 5",
-            TWO,
-            "sense min\ncost 5\nassign 1 2 2\nassign 2 1 3\n",
-        ),
-        (
-            "solve --start report --max",
-            b"2 1 2 3 5",
-            TWO,
-            "sense max\ncost 6\nassign 1 1 1\nassign 2 2 5\n",
-        ),
-        (
-            "solve --start report --prices",
-            b"1 7",
-            b"cost 7\nassign 1 1 7\nprice 1 0\n",
-            "sense min\ncost 7\nassign 1 1 7\nprice 1 1\n",
-        ),
-        (
-            "solve --start report --prices",
-            b"1 7",
-            b"sense min\ncost 7\nassign 1 1 7\nprice 1 1000000000000000000000\n",
-            "sense min\ncost 7\nassign 1 1 7\nprice 1 1000000000000000000001\n",
-        ),
-    ];
-    for (line, text, report, out) in table {
-        for most in [1, 65536] {
-            let seen = run_with(&rt, rt.alloc(), line, text, report, most)?;
-            assert_reported(&rt, &seen, 0, out);
-        }
-    }
-    Ok(())
-}
-
-#[test]
-fn no_assignment_from_prices(rt: HostRuntime) -> Result<(), Fail> {
-    let seen = run_with(
-        &rt,
-        rt.alloc(),
+/// Runs from the prices of reports. The second report is of version 1, which has no sense. Of the
+/// third one only the prices matter.
+pub const FROM_REPORTS: [Worked; 9] = [
+    (
+        "solve --start report --prices",
+        b"2 1 2 3 5",
+        TWO,
+        0,
+        TWO_FROM_TWO,
+    ),
+    (
+        "solve --start report --prices",
+        b"2 1 2 3 5",
+        b"cost 5\nassign 1 2 2\nassign 2 1 3\nprice 1 14\nprice 2 12\n",
+        0,
+        TWO_FROM_TWO,
+    ),
+    (
+        "solve --start report --prices",
+        b"2 1 2 3 5",
+        b"sense max\ncost -9\nassign 1 7 7\nassign 2 7 -7\nprice 1 14\nprice 2 12\n",
+        0,
+        TWO_FROM_TWO,
+    ),
+    (
+        "solve --start report --sparse --prices",
+        b"2 1 1 1 1 2 2 2 1 3 2 2 5",
+        TWO,
+        0,
+        TWO_FROM_TWO,
+    ),
+    (
+        "solve --start report",
+        b"2 1 2 3 5",
+        TWO,
+        0,
+        "sense min\ncost 5\nassign 1 2 2\nassign 2 1 3\n",
+    ),
+    (
+        "solve --start report --max",
+        b"2 1 2 3 5",
+        TWO,
+        0,
+        "sense max\ncost 6\nassign 1 1 1\nassign 2 2 5\n",
+    ),
+    (
+        "solve --start report --prices",
+        b"1 7",
+        b"cost 7\nassign 1 1 7\nprice 1 0\n",
+        0,
+        "sense min\ncost 7\nassign 1 1 7\nprice 1 1\n",
+    ),
+    (
+        "solve --start report --prices",
+        b"1 7",
+        b"sense min\ncost 7\nassign 1 1 7\nprice 1 1000000000000000000000\n",
+        0,
+        "sense min\ncost 7\nassign 1 1 7\nprice 1 1000000000000000000001\n",
+    ),
+    (
         "solve --sparse --start report",
         b"3 1 1 4 2 1 6 3 2 1 3 3 2",
         b"cost 6\nassign 1 1 2\nassign 2 2 2\nassign 3 3 2\nprice 1 1\nprice 2 1\nprice 3 2\n",
-        65536,
-    )?;
-    let out = "sense min\ninfeasible\npersons 2 1 2\nobjects 1 1\n";
-    assert_reported(&rt, &seen, 1, out);
-    Ok(())
-}
-
-#[test]
-fn refused_starts(rt: HostRuntime) -> Result<(), Fail> {
-    let table: [(&[u8], &[u8], &str); 8] = [
-        (
-            b"1 7",
-            b"sense min\ncost 7\nassign 1 1 7\nprice 1 1000000000000000000001\n",
-            "start: price of object 1 too great\n",
-        ),
-        (
-            b"2 1 2 3 5",
-            b"sense min\ncost 6\nassign 1 1 2\nassign 2 2 2\nassign 3 3 2\nprice 1 1\nprice 2 1\nprice 3 2\n",
-            "start: 3 prices\n",
-        ),
-        (
-            b"2 1 2 3 5",
-            b"sense min\ninfeasible\npersons 2 1 2\nobjects 1 1\n",
-            "start: no prices\n",
-        ),
-        (
-            b"2 1 2 3 5",
-            b"sense min\ncost 5\nassign 1 2 2\nassign 2 1 3\n",
-            "start: no prices\n",
-        ),
-        (b"2 1 2 3 5", b"cost 5\nass", "report: bad line 2\n"),
-        (b"2 1 2 3 5", b"", "report: ends before line 1\n"),
-        (
-            b"2 1 2 3",
-            b"cost 5\nass",
-            "input: truncated after 4 numbers\n",
-        ),
-        (b"2 1 2 3", TWO, "input: truncated after 4 numbers\n"),
-    ];
-    for (text, report, line) in table {
-        for most in [1, 65536] {
-            let seen = run_with(&rt, rt.alloc(), "solve --start report", text, report, most)?;
-            assert_failed(&rt, &seen, 3, line);
-        }
-    }
-    Ok(())
-}
+        1,
+        "sense min\ninfeasible\npersons 2 1 2\nobjects 1 1\n",
+    ),
+];
 
 // The costs of `n` persons, from -9 to 9.
 fn draw_costs(alloc: Global, n: u8, seed: &mut u64) -> Result<Vec<i64>, AllocError> {

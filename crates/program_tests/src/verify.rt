@@ -1,6 +1,6 @@
 // Reports checked against problems, with their expected lines.
 use assign_core::{Object, Sense};
-use auction_command::{CliFault, Finding, Verified, run_verify, run_verify_under};
+use auction_command::{CliFault, Finding, Verified, Verifier, run_verify, run_verify_under};
 use dual_checker::{HallVerdict, Verdict};
 use std::alloc::{AllocError, Global};
 use std::test::Fail;
@@ -75,213 +75,206 @@ fn told(
 
 const TWO: &[u8] = b"2 1 2 3 5";
 
+// The rest of a report, and the line on it.
+type Line = (&'static str, &'static str);
+
 // Worked by hand: with benefits -3, -6, -9, -15 and prices 14, 12 both persons have slackness 1.
-#[test]
-fn least_cost(rt: HostRuntime) -> Result<(), Fail> {
-    let alloc = rt.alloc();
-    let table = [
-        (
-            "cost 5\nassign 1 2 2\nassign 2 1 3\nprice 1 14\nprice 2 12\n",
-            "verified cost 5",
-        ),
-        (
-            "cost 5\nassign 1 2 2\nassign 2 1 3\n",
-            "not verified: no prices",
-        ),
-        ("cost 2\nassign 1 2 2\n", "not verified: no prices"),
-        ("cost 2\nassign 1 2 2\nprice 1 14\n", "not verified: length"),
-        (
-            "cost 5\nassign 1 3 2\nassign 2 3 3\nprice 1 14\nprice 2 12\n",
-            "not verified: person 1 unlisted",
-        ),
-        (
-            "cost 5\nassign 1 2 2\nassign 2 8192 3\nprice 1 14\nprice 2 12\n",
-            "not verified: person 2 unlisted",
-        ),
-        (
-            "cost 5\nassign 1 2 2\nassign 2 2 5\nprice 1 14\nprice 2 12\n",
-            "not verified: object 2 twice",
-        ),
-        (
-            "cost 5\nassign 1 2 2\nassign 2 1 3\nprice 1 11\nprice 2 12\n",
-            "not verified: slack of person 1 at object 1",
-        ),
-        (
-            "cost 6\nassign 1 1 1\nassign 2 2 5\nprice 1 14\nprice 2 12\n",
-            "not verified: slack of person 2 at object 1",
-        ),
-        (
-            "cost 5\nassign 1 2 3\nassign 2 1 2\nprice 1 14\nprice 2 12\n",
-            "not verified: cost of person 1",
-        ),
-        (
-            "cost 5\nassign 1 2 2\nassign 2 1 -3\nprice 1 14\nprice 2 12\n",
-            "not verified: cost of person 2",
-        ),
-        (
-            "cost -5\nassign 1 2 2\nassign 2 1 3\nprice 1 14\nprice 2 12\n",
-            "not verified: total",
-        ),
-    ];
-    for front in ["", "sense min\n"] {
-        assert_eq!(rt; told(alloc, TWO, false, front, &table)?, 12);
-    }
-    Ok(())
-}
-
-#[test]
-fn greatest_cost(rt: HostRuntime) -> Result<(), Fail> {
-    let table = [
-        (
-            "cost 6\nassign 1 1 1\nassign 2 2 5\nprice 1 12\nprice 2 14\n",
-            "verified max cost 6",
-        ),
-        (
-            "cost 6\nassign 1 1 1\nassign 2 2 5\n",
-            "not verified: no prices",
-        ),
-        ("cost 1\nassign 1 1 1\nprice 1 12\n", "not verified: length"),
-        (
-            "cost 6\nassign 1 1 1\nassign 2 3 5\nprice 1 12\nprice 2 14\n",
-            "not verified: person 2 unlisted",
-        ),
-        (
-            "cost 6\nassign 1 1 1\nassign 2 1 3\nprice 1 12\nprice 2 14\n",
-            "not verified: object 1 twice",
-        ),
-        (
-            "cost 5\nassign 1 2 2\nassign 2 1 3\nprice 1 14\nprice 2 12\n",
-            "not verified: slack of person 2 at object 2",
-        ),
-        (
-            "cost 6\nassign 1 1 0\nassign 2 2 5\nprice 1 12\nprice 2 14\n",
-            "not verified: cost of person 1",
-        ),
-        (
-            "cost 7\nassign 1 1 1\nassign 2 2 5\nprice 1 12\nprice 2 14\n",
-            "not verified: total",
-        ),
-    ];
-    assert_eq!(rt; told(rt.alloc(), TWO, false, "sense max\n", &table)?, 8);
-    let least = [(
-        "cost 6\nassign 1 1 1\nassign 2 2 5\nprice 1 12\nprice 2 14\n",
+const LEAST: [Line; 12] = [
+    (
+        "cost 5\nassign 1 2 2\nassign 2 1 3\nprice 1 14\nprice 2 12\n",
+        "verified cost 5",
+    ),
+    (
+        "cost 5\nassign 1 2 2\nassign 2 1 3\n",
+        "not verified: no prices",
+    ),
+    ("cost 2\nassign 1 2 2\n", "not verified: no prices"),
+    ("cost 2\nassign 1 2 2\nprice 1 14\n", "not verified: length"),
+    (
+        "cost 5\nassign 1 3 2\nassign 2 3 3\nprice 1 14\nprice 2 12\n",
+        "not verified: person 1 unlisted",
+    ),
+    (
+        "cost 5\nassign 1 2 2\nassign 2 8192 3\nprice 1 14\nprice 2 12\n",
+        "not verified: person 2 unlisted",
+    ),
+    (
+        "cost 5\nassign 1 2 2\nassign 2 2 5\nprice 1 14\nprice 2 12\n",
+        "not verified: object 2 twice",
+    ),
+    (
+        "cost 5\nassign 1 2 2\nassign 2 1 3\nprice 1 11\nprice 2 12\n",
+        "not verified: slack of person 1 at object 1",
+    ),
+    (
+        "cost 6\nassign 1 1 1\nassign 2 2 5\nprice 1 14\nprice 2 12\n",
         "not verified: slack of person 2 at object 1",
-    )];
-    assert_eq!(rt; told(rt.alloc(), TWO, false, "sense min\n", &least)?, 1);
-    Ok(())
-}
+    ),
+    (
+        "cost 5\nassign 1 2 3\nassign 2 1 2\nprice 1 14\nprice 2 12\n",
+        "not verified: cost of person 1",
+    ),
+    (
+        "cost 5\nassign 1 2 2\nassign 2 1 -3\nprice 1 14\nprice 2 12\n",
+        "not verified: cost of person 2",
+    ),
+    (
+        "cost -5\nassign 1 2 2\nassign 2 1 3\nprice 1 14\nprice 2 12\n",
+        "not verified: total",
+    ),
+];
 
-#[test]
-fn widest_costs(rt: HostRuntime) -> Result<(), Fail> {
-    let table: [(&[u8], &str, &str, &str); 3] = [
-        (
-            b"2 1000000000000 -1000000000000 -1000000000000 1000000000000",
-            "sense min\n",
-            "cost -2000000000000\nassign 1 2 -1000000000000\nassign 2 1 -1000000000000\nprice 1 109499999999997\nprice 2 109499999999997\n",
-            "verified cost -2000000000000",
-        ),
-        (
-            b"2 1000000 -1000000 -1000000 1000000",
-            "",
-            "cost -2000000\nassign 1 2 -1000000\nassign 2 1 -1000000\nprice 1 61499999\nprice 2 61499999\n",
-            "verified cost -2000000",
-        ),
-        (
-            b"1 1000000000000",
-            "sense min\n",
-            "cost 1000000000000\nassign 1 1 1000000000000\nprice 1 9999999999999999999999\n",
-            "verified cost 1000000000000",
-        ),
-    ];
-    for (problem, front, report, line) in table {
-        assert_eq!(rt;
-            told(rt.alloc(), problem, false, front, &[(report, line)])?,
-            1
-        );
-    }
-    Ok(())
-}
+const GREATEST: [Line; 8] = [
+    (
+        "cost 6\nassign 1 1 1\nassign 2 2 5\nprice 1 12\nprice 2 14\n",
+        "verified max cost 6",
+    ),
+    (
+        "cost 6\nassign 1 1 1\nassign 2 2 5\n",
+        "not verified: no prices",
+    ),
+    ("cost 1\nassign 1 1 1\nprice 1 12\n", "not verified: length"),
+    (
+        "cost 6\nassign 1 1 1\nassign 2 3 5\nprice 1 12\nprice 2 14\n",
+        "not verified: person 2 unlisted",
+    ),
+    (
+        "cost 6\nassign 1 1 1\nassign 2 1 3\nprice 1 12\nprice 2 14\n",
+        "not verified: object 1 twice",
+    ),
+    (
+        "cost 5\nassign 1 2 2\nassign 2 1 3\nprice 1 14\nprice 2 12\n",
+        "not verified: slack of person 2 at object 2",
+    ),
+    (
+        "cost 6\nassign 1 1 0\nassign 2 2 5\nprice 1 12\nprice 2 14\n",
+        "not verified: cost of person 1",
+    ),
+    (
+        "cost 7\nassign 1 1 1\nassign 2 2 5\nprice 1 12\nprice 2 14\n",
+        "not verified: total",
+    ),
+];
+
+const GREATEST_FOR_LEAST: [Line; 1] = [(
+    "cost 6\nassign 1 1 1\nassign 2 2 5\nprice 1 12\nprice 2 14\n",
+    "not verified: slack of person 2 at object 1",
+)];
 
 // If a pair is given twice, its least cost counts.
-#[test]
-fn pairs_given_twice(rt: HostRuntime) -> Result<(), Fail> {
-    let alloc = rt.alloc();
-    let text = b"2 1 1 9 1 1 3 1 2 4 2 1 5 2 2 8";
-    let table = [
-        (
-            "cost 9\nassign 1 2 4\nassign 2 1 5\nprice 1 5\nprice 2 0\n",
-            "verified cost 9",
-        ),
-        (
-            "cost 9\nassign 1 2 4\nassign 2 1 5\n",
-            "not verified: no prices",
-        ),
-    ];
-    assert_eq!(rt; told(alloc, text, true, "", &table)?, 2);
-    let table = [
-        (
-            "cost 11\nassign 1 1 3\nassign 2 2 8\nprice 1 0\nprice 2 5\n",
-            "verified max cost 11",
-        ),
-        (
-            "cost 17\nassign 1 1 9\nassign 2 2 8\nprice 1 0\nprice 2 5\n",
-            "not verified: cost of person 1",
-        ),
-    ];
-    assert_eq!(rt; told(alloc, text, true, "sense max\n", &table)?, 2);
-    Ok(())
-}
+const TWICE: &[u8] = b"2 1 1 9 1 1 3 1 2 4 2 1 5 2 2 8";
 
-#[test]
-fn hall_sets(rt: HostRuntime) -> Result<(), Fail> {
-    let alloc = rt.alloc();
-    let roster = b"3 1 1 4 2 1 6 3 2 1 3 3 2";
-    let table = [
-        (
-            "infeasible\npersons 2 1 2\nobjects 1 1\n",
-            "verified infeasible",
-        ),
-        (
-            "infeasible\npersons 2 1 4\nobjects 1 1\n",
-            "not verified: number out of range",
-        ),
-        (
-            "infeasible\npersons 2 1 2\nobjects 2 1 8192\n",
-            "not verified: number out of range",
-        ),
-        (
-            "infeasible\npersons 2 1 2\nobjects 0\n",
-            "not verified: object 1 missing for person 1",
-        ),
-        (
-            "infeasible\npersons 1 3\nobjects 1 2\n",
-            "not verified: object 3 missing for person 3",
-        ),
-        (
-            "infeasible\npersons 2 1 2\nobjects 3 1 2 3\n",
-            "not verified: object 2 extra",
-        ),
-        (
-            "infeasible\npersons 1 2\nobjects 1 1\n",
-            "not verified: not fewer",
-        ),
-    ];
-    for front in ["", "sense min\n", "sense max\n"] {
-        assert_eq!(rt; told(alloc, roster, true, front, &table)?, 7);
-    }
-    Ok(())
-}
+const LEAST_OF_TWICE: [Line; 2] = [
+    (
+        "cost 9\nassign 1 2 4\nassign 2 1 5\nprice 1 5\nprice 2 0\n",
+        "verified cost 9",
+    ),
+    (
+        "cost 9\nassign 1 2 4\nassign 2 1 5\n",
+        "not verified: no prices",
+    ),
+];
+
+const GREATEST_OF_TWICE: [Line; 2] = [
+    (
+        "cost 11\nassign 1 1 3\nassign 2 2 8\nprice 1 0\nprice 2 5\n",
+        "verified max cost 11",
+    ),
+    (
+        "cost 17\nassign 1 1 9\nassign 2 2 8\nprice 1 0\nprice 2 5\n",
+        "not verified: cost of person 1",
+    ),
+];
+
+const ROSTER: &[u8] = b"3 1 1 4 2 1 6 3 2 1 3 3 2";
+
+const HALL_SETS: [Line; 7] = [
+    (
+        "infeasible\npersons 2 1 2\nobjects 1 1\n",
+        "verified infeasible",
+    ),
+    (
+        "infeasible\npersons 2 1 4\nobjects 1 1\n",
+        "not verified: number out of range",
+    ),
+    (
+        "infeasible\npersons 2 1 2\nobjects 2 1 8192\n",
+        "not verified: number out of range",
+    ),
+    (
+        "infeasible\npersons 2 1 2\nobjects 0\n",
+        "not verified: object 1 missing for person 1",
+    ),
+    (
+        "infeasible\npersons 1 3\nobjects 1 2\n",
+        "not verified: object 3 missing for person 3",
+    ),
+    (
+        "infeasible\npersons 2 1 2\nobjects 3 1 2 3\n",
+        "not verified: object 2 extra",
+    ),
+    (
+        "infeasible\npersons 1 2\nobjects 1 1\n",
+        "not verified: not fewer",
+    ),
+];
 
 // Persons who list nothing are one more than their objects.
+const SECOND_ALONE: [Line; 1] = [(
+    "infeasible\npersons 1 2\nobjects 0\n",
+    "verified infeasible",
+)];
+
+const FIRST_ALONE: [Line; 1] = [(
+    "infeasible\npersons 1 1\nobjects 0\n",
+    "verified infeasible",
+)];
+
+const WIDEST: [Line; 1] = [(
+    "cost -2000000000000\nassign 1 2 -1000000000000\nassign 2 1 -1000000000000\nprice 1 109499999999997\nprice 2 109499999999997\n",
+    "verified cost -2000000000000",
+)];
+
+const WIDE: [Line; 1] = [(
+    "cost -2000000\nassign 1 2 -1000000\nassign 2 1 -1000000\nprice 1 61499999\nprice 2 61499999\n",
+    "verified cost -2000000",
+)];
+
+const WIDEST_PRICE: [Line; 1] = [(
+    "cost 1000000000000\nassign 1 1 1000000000000\nprice 1 9999999999999999999999\n",
+    "verified cost 1000000000000",
+)];
+
+// A problem, whether it lists pairs, the beginning of reports on it, and their rest with its lines.
+type Checked = (&'static [u8], bool, &'static str, &'static [Line]);
+
+const CHECKED: [Checked; 14] = [
+    (TWO, false, "", &LEAST),
+    (TWO, false, "sense min\n", &LEAST),
+    (TWO, false, "sense max\n", &GREATEST),
+    (TWO, false, "sense min\n", &GREATEST_FOR_LEAST),
+    (TWICE, true, "", &LEAST_OF_TWICE),
+    (TWICE, true, "sense max\n", &GREATEST_OF_TWICE),
+    (ROSTER, true, "", &HALL_SETS),
+    (ROSTER, true, "sense min\n", &HALL_SETS),
+    (ROSTER, true, "sense max\n", &HALL_SETS),
+    (b"2 1 1 5 1 2 6", true, "", &SECOND_ALONE),
+    (b"3", true, "", &FIRST_ALONE),
+    (
+        b"2 1000000000000 -1000000000000 -1000000000000 1000000000000",
+        false,
+        "sense min\n",
+        &WIDEST,
+    ),
+    (b"2 1000000 -1000000 -1000000 1000000", false, "", &WIDE),
+    (b"1 1000000000000", false, "sense min\n", &WIDEST_PRICE),
+];
+
 #[test]
-fn persons_that_list_nothing(rt: HostRuntime) -> Result<(), Fail> {
-    let runs: [(&[u8], &str); 2] = [
-        (b"2 1 1 5 1 2 6", "infeasible\npersons 1 2\nobjects 0\n"),
-        (b"3", "infeasible\npersons 1 1\nobjects 0\n"),
-    ];
-    for (problem, report) in runs {
-        let table = [(report, "verified infeasible")];
-        assert_eq!(rt; told(rt.alloc(), problem, true, "", &table)?, 1);
+fn reports_with_their_lines(rt: HostRuntime) -> Result<(), Fail> {
+    for (problem, sparse, front, table) in CHECKED {
+        let right = told(rt.alloc(), problem, sparse, front, table)?;
+        assert_eq!(rt; right, table.len());
     }
     Ok(())
 }
@@ -291,8 +284,11 @@ fn asked(alloc: Global, problem: &[u8], report: &[u8], wanted: Sense) -> Seen {
     let mut problem = whole_text(problem, 16);
     let mut report = whole_text(report, 16);
     let mut writer = failing_writer(alloc, 1 << 20, 1 << 20, true);
-    let wanted = Some(wanted);
-    let answer = run_verify_under(alloc, &mut problem, &mut report, true, wanted, &mut writer);
+    let verifier = Verifier {
+        sparse: true,
+        sense: Some(wanted),
+    };
+    let answer = run_verify_under(alloc, &mut problem, &mut report, &mut writer, verifier);
     Seen {
         answer,
         out: writer.taken,

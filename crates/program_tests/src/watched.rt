@@ -1,16 +1,20 @@
 // Runs of the whole program with watched streams, for tests.
-use auction_command::{Files, NoFile, NoWords, ProgramEnd, Unwatched, Written, run_program};
+use auction_command::{
+    Context, Devices, Files, NoFile, NoWords, OpenGate, Outputs, ProgramEnd, Unwatched, Written,
+    run_program,
+};
 use std::alloc::{AllocError, Global};
 use std::process::Abort;
 use std::sync::Wait;
 use std::thread::Threads;
 use test_helpers::{FailingWriter, Pieces, failing_writer, whole_text};
 
-// A report and a problem under these names, and a file for which memory is refused under `refused`.
+/// A report and a problem under these names, and a file for which memory is refused under
+/// `refused`.
 #[derive(Drop)]
-struct Shelf<'a> {
-    report: Pieces<'a>,
-    problem: Pieces<'a>,
+pub struct Shelf<'a> {
+    pub report: Pieces<'a>,
+    pub problem: Pieces<'a>,
 }
 
 impl<'a> Files for Shelf<'a> {
@@ -31,14 +35,7 @@ impl<'a> Files for Shelf<'a> {
 }
 
 /// What a run reads, from standard input and from files, and where it writes.
-#[derive(Drop)]
-pub struct Devices<'a> {
-    pub text: Pieces<'a>,
-    pub report: Pieces<'a>,
-    pub problem: Pieces<'a>,
-    pub out: FailingWriter,
-    pub errors: FailingWriter,
-}
+pub type Watched<'a> = Devices<Shelf<'a>, Pieces<'a>, FailingWriter, FailingWriter>;
 
 /// A text, a report, an empty problem and ample room, all in pieces of at most `most` bytes.
 pub fn whole_devices<'a>(
@@ -46,13 +43,17 @@ pub fn whole_devices<'a>(
     text: &'a [u8],
     report: &'a [u8],
     most: usize,
-) -> Devices<'a> {
+) -> Watched<'a> {
     Devices {
-        text: whole_text(text, most),
-        report: whole_text(report, most),
-        problem: whole_text(b"", most),
-        out: failing_writer(alloc, 1 << 20, most, true),
-        errors: failing_writer(alloc, 1 << 20, most, true),
+        files: Shelf {
+            report: whole_text(report, most),
+            problem: whole_text(b"", most),
+        },
+        input: whole_text(text, most),
+        outputs: Outputs {
+            output: failing_writer(alloc, 1 << 20, most, true),
+            errors: failing_writer(alloc, 1 << 20, most, true),
+        },
     }
 }
 
@@ -82,29 +83,21 @@ pub fn watched_run(
     rt: &(impl Threads + Wait + Sync),
     alloc: Global,
     words: Result<Vec<&str>, NoWords>,
-    devices: Devices<'_>,
+    mut devices: Watched<'_>,
 ) -> Seen {
-    let shelf = Shelf {
-        report: devices.report,
-        problem: devices.problem,
-    };
-    let (mut text, mut out, mut errors) = (devices.text, devices.out, devices.errors);
-    let end = run_program(
+    let context = Context {
         rt,
         alloc,
-        words,
-        &shelf,
-        &mut text,
-        &mut out,
-        &mut errors,
-        &Unwatched,
-    );
+        gate: &OpenGate,
+        watch: &Unwatched,
+    };
+    let end = run_program(&context, words, &mut devices);
     Seen {
         status: end.status(),
-        out: out.taken,
-        errors: errors.taken,
+        out: devices.outputs.output.taken,
+        errors: devices.outputs.errors.taken,
         whole: is_whole(&end),
-        left: text.text.len(),
+        left: devices.input.text.len(),
     }
 }
 
@@ -127,7 +120,7 @@ pub fn run_on(
     rt: &(impl Threads + Wait + Sync),
     alloc: Global,
     line: &str,
-    devices: Devices<'_>,
+    devices: Watched<'_>,
 ) -> Result<Seen, AllocError> {
     Ok(watched_run(rt, alloc, Ok(words_of(alloc, line)?), devices))
 }
