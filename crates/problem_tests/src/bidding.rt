@@ -13,7 +13,6 @@ use assign_core::{
 use bidder::{Ask, BelowFloor, BestTwo, Bid, Offer, best_two, best_two_full, make_bid};
 use scaled_values::{Scaled, next_eps, scale};
 use std::alloc::{AllocError, Global};
-use std::process::Abort;
 use std::test::Fail;
 
 // A row of all objects as pairs.
@@ -224,36 +223,35 @@ fn both_ways(
     Ok(None)
 }
 
-#[test]
-fn worked_rows(rt: HostRuntime) -> Result<(), Fail> {
-    let third = BestTwo {
-        object: Object(2),
-        best: -8,
-        second: Some(-8),
-    };
-    let found = both_ways(rt.alloc(), &[-8, -8, -8], &[1, 0, 0])?;
-    assert!(rt; found == Some(third));
-    let other = BestTwo {
-        object: Object(2),
-        best: -6,
-        second: Some(-11),
-    };
-    let found = both_ways(rt.alloc(), &[-3, -6], &[8, 0])?;
-    assert!(rt; found == Some(other));
-    Ok(())
+// Whether both forms of a row give this object, with this best value and second value.
+fn gives(
+    alloc: Global,
+    benefits: &[Benefit],
+    values: &[Price],
+    best_two: (u16, Price, Option<Price>),
+) -> Result<bool, AllocError>
+    requires few { length benefits.now ≤ MOST_PERSONS }
+    requires range { All IsBenefit benefits.now }
+{
+    let (object, best, second) = best_two;
+    let object = Object(object);
+    Ok(
+        both_ways(alloc, benefits, values)?
+            == Some(BestTwo {
+                object,
+                best,
+                second,
+            }),
+    )
 }
 
 #[test]
-fn rows_of_one_object_and_of_none(rt: HostRuntime) -> Result<(), Fail> {
-    let alone = BestTwo {
-        object: Object(1),
-        best: -14,
-        second: None,
-    };
-    let found = both_ways(rt.alloc(), &[-14], &[0])?;
-    assert!(rt; found == Some(alone));
-    let prices = Prices::zeros(rt.alloc(), 1)?;
-    assert!(rt; best_two(&[], &prices).is_none());
+fn worked_rows(rt: HostRuntime) -> Result<(), Fail> {
+    let alloc = rt.alloc();
+    assert!(rt; gives(alloc, &[-8, -8, -8], &[1, 0, 0], (2, -8, Some(-8)))?);
+    assert!(rt; gives(alloc, &[-3, -6], &[8, 0], (2, -6, Some(-11)))?);
+    assert!(rt; gives(alloc, &[-14], &[0], (1, -14, None))?);
+    assert!(rt; best_two(&[], &Prices::zeros(alloc, 1)?).is_none());
     Ok(())
 }
 
@@ -356,19 +354,20 @@ fn offered_in(
 // Prices, a person, and the object and the level of its bid under them; object 0 if it makes none.
 type Offered = (&'static [Price], u16, u16, Price);
 
-// Asserts that each of these offers is made.
-fn assert_offers(
-    rt: &impl Abort,
+// Whether each of these offers is made.
+fn are_made(
     alloc: Global,
     scaled: &Scaled,
     phase: u16,
     table: &[Offered],
-) -> Result<(), AllocError> {
+) -> Result<bool, AllocError> {
     for (values, person, object, level) in table {
         let made = offered_in(alloc, scaled, phase, values, *person)?;
-        assert!(rt; made == offer(*person, *object, *level, phase));
+        if made != offer(*person, *object, *level, phase) {
+            return Ok(false);
+        }
     }
-    Ok(())
+    Ok(true)
 }
 
 // The slackness and the floor of the first phase, or of the second.
@@ -428,19 +427,16 @@ fn scaled_of(alloc: Global, persons: Persons) -> Result<Scaled, AllocError> {
     }
 }
 
-// Asserts that a phase has this slackness and this floor, and that each of these offers is made in
-// it.
-fn assert_phase(
-    rt: &impl Abort,
+// Whether a phase has this slackness and this floor, and each of these offers is made in it.
+fn is_phase(
     alloc: Global,
     persons: Persons,
     phase: u16,
     ask: (i64, Price),
     table: &[Offered],
-) -> Result<(), AllocError> {
+) -> Result<bool, AllocError> {
     let scaled = scaled_of(alloc, persons)?;
-    assert_eq!(rt; ask_in(&scaled, phase), Some(ask));
-    assert_offers(rt, alloc, &scaled, phase, table)
+    Ok(ask_in(&scaled, phase) == Some(ask) && are_made(alloc, &scaled, phase, table)?)
 }
 
 // A problem of one person, and its row.
@@ -451,56 +447,44 @@ fn one_person(alloc: Global, row: Vec<(Object, Cost)>) -> Result<Scaled, AllocEr
     scale(alloc, problem, Sense::Min)
 }
 
-#[test]
-fn offers_of_two_persons(rt: HostRuntime) -> Result<(), Fail> {
-    let table: [Offered; 6] = [
-        (&[0, 0], 1, 1, 5),
-        (&[0, 0], 2, 1, 8),
-        (&[8, 0], 1, 2, 7),
-        // The second value is below the floor.
-        (&[0, 100], 1, 1, 28),
-        // The best value is the floor, and one less.
-        (&[26, 24], 1, 1, 28),
-        (&[27, 24], 1, 0, 0),
-    ];
-    let persons = Persons::Two(Sense::Min);
-    assert_phase(&rt, rt.alloc(), persons, 1, (2, -29), &table)?;
-    Ok(())
-}
+const TWO_PERSONS: [Offered; 6] = [
+    (&[0, 0], 1, 1, 5),
+    (&[0, 0], 2, 1, 8),
+    (&[8, 0], 1, 2, 7),
+    // The second value is below the floor.
+    (&[0, 100], 1, 1, 28),
+    // The best value is the floor, and one less.
+    (&[26, 24], 1, 1, 28),
+    (&[27, 24], 1, 0, 0),
+];
+
+const SECOND_PHASE: [Offered; 7] = [
+    (&[8, 7], 1, 1, 11),
+    (&[8, 7], 2, 1, 14),
+    (&[14, 7], 1, 2, 12),
+    (&[8, 0], 1, 2, 6),
+    (&[0, 0], 2, 1, 7),
+    (&[11, 7], 2, 1, 14),
+    (&[11, 7], 1, 2, 9),
+];
+
+// The greatest costs are sought.
+const GREATEST: [Offered; 2] = [(&[0, 0], 1, 2, 5), (&[0, 0], 2, 2, 8)];
+
+const THREE_PERSONS: [Offered; 4] = [
+    (&[0, 0, 0], 1, 1, 60),
+    (&[0, 0, 0], 2, 1, 52),
+    (&[0, 0, 0], 3, 2, 8),
+    (&[60, 8, 0], 2, 0, 0),
+];
 
 #[test]
-fn offers_in_the_second_phase(rt: HostRuntime) -> Result<(), Fail> {
-    let table: [Offered; 7] = [
-        (&[8, 7], 1, 1, 11),
-        (&[8, 7], 2, 1, 14),
-        (&[14, 7], 1, 2, 12),
-        (&[8, 0], 1, 2, 6),
-        (&[0, 0], 2, 1, 7),
-        (&[11, 7], 2, 1, 14),
-        (&[11, 7], 1, 2, 9),
-    ];
-    let persons = Persons::Two(Sense::Min);
-    assert_phase(&rt, rt.alloc(), persons, 2, (1, -36), &table)?;
-    Ok(())
-}
-
-#[test]
-fn offers_where_much_is_wanted(rt: HostRuntime) -> Result<(), Fail> {
-    let table: [Offered; 2] = [(&[0, 0], 1, 2, 5), (&[0, 0], 2, 2, 8)];
-    let persons = Persons::Two(Sense::Max);
-    assert_phase(&rt, rt.alloc(), persons, 1, (2, -11), &table)?;
-    Ok(())
-}
-
-#[test]
-fn offers_of_three_persons(rt: HostRuntime) -> Result<(), Fail> {
-    let table: [Offered; 4] = [
-        (&[0, 0, 0], 1, 1, 60),
-        (&[0, 0, 0], 2, 1, 52),
-        (&[0, 0, 0], 3, 2, 8),
-        (&[60, 8, 0], 2, 0, 0),
-    ];
-    assert_phase(&rt, rt.alloc(), Persons::Three, 1, (4, -72), &table)?;
+fn offers_in_phases(rt: HostRuntime) -> Result<(), Fail> {
+    let (least, greatest) = (Persons::Two(Sense::Min), Persons::Two(Sense::Max));
+    assert!(rt; is_phase(rt.alloc(), least, 1, (2, -29), &TWO_PERSONS)?);
+    assert!(rt; is_phase(rt.alloc(), least, 2, (1, -36), &SECOND_PHASE)?);
+    assert!(rt; is_phase(rt.alloc(), greatest, 1, (2, -11), &GREATEST)?);
+    assert!(rt; is_phase(rt.alloc(), Persons::Three, 1, (4, -72), &THREE_PERSONS)?);
     Ok(())
 }
 
@@ -513,15 +497,6 @@ fn greatest_offer(alloc: Global, p0: Price) -> Result<Option<Offer>, AllocError>
     offered_first(alloc, &scaled, &[PRICE_END - 1], 3, p0, 1)
 }
 
-#[test]
-fn the_greatest_level(rt: HostRuntime) -> Result<(), Fail> {
-    let made = greatest_offer(rt.alloc(), PRICE_END - 1)?;
-    assert!(rt; made == offer(1, 1, PRICE_END, 3));
-    let made = greatest_offer(rt.alloc(), PRICE_END - 2)?;
-    assert!(rt; made == offer(1, 0, 0, 3));
-    Ok(())
-}
-
 // The offer of one person that lists nothing.
 fn offer_of_nothing(alloc: Global) -> Result<Option<Offer>, AllocError> {
     let scaled = one_person(alloc, Vec::new(alloc))?;
@@ -529,7 +504,9 @@ fn offer_of_nothing(alloc: Global) -> Result<Option<Offer>, AllocError> {
 }
 
 #[test]
-fn a_person_that_lists_nothing(rt: HostRuntime) -> Result<(), Fail> {
+fn offers_of_one_person(rt: HostRuntime) -> Result<(), Fail> {
+    assert!(rt; greatest_offer(rt.alloc(), PRICE_END - 1)? == offer(1, 1, PRICE_END, 3));
+    assert!(rt; greatest_offer(rt.alloc(), PRICE_END - 2)? == offer(1, 0, 0, 3));
     assert!(rt; offer_of_nothing(rt.alloc())? == offer(1, 0, 0, 1));
     Ok(())
 }

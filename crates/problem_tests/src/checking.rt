@@ -1,7 +1,9 @@
 // Verdicts on small tables, worked by hand.
 mod among;
 mod confirmed;
+mod drawn;
 mod hall;
+mod plain;
 
 use assign_core::{MOST_PERSONS, Numbered, Object, PRICE_END, Person, Price, Problem, Sense};
 use dual_checker::{Verdict, check};
@@ -98,57 +100,23 @@ fn verdict_of_lists(alloc: Global, objects: &str, prices: &[Price]) -> Result<Ve
     verdict_of(alloc, &two_by_two(alloc)?, Sense::Min, objects, prices)
 }
 
-#[test]
-fn lists_of_another_length(rt: HostRuntime) -> Result<(), Fail> {
-    let lists: [(&str, &[Price]); 2] = [("0", &[14, 12]), ("21", &[14, 12, -1])];
-    for (objects, prices) in lists {
-        let said = verdict_of_lists(rt.alloc(), objects, prices)?;
-        assert!(rt; said == Verdict::Length);
-    }
-    Ok(())
-}
-
-// Each of four persons lists each object at cost 0.
-fn even(alloc: Global) -> Result<Problem, AllocError> {
-    let costs = [0, 0, 0, 0, 0, 0, 0, 0, 0, 0, 0, 0, 0, 0, 0, 0];
-    Problem::dense(alloc, 4, &costs)
-}
-
-// Each of three persons prefers each object to the one before.
-fn falling(alloc: Global) -> Result<Problem, AllocError> {
-    Problem::dense(alloc, 3, &[5, 1, 0, 5, 1, 0, 5, 1, 0])
-}
-
-// The verdict on two objects, each given to two persons.
+// The verdict on two objects, each given to two of four persons who list each object at cost 0.
 fn verdict_of_even(alloc: Global) -> Result<Verdict, AllocError> {
-    verdict_of(alloc, &even(alloc)?, Sense::Min, "2211", &[0, 0, 0, 0])
+    let problem = Problem::dense(alloc, 4, &[0; 16])?;
+    verdict_of(alloc, &problem, Sense::Min, "2211", &[0, 0, 0, 0])
 }
 
-// The verdict on each person's own object, at prices of 0.
+// The verdict on each person's own object, at prices of 0, where each of three persons prefers each
+// object to the one before.
 fn verdict_of_falling(alloc: Global) -> Result<Verdict, AllocError> {
-    verdict_of(alloc, &falling(alloc)?, Sense::Min, "123", &[0, 0, 0])
-}
-
-#[test]
-fn the_lowest_of_several(rt: HostRuntime) -> Result<(), Fail> {
-    let twice = verdict_of_even(rt.alloc())?;
-    assert!(rt; twice == Verdict::Twice(Object(1)));
-    let slack = verdict_of_falling(rt.alloc())?;
-    assert!(rt; slack == Verdict::Slack(Person(1), Object(2)));
-    Ok(())
+    let problem = Problem::dense(alloc, 3, &[5, 1, 0, 5, 1, 0, 5, 1, 0])?;
+    verdict_of(alloc, &problem, Sense::Min, "123", &[0, 0, 0])
 }
 
 // The verdict on one person's object at the greatest price.
 fn verdict_of_one(alloc: Global) -> Result<Verdict, AllocError> {
     let problem = Problem::dense(alloc, 1, &[7])?;
     check(alloc, &problem, Sense::Max, &[Object(1)], &[PRICE_END - 1])
-}
-
-#[test]
-fn one_person_at_the_greatest_price(rt: HostRuntime) -> Result<(), Fail> {
-    let verdict = verdict_of_one(rt.alloc())?;
-    assert!(rt; verdict == Verdict::Yes);
-    Ok(())
 }
 
 // The persons or the objects from 1 on, as many as there may be.
@@ -180,8 +148,14 @@ fn verdict_of_own(alloc: Global) -> Result<Verdict, AllocError> {
 }
 
 #[test]
-fn as_many_persons_as_there_may_be(rt: HostRuntime) -> Result<(), Fail> {
-    let verdict = verdict_of_own(rt.alloc())?;
-    assert!(rt; verdict == Verdict::Yes);
+fn other_verdicts(rt: HostRuntime) -> Result<(), Fail> {
+    let alloc = rt.alloc();
+    assert!(rt; verdict_of_lists(alloc, "0", &[14, 12])? == Verdict::Length);
+    assert!(rt; verdict_of_lists(alloc, "21", &[14, 12, -1])? == Verdict::Length);
+    // The lowest of several.
+    assert!(rt; verdict_of_even(alloc)? == Verdict::Twice(Object(1)));
+    assert!(rt; verdict_of_falling(alloc)? == Verdict::Slack(Person(1), Object(2)));
+    assert!(rt; verdict_of_one(alloc)? == Verdict::Yes);
+    assert!(rt; verdict_of_own(alloc)? == Verdict::Yes);
     Ok(())
 }

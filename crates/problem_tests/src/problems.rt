@@ -9,7 +9,6 @@ use assign_core::{
     Price, Prices, Problem, Sense,
 };
 use std::alloc::{AllocError, Global};
-use std::process::Abort;
 use std::test::Fail;
 use test_helpers::plain_best;
 
@@ -20,36 +19,21 @@ fn two_persons(alloc: Global) -> Result<Problem, AllocError>
     Problem::dense(alloc, 2, &[1, 2, 3, 5])
 }
 
-// The number of its persons, and the costs of two pairs.
-fn two_costs(alloc: Global) -> Result<(u16, [Option<Cost>; 2]), AllocError> {
-    let problem = two_persons(alloc)?;
-    let costs = [
-        problem.cost_of(Person(2), Object(1)),
-        problem.cost_of(Person(2), Object(3)),
-    ];
-    Ok((problem.n(), costs))
-}
-
-#[test]
-fn costs_of_a_dense_problem(rt: HostRuntime) -> Result<(), Fail> {
-    let costs = two_costs(rt.alloc())?;
-    assert_eq!(rt; costs, (2, [Some(3), None]));
-    Ok(())
-}
-
-fn assert_rows_of_two(rt: &impl Abort, problem: &Problem)
+// Whether it has two persons, these rows, and no third object.
+fn is_two_persons(problem: &Problem) -> bool
     requires { length problem.now ≡ 2 }
 {
-    let row = problem.row(Person(1));
-    assert!(rt; row == [(Object(1), 1), (Object(2), 2)].as_slice());
-    let row = problem.row(Person(2));
-    assert!(rt; row == [(Object(1), 3), (Object(2), 5)].as_slice());
+    problem.n() == 2
+        && problem.row(Person(1)) == [(Object(1), 1), (Object(2), 2)].as_slice()
+        && problem.row(Person(2)) == [(Object(1), 3), (Object(2), 5)].as_slice()
+        && problem.cost_of(Person(2), Object(1)) == Some(3)
+        && problem.cost_of(Person(2), Object(3)).is_none()
 }
 
 #[test]
-fn rows_of_a_dense_problem(rt: HostRuntime) -> Result<(), Fail> {
+fn a_dense_problem(rt: HostRuntime) -> Result<(), Fail> {
     let problem = two_persons(rt.alloc())?;
-    assert_rows_of_two(&rt, &problem);
+    assert!(rt; is_two_persons(&problem));
     Ok(())
 }
 
@@ -80,19 +64,13 @@ fn certificate_copied(alloc: Global) -> Result<Certificate, AllocError> {
     Ok(Certificate { assignment, prices })
 }
 
-fn assert_certificate(rt: &impl Abort, certificate: &Certificate) {
-    let objects = certificate.assignment.objects();
-    assert!(rt; objects == [Object(2), Object(1)].as_slice());
-    let prices = certificate.prices.as_slice();
-    assert_eq!(rt; prices, [14, 12].as_slice());
-}
-
-#[test]
-fn an_assignment_and_a_copy_with_prices(rt: HostRuntime) -> Result<(), Fail> {
-    assert_eq!(rt; cost_crossed(rt.alloc())?, 5);
-    let copy = certificate_copied(rt.alloc())?;
-    assert_certificate(&rt, &copy);
-    Ok(())
+// Whether a copy of it is the same.
+fn is_copied(alloc: Global) -> Result<bool, AllocError> {
+    let copy = certificate_copied(alloc)?;
+    Ok(
+        copy.assignment.objects() == [Object(2), Object(1)].as_slice()
+            && copy.prices.as_slice() == [14, 12].as_slice(),
+    )
 }
 
 #[test]
@@ -117,16 +95,13 @@ fn two_for_one_copied(alloc: Global) -> Result<HallSet, AllocError> {
     two_for_one(alloc)?.copy(alloc)
 }
 
-fn assert_two_for_one(rt: &impl Abort, hall: &HallSet) {
-    assert!(rt; hall.persons() == [Person(1), Person(2)].as_slice());
-    assert!(rt; hall.objects() == [Object(1)].as_slice());
-}
-
-#[test]
-fn a_hall_set_and_its_copy(rt: HostRuntime) -> Result<(), Fail> {
-    let copy = two_for_one_copied(rt.alloc())?;
-    assert_two_for_one(&rt, &copy);
-    Ok(())
+// Whether a copy of it is the same.
+fn is_hall_copied(alloc: Global) -> Result<bool, AllocError> {
+    let copy = two_for_one_copied(alloc)?;
+    Ok(
+        copy.persons() == [Person(1), Person(2)].as_slice()
+            && copy.objects() == [Object(1)].as_slice(),
+    )
 }
 
 // The persons or the objects from 1 on.
@@ -156,9 +131,11 @@ fn all_told(alloc: Global) -> Result<(usize, usize, Option<Person>), AllocError>
 }
 
 #[test]
-fn a_hall_set_of_all_persons(rt: HostRuntime) -> Result<(), Fail> {
-    let costs = all_told(rt.alloc())?;
-    assert!(rt; costs == (8192, 8191, Some(Person(8192))));
+fn answers_and_copies(rt: HostRuntime) -> Result<(), Fail> {
+    assert_eq!(rt; cost_crossed(rt.alloc())?, 5);
+    assert!(rt; is_copied(rt.alloc())?);
+    assert!(rt; is_hall_copied(rt.alloc())?);
+    assert!(rt; all_told(rt.alloc())? == (8192, 8191, Some(Person(8192))));
     Ok(())
 }
 
@@ -185,8 +162,8 @@ fn many_told(alloc: Global) -> Result<(u16, usize, [Option<Cost>; 3]), AllocErro
 
 #[test]
 fn a_dense_problem_of_many_persons(rt: HostRuntime) -> Result<(), Fail> {
-    let costs = many_told(rt.alloc())?;
-    assert_eq!(rt; costs, (2000, 2000, [Some(7), None, None]));
+    let told = many_told(rt.alloc())?;
+    assert_eq!(rt; told, (2000, 2000, [Some(7), None, None]));
     Ok(())
 }
 
@@ -199,24 +176,18 @@ fn one_set(alloc: Global) -> Result<Prices, AllocError>
     Ok(prices)
 }
 
-// Asserts the prices of a table, in both forms.
-fn assert_prices(rt: &impl Abort, prices: &Prices, wide: &[Price; 3], narrow: &[i64; 3]) {
-    assert_eq!(rt; prices.as_slice(), wide.as_slice());
-    assert_eq!(rt; prices.narrow(), narrow.as_slice());
+// Whether a table has these prices, in both forms.
+fn are_prices(prices: &Prices, wide: &[Price; 3], narrow: &[i64; 3]) -> bool {
+    prices.as_slice() == wide.as_slice() && prices.narrow() == narrow.as_slice()
 }
 
-fn assert_second_price(rt: &impl Abort, prices: &Prices)
-    requires { length prices.now ≡ 3 }
-{
-    assert_eq!(rt; prices.price(Object(2)), 1 << 63);
-}
-
-#[test]
-fn a_price_is_set(rt: HostRuntime) -> Result<(), Fail> {
-    let prices = one_set(rt.alloc())?;
-    assert_second_price(&rt, &prices);
-    assert_prices(&rt, &prices, &[0, 1 << 63, 0], &[0, NARROW_END, 0]);
-    Ok(())
+// Whether the price of object 2 is set.
+fn is_set(alloc: Global) -> Result<bool, AllocError> {
+    let prices = one_set(alloc)?;
+    Ok(
+        prices.price(Object(2)) == 1 << 63
+            && are_prices(&prices, &[0, 1 << 63, 0], &[0, NARROW_END, 0]),
+    )
 }
 
 // These prices, after those of another table are copied into them.
@@ -228,10 +199,16 @@ fn copied(alloc: Global) -> Result<Prices, AllocError> {
     Ok(prices)
 }
 
+// Whether they are those of the other table then.
+fn are_copied(alloc: Global) -> Result<bool, AllocError> {
+    let prices = copied(alloc)?;
+    Ok(are_prices(&prices, &[0, 0, 5], &[0, 0, 5]))
+}
+
 #[test]
-fn prices_are_copied(rt: HostRuntime) -> Result<(), Fail> {
-    let prices = copied(rt.alloc())?;
-    assert_prices(&rt, &prices, &[0, 0, 5], &[0, 0, 5]);
+fn prices_are_set_and_copied(rt: HostRuntime) -> Result<(), Fail> {
+    assert!(rt; is_set(rt.alloc())?);
+    assert!(rt; are_copied(rt.alloc())?);
     Ok(())
 }
 
@@ -265,7 +242,8 @@ fn makes_rows(
 }
 
 #[test]
-fn a_pair_counts_once_at_its_least_cost(rt: HostRuntime) -> Result<(), Fail> {
+fn pairs_in_any_order(rt: HostRuntime) -> Result<(), Fail> {
+    // A pair counts once, at its least cost.
     let triples = [
         (Person(2), Object(2), 5),
         (Person(2), Object(2), 3),
@@ -274,11 +252,7 @@ fn a_pair_counts_once_at_its_least_cost(rt: HostRuntime) -> Result<(), Fail> {
     ];
     let second = [(Object(1), 9), (Object(2), 3)];
     assert!(rt; makes_rows(rt.alloc(), &triples, &[], &second)?);
-    Ok(())
-}
-
-#[test]
-fn all_pairs_in_falling_order(rt: HostRuntime) -> Result<(), Fail> {
+    // All pairs in falling order.
     let triples = [
         (Person(2), Object(2), 5),
         (Person(2), Object(1), 3),
@@ -305,23 +279,15 @@ fn finds(
     Ok(best.objects() == objects && problem.total(&best) == cost)
 }
 
-#[test]
-fn best_assignments(rt: HostRuntime) -> Result<(), Fail> {
-    let problem = two_persons(rt.alloc())?;
-    for (sense, objects, cost) in [
-        (Sense::Min, [Object(2), Object(1)], 5),
-        (Sense::Max, [Object(1), Object(2)], 6),
-    ] {
-        assert!(rt; finds(rt.alloc(), &problem, sense, &objects, cost)?);
-    }
-    Ok(())
-}
-
-#[test]
-fn a_best_assignment_of_one_person(rt: HostRuntime) -> Result<(), Fail> {
-    let problem = Problem::dense(rt.alloc(), 1, &[-7])?;
-    assert!(rt; finds(rt.alloc(), &problem, Sense::Max, &[Object(1)], -7)?);
-    Ok(())
+// Whether it finds the best of two persons under both senses, and that of one.
+fn finds_best(alloc: Global) -> Result<bool, AllocError> {
+    let two = two_persons(alloc)?;
+    let one = Problem::dense(alloc, 1, &[-7])?;
+    Ok(
+        finds(alloc, &two, Sense::Min, &[Object(2), Object(1)], 5)?
+            && finds(alloc, &two, Sense::Max, &[Object(1), Object(2)], 6)?
+            && finds(alloc, &one, Sense::Max, &[Object(1)], -7)?,
+    )
 }
 
 // Two persons who list only the same object.
@@ -330,9 +296,15 @@ fn one_listed_object(alloc: Global) -> Result<Problem, AllocError> {
     Problem::sparse(alloc, 2, &triples)
 }
 
+// Whether it finds none for these.
+fn finds_none(alloc: Global) -> Result<bool, AllocError> {
+    let problem = one_listed_object(alloc)?;
+    Ok(plain_best(alloc, &problem, Sense::Min)?.is_none())
+}
+
 #[test]
-fn two_persons_and_one_listed_object(rt: HostRuntime) -> Result<(), Fail> {
-    let problem = one_listed_object(rt.alloc())?;
-    assert!(rt; plain_best(rt.alloc(), &problem, Sense::Min)?.is_none());
+fn best_assignments(rt: HostRuntime) -> Result<(), Fail> {
+    assert!(rt; finds_best(rt.alloc())?);
+    assert!(rt; finds_none(rt.alloc())?);
     Ok(())
 }

@@ -8,7 +8,6 @@ use assign_core::{HallSet, MOST_PERSONS, Object, Person, Problem, Sense};
 use hall_refuter::{Search, refute};
 use scaled_values::scale;
 use std::alloc::{AllocError, Global};
-use std::process::Abort;
 use std::test::Fail;
 use test_helpers::numbers_of;
 
@@ -23,60 +22,55 @@ fn hall_told(alloc: Global, hall: &HallSet) -> Result<String, AllocError> {
     )
 }
 
-// The result of a search, as a line.
-fn told(
+// Whether a search gives this line.
+fn gives(
     alloc: Global,
     problem: Problem,
     sense: Sense,
     owners: &[Option<Person>],
     person: Person,
-) -> Result<String, AllocError>
+    line: &str,
+) -> Result<bool, AllocError>
     requires matching { IsMatching problem owners.now }
     requires person { IsNumber (length problem) person }
     requires alone { (j : ℕ) → owner_of owners.now j ≡ Some person → ⊥ }
 {
     let scaled = scale(alloc, problem, sense)?;
-    match refute(alloc, &scaled, owners, person)? {
+    let told = match refute(alloc, &scaled, owners, person)? {
         Search::Path(path) => format!(in alloc;
             "path {:?}",
             numbers_of(alloc, path.as_slice())?.as_slice()
-        ),
-        Search::Hall(hall) => hall_told(alloc, &hall),
-    }
+        )?,
+        Search::Hall(hall) => hall_told(alloc, &hall)?,
+    };
+    Ok(told.as_str() == line)
 }
 
 // Person 1 lists one object, which is unowned.
-fn one_object(alloc: Global) -> Result<String, AllocError> {
+fn one_object(alloc: Global) -> Result<bool, AllocError> {
     let row = vec![in alloc; (Object(1), 4)]?;
     let problem = Problem::from_rows(vec![in alloc; row]?);
-    told(alloc, problem, Sense::Min, &[None], Person(1))
-}
-
-#[test]
-fn a_path_of_one_object(rt: HostRuntime) -> Result<(), Fail> {
-    let line = one_object(rt.alloc())?;
-    assert_eq!(rt; line.as_str(), "path [1]");
-    Ok(())
+    gives(alloc, problem, Sense::Min, &[None], Person(1), "path [1]")
 }
 
 // Person 1 lists an object whose owner lists an unowned one.
-fn two_objects(alloc: Global) -> Result<String, AllocError> {
+fn two_objects(alloc: Global) -> Result<bool, AllocError> {
     let first = vec![in alloc; (Object(1), 4)]?;
     let second = vec![in alloc; (Object(1), 6), (Object(2), 1)]?;
     let problem = Problem::from_rows(vec![in alloc; first, second]?);
     let owners = [Some(Person(2)), None];
-    told(alloc, problem, Sense::Max, &owners, Person(1))
-}
-
-#[test]
-fn a_path_of_two_objects(rt: HostRuntime) -> Result<(), Fail> {
-    let line = two_objects(rt.alloc())?;
-    assert_eq!(rt; line.as_str(), "path [1, 2]");
-    Ok(())
+    gives(
+        alloc,
+        problem,
+        Sense::Max,
+        &owners,
+        Person(1),
+        "path [1, 2]",
+    )
 }
 
 // Each person lists its own object and that of the person before, and the last object is unowned.
-fn five_objects(alloc: Global) -> Result<String, AllocError> {
+fn five_objects(alloc: Global) -> Result<bool, AllocError> {
     let a = vec![in alloc; (Object(1), 0)]?;
     let b = vec![in alloc; (Object(1), 0), (Object(2), 0)]?;
     let c = vec![in alloc; (Object(2), 0), (Object(3), 0)]?;
@@ -90,63 +84,74 @@ fn five_objects(alloc: Global) -> Result<String, AllocError> {
         Some(Person(5)),
         None,
     ];
-    told(alloc, problem, Sense::Min, &owners, Person(1))
-}
-
-#[test]
-fn a_path_of_five_objects(rt: HostRuntime) -> Result<(), Fail> {
-    let line = five_objects(rt.alloc())?;
-    assert_eq!(rt; line.as_str(), "path [1, 2, 3, 4, 5]");
-    Ok(())
+    gives(
+        alloc,
+        problem,
+        Sense::Min,
+        &owners,
+        Person(1),
+        "path [1, 2, 3, 4, 5]",
+    )
 }
 
 // Person 1 lists nothing.
-fn one_person(alloc: Global) -> Result<String, AllocError> {
+fn one_person(alloc: Global) -> Result<bool, AllocError> {
     let first = Vec::new(alloc);
     let second = vec![in alloc; (Object(1), 6), (Object(2), 1)]?;
     let problem = Problem::from_rows(vec![in alloc; first, second]?);
     let owners = [Some(Person(2)), None];
-    told(alloc, problem, Sense::Min, &owners, Person(1))
-}
-
-#[test]
-fn one_person_is_reached(rt: HostRuntime) -> Result<(), Fail> {
-    let line = one_person(rt.alloc())?;
-    assert_eq!(rt; line.as_str(), "persons [1] objects []");
-    Ok(())
+    gives(
+        alloc,
+        problem,
+        Sense::Min,
+        &owners,
+        Person(1),
+        "persons [1] objects []",
+    )
 }
 
 // Persons 1 and 3 list only the same object.
-fn two_persons(alloc: Global) -> Result<String, AllocError> {
+fn two_persons(alloc: Global) -> Result<bool, AllocError> {
     let first = vec![in alloc; (Object(2), 4)]?;
     let second = vec![in alloc; (Object(1), 6), (Object(3), 1)]?;
     let third = vec![in alloc; (Object(2), 5)]?;
     let problem = Problem::from_rows(vec![in alloc; first, second, third]?);
     let owners = [None, Some(Person(1)), Some(Person(2))];
-    told(alloc, problem, Sense::Min, &owners, Person(3))
-}
-
-#[test]
-fn two_persons_are_reached(rt: HostRuntime) -> Result<(), Fail> {
-    let line = two_persons(rt.alloc())?;
-    assert_eq!(rt; line.as_str(), "persons [1, 3] objects [2]");
-    Ok(())
+    gives(
+        alloc,
+        problem,
+        Sense::Min,
+        &owners,
+        Person(3),
+        "persons [1, 3] objects [2]",
+    )
 }
 
 // No person lists object 2.
-fn all_persons(alloc: Global) -> Result<String, AllocError> {
+fn all_persons(alloc: Global) -> Result<bool, AllocError> {
     let first = vec![in alloc; (Object(1), 4), (Object(3), 4)]?;
     let second = vec![in alloc; (Object(1), 6)]?;
     let third = vec![in alloc; (Object(1), 5), (Object(3), 5)]?;
     let problem = Problem::from_rows(vec![in alloc; first, second, third]?);
     let owners = [Some(Person(2)), None, Some(Person(1))];
-    told(alloc, problem, Sense::Max, &owners, Person(3))
+    gives(
+        alloc,
+        problem,
+        Sense::Max,
+        &owners,
+        Person(3),
+        "persons [1, 2, 3] objects [1, 3]",
+    )
 }
 
 #[test]
-fn all_persons_are_reached(rt: HostRuntime) -> Result<(), Fail> {
-    let line = all_persons(rt.alloc())?;
-    assert_eq!(rt; line.as_str(), "persons [1, 2, 3] objects [1, 3]");
+fn paths_and_hall_sets(rt: HostRuntime) -> Result<(), Fail> {
+    assert!(rt; one_object(rt.alloc())?);
+    assert!(rt; two_objects(rt.alloc())?);
+    assert!(rt; five_objects(rt.alloc())?);
+    assert!(rt; one_person(rt.alloc())?);
+    assert!(rt; two_persons(rt.alloc())?);
+    assert!(rt; all_persons(rt.alloc())?);
     Ok(())
 }
 
@@ -178,34 +183,30 @@ fn own(alloc: Global, problem: &Problem) -> Result<Vec<Option<Person>>, AllocErr
     Ok(owners)
 }
 
-// What blocks the first person of the star.
-fn hall_of_star(alloc: Global) -> Result<Option<HallSet>, AllocError> {
+// Whether a Hall set has all persons, and all objects except for the first.
+fn has_all(hall: &HallSet) -> bool {
+    let (persons, objects) = (hall.persons(), hall.objects());
+    persons.len() == 8192
+        && persons.first().copied() == Some(Person(1))
+        && persons.last().copied() == Some(Person(8192))
+        && objects.len() == 8191
+        && objects.first().copied() == Some(Object(2))
+        && objects.last().copied() == Some(Object(8192))
+}
+
+// Whether this Hall set blocks the first person of the star.
+fn blocks_star(alloc: Global) -> Result<bool, AllocError> {
     let problem = star(alloc)?;
     let owners = own(alloc, &problem)?;
     let scaled = scale(alloc, problem, Sense::Min)?;
     match refute(alloc, &scaled, owners.as_slice(), Person(1))? {
-        Search::Hall(hall) => Ok(Some(hall)),
-        Search::Path(_) => Ok(None),
+        Search::Hall(hall) => Ok(has_all(&hall)),
+        Search::Path(_) => Ok(false),
     }
-}
-
-// Asserts that the Hall set has all persons, and all objects except for the first.
-fn assert_all(rt: &impl Abort, hall: &HallSet) {
-    let persons = hall.persons();
-    assert_eq!(rt; persons.len(), 8192);
-    assert!(rt; persons.first().copied() == Some(Person(1)));
-    assert!(rt; persons.last().copied() == Some(Person(8192)));
-    let objects = hall.objects();
-    assert_eq!(rt; objects.len(), 8191);
-    assert!(rt; objects.first().copied() == Some(Object(2)));
-    assert!(rt; objects.last().copied() == Some(Object(8192)));
 }
 
 #[test]
 fn as_many_persons_as_there_may_be(rt: HostRuntime) -> Result<(), Fail> {
-    let Some(hall) = hall_of_star(rt.alloc())? else {
-        panic!(rt; "no Hall set");
-    };
-    assert_all(&rt, &hall);
+    assert!(rt; blocks_star(rt.alloc())?);
     Ok(())
 }

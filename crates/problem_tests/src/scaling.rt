@@ -48,82 +48,64 @@ fn next_bounds(scaled: &Scaled, p0: Price, eps: i64) -> Option<(Price, Price)>
     Some(bounds(scaled, p0, next))
 }
 
-// The spread of a wide problem with these costs.
-fn wide_spread(alloc: Global, cost: Cost) -> Result<i64, AllocError>
+// Whether a wide problem with these costs has this spread, and these slacknesses.
+fn is_wide(alloc: Global, cost: Cost, spread: i64, known: &[i64]) -> Result<bool, AllocError>
     requires least { pos 0 ≤ℤ cost }
     requires greatest { cost ≤ℤ GREATEST_COST }
 {
-    Ok(two_pairs(alloc, cost)?.spread())
+    let scaled = two_pairs(alloc, cost)?;
+    Ok(scaled.spread() == spread && eps_list(alloc, &scaled)?.as_slice() == known)
 }
 
-// Its slacknesses.
-fn wide_eps(alloc: Global, cost: Cost) -> Result<Vec<i64>, AllocError>
-    requires least { pos 0 ≤ℤ cost }
-    requires greatest { cost ≤ℤ GREATEST_COST }
-{
-    eps_list(alloc, &two_pairs(alloc, cost)?)
-}
+// The slacknesses of a wide problem whose costs are at most a million, and of the widest.
+const WIDE: [i64; 15] = [
+    3_277_200_000,
+    655_440_000,
+    131_088_000,
+    26_217_600,
+    5_243_520,
+    1_048_704,
+    209_740,
+    41_948,
+    8_389,
+    1_677,
+    335,
+    67,
+    13,
+    2,
+    1,
+];
+
+const WIDEST: [i64; 23] = [
+    3_277_200_000_000_000,
+    655_440_000_000_000,
+    131_088_000_000_000,
+    26_217_600_000_000,
+    5_243_520_000_000,
+    1_048_704_000_000,
+    209_740_800_000,
+    41_948_160_000,
+    8_389_632_000,
+    1_677_926_400,
+    335_585_280,
+    67_117_056,
+    13_423_411,
+    2_684_682,
+    536_936,
+    107_387,
+    21_477,
+    4_295,
+    859,
+    171,
+    34,
+    6,
+    1,
+];
 
 #[test]
-fn spread_of_a_wide_problem(rt: HostRuntime) -> Result<(), Fail> {
-    let spread = wide_spread(rt.alloc(), 1_000_000)?;
-    assert_eq!(rt; spread, 16_386_000_000);
-    Ok(())
-}
-
-#[test]
-fn slacknesses_of_a_wide_problem(rt: HostRuntime) -> Result<(), Fail> {
-    let all = wide_eps(rt.alloc(), 1_000_000)?;
-    let known = [
-        3_277_200_000,
-        655_440_000,
-        131_088_000,
-        26_217_600,
-        5_243_520,
-        1_048_704,
-        209_740,
-        41_948,
-        8_389,
-        1_677,
-        335,
-        67,
-        13,
-        2,
-        1,
-    ];
-    assert_eq!(rt; all.as_slice(), known.as_slice());
-    Ok(())
-}
-
-#[test]
-fn slacknesses_of_the_widest_problem(rt: HostRuntime) -> Result<(), Fail> {
-    let all = wide_eps(rt.alloc(), GREATEST_COST)?;
-    let known = [
-        3_277_200_000_000_000,
-        655_440_000_000_000,
-        131_088_000_000_000,
-        26_217_600_000_000,
-        5_243_520_000_000,
-        1_048_704_000_000,
-        209_740_800_000,
-        41_948_160_000,
-        8_389_632_000,
-        1_677_926_400,
-        335_585_280,
-        67_117_056,
-        13_423_411,
-        2_684_682,
-        536_936,
-        107_387,
-        21_477,
-        4_295,
-        859,
-        171,
-        34,
-        6,
-        1,
-    ];
-    assert_eq!(rt; all.as_slice(), known.as_slice());
+fn wide_problems(rt: HostRuntime) -> Result<(), Fail> {
+    assert!(rt; is_wide(rt.alloc(), 1_000_000, 16_386_000_000, &WIDE)?);
+    assert!(rt; is_wide(rt.alloc(), GREATEST_COST, 16_386_000_000_000_000, &WIDEST)?);
     Ok(())
 }
 
@@ -170,23 +152,6 @@ fn dense_pair(alloc: Global) -> Result<Scaled, AllocError> {
     scale(alloc, problem, Sense::Min)
 }
 
-// The row of a person of this problem, as a line.
-fn dense_row(alloc: Global, i: u16) -> Result<String, AllocError> {
-    row_told(alloc, &dense_pair(alloc)?, i)
-}
-
-#[test]
-fn rows_of_two_persons(rt: HostRuntime) -> Result<(), Fail> {
-    for (i, known) in ["all objects [-3, -6]", "all objects [-9, -15]"]
-        .iter()
-        .enumerate()
-    {
-        let row = dense_row(rt.alloc(), i as u16 + 1)?;
-        assert_eq!(rt; row.as_str(), *known);
-    }
-    Ok(())
-}
-
 #[test]
 fn two_persons(rt: HostRuntime) -> Result<(), Fail> {
     let scaled = dense_pair(rt.alloc())?;
@@ -213,31 +178,40 @@ fn few_pairs(alloc: Global, sense: Sense) -> Result<Scaled, AllocError> {
     scale(alloc, problem, sense)
 }
 
-// The first person of this problem whose row isn't the expected line.
-fn other_row(alloc: Global, sense: Sense, lines: &[&str; 3]) -> Result<Option<u16>, AllocError> {
-    for (i, line) in lines.iter().enumerate() {
-        let row = row_told(alloc, &few_pairs(alloc, sense)?, i as u16 + 1)?;
-        if row.as_str() != *line {
-            return Ok(Some(i as u16 + 1));
+// Whether the rows of a problem are these lines.
+fn are_rows(alloc: Global, scaled: &Scaled, lines: &[&str]) -> Result<bool, AllocError> {
+    let mut person = 0u16;
+    for line in lines {
+        person = person.wrapping_add(1);
+        if row_told(alloc, scaled, person)?.as_str() != *line {
+            return Ok(false);
         }
     }
-    Ok(None)
+    Ok(true)
+}
+
+// Whether the rows of the problem with few pairs are these lines.
+fn are_few(alloc: Global, sense: Sense, lines: &[&str]) -> Result<bool, AllocError> {
+    are_rows(alloc, &few_pairs(alloc, sense)?, lines)
 }
 
 #[test]
-fn rows_of_few_pairs(rt: HostRuntime) -> Result<(), Fail> {
+fn rows_as_lines(rt: HostRuntime) -> Result<(), Fail> {
+    let dense = dense_pair(rt.alloc())?;
+    let lines = ["all objects [-3, -6]", "all objects [-9, -15]"];
+    assert!(rt; are_rows(rt.alloc(), &dense, &lines)?);
     let least = [
         "pairs [(Object(1), -16)]",
         "pairs [(Object(1), -24)]",
         "pairs [(Object(2), -4), (Object(3), -8)]",
     ];
-    assert_eq!(rt; other_row(rt.alloc(), Sense::Min, &least)?, None);
+    assert!(rt; are_few(rt.alloc(), Sense::Min, &least)?);
     let greatest = [
         "pairs [(Object(1), 16)]",
         "pairs [(Object(1), 24)]",
         "pairs [(Object(2), 4), (Object(3), 8)]",
     ];
-    assert_eq!(rt; other_row(rt.alloc(), Sense::Max, &greatest)?, None);
+    assert!(rt; are_few(rt.alloc(), Sense::Max, &greatest)?);
     Ok(())
 }
 

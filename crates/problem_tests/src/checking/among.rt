@@ -21,12 +21,6 @@ fn rows_of_two(alloc: Global) -> Result<(u16, Option<Cost>, Option<Cost>), Alloc
     Ok((problem.n(), spare, problem.cost_of(Person(2), Object(3))))
 }
 
-#[test]
-fn rows_of_persons_among_more_objects(rt: HostRuntime) -> Result<(), Fail> {
-    assert_eq!(rt; rows_of_two(rt.alloc())?, (3, None, Some(4)));
-    Ok(())
-}
-
 // The verdicts on the same rows, by a problem and by a list of costs.
 pub fn both_verdicts(
     alloc: Global,
@@ -134,7 +128,8 @@ fn is_taken(alloc: Global, objects: &str, prices: [Price; 3]) -> Result<bool, Al
 }
 
 #[test]
-fn lists_among_three_objects(rt: HostRuntime) -> Result<(), Fail> {
+fn rows_and_lists_among_three_objects(rt: HostRuntime) -> Result<(), Fail> {
+    assert_eq!(rt; rows_of_two(rt.alloc())?, (3, None, Some(4)));
     assert!(rt; is_taken(rt.alloc(), "21", [4, 0, 0])?);
     assert!(rt; !is_taken(rt.alloc(), "21", [4, 0, 2])?);
     Ok(())

@@ -71,39 +71,48 @@ fn full_verdicts(
     Ok((first, check_hall_among(alloc, &rows, persons, objects)?))
 }
 
-#[test]
-fn lists_for_three_persons_among_two_objects(rt: HostRuntime) -> Result<(), Fail> {
-    for (persons, objects, verdict) in [
-        ("123", "12", HallVerdict::Yes),
-        ("23", "12", HallVerdict::Count),
-        ("123", "1", HallVerdict::Missing(Person(1), Object(2))),
-        ("3", "", HallVerdict::Missing(Person(3), Object(1))),
-        ("", "2", HallVerdict::Extra(Object(2))),
-        ("", "", HallVerdict::Count),
-        ("132", "12", HallVerdict::Order),
-        ("124", "12", HallVerdict::Range),
-        ("123", "123", HallVerdict::Range),
-    ] {
-        let (problem, list) = full_verdicts(rt.alloc(), 3, 2, persons, objects)?;
-        assert!(rt; problem == verdict);
-        assert!(rt; list == verdict);
+// Persons and objects from digits, and the verdict on them.
+type Case = (&'static str, &'static str, HallVerdict);
+
+// Whether both verdicts on each of these lists are the expected one.
+fn are_verdicts(alloc: Global, n: u16, m: u16, table: &[Case]) -> Result<bool, AllocError>
+    requires persons { IsSize n }
+    requires objects { IsSize m }
+    requires count { n * m ≡ 6 }
+{
+    for (persons, objects, verdict) in table {
+        let (problem, list) = full_verdicts(alloc, n, m, persons, objects)?;
+        if problem != *verdict || list != *verdict {
+            return Ok(false);
+        }
     }
-    Ok(())
+    Ok(true)
 }
 
+const THREE_AMONG_TWO: [Case; 9] = [
+    ("123", "12", HallVerdict::Yes),
+    ("23", "12", HallVerdict::Count),
+    ("123", "1", HallVerdict::Missing(Person(1), Object(2))),
+    ("3", "", HallVerdict::Missing(Person(3), Object(1))),
+    ("", "2", HallVerdict::Extra(Object(2))),
+    ("", "", HallVerdict::Count),
+    ("132", "12", HallVerdict::Order),
+    ("124", "12", HallVerdict::Range),
+    ("123", "123", HallVerdict::Range),
+];
+
+const TWO_AMONG_THREE: [Case; 5] = [
+    ("12", "123", HallVerdict::Count),
+    ("12", "12", HallVerdict::Missing(Person(1), Object(3))),
+    ("", "3", HallVerdict::Extra(Object(3))),
+    ("123", "123", HallVerdict::Range),
+    ("12", "1234", HallVerdict::Range),
+];
+
 #[test]
-fn lists_for_two_persons_among_three_objects(rt: HostRuntime) -> Result<(), Fail> {
-    for (persons, objects, verdict) in [
-        ("12", "123", HallVerdict::Count),
-        ("12", "12", HallVerdict::Missing(Person(1), Object(3))),
-        ("", "3", HallVerdict::Extra(Object(3))),
-        ("123", "123", HallVerdict::Range),
-        ("12", "1234", HallVerdict::Range),
-    ] {
-        let (problem, list) = full_verdicts(rt.alloc(), 2, 3, persons, objects)?;
-        assert!(rt; problem == verdict);
-        assert!(rt; list == verdict);
-    }
+fn lists_among_more_or_fewer_objects(rt: HostRuntime) -> Result<(), Fail> {
+    assert!(rt; are_verdicts(rt.alloc(), 3, 2, &THREE_AMONG_TWO)?);
+    assert!(rt; are_verdicts(rt.alloc(), 2, 3, &TWO_AMONG_THREE)?);
     Ok(())
 }
 
@@ -116,23 +125,10 @@ fn is_taken(alloc: Global, persons: &str, objects: &str) -> Result<bool, AllocEr
     Ok(confirm_hall_among(alloc, &rows, persons, objects)?.is_some())
 }
 
-#[test]
-fn lists_of_all_persons_and_objects(rt: HostRuntime) -> Result<(), Fail> {
-    assert!(rt; is_taken(rt.alloc(), "123", "12")?);
-    assert!(rt; !is_taken(rt.alloc(), "12", "12")?);
-    Ok(())
-}
-
 // The verdict on one person that lists nothing.
 fn verdict_of_nothing(alloc: Global) -> Result<HallVerdict, AllocError> {
     let problem = Problem::from_rows(vec![in alloc; Vec::new(alloc)]?);
     check_hall(alloc, &problem, &[Person(1)], &[])
-}
-
-#[test]
-fn a_person_that_lists_nothing(rt: HostRuntime) -> Result<(), Fail> {
-    assert!(rt; verdict_of_nothing(rt.alloc())? == HallVerdict::Yes);
-    Ok(())
 }
 
 // The verdict on all persons and the one object that they list.
@@ -143,7 +139,10 @@ fn verdict_of_all(alloc: Global) -> Result<HallVerdict, AllocError> {
 }
 
 #[test]
-fn as_many_persons_as_there_may_be(rt: HostRuntime) -> Result<(), Fail> {
+fn other_lists(rt: HostRuntime) -> Result<(), Fail> {
+    assert!(rt; is_taken(rt.alloc(), "123", "12")?);
+    assert!(rt; !is_taken(rt.alloc(), "12", "12")?);
+    assert!(rt; verdict_of_nothing(rt.alloc())? == HallVerdict::Yes);
     assert!(rt; verdict_of_all(rt.alloc())? == HallVerdict::Yes);
     Ok(())
 }
