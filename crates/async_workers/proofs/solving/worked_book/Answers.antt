@@ -57,4 +57,4 @@ returns-clause-extends g c =
     let len = r.long in
     let same : length ys.items ≡ length xs.items = omega (arith, len, xs.ok, ys.ok) in
     back_extends c.in_ok-place.place b c.close_place.result (length b.claims) xs.items ys.items c.unseat_workers-desks.result.0.items is
-    (same, λ k d lt. r.worked k d (omega (arith, lt, xs.ok))) c.unseat_workers-desks.ensures.desks (omega (arith, l, some, back, same)) c.close_place.ensures.told
+    (same, λ k d lt. r.worked k d (omega (arith, lt, xs.ok))) c.unseat_workers-desks.ensures.desks (omega (arith, l, some, back, same)) c.close_place.ensures.current
