@@ -1,8 +1,8 @@
 // Each worker's run, in a thread of its own if one can be started.
-ghost use Rattle.std.specs.Prelude.{◌≡◌, ◌<◌, ◌≤◌, [], All, IfOk, OnSome, length, map, slice_index_or, true, vec_capacity, vec_len, ℕ};
+ghost use Rattle.std.specs.Prelude.{◌≡◌, ◌<◌, ◌≤◌, [], All, IfOk, OnSome, length, map, true, vec_capacity, vec_len};
 ghost use Rattle.async_workers.specs.Desk.{DeskData};
 ghost use Rattle.async_workers.specs.Turns.{CanTurn, IsLastTurn, IsMemory, WorksOn};
-ghost use Rattle.async_workers.specs.inside.Working.{HasWorked, desk_in, fault_in};
+ghost use Rattle.async_workers.specs.inside.Working.{HasWorked, HaveWorked, desk_in, fault_in};
 
 use crate::gate::{Gate, Turn, TurnFault};
 use crate::pause::FIRST_PAUSE;
@@ -22,7 +22,7 @@ pub struct Worker {
 
 /// What the workers of a run share: the place of their book, the number of sessions after which a
 /// table catches up, and the gate for their steps.
-#[derive(Clone, Copy)]
+#[derive(Drop)]
 pub struct Shared<'a, G> {
     pub place: &'a BookPlace,
     pub refresh: u64,
@@ -99,8 +99,7 @@ fn run_each<G: Gate + Sync, R: Threads + Wait + Sync>(
 )
     requires some { 0 < length workers.old }
     requires ready { All (λ w. CanTurn shared.now.place.now (desk_in w)) workers.old }
-    ensures { (k : ℕ) (d : _) → k < length workers.old
-        → HasWorked (slice_index_or workers.old k d) (slice_index_or workers.new k d) }
+    ensures { HaveWorked workers.old workers.new }
 {
     let threads = workers.len();
     thread::for_each_mut(
@@ -123,9 +122,7 @@ pub fn run_all<G: Gate + Sync, R: Threads + Wait + Sync>(
 ) -> Vec<CachePadded<Worker>>
     requires some { 0 < vec_len workers }
     requires ready { All (λ w. CanTurn shared.now.place.now (desk_in w)) workers.items }
-    ensures long { vec_len result ≡ vec_len workers }
-    ensures worked { (k : ℕ) (d : _) → k < vec_len workers
-        → HasWorked (slice_index_or workers.items k d) (slice_index_or result.items k d) }
+    ensures { HaveWorked workers.items result.items }
 {
     run_each(rt, alloc, shared, workers.as_mut_slice());
     workers
