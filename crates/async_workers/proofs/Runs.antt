@@ -9,7 +9,7 @@ use Rattle.auction_book.specs.Book.{BookData}
 use Rattle.async_workers.specs.declared.working.Worker.{Worker}
 use Rattle.async_workers.specs.PlaceRule.{Extends}
 use Rattle.async_workers.specs.Desk.{DeskData, IsAway, IsReady, IsTrueOf, new_desk, new_desks}
-use Rattle.async_workers.specs.inside.Working.{HasWorked, desk_in, fault_in}
+use Rattle.async_workers.specs.inside.Working.{HaveWorked, desk_in, fault_in}
 use Rattle.async_workers.specs.Turns.{CanTurn, IsMemory, WorksOn}
 use Rattle.async_workers.proofs.Desks.{new_desks_can}
 use Rattle.async_workers.proofs.Extending.{extends_itself, extends_through}
@@ -48,14 +48,10 @@ worked_from place b d e f w =
     let h = w.extends g.0 g.1 g.2 in
     record { at = w.place ∙ f.at; extends = (h.0, h.1, h.2, extends_through b g.1 h.1 g.3 h.3) }
 
--- after the runs each worker's desk and fault are as its run leaves them
-abbrev pub AreWorked : List (CachePadded Worker) → List (CachePadded Worker) → Type 0
-AreWorked xs ys = (length ys ≡ length xs) × ((k : ℕ) (d : CachePadded Worker) → k < length xs → HasWorked (get_or xs k d) (get_or ys k d))
-
-all_worked : (place : TableId) (b : BookData) (xs ys : List (CachePadded Worker)) → AreWorked xs ys → All (λ w. IsFrom place b (desk_in w)) xs → All (λ w. IsFrom place b (desk_in w)) ys
+all_worked : (place : TableId) (b : BookData) (xs ys : List (CachePadded Worker)) → HaveWorked xs ys → All (λ w. IsFrom place b (desk_in w)) xs → All (λ w. IsFrom place b (desk_in w)) ys
 all_worked place b xs ys w from = λ k d lt. let e = w.0 in let in_xs : k < length xs = omega (arith, e, lt) in worked_from place b (desk_in (get_or xs k d)) (desk_in (get_or ys k d)) (from k d in_xs) (w.1 k d in_xs).works
 
-pub faults_in : (xs ys : List (CachePadded Worker)) → AreWorked xs ys → All (λ w. IsMemory (fault_in w)) ys
+pub faults_in : (xs ys : List (CachePadded Worker)) → HaveWorked xs ys → All (λ w. IsMemory (fault_in w)) ys
 faults_in xs ys w = λ k d lt. let e = w.0 in (w.1 k d (omega (arith, e, lt))).fault
 
 -- ---- the new desks
@@ -75,16 +71,16 @@ pub length_workers : (place : TableId) (b : BookData) (n : ℕ) (xs : List (Cach
 length_workers place b n xs is = sym (length-map xs desk_in) ∙ ap length is ∙ length-new_desks place b n
 
 -- ---- the desks that come back
-all_back : (place : TableId) (b : BookData) (n : ℕ) (xs ys : List (CachePadded Worker)) (ds : List DeskData) → map desk_in xs ≡ new_desks place b n → AreWorked xs ys → ds ≡ map desk_in ys → All (IsFrom place b) ds
+all_back : (place : TableId) (b : BookData) (n : ℕ) (xs ys : List (CachePadded Worker)) (ds : List DeskData) → map desk_in xs ≡ new_desks place b n → HaveWorked xs ys → ds ≡ map desk_in ys → All (IsFrom place b) ds
 all_back place b n xs ys ds is w back =
     let from = unmapped (IsFrom place b) desk_in xs (subst (All (IsFrom place b)) (sym is) (all_new place b n)) in
     subst (All (IsFrom place b)) (sym back) (All-map (IsFrom place b) desk_in ys (all_worked place b xs ys w from))
 
-pub back_ready : (place : TableId) (b : BookData) (n : ℕ) (xs ys : List (CachePadded Worker)) (ds : List DeskData) → map desk_in xs ≡ new_desks place b n → AreWorked xs ys → ds ≡ map desk_in ys → All (IsReady place) ds
+pub back_ready : (place : TableId) (b : BookData) (n : ℕ) (xs ys : List (CachePadded Worker)) (ds : List DeskData) → map desk_in xs ≡ new_desks place b n → HaveWorked xs ys → ds ≡ map desk_in ys → All (IsReady place) ds
 back_ready place b n xs ys ds is w back = λ k d lt. let f = all_back place b n xs ys ds is w back k d lt in (f.at, (f.extends.0, f.extends.1, f.extends.2))
 
 -- a book of which all that a desk last learnt is true extends the opening one
-pub back_extends : (place : TableId) (b c : BookData) (n : ℕ) (xs ys : List (CachePadded Worker)) (ds : List DeskData) → map desk_in xs ≡ new_desks place b n → AreWorked xs ys → ds ≡ map desk_in ys → 0 < length ds → All (IsTrueOf c) ds → Extends b c
+pub back_extends : (place : TableId) (b c : BookData) (n : ℕ) (xs ys : List (CachePadded Worker)) (ds : List DeskData) → map desk_in xs ≡ new_desks place b n → HaveWorked xs ys → ds ≡ map desk_in ys → 0 < length ds → All (IsTrueOf c) ds → Extends b c
 back_extends place b c n xs ys ds is w back some told =
     let d = new_desk place b 0 in
     let g = (all_back place b n xs ys ds is w back 0 d some).extends in

@@ -30,22 +30,22 @@ tallies b (suc n) = tallies b n ++ tally_of b (n + 1) ∷ []
 -- the number of accepted bids of all workers
 abbrev pub accepted_in_all : List Tally → ℕ
 accepted_in_all [] = 0
-accepted_in_all (t ∷ told) = t.accepted + accepted_in_all told
+accepted_in_all (t ∷ all) = t.accepted + accepted_in_all all
 
 -- each person was assigned by an accepted bid
 abbrev pub IsEnough : ℕ → Outcome → List Tally → Type 0
-IsEnough persons (Best c) told = persons ≤ accepted_in_all told
-IsEnough persons (Hall h) told = Unit {0}
+IsEnough persons (Best c) all = persons ≤ accepted_in_all all
+IsEnough persons (Hall h) all = Unit {0}
 
 -- outcome and tallies are those of one free book with this many workers that goes on from this book
-pub record IsEndOf (from : BookData) (workers : ℕ) (outcome : Outcome) (told : List Tally) : Type 0 where
+pub record IsEndOf (from : BookData) (workers : ℕ) (outcome : Outcome) (all : List Tally) : Type 0 where
   pub book : BookData
   pub free : IsFree book
   pub goes_on : GoesOn from book
   pub answers : IsAnsweredBy book outcome
-  pub tallied : told ≡ tallies book workers
+  pub tallied : all ≡ tallies book workers
 
 -- the same from the book opened with these prices: the last book has their problem and number of
 -- workers, and no price is lower
 abbrev pub IsSolved : ScaledProblem → List ℤ → ℕ → Outcome → List Tally → Type 0
-IsSolved s prices workers outcome told = IsEndOf (opened s prices workers) workers outcome told
+IsSolved s prices workers outcome all = IsEndOf (opened s prices workers) workers outcome all

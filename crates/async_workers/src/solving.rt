@@ -12,7 +12,7 @@ ghost use Rattle.async_workers.specs.Turns.{IsMemory};
 use crate::alone::{go_alone, outcome_of};
 use crate::gate::{Gate, TurnFault};
 use crate::place::{close_place, open_place};
-use crate::working::{run_all, seat_workers, unseat_workers};
+use crate::working::{Shared, run_all, seat_workers, unseat_workers};
 use assign_core::{GREATEST_FIRST_PRICE, Outcome, Prices, SolveFault};
 use auction_book::Book;
 use scaled_values::Scaled;
@@ -44,25 +44,30 @@ fn worked_book<G: Gate + Sync, R: Threads + Wait + Sync>(
     let (place, desks) = open_place(rt, alloc, book)?;
     let workers = seat_workers(alloc, desks)?;
     let room = Vec::with_capacity(alloc, workers.len())?;
-    let workers = run_all(rt, alloc, &place, workers, refresh, gate);
+    let shared = Shared {
+        place: &place,
+        refresh,
+        gate,
+    };
+    let workers = run_all(rt, alloc, &shared, workers);
     let (desks, fault) = unseat_workers(room, workers);
     Ok((close_place(rt, place, desks), fault))
 }
 
 // The tally of each worker.
 fn tally_all(alloc: Global, book: &Book) -> Result<Vec<Tally>, AllocError>
-    ensures { IfOk result (λ told. told.items ≡ tallies book.now (length book.now.claims)) }
+    ensures { IfOk result (λ all. all.items ≡ tallies book.now (length book.now.claims)) }
 {
     let workers = book.workers();
-    let mut told = Vec::with_capacity(alloc, workers as usize)?;
+    let mut tallies = Vec::with_capacity(alloc, workers as usize)?;
     for before in 0..workers {
         let worker = before + 1;
-        told.push_reserved(Tally {
+        tallies.push_reserved(Tally {
             worker,
             accepted: book.accepted_by(worker),
         });
     }
-    Ok(told)
+    Ok(tallies)
 }
 
 // The book's answer. If it has none yet, this thread goes on with it alone.
@@ -89,8 +94,8 @@ fn answer<R: Wait>(
     ensures { IfOk result (λ r. IsEndOf book (length book.claims) r.0 r.1.items) }
 {
     let outcome = finish(rt, alloc, &mut book)?;
-    let told = tally_all(alloc, &book)?;
-    Ok((outcome, told))
+    let tallies = tally_all(alloc, &book)?;
+    Ok((outcome, tallies))
 }
 
 /// Solves by `workers` workers, usually 1 to 64, each in a thread of its own. A worker bids from

@@ -1,8 +1,8 @@
 // Each worker's run, in a thread of its own if one can be started.
-ghost use Rattle.std.specs.Prelude.{◌≡◌, ◌<◌, ◌≤◌, [], All, IfOk, OnSome, length, map, slice_index_or, true, vec_capacity, vec_len, ℕ};
+ghost use Rattle.std.specs.Prelude.{◌≡◌, ◌<◌, ◌≤◌, [], All, IfOk, OnSome, length, map, true, vec_capacity, vec_len};
 ghost use Rattle.async_workers.specs.Desk.{DeskData};
 ghost use Rattle.async_workers.specs.Turns.{CanTurn, IsLastTurn, IsMemory, WorksOn};
-ghost use Rattle.async_workers.specs.inside.Working.{HasWorked, desk_in, fault_in};
+ghost use Rattle.async_workers.specs.inside.Working.{HasWorked, HaveWorked, desk_in, fault_in};
 
 use crate::gate::{Gate, Turn, TurnFault};
 use crate::pause::FIRST_PAUSE;
@@ -18,6 +18,15 @@ use std::thread::{Parker, Threads};
 pub struct Worker {
     pub desk: Desk,
     pub fault: Option<TurnFault>,
+}
+
+/// What the workers of a run share: the place of their book, the number of sessions after which a
+/// table catches up, and the gate for their steps.
+#[derive(Drop)]
+pub struct Shared<'a, G> {
+    pub place: &'a BookPlace,
+    pub refresh: u64,
+    pub gate: &'a G,
 }
 
 /// A worker's turns, until one ends its run: what each worker of `solve_workers_from` does in its
@@ -59,23 +68,24 @@ pub fn take_turns<G: Gate, R: Wait>(
 }
 
 // A worker's whole run. After a fault it stops the book in one more session.
-fn work<G: Gate, R: Wait>(
-    rt: &R,
-    alloc: Global,
-    place: &BookPlace,
-    worker: &mut Worker,
-    refresh: u64,
-    gate: &G,
-)
-    requires { CanTurn place.now worker.old.desk }
+fn work<G: Gate, R: Wait>(rt: &R, alloc: Global, shared: &Shared<'_, G>, worker: &mut Worker)
+    requires { CanTurn shared.now.place.now worker.old.desk }
     ensures works { WorksOn worker.old.desk worker.new.desk }
     ensures fault { IsMemory worker.new.fault }
     ensures stops { OnSome worker.new.fault (worker.new.desk.known.stop ≡ true) }
 {
     let parker = Parker::new();
-    let fault = take_turns(rt, alloc, place, &mut worker.desk, refresh, gate, &parker);
+    let fault = take_turns(
+        rt,
+        alloc,
+        shared.place,
+        &mut worker.desk,
+        shared.refresh,
+        shared.gate,
+        &parker,
+    );
     if fault.is_some() {
-        ask_stop(rt, place, &mut worker.desk);
+        ask_stop(rt, shared.place, &mut worker.desk);
     }
     worker.fault = fault;
 }
@@ -84,25 +94,22 @@ fn work<G: Gate, R: Wait>(
 fn run_each<G: Gate + Sync, R: Threads + Wait + Sync>(
     rt: &R,
     alloc: Global,
-    place: &BookPlace,
+    shared: &Shared<'_, G>,
     workers: &mut [CachePadded<Worker>],
-    threads: usize,
-    refresh: u64,
-    gate: &G,
 )
-    requires threads { 0 < threads }
-    requires ready { All (λ w. CanTurn place.now (desk_in w)) workers.old }
-    ensures { (k : ℕ) (d : _) → k < length workers.old
-        → HasWorked (slice_index_or workers.old k d) (slice_index_or workers.new k d) }
+    requires some { 0 < length workers.old }
+    requires ready { All (λ w. CanTurn shared.now.place.now (desk_in w)) workers.old }
+    ensures { HaveWorked workers.old workers.new }
 {
+    let threads = workers.len();
     thread::for_each_mut(
         rt,
         workers,
         threads,
         &|_: usize, worker: &mut CachePadded<Worker>|
-            requires { CanTurn place.now (desk_in worker.old) }
+            requires { CanTurn shared.now.place.now (desk_in worker.old) }
             ensures { HasWorked worker.old worker.new }
-        { work(rt, alloc, place, &mut *worker, refresh, gate) },
+        { work(rt, alloc, shared, &mut *worker) },
     );
 }
 
@@ -110,27 +117,14 @@ fn run_each<G: Gate + Sync, R: Threads + Wait + Sync>(
 pub fn run_all<G: Gate + Sync, R: Threads + Wait + Sync>(
     rt: &R,
     alloc: Global,
-    place: &BookPlace,
+    shared: &Shared<'_, G>,
     mut workers: Vec<CachePadded<Worker>>,
-    refresh: u64,
-    gate: &G,
 ) -> Vec<CachePadded<Worker>>
     requires some { 0 < vec_len workers }
-    requires ready { All (λ w. CanTurn place.now (desk_in w)) workers.items }
-    ensures long { vec_len result ≡ vec_len workers }
-    ensures worked { (k : ℕ) (d : _) → k < vec_len workers
-        → HasWorked (slice_index_or workers.items k d) (slice_index_or result.items k d) }
+    requires ready { All (λ w. CanTurn shared.now.place.now (desk_in w)) workers.items }
+    ensures { HaveWorked workers.items result.items }
 {
-    let threads = workers.len();
-    run_each(
-        rt,
-        alloc,
-        place,
-        workers.as_mut_slice(),
-        threads,
-        refresh,
-        gate,
-    );
+    run_each(rt, alloc, shared, workers.as_mut_slice());
     workers
 }
 

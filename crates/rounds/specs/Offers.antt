@@ -1,5 +1,5 @@
 -- The offers of several persons under one table of prices.
-use Rattle.std.specs.Prelude.{◌≡◌, ℕ, ℤ, List, length, map, All}
+use Rattle.std.specs.Prelude.{◌≡◌, ℕ, ℤ, List, length, map, All, OnOk, Result}
 use Rattle.assign_core.specs.Numbered.{IsNumber}
 use Rattle.scaled_values.specs.Scaled.{ScaledProblem}
 use Rattle.bidder.specs.declared.offers.Ask.{Ask}
@@ -17,6 +17,10 @@ pub record CanOffer (s : ScaledProblem) (prices : List ℤ) (ask : Ask) (persons
   pub numbers : All (IsNumber (length s.problem)) persons
   pub priced : length prices ≡ length s.problem
   pub asked : IsAsk s ask
+
+-- a buffer with the offers of these persons, unless memory was refused
+abbrev pub AreMade : {T E : Type 0} → ScaledProblem → List ℤ → Ask → List ℕ → Result T E → List Offer → Type 0
+AreMade s prices ask persons result offers = OnOk result (offers ≡ offers_of s prices ask persons)
 
 -- an offer under another person's name
 abbrev pub named : ℕ → Offer → Offer

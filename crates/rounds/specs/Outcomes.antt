@@ -33,3 +33,8 @@ IsProof s outcome = core.IsProof s.sense s.problem outcome
 -- an optimal assignment if an assignment exists, and a Hall set otherwise
 abbrev pub IsDecided : ScaledProblem → Outcome → Type 0
 IsDecided s outcome = core.IsDecided s.problem outcome
+
+-- what rounds that begin at these prices give: the outcome of plain rounds, which is a proof, and
+-- an assignment exactly if one exists
+abbrev pub IsSolvedFrom : ScaledProblem → List ℤ → Outcome → Type 0
+IsSolvedFrom s prices outcome = IsOfRounds s prices outcome × IsProof s outcome × IsDecided s outcome

@@ -16,6 +16,7 @@ use Rattle.auction_book.specs.Changes.{accepted, released}
 use Rattle.auction_book.specs.Free.{IsFree}
 use Rattle.rounds.specs.declared.rounds.Round.{Round}
 use Rattle.rounds.specs.declared.rounds.Round.TheVariants as came
+use Rattle.rounds.specs.Offers.{offers_of}
 use Rattle.rounds.specs.Plain.{Plain, Goes, Ends, Halted, round}
 
 -- a problem, the persons who bid in its last round, and their offers
@@ -63,6 +64,10 @@ pub record IsBelowFloor (b : BookData) (person : ℕ) : Type 0 where
   pub table : List ℤ
   pub below : IsBelow table (prices_of b)
   pub under : IsUnder (benefits_at b.base person) table b.ask.floor
+
+-- the offers of all who wait, from the book's prices
+abbrev pub waiting_offers : BookData → List Offer
+waiting_offers b = offers_of b.base (prices_of b) b.ask b.queue
 
 -- one round: nobody waited, or a person is below the floor, or prices rose
 abbrev pub IsRound : BookData → Round → BookData → Type 0

@@ -5,7 +5,7 @@ ghost use Rattle.assign_core.specs.Numbered.{IsNumber, numbered};
 ghost use Rattle.assign_core.specs.Rows.{IsSize};
 ghost use Rattle.scaled_values.specs.Scaled.{ScaledProblem};
 ghost use Rattle.bidder.specs.Offers.{benefits_at};
-ghost use Rattle.rounds.specs.Offers.{CanOffer, named, offers_of};
+ghost use Rattle.rounds.specs.Offers.{AreMade, CanOffer, named};
 ghost use Rattle.rounds.specs.inside.Kinds.{AreKinds, HasAlike, IsGathered, IsPlaced};
 
 use super::offers::Offering;
@@ -312,7 +312,7 @@ impl Kinds {
         requires few { length persons.now ≤ length scaled.now.problem }
         requires size { IsSize (length scaled.now.problem) }
         requires kinds { AreKinds scaled.now self.old }
-        ensures made { OnOk result (offers.new.items ≡ offers_of scaled.now prices.now ask persons.now) }
+        ensures made { AreMade scaled.now prices.now ask persons.now result offers.new.items }
         ensures kinds { AreKinds scaled.now self.new }
     {
         if !self.some || persons.len() < 2 {

@@ -1,8 +1,8 @@
 // The offers of a round, from one table of prices.
-ghost use Rattle.std.specs.Prelude.{◌≡◌, ℕ, ◌+◌, ◌<◌, ◌≤◌, length, All, OnOk, slice_index_or};
+ghost use Rattle.std.specs.Prelude.{◌≡◌, ℕ, ◌+◌, ◌<◌, ◌≤◌, length, All, slice_index_or};
 ghost use Rattle.assign_core.specs.Numbered.{IsNumber};
 ghost use Rattle.bidder.specs.Offers.{offer_of};
-ghost use Rattle.rounds.specs.Offers.{CanOffer, offers_of};
+ghost use Rattle.rounds.specs.Offers.{AreMade, CanOffer, offers_of};
 
 use assign_core::{Person, Prices};
 use bidder::{Ask, BelowFloor, Offer, make_bid};
@@ -119,7 +119,7 @@ pub fn make_offers(
     offers: &mut Vec<Offer>,
 ) -> Result<(), AllocError>
     requires { CanOffer scaled.now prices.now ask persons.now }
-    ensures { OnOk result (offers.new.items ≡ offers_of scaled.now prices.now ask persons.now) }
+    ensures { AreMade scaled.now prices.now ask persons.now result offers.new.items }
 {
     offers.resize(persons.len(), NOTHING)?;
     let piece = piece_of(persons.len(), pairs_of(scaled, persons), least);
@@ -161,8 +161,7 @@ pub trait Offering {
     ) -> Result<(), AllocError>
         requires ready { ready }
         requires can { CanOffer scaled.now prices.now ask persons.now }
-        ensures { OnOk result
-            (offers.new.items ≡ offers_of scaled.now prices.now ask persons.now) };
+        ensures { AreMade scaled.now prices.now ask persons.now result offers.new.items };
 }
 
 /// The calling thread makes all offers.

@@ -4,18 +4,17 @@ ghost use Rattle.std.specs.Prelude.{None, IfSome, IfNone, IfOk, IfErr, OnErr, On
 ghost use Rattle.std.specs.Arc.{arc_value};
 ghost use Rattle.assign_core.specs.Numbered.{IsNumber, numbered};
 ghost use Rattle.scaled_values.specs.Scaled.{greatest_of};
-ghost use Rattle.auction_book.specs.Book.{Holds, prices_of};
+ghost use Rattle.auction_book.specs.Book.{Holds};
 ghost use Rattle.auction_book.specs.Changes.{claimed, released};
 ghost use Rattle.auction_book.specs.Follows.{GoesOn};
 ghost use Rattle.auction_book.specs.Free.{IsFree};
 ghost use Rattle.auction_book.specs.Phases.{is_over};
 ghost use Rattle.auction_book.specs.Submissions.{IsFitting};
 ghost use Rattle.rounds.specs.Plain.{Finished, Halted};
-ghost use Rattle.rounds.specs.Rounds.{plain_of, no_round_yet, IsAfterOffers, IsAtRest, IsBelowFloor, IsGoing, IsRound, book_after_bid, book_after_offers};
+ghost use Rattle.rounds.specs.Rounds.{plain_of, no_round_yet, IsAfterOffers, IsAtRest, IsBelowFloor, IsGoing, IsRound, book_after_bid, book_after_offers, waiting_offers};
 ghost use Rattle.rounds.specs.inside.Books.{AreSubmitted, HaveOffered, IsClaimed};
 ghost use Rattle.rounds.specs.inside.Kinds.{AreKinds};
-ghost use Rattle.rounds.specs.Offers.{offers_of};
-ghost use Rattle.rounds.specs.Outcomes.{IsDecided, IsOfRounds, IsOutcome, IsProof};
+ghost use Rattle.rounds.specs.Outcomes.{IsOfRounds, IsOutcome, IsProof, IsSolvedFrom};
 
 use super::kinds::Kinds;
 use super::offers::{Alone, InPieces, LEAST_PAIRS, Offering};
@@ -130,8 +129,7 @@ fn run_shared_round<O: Offering>(
     requires kinds { AreKinds book.old.base kinds.old }
     ensures round { IfOk result (λ came. IsRound book.old came book.new) }
     ensures persons { OnOk result (persons.new.items ≡ book.old.queue) }
-    ensures offers { OnOk result (offers.new.items
-        ≡ offers_of book.old.base (prices_of book.old) book.old.ask book.old.queue) }
+    ensures offers { OnOk result (offers.new.items ≡ waiting_offers book.old) }
     ensures book { OnOk result (IsAfterOffers book.old offers.new.items book.new) }
     ensures going { IsGoing book.new }
     ensures goes_on { GoesOn book.old book.new }
@@ -224,8 +222,7 @@ impl Rounds {
         requires problem { book.old.base ≡ self.old.base }
         ensures round { IfOk result (λ came. IsRound book.old came book.new) }
         ensures persons { OnOk result (self.new.persons ≡ book.old.queue) }
-        ensures offers { OnOk result (self.new.offers
-            ≡ offers_of book.old.base (prices_of book.old) book.old.ask book.old.queue) }
+        ensures offers { OnOk result (self.new.offers ≡ waiting_offers book.old) }
         ensures book { OnOk result (IsAfterOffers book.old self.new.offers book.new) }
         ensures going { IsGoing book.new }
         ensures goes_on { GoesOn book.old book.new }
@@ -322,9 +319,7 @@ pub fn solve_rounds_by<O: Offering>(
     requires ready { O.ready }
     requires long { length prices ≡ length (arc_value scaled).problem }
     requires low { greatest_of prices ≤ℤ GREATEST_FIRST_PRICE }
-    ensures rounds { IfOk result (IsOfRounds (arc_value scaled) prices) }
-    ensures proof { IfOk result (IsProof (arc_value scaled)) }
-    ensures decided { IfOk result (IsDecided (arc_value scaled)) }
+    ensures solved { IfOk result (IsSolvedFrom (arc_value scaled) prices) }
     ensures memory { IfErr result (λ fault. fault ≡ SolveFault.Memory) }
 {
     Ok(run_rounds(offering, alloc, scaled, prices)?)
@@ -351,9 +346,7 @@ pub fn solve_rounds_from(
 ) -> Result<Outcome, SolveFault>
     requires long { length prices ≡ length (arc_value scaled).problem }
     requires low { greatest_of prices ≤ℤ GREATEST_FIRST_PRICE }
-    ensures rounds { IfOk result (IsOfRounds (arc_value scaled) prices) }
-    ensures proof { IfOk result (IsProof (arc_value scaled)) }
-    ensures decided { IfOk result (IsDecided (arc_value scaled)) }
+    ensures solved { IfOk result (IsSolvedFrom (arc_value scaled) prices) }
     ensures memory { IfErr result (λ fault. fault ≡ SolveFault.Memory) }
 {
     let mut pieces = InPieces {
@@ -382,10 +375,8 @@ pub fn solve_rounds(
     alloc: Global,
     scaled: Arc<Scaled>,
 ) -> Result<Outcome, SolveFault>
-    ensures rounds { IfOk result (λ outcome. let s = arc_value scaled in
-        IsOfRounds s (replicate (length s.problem) (pos 0)) outcome) }
-    ensures proof { IfOk result (IsProof (arc_value scaled)) }
-    ensures decided { IfOk result (IsDecided (arc_value scaled)) }
+    ensures solved { IfOk result (λ outcome. let s = arc_value scaled in
+        IsSolvedFrom s (replicate (length s.problem) (pos 0)) outcome) }
     ensures memory { IfErr result (λ fault. fault ≡ SolveFault.Memory) }
 {
     let zeros = Prices::zeros(alloc, scaled.n())?;
@@ -404,9 +395,7 @@ pub fn solve_rounds_alone_from(
 ) -> Result<Outcome, SolveFault>
     requires long { length prices ≡ length (arc_value scaled).problem }
     requires low { greatest_of prices ≤ℤ GREATEST_FIRST_PRICE }
-    ensures rounds { IfOk result (IsOfRounds (arc_value scaled) prices) }
-    ensures proof { IfOk result (IsProof (arc_value scaled)) }
-    ensures decided { IfOk result (IsDecided (arc_value scaled)) }
+    ensures solved { IfOk result (IsSolvedFrom (arc_value scaled) prices) }
     ensures memory { IfErr result (λ fault. fault ≡ SolveFault.Memory) }
 {
     solve_rounds_by(&mut Alone, alloc, scaled, prices)
@@ -428,10 +417,8 @@ pub fn solve_rounds_alone_from(
 /// }
 /// ```
 pub fn solve_rounds_alone(alloc: Global, scaled: Arc<Scaled>) -> Result<Outcome, SolveFault>
-    ensures rounds { IfOk result (λ outcome. let s = arc_value scaled in
-        IsOfRounds s (replicate (length s.problem) (pos 0)) outcome) }
-    ensures proof { IfOk result (IsProof (arc_value scaled)) }
-    ensures decided { IfOk result (IsDecided (arc_value scaled)) }
+    ensures solved { IfOk result (λ outcome. let s = arc_value scaled in
+        IsSolvedFrom s (replicate (length s.problem) (pos 0)) outcome) }
     ensures memory { IfErr result (λ fault. fault ≡ SolveFault.Memory) }
 {
     let zeros = Prices::zeros(alloc, scaled.n())?;

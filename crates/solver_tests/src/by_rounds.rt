@@ -37,7 +37,7 @@ enum Seen {
     Hall(Vec<u16>, Vec<u16>),
 }
 
-fn told(alloc: Global, outcome: &Outcome) -> Result<Seen, AllocError> {
+fn seen_in(alloc: Global, outcome: &Outcome) -> Result<Seen, AllocError> {
     match outcome {
         Outcome::Best(certificate) => {
             let objects = numbers_of(alloc, certificate.assignment.objects())?;
@@ -54,7 +54,7 @@ fn told(alloc: Global, outcome: &Outcome) -> Result<Seen, AllocError> {
 // The result of a call.
 fn settled(alloc: Global, came: Result<Outcome, SolveFault>) -> Result<Seen, AllocError> {
     match came {
-        Ok(outcome) => told(alloc, &outcome),
+        Ok(outcome) => seen_in(alloc, &outcome),
         Err(_) => Err(AllocError),
     }
 }

@@ -279,7 +279,7 @@ fn is_left(alloc: Global, story: &mut Story, other: &mut Book) -> Result<bool, A
 #[derive(Drop)]
 struct PlainStory {
     came: Vec<u8>,
-    plain: Vec<Plain>,
+    workers: Vec<Plain>,
     book: Book,
 }
 
@@ -289,22 +289,26 @@ fn plain_story(
     script: &[u8],
     refresh: u64,
 ) -> Result<PlainStory, AllocError> {
-    let mut plain = open_plain(alloc, book.prices(), book.workers())?;
-    let came = plain_script(alloc, &mut book, plain.as_mut_slice(), script, refresh)?;
-    Ok(PlainStory { came, plain, book })
+    let mut workers = open_plain(alloc, book.prices(), book.workers())?;
+    let came = plain_script(alloc, &mut book, workers.as_mut_slice(), script, refresh)?;
+    Ok(PlainStory {
+        came,
+        workers,
+        book,
+    })
 }
 
 // Whether a story of desks is that of plain workers. Adds its letters to the earlier ones.
-fn is_told(
+fn is_story(
     alloc: Global,
     story: &mut Story,
-    told: &mut PlainStory,
+    plain: &mut PlainStory,
     came: &mut Vec<u8>,
 ) -> Result<bool, AllocError> {
     came.extend_from_slice(story.came.as_slice())?;
-    let same = story.came.as_slice() == told.came.as_slice();
-    let seated = all_alike(story.shown.as_slice(), told.plain.as_slice());
-    let left = is_left(alloc, story, &mut told.book)?;
+    let same = story.came.as_slice() == plain.came.as_slice();
+    let seated = all_alike(story.shown.as_slice(), plain.workers.as_slice());
+    let left = is_left(alloc, story, &mut plain.book)?;
     Ok(same && seated && left)
 }
 
@@ -321,7 +325,7 @@ pub(crate) fn agrees<R: Wait>(
 ) -> Result<bool, AllocError>
     requires { IsUntouched book }
 {
-    let mut told = plain_story(alloc, other, script, refresh)?;
+    let mut plain = plain_story(alloc, other, script, refresh)?;
     let mut story = played(rt, alloc, book, script, refresh)?;
-    is_told(alloc, &mut story, &mut told, came)
+    is_story(alloc, &mut story, &mut plain, came)
 }

@@ -56,8 +56,8 @@ fn events_of(
 ) -> Result<Vec<Event>, AllocError> {
     let mut since: Vec<u64> = vec![in alloc; 0; workers as usize + 1]?;
     let mut events = Vec::new(alloc);
-    for told in heard {
-        if let Heard::Session(worker, note) = *told {
+    for step in heard {
+        if let Heard::Session(worker, note) = *step {
             let at = worker as usize;
             if at < since.len() {
                 let count = since[at].wrapping_add(1);
@@ -292,16 +292,12 @@ fn all_came(came: &[u8], letters: &str, times: usize) -> bool {
         >= times)
 }
 
+// Turns alone are runs of the core; turns, leaves and stops are those of plain workers.
 #[test]
-fn drawn_orders_are_runs_of_the_core(rt: HostRuntime) -> Result<(), Fail> {
-    let agreed = agreeing_with(&rt, rt.alloc(), 500, false, "")?;
-    assert_eq!(rt; agreed, (500, true));
-    Ok(())
-}
-
-#[test]
-fn drawn_orders_are_those_of_plain_workers(rt: HostRuntime) -> Result<(), Fail> {
-    let agreed = agreeing_with(&rt, rt.alloc(), 500, true, "CIDRSyna")?;
-    assert_eq!(rt; agreed, (500, true));
+fn drawn_orders(rt: HostRuntime) -> Result<(), Fail> {
+    for (leaving, letters) in [(false, ""), (true, "CIDRSyna")] {
+        let agreed = agreeing_with(&rt, rt.alloc(), 500, leaving, letters)?;
+        assert_eq!(rt; agreed, (500, true), "leaving: {leaving}");
+    }
     Ok(())
 }

@@ -17,10 +17,12 @@ use test_helpers::{Pair, first_prices, numbers_of, scaled_of};
 
 const PAIRS: [Pair; 4] = [(1, 1, 1), (1, 2, 2), (2, 1, 3), (2, 2, 5)];
 
-// The expected result of a script: its letters, what the gate sees, and the final prices,
-// acceptances and claims of the book.
+// A script with its refresh and its expected result: its letters, what the gate sees, and the final
+// prices, acceptances and claims of the book.
 #[derive(Clone, Copy)]
 struct Wanted {
+    script: &'static str,
+    refresh: u64,
     came: &'static str,
     heard: &'static str,
     prices: [Price; 2],
@@ -57,8 +59,8 @@ fn digit(number: u64) -> u8 {
 // after a session a sign for its note.
 fn letters_of(alloc: Global, heard: &[Heard]) -> Result<Vec<u8>, AllocError> {
     let mut letters = Vec::new(alloc);
-    for told in heard {
-        match *told {
+    for step in heard {
+        match *step {
             Heard::Offer(worker) => {
                 letters.push(digit(u64::from(worker)))?;
                 letters.push(b'o')?;
@@ -142,60 +144,67 @@ fn book_fault_of(
 }
 
 // The expectation that a script doesn't meet, if there is one.
-fn fault<R: Wait>(
-    rt: &R,
-    alloc: Global,
-    script: &str,
-    refresh: u64,
-    wanted: &Wanted,
-) -> Result<&'static str, AllocError> {
-    let story = story_of(rt, alloc, script, refresh)?;
+fn fault<R: Wait>(rt: &R, alloc: Global, wanted: &Wanted) -> Result<&'static str, AllocError> {
+    let story = story_of(rt, alloc, wanted.script, wanted.refresh)?;
     fault_of(alloc, &story, wanted)
 }
 
-#[test]
-fn a_worker_leaves_and_the_other_ends(rt: HostRuntime) -> Result<(), Fail> {
-    let wanted = Wanted {
-        came: "CynCCCCCD",
-        heard: "1-1o2-2o2s12+2o2s22+2o2s32+2o2s42+2o2s52+",
-        prices: [14, 12],
-        accepted: [0, 5],
-        held: [0, 0],
-    };
-    let script = "1t 1l 1l 2t 2t 2t 2t 2t 2t";
-    assert_eq!(rt; fault(&rt, rt.alloc(), script, 1, &wanted)?, "");
-    Ok(())
-}
+// A worker leaves and the other ends.
+const LEFT: Wanted = Wanted {
+    script: "1t 1l 1l 2t 2t 2t 2t 2t 2t",
+    refresh: 1,
+    came: "CynCCCCCD",
+    heard: "1-1o2-2o2s12+2o2s22+2o2s32+2o2s42+2o2s52+",
+    prices: [14, 12],
+    accepted: [0, 5],
+    held: [0, 0],
+};
+
+// A stop leaves a prepared bid.
+const STOPPED: Wanted = Wanted {
+    script: "1t 2t 1s 2t 1t",
+    refresh: 1,
+    came: "CCaSS",
+    heard: "1-1o2-2o2s12+1-",
+    prices: [8, 0],
+    accepted: [0, 1],
+    held: [0, 0],
+};
+
+// A bid from an old table is too low.
+const TOO_LOW: Wanted = Wanted {
+    script: "1t 2t 2t 1t 2l",
+    refresh: 0,
+    came: "CCICn",
+    heard: "1-1o2-2o2s12+1s11<1o",
+    prices: [8, 0],
+    accepted: [0, 1],
+    held: [1, 0],
+};
+
+// Two claims outlive their place.
+const CLAIMED: Wanted = Wanted {
+    script: "1t 2t",
+    refresh: 1,
+    came: "CC",
+    heard: "1-1o2-2o",
+    prices: [0, 0],
+    accepted: [0, 0],
+    held: [1, 2],
+};
 
 #[test]
-fn a_stop_leaves_a_prepared_bid(rt: HostRuntime) -> Result<(), Fail> {
-    let wanted = Wanted {
-        came: "CCaSS",
-        heard: "1-1o2-2o2s12+1-",
-        prices: [8, 0],
-        accepted: [0, 1],
-        held: [0, 0],
-    };
-    assert_eq!(rt; fault(&rt, rt.alloc(), "1t 2t 1s 2t 1t", 1, &wanted)?, "");
-    Ok(())
-}
-
-#[test]
-fn an_old_table_is_told_the_price(rt: HostRuntime) -> Result<(), Fail> {
-    let wanted = Wanted {
-        came: "CCICn",
-        heard: "1-1o2-2o2s12+1s11<1o",
-        prices: [8, 0],
-        accepted: [0, 1],
-        held: [1, 0],
-    };
-    assert_eq!(rt; fault(&rt, rt.alloc(), "1t 2t 2t 1t 2l", 0, &wanted)?, "");
+fn worked_scripts(rt: HostRuntime) -> Result<(), Fail> {
+    for wanted in [LEFT, STOPPED, TOO_LOW, CLAIMED] {
+        let script = wanted.script;
+        assert_eq!(rt; fault(&rt, rt.alloc(), &wanted)?, "", "{script}");
+    }
     Ok(())
 }
 
 // The person that worker 1 claims next from the book of the closed place after all claims are given
 // up, and whether this is then the only claim.
-fn claimed_anew<R: Wait>(
+fn claimed_again<R: Wait>(
     rt: &R,
     alloc: Global,
     script: &str,
@@ -215,15 +224,7 @@ fn claimed_anew<R: Wait>(
 
 #[test]
 fn a_claim_outlives_its_place(rt: HostRuntime) -> Result<(), Fail> {
-    let wanted = Wanted {
-        came: "CC",
-        heard: "1-1o2-2o",
-        prices: [0, 0],
-        accepted: [0, 0],
-        held: [1, 2],
-    };
-    assert_eq!(rt; fault(&rt, rt.alloc(), "1t 2t", 1, &wanted)?, "");
-    let claimed = claimed_anew(&rt, rt.alloc(), "1t 2t")?;
+    let claimed = claimed_again(&rt, rt.alloc(), CLAIMED.script)?;
     assert_eq!(rt; claimed, (Some(1), true));
     Ok(())
 }
@@ -329,25 +330,20 @@ fn run_after<R: Wait>(
     Ok(run_first(rt, alloc, &place, desks))
 }
 
+// A run ends when all have an object, and after a stop.
 #[test]
-fn a_worker_takes_turns_until_all_have_an_object(rt: HostRuntime) -> Result<(), Fail> {
-    let Some((fault, sessions, found)) = run_after(&rt, rt.alloc(), "")? else {
-        panic!(rt; "no desk");
-    };
-    assert_eq!(rt; (fault, sessions), (false, 7));
-    assert_eq!(rt; (found.assigned, found.stopped), (2, false));
-    assert_eq!(rt; found.prices, [14, 12]);
-    Ok(())
-}
-
-#[test]
-fn a_worker_takes_no_more_turns_after_a_stop(rt: HostRuntime) -> Result<(), Fail> {
-    let Some((fault, sessions, found)) = run_after(&rt, rt.alloc(), "1t1t2s")? else {
-        panic!(rt; "no desk");
-    };
-    assert_eq!(rt; (fault, sessions), (false, 3));
-    assert_eq!(rt; (found.assigned, found.stopped), (1, true));
-    assert_eq!(rt; found.prices, [8, 0]);
+fn a_worker_takes_turns_to_its_end(rt: HostRuntime) -> Result<(), Fail> {
+    for (script, wanted, assigned, stopped, prices) in [
+        ("", 7, 2, false, [14, 12]),
+        ("1t1t2s", 3, 1, true, [8, 0]),
+    ] {
+        let Some((fault, sessions, found)) = run_after(&rt, rt.alloc(), script)? else {
+            panic!(rt; "no desk");
+        };
+        assert_eq!(rt; (fault, sessions), (false, wanted));
+        assert_eq!(rt; (found.assigned, found.stopped), (assigned, stopped));
+        assert_eq!(rt; found.prices, prices);
+    }
     Ok(())
 }
 

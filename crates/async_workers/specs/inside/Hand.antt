@@ -26,6 +26,14 @@ pub record HasInHand (base : ScaledProblem) (view : View) (k : Known) (taken b :
 abbrev pub IsInHand : DeskData → BookData → BookData → Type 0
 IsInHand d taken b = HasInHand d.base d.view d.known taken b
 
+-- the desk has this book in hand, in place of one that it took
+abbrev pub HasBook : DeskData → BookData → Type 0
+HasBook d b = (taken : BookData) × IsInHand d taken b
+
+-- a step after which the desk has the book c in hand, in place of the same book
+abbrev pub KeepsBook : DeskData → BookData → DeskData → BookData → Type 0
+KeepsBook d b after c = (taken : BookData) → IsInHand d taken b → IsInHand after taken c
+
 -- how a session ended: well, or with a growth refused
 abbrev pub Ends : {E : Type 0} → ℕ → ℕ → Known → Option Offer → Note → Result Claim E → BookData → Known → BookData → Bool → Type 0
 Ends refresh since k offer told outcome b left new caught = MatchResult outcome (λ answer. EndsWell refresh since k offer told answer b left new caught) (λ refused. EndsUndone refresh since k offer told b left new caught)

@@ -27,3 +27,7 @@ MetIsCurrent v = (t : LastSession) (taken : BookData) (u : LastSession) → v �
 -- a closer with this book in hand
 abbrev pub IsClosing : View → LastSession → BookData → Type 0
 IsClosing v t taken = (v ≡ Holding t taken) ⊎ ((u : LastSession) × (v ≡ Meeting t taken u))
+
+-- a closer with some book in hand
+abbrev pub Closes : View → Type 0
+Closes v = (t : LastSession) × (taken : BookData) × IsClosing v t taken

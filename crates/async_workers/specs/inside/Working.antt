@@ -1,5 +1,5 @@
 -- What a worker's run keeps.
-use Rattle.std.specs.Prelude.{Option}
+use Rattle.std.specs.Prelude.{◌≡◌, ◌<◌, ℕ, List, Option, length, slice_index_or}
 use Rattle.crossbeam_utils.specs.declared.cache_padded.CachePadded.{CachePadded}
 use Rattle.crossbeam_utils.specs.Padded.{padded_value}
 use Rattle.assign_core.specs.declared.outcome.SolveFault.{SolveFault}
@@ -17,3 +17,7 @@ fault_in w = (padded_value w).fault
 pub record HasWorked (old new : CachePadded Worker) : Type 0 where
   pub works : WorksOn (desk_in old) (desk_in new)
   pub fault : IsMemory (fault_in new)
+
+-- workers after their runs
+abbrev pub HaveWorked : List (CachePadded Worker) → List (CachePadded Worker) → Type 0
+HaveWorked old new = (length new ≡ length old) × ((k : ℕ) (d : CachePadded Worker) → k < length old → HasWorked (slice_index_or old k d) (slice_index_or new k d))

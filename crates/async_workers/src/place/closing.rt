@@ -4,7 +4,7 @@ ghost use Rattle.crossbeam_queue.specs.Passes.{view, IsPassOf, IsSamePass};
 ghost use Rattle.auction_book.specs.Book.{BookData};
 ghost use Rattle.auction_book.specs.Free.{IsFree};
 ghost use Rattle.async_workers.specs.PlaceRule.{IsCurrent};
-ghost use Rattle.async_workers.specs.inside.Passing.{IsClosing};
+ghost use Rattle.async_workers.specs.inside.Passing.{Closes, IsClosing};
 ghost use Rattle.async_workers.specs.Desk.{IsReady, IsTrueOf};
 ghost use Rattle.async_workers.specs.declared.rule.LastSession.{LastSession};
 ghost use Rattle.async_workers.specs.declared.rule.View.TheVariants.{Away};
@@ -21,7 +21,7 @@ use std::sync::Wait;
 pub fn close_place<R: Wait>(rt: &R, place: BookPlace, mut desks: Vec<Desk>) -> Book
     requires some_desk { 0 < vec_len desks }
     requires ready { All (IsReady place) desks.items }
-    ensures told { All (IsTrueOf result) desks.items }
+    ensures current { All (IsTrueOf result) desks.items }
     ensures free { IsFree result }
 {
     let Some(closer) = desks.pop() else {
@@ -47,7 +47,7 @@ impl Desk {
 // Takes in these desks, while the book is in hand.
 fn meet_all(queue: &Queue, pass: &mut DeskPass, mut desks: Vec<Desk>)
     requires queue { IsPassOf queue.now pass.old }
-    requires closing { (t : LastSession) × (taken : BookData) × IsClosing (view pass.old) t taken }
+    requires closing { Closes (view pass.old) }
     requires ready { All (IsReady queue.now.table.shared.table_id) desks.items }
     ensures { (t : LastSession) (taken : BookData) → IsClosing (view pass.old) t taken
         → All (IsTrueOf taken) desks.items }
@@ -60,12 +60,12 @@ fn meet_all(queue: &Queue, pass: &mut DeskPass, mut desks: Vec<Desk>)
 // Takes in one desk, and compares what it last learnt with the book in hand.
 fn meet(queue: &Queue, pass: &mut DeskPass, other: DeskPass)
     requires queue { IsPassOf queue.now pass.old × IsPassOf queue.now other }
-    requires closing { (t : LastSession) × (taken : BookData) × IsClosing (view pass.old) t taken }
+    requires closing { Closes (view pass.old) }
     requires away { (u : LastSession) × (view other ≡ Away u) }
     ensures queue { IsSamePass pass.old pass.new }
     ensures closing { (t : LastSession) (taken : BookData) → IsClosing (view pass.old) t taken
         → IsClosing (view pass.new) t taken }
-    ensures told { (t : LastSession) (taken : BookData) (u : LastSession) → IsClosing (view pass.old) t taken
+    ensures current { (t : LastSession) (taken : BookData) (u : LastSession) → IsClosing (view pass.old) t taken
         → view other ≡ Away u → IsCurrent taken u }
 {
     queue.absorb::<Meet>(pass, other);

@@ -1,8 +1,7 @@
 // How a worker leaves, and how it asks for a stop.
 ghost use Rattle.std.specs.Prelude.{◌≡◌, ◌||◌, false, is_some, true};
-ghost use Rattle.auction_book.specs.Book.{BookData};
 ghost use Rattle.async_workers.specs.Desk.{IsReady};
-ghost use Rattle.async_workers.specs.inside.Hand.{IsInHand};
+ghost use Rattle.async_workers.specs.inside.Hand.{HasBook, KeepsBook};
 ghost use Rattle.async_workers.specs.Turns.{CanTurn, StepsOut, WorksOn, stopped_if, without_claim};
 
 use super::{BookPlace, Desk, Held};
@@ -10,8 +9,8 @@ use std::sync::Wait;
 
 // Gives up the desk's claim.
 fn let_go(held: &mut Held, desk: &Desk)
-    requires hand { (taken : BookData) × IsInHand desk.now taken held.old.book }
-    ensures hand { (taken : BookData) → IsInHand desk.now taken held.old.book → IsInHand desk.now taken held.new.book }
+    requires hand { HasBook desk.now held.old.book }
+    ensures hand { KeepsBook desk.now held.old.book desk.now held.new.book }
     ensures held { held.new ≡ record held.old { book = without_claim held.old.book desk.now.known.number } }
 {
     held.book_mut().give_up(desk.known.number);
@@ -19,8 +18,8 @@ fn let_go(held: &mut Held, desk: &Desk)
 
 // Stops the book, and notes that the desk asked for it, if `stopping` is true.
 fn stop_if(held: &mut Held, desk: &mut Desk, stopping: bool)
-    requires hand { (taken : BookData) × IsInHand desk.old taken held.old.book }
-    ensures hand { (taken : BookData) → IsInHand desk.old taken held.old.book → IsInHand desk.new taken held.new.book }
+    requires hand { HasBook desk.old held.old.book }
+    ensures hand { KeepsBook desk.old held.old.book desk.new held.new.book }
     ensures held { held.new ≡ record held.old { book = stopped_if stopping held.old.book } }
     ensures desk { desk.new ≡ (let k = desk.old.known in record desk.old { known = record k { stop = (stopping || k.stop) } }) }
 {

@@ -7,7 +7,7 @@ ghost use Rattle.auction_book.specs.Claims.{IsAsked, after_claim, claim_of};
 ghost use Rattle.auction_book.specs.Free.{IsFree};
 ghost use Rattle.auction_book.specs.Phases.{is_over};
 ghost use Rattle.auction_book.specs.Session.{IsHandedIn, IsPrepared, book_kept_up, next_if_over};
-ghost use Rattle.async_workers.specs.inside.Hand.{Ends, IsInHand};
+ghost use Rattle.async_workers.specs.inside.Hand.{Ends, HasBook, KeepsBook};
 ghost use Rattle.async_workers.specs.Session.{catches_up, is_too_low, with_table};
 
 use super::{Desk, Held};
@@ -34,9 +34,9 @@ impl Held {
 
 // Submits the desk's offer.
 fn offer_in(alloc: Global, held: &mut Held, desk: &Desk) -> Submission
-    requires hand { (taken : BookData) × IsInHand desk.now taken held.old.book }
+    requires hand { HasBook desk.now held.old.book }
     requires prepared { IsPrepared held.old.book desk.now.known.number desk.now.known.table desk.now.known.version held.old.offer }
-    ensures hand { (taken : BookData) → IsInHand desk.now taken held.old.book → IsInHand desk.now taken held.new.book }
+    ensures hand { KeepsBook desk.now held.old.book desk.now held.new.book }
     ensures handed_in { IsHandedIn held.old.book desk.now.known.number held.old.offer held.new.book result.note result.outcome }
     ensures none { numbered held.new.book.claims desk.now.known.number None ≡ None }
     ensures caught_up { held.new.caught_up ≡ held.old.caught_up }
@@ -63,9 +63,9 @@ impl Desk {
 
 // Lets the desk's table catch up if it shall.
 fn keep_up(held: &mut Held, desk: &mut Desk, refresh: u64, too_low: bool)
-    requires hand { (taken : BookData) × IsInHand desk.old taken held.old.book }
+    requires hand { HasBook desk.old held.old.book }
     requires fresh { held.old.caught_up ≡ false }
-    ensures hand { (taken : BookData) → IsInHand desk.old taken held.old.book → IsInHand desk.new taken held.new.book }
+    ensures hand { KeepsBook desk.old held.old.book desk.new held.new.book }
     ensures caught_up { held.new.caught_up ≡ catches_up refresh too_low desk.old.since }
     ensures book { held.new.book ≡ book_kept_up (catches_up refresh too_low desk.old.since) held.old.book desk.old.known.number }
     ensures desk { desk.new ≡ record desk.old { known = with_table (catches_up refresh too_low desk.old.since) held.old.book desk.old.known } }
@@ -89,9 +89,9 @@ fn claim_next(held: &mut Held, worker: u16) -> Claim
 
 // Begins the next phase if this one is over, and lets the worker claim a person.
 fn move_on(alloc: Global, held: &mut Held, desk: &Desk) -> Result<Claim, AllocError>
-    requires hand { (taken : BookData) × IsInHand desk.now taken held.old.book }
+    requires hand { HasBook desk.now held.old.book }
     requires none { numbered held.old.book.claims desk.now.known.number None ≡ None }
-    ensures hand { (taken : BookData) → IsInHand desk.now taken held.old.book → IsInHand desk.now taken held.new.book }
+    ensures hand { KeepsBook desk.now held.old.book desk.now held.new.book }
     ensures ok { IfOk result (λ answer. let b : BookData = next_if_over held.old.book in
         (answer ≡ claim_of b) × (held.new.book ≡ after_claim b desk.now.known.number answer)) }
     ensures asked { IfOk result (IsAsked desk.now.base) }
@@ -105,10 +105,10 @@ fn move_on(alloc: Global, held: &mut Held, desk: &Desk) -> Result<Claim, AllocEr
 // Submits the offer, lets the table catch up if it shall, begins the next phase if this one is
 // over, and lets the worker claim a person. If memory is refused, the session ends there.
 pub(super) fn session(alloc: Global, held: &mut Held, desk: &mut Desk, refresh: u64) -> Ended
-    requires hand { (taken : BookData) × IsInHand desk.old taken held.old.book }
+    requires hand { HasBook desk.old held.old.book }
     requires prepared { IsPrepared held.old.book desk.old.known.number desk.old.known.table desk.old.known.version held.old.offer }
     requires fresh { held.old.caught_up ≡ false }
-    ensures hand { (taken : BookData) → IsInHand desk.old taken held.old.book → IsInHand desk.new taken held.new.book }
+    ensures hand { KeepsBook desk.old held.old.book desk.new held.new.book }
     ensures desk { desk.new ≡ record desk.old { known = desk.new.known } }
     ensures ends { Ends refresh desk.old.since desk.old.known held.old.offer result.note result.outcome
         held.old.book desk.new.known held.new.book held.new.caught_up }

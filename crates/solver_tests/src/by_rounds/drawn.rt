@@ -43,18 +43,14 @@ fn agreeing(
 
 #[test]
 fn drawn_problems(rt: HostRuntime) -> Result<(), Fail> {
-    for seed in [2026, 11, 22] {
-        assert_eq!(rt;
-            agreeing(&rt, rt.alloc(), LEAST_PAIRS, 700, seed)?,
-            700,
-            "{seed}"
-        );
+    for (least, turns, seed) in [
+        (LEAST_PAIRS, 700, 2026),
+        (LEAST_PAIRS, 700, 11),
+        (LEAST_PAIRS, 700, 22),
+        (1, 30, 1),
+    ] {
+        let count = agreeing(&rt, rt.alloc(), least, turns, seed)?;
+        assert_eq!(rt; count, turns, "seed {seed}");
     }
-    Ok(())
-}
-
-#[test]
-fn drawn_problems_by_threads(rt: HostRuntime) -> Result<(), Fail> {
-    assert_eq!(rt; agreeing(&rt, rt.alloc(), 1, 30, 1)?, 30);
     Ok(())
 }

@@ -133,86 +133,84 @@ fn is_run(alloc: Global, n: u16, pairs: &[Pair], first: &[Price]) -> Result<bool
     Ok(alike(Alone, alloc, n, pairs, Sense::Min, first)?.is_some())
 }
 
-#[test]
-fn two_persons_from_zeros(rt: HostRuntime) -> Result<(), Fail> {
-    let lines = [
-        "phase 1, eps 2, floor -29, prices 0 0",
-        "1 bids 5 for 1, accepted",
-        "2 bids 8 for 1, accepted",
-        "phase 1, eps 2, floor -29, prices 8 0",
-        "1 bids 7 for 2, accepted",
-        "phase 2, eps 1, floor -36, prices 8 7",
-        "1 bids 11 for 1, accepted",
-        "2 bids 14 for 1, accepted",
-        "phase 2, eps 1, floor -36, prices 14 7",
-        "1 bids 12 for 2, accepted",
-        "phase 2, eps 1, floor -36, prices 14 12",
-    ];
-    assert_eq!(rt;
-        shown_otherwise(rt.alloc(), 2, &TWO_PERSONS, &[], &lines)?,
-        (None, true)
-    );
-    Ok(())
-}
+// Three persons who list all objects at cost 2.
+const EQUAL: [Pair; 9] = [
+    (1, 1, 2),
+    (1, 2, 2),
+    (1, 3, 2),
+    (2, 1, 2),
+    (2, 2, 2),
+    (2, 3, 2),
+    (3, 1, 2),
+    (3, 2, 2),
+    (3, 3, 2),
+];
+
+const FROM_ZEROS: [&str; 11] = [
+    "phase 1, eps 2, floor -29, prices 0 0",
+    "1 bids 5 for 1, accepted",
+    "2 bids 8 for 1, accepted",
+    "phase 1, eps 2, floor -29, prices 8 0",
+    "1 bids 7 for 2, accepted",
+    "phase 2, eps 1, floor -36, prices 8 7",
+    "1 bids 11 for 1, accepted",
+    "2 bids 14 for 1, accepted",
+    "phase 2, eps 1, floor -36, prices 14 7",
+    "1 bids 12 for 2, accepted",
+    "phase 2, eps 1, floor -36, prices 14 12",
+];
+
+const FROM_FIRST_PRICES: [&str; 11] = [
+    "phase 1, eps 2, floor -43, prices 14 12",
+    "1 bids 17 for 1, accepted",
+    "2 bids 20 for 1, accepted",
+    "phase 1, eps 2, floor -43, prices 20 12",
+    "1 bids 19 for 2, accepted",
+    "phase 2, eps 1, floor -48, prices 20 19",
+    "1 bids 23 for 1, accepted",
+    "2 bids 26 for 1, accepted",
+    "phase 2, eps 1, floor -48, prices 26 19",
+    "1 bids 24 for 2, accepted",
+    "phase 2, eps 1, floor -48, prices 26 24",
+];
+
+const ALIKE: [&str; 10] = [
+    "phase 1, eps 1, floor -10, prices 0 0 0",
+    "1 bids 1 for 1, accepted",
+    "2 bids 1 for 1, refused",
+    "3 bids 1 for 1, refused",
+    "phase 1, eps 1, floor -10, prices 1 0 0",
+    "2 bids 1 for 2, accepted",
+    "3 bids 1 for 2, refused",
+    "phase 1, eps 1, floor -10, prices 1 1 0",
+    "3 bids 2 for 3, accepted",
+    "phase 1, eps 1, floor -10, prices 1 1 2",
+];
+
+const BELOW_THE_FLOOR: [&str; 6] = [
+    "phase 1, eps 4, floor -72, prices 0 0 0",
+    "1 bids 60 for 1, accepted",
+    "2 bids 52 for 1, refused",
+    "3 bids 8 for 2, accepted",
+    "phase 1, eps 4, floor -72, prices 60 8 0",
+    "2 is below the floor",
+];
+
+// The number of persons, all pairs, the first prices if they aren't 0, and the lines of the run.
+type Run<'a> = (u16, &'a [Pair], &'a [Price], &'a [&'a str]);
 
 #[test]
-fn two_persons_from_first_prices(rt: HostRuntime) -> Result<(), Fail> {
-    let lines = [
-        "phase 1, eps 2, floor -43, prices 14 12",
-        "1 bids 17 for 1, accepted",
-        "2 bids 20 for 1, accepted",
-        "phase 1, eps 2, floor -43, prices 20 12",
-        "1 bids 19 for 2, accepted",
-        "phase 2, eps 1, floor -48, prices 20 19",
-        "1 bids 23 for 1, accepted",
-        "2 bids 26 for 1, accepted",
-        "phase 2, eps 1, floor -48, prices 26 19",
-        "1 bids 24 for 2, accepted",
-        "phase 2, eps 1, floor -48, prices 26 24",
+fn worked_rounds(rt: HostRuntime) -> Result<(), Fail> {
+    let table: [Run; 4] = [
+        (2, &TWO_PERSONS, &[], &FROM_ZEROS),
+        (2, &TWO_PERSONS, &[14, 12], &FROM_FIRST_PRICES),
+        (3, &EQUAL, &[], &ALIKE),
+        (3, &CONTESTED, &[], &BELOW_THE_FLOOR),
     ];
-    assert_eq!(rt;
-        shown_otherwise(rt.alloc(), 2, &TWO_PERSONS, &[14, 12], &lines)?,
-        (None, true)
-    );
-    Ok(())
-}
-
-#[test]
-fn three_persons_who_are_alike(rt: HostRuntime) -> Result<(), Fail> {
-    let alike = dense(rt.alloc(), 3, &[2, 2, 2, 2, 2, 2, 2, 2, 2])?;
-    let lines = [
-        "phase 1, eps 1, floor -10, prices 0 0 0",
-        "1 bids 1 for 1, accepted",
-        "2 bids 1 for 1, refused",
-        "3 bids 1 for 1, refused",
-        "phase 1, eps 1, floor -10, prices 1 0 0",
-        "2 bids 1 for 2, accepted",
-        "3 bids 1 for 2, refused",
-        "phase 1, eps 1, floor -10, prices 1 1 0",
-        "3 bids 2 for 3, accepted",
-        "phase 1, eps 1, floor -10, prices 1 1 2",
-    ];
-    assert_eq!(rt;
-        shown_otherwise(rt.alloc(), 3, alike.as_slice(), &[], &lines)?,
-        (None, true)
-    );
-    Ok(())
-}
-
-#[test]
-fn three_persons_below_the_floor(rt: HostRuntime) -> Result<(), Fail> {
-    let lines = [
-        "phase 1, eps 4, floor -72, prices 0 0 0",
-        "1 bids 60 for 1, accepted",
-        "2 bids 52 for 1, refused",
-        "3 bids 8 for 2, accepted",
-        "phase 1, eps 4, floor -72, prices 60 8 0",
-        "2 is below the floor",
-    ];
-    assert_eq!(rt;
-        shown_otherwise(rt.alloc(), 3, &CONTESTED, &[], &lines)?,
-        (None, true)
-    );
+    for (at, (n, pairs, first, lines)) in table.into_iter().enumerate() {
+        let seen = shown_otherwise(rt.alloc(), n, pairs, first, lines)?;
+        assert_eq!(rt; seen, (None, true), "at {at}");
+    }
     Ok(())
 }
 

@@ -4,7 +4,7 @@ use Rattle.async_workers.proofs.solving.tally_all.Given as goal
 
 abbrev pub invariant-loop-before : goal.invariant-loop-before
 invariant-loop-before l = record {
-  told : l.told.items ≡ tallies l.book l.before;
-  long : vec_len l.told ≡ l.before;
-  room : vec_capacity l.told ≡ vec_capacity l.initial.told;
+  tallied : l.tallies.items ≡ tallies l.book l.before;
+  long : vec_len l.tallies ≡ l.before;
+  room : vec_capacity l.tallies ≡ vec_capacity l.initial.tallies;
 }

@@ -18,12 +18,7 @@ run_all-workers-requires-clause-ready g c κs within =
     workers_can c.in_ok-place.place b (length b.claims) c.in_ok-workers.workers.items (c.in_ok-workers.ensures ∙ c.in_ok-place.ensures)
 
 pub unseat_workers-desks-requires-clause-faults : goal.unseat_workers-desks-requires-clause-faults
-unseat_workers-desks-requires-clause-faults g c =
-    let xs = c.in_ok-workers.workers in
-    let ys = c.run_all-workers.result in
-    let r = c.run_all-workers.ensures in
-    let long = r.long in
-    faults_in xs.items ys.items (omega (arith, long, xs.ok, ys.ok), λ k d lt. r.worked k d (omega (arith, lt, xs.ok)))
+unseat_workers-desks-requires-clause-faults g c = faults_in c.in_ok-workers.workers.items c.run_all-workers.result.items c.run_all-workers.ensures
 
 pub close_place-requires-clause-some_desk : goal.close_place-requires-clause-some_desk
 close_place-requires-clause-some_desk g c =
@@ -31,7 +26,7 @@ close_place-requires-clause-some_desk g c =
     let l = length_workers c.in_ok-place.place b (length b.claims) c.in_ok-workers.workers.items (c.in_ok-workers.ensures ∙ c.in_ok-place.ensures) in
     let some = c.requires.some in
     let back = ap length c.unseat_workers-desks.ensures.desks ∙ length-map c.run_all-workers.result.items desk_in in
-    let same = c.run_all-workers.ensures.long in
+    let same = c.run_all-workers.ensures.0 in
     omega (arith, l, some, c.in_ok-workers.workers.ok, back, same, c.run_all-workers.result.ok, c.unseat_workers-desks.result.0.ok)
 
 pub close_place-requires-clause-ready : goal.close_place-requires-clause-ready
@@ -39,22 +34,19 @@ close_place-requires-clause-ready g c =
     let b = c.args.book in
     let xs = c.in_ok-workers.workers in
     let ys = c.run_all-workers.result in
-    let r = c.run_all-workers.ensures in
-    let long = r.long in
     back_ready c.in_ok-place.place b (length b.claims) xs.items ys.items c.unseat_workers-desks.result.0.items (c.in_ok-workers.ensures ∙ c.in_ok-place.ensures)
-    (omega (arith, long, xs.ok, ys.ok), λ k d lt. r.worked k d (omega (arith, lt, xs.ok))) c.unseat_workers-desks.ensures.desks
+    c.run_all-workers.ensures c.unseat_workers-desks.ensures.desks
 
 pub returns-clause-extends : goal.returns-clause-extends
 returns-clause-extends g c =
     let b = c.args.book in
     let xs = c.in_ok-workers.workers in
     let ys = c.run_all-workers.result in
-    let r = c.run_all-workers.ensures in
     let is : map desk_in xs.items ≡ new_desks c.in_ok-place.place b (length b.claims) = c.in_ok-workers.ensures ∙ c.in_ok-place.ensures in
     let l = length_workers c.in_ok-place.place b (length b.claims) xs.items is in
     let some = c.requires.some in
     let back = ap length c.unseat_workers-desks.ensures.desks ∙ length-map ys.items desk_in in
-    let len = r.long in
-    let same : length ys.items ≡ length xs.items = omega (arith, len, xs.ok, ys.ok) in
+    let worked = c.run_all-workers.ensures in
+    let same = worked.0 in
     back_extends c.in_ok-place.place b c.close_place.result (length b.claims) xs.items ys.items c.unseat_workers-desks.result.0.items is
-    (same, λ k d lt. r.worked k d (omega (arith, lt, xs.ok))) c.unseat_workers-desks.ensures.desks (omega (arith, l, some, back, same)) c.close_place.ensures.told
+    worked c.unseat_workers-desks.ensures.desks (omega (arith, l, some, back, same)) c.close_place.ensures.current

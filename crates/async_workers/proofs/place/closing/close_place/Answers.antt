@@ -18,8 +18,8 @@ meet_all-requires-clause-ready g c =
     let ready = All-pop (IsReady c.args.place) c.args.desks.items c.pop.new.self.items (Some c.in-Some.closer) c.in-Some.ensures.items c.requires.ready in
     subst (λ p. All (IsReady p) c.pop.new.self.items) (sym c.place.view_is) ready.0
 
-pub returns-clause-told : goal.returns-clause-told
-returns-clause-told g c =
+pub returns-clause-current : goal.returns-clause-current
+returns-clause-current g c =
     let desk = c.in-Some.closer in
     let b = c.take_book-book.result in
     let ready = All-pop (IsReady c.args.place) c.args.desks.items c.pop.new.self.items (Some desk) c.in-Some.ensures.items c.requires.ready in

@@ -24,7 +24,7 @@ loop-desk-preserved c =
       closing = λ t taken cl. m.closing t taken (inv.closing t taken cl);
       ready = ready.0;
       told = λ t taken cl all. inv.told t taken cl (subst (All (IsTrueOf taken)) (sym items) (All-push (IsTrueOf taken) c.pop.new.self.items desk all
-          (λ a put away. m.told t taken (session_by desk a put) (inv.closing t taken cl) (c.into_pass.ensures.view ∙ away))));
+          (λ a put away. m.current t taken (session_by desk a put) (inv.closing t taken cl) (c.into_pass.ensures.view ∙ away))));
     }
 
 pub returns : goal.returns
