@@ -34,7 +34,7 @@ unpack() {
 copy() {
     mkdir "$work/top"
     cd "$top"
-    git ls-files -z -- VERSION LICENSE-\* c docs examples python tests README.md | xargs -0 cp --parents -t "$work/top"
+    git ls-files -z -- VERSION LICENSE-\* c docs examples python tests README.md crates/assign_core/src/numbers.rt | xargs -0 cp --parents -t "$work/top"
     mkdir -p "$work/top/c/out"
     cp -r "$top/c/out/aarch64" "$work/top/c/out/"
     cp -P "$top"/c/out/aarch64/* "$work/top/c/out/"

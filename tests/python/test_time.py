@@ -63,6 +63,8 @@ class Interrupts(unittest.TestCase):
     @unittest.skipUnless(os.name == "posix", "signals are sent as POSIX has them")
     def test_ctrl_c_while_the_library_works(self):
         """The wait ends long before the library's work does."""
+        # A shell starts programs in the background without it.
+        self.addCleanup(signal.signal, signal.SIGINT, signal.signal(signal.SIGINT, signal.default_int_handler))
         size = 520
         view = memoryview(array("q", bytes(8 * size * size))).cast("B").cast("q", (size, size))
         with slow_call(5):
