@@ -233,7 +233,8 @@ class Room:
     problem: a sense, sizes, costs, and the rest. The call answers 0 where it found a best assignment, whose objects stand here
     then. `doubles`, `numbers` and `flat` are one memory, for costs that are to become whole numbers, and
     `calls` has the arguments for these under minimize and maximize. `home` is the
-    list that the room goes back to after a call, if it is kept, and `is_rounded` says whether costs were rounded."""
+    list that the room goes back to after a call, if it is kept. `is_rounded` says whether costs were rounded, `is_turned` whether columns
+    are the persons."""
 
     def __init__(self, numpy: Any, n: int, m: int, home: Optional[List["Room"]]):
         self.words, self.shape, self.home = array("Q", bytes(_INFO + 16 * m + 4 * n + 8 - 4 * n % 8)), (n, m), home
@@ -254,7 +255,7 @@ class Room:
         self.numbers: Any = None
         self.flat: Any = None
         self.calls: Any = None
-        self.is_rounded = False
+        self.is_rounded = self.is_turned = False
 
     def give_back(self) -> None:
         """Lets another call have the room."""

@@ -37,62 +37,55 @@ class SmallArrays:
         this way finds no answer to them: then the longer way finds one, or says what is wrong."""
         if type(costs) is not self.array or costs.ndim != 2:
             return None
-        n, m = costs.shape
-        turned = n > m
-        room = self._solved(costs.T if turned else costs, maximize, False)
+        room = self._solved(costs, maximize, False)
         if room is None:
             return None
-        found = self._pairs_of(room, turned)
+        found = self._pairs_of(room)
         room.give_back()
         return found
 
     def of_rows(self, rows: Any, maximize: bool) -> Optional[Tuple[List[int], List[int]]]:
         """As `assignment`, for a list of lists of floats or of ints; the answer is of lists."""
-        flat = _flat(rows)
-        costs = None if flat is None else self._matrix(flat, len(rows))
-        if costs is None:
-            return None
-        turned = len(rows) > len(rows[0])
-        room = self._solved(costs.T if turned else costs, maximize, False)
+        matrix, _ = self._read(rows)
+        room = None if matrix is None else self._solved(matrix, maximize, False)
         if room is None:
             return None
-        found = _listed_pairs_of(room, turned)
+        found = _listed_pairs_of(room)
         room.give_back()
         return found
 
     def found(self, costs: Any, maximize: bool) -> Optional[Found]:
         """What a result is made of, for a small array or a list of lists, where floats are the decimals that they print as. None as in
         `assignment`, and where costs may have few decimal places, which the longer way makes whole."""
-        if type(costs) is self.array and costs.ndim == 2:
-            matrix, flat = costs, None
-        else:
-            flat = _flat(costs)
-            matrix = None if flat is None else self._matrix(flat, len(costs))
-            if matrix is None:
-                return None
-        n_rows, n_columns = matrix.shape
-        turned = n_rows > n_columns
-        room = self._solved(matrix.T if turned else matrix, maximize, True)
+        matrix, flat = (costs, None) if type(costs) is self.array and costs.ndim == 2 else self._read(costs)
+        room = None if matrix is None else self._solved(matrix, maximize, True)
         if room is None:
             return None
+        n_rows, n_columns = matrix.shape
         shape = Problem(n_rows, n_columns, maximize, None, raw=room.is_rounded)
         answer = _answer_of(room)
         if flat is None:
-            rows, columns = self._pairs_of(room, turned)
+            rows, columns = self._pairs_of(room)
             own = matrix[rows, columns].tolist()
         else:
-            rows, columns = _listed_pairs_of(room, turned)
+            rows, columns = _listed_pairs_of(room)
             own = [flat[n_columns * row + column] for row, column in zip(rows, columns)]
         room.give_back()
         return Found(shape, answer, rows, columns, own, flat is None)
 
-    def _pairs_of(self, room: library.Room, turned: bool) -> Tuple[Any, Any]:
+    def _pairs_of(self, room: library.Room) -> Tuple[Any, Any]:
         """Rows and columns of the plan in a room."""
         persons, objects = room.rows.copy(), self.from_zero(room.objects)
-        if not turned:
+        if not room.is_turned:
             return persons, objects
         order = objects.argsort()
         return objects.take(order), order
+
+    def _read(self, rows: Any) -> Tuple[Any, Optional[List[Any]]]:
+        """The array of a list of lists, and what they hold; twice None where `_flat` or `_matrix` says so."""
+        flat = _flat(rows)
+        matrix = None if flat is None else self._matrix(flat, len(rows))
+        return (None, None) if matrix is None else (matrix, flat)
 
     def _matrix(self, flat: List[Any], height: int) -> Any:
         """An array of floats, or of ints of 64 bits; None where there are others among them."""
@@ -106,11 +99,16 @@ class SmallArrays:
             return None
 
     def _solved(self, costs: Any, maximize: bool, printed: bool) -> Optional[library.Room]:
-        """A room with a best plan for at most as many rows as columns; floats are the decimals that they print as where `printed`."""
+        """A room with a best plan, whose persons are the fewer of rows and columns; floats are the decimals that they print as where
+        `printed`."""
         n, m = costs.shape
+        is_turned = n > m
+        if is_turned:
+            n, m, costs = m, n, costs.T
         if not n or n * n * m >= library.LONG or m > MOST_PERSONS or not costs.flags.aligned:
             return None
         room = library.room_for(self.numpy, n, m)
+        room.is_turned = is_turned
         if costs.dtype is self.int64:
             return room if self._of_whole(costs.ravel(), room, maximize) else None
         return room if costs.dtype is self.float64 and self._of_doubles(costs, room, maximize, printed) else None
@@ -192,10 +190,10 @@ def _flat(rows: Any) -> Optional[List[Any]]:
     return flat or None
 
 
-def _listed_pairs_of(room: library.Room, turned: bool) -> Tuple[List[int], List[int]]:
+def _listed_pairs_of(room: library.Room) -> Tuple[List[int], List[int]]:
     """Rows and columns of the plan in a room, as lists."""
     persons, objects = list(range(len(room.objects))), [item - 1 for item in room.objects.tolist()]
-    if not turned:
+    if not room.is_turned:
         return persons, objects
     persons.sort(key=objects.__getitem__)
     return [objects[person] for person in persons], persons
