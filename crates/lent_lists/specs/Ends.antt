@@ -1,5 +1,5 @@
 -- What a solving call returns, and what it writes into the buffers.
-use Rattle.std.specs.Prelude.{◌≡◌, ℕ, ℤ, pos, List, Result, Ok, Err, length, map, drop, ◌++◌}
+use Rattle.std.specs.Prelude.{◌≡◌, ℕ, ℤ, pos, List, [], ◌∷◌, Option, None, Some, Result, Ok, Err, length, map, drop, ◌++◌}
 use Rattle.assign_core.specs.declared.sense.Sense.{Sense}
 use Rattle.assign_core.specs.Rows.{Listing}
 use Rattle.assign_core.specs.Assignment.{IsBest, total}
@@ -91,8 +91,24 @@ abbrev pub IsSolved : GivenLists → Buffers → Buffers → Result End Fault �
 IsSolved g before after (Ok end) = IsAnswered g before after end
 IsSolved g before after (Err f) = HasFault g f × (after ≡ with_place f before)
 
+-- a problem with first prices, if there are any, and with the lengths of these and of buffers
+abbrev pub with_buffers : GivenLists → Option (List SplitPrice) → Buffers → GivenLists
+with_buffers g None room = record g {
+  by_person = length room.objects ∷ length room.persons ∷ [];
+  by_object = length room.prices ∷ [];
+}
+with_buffers g (Some first) room = record g {
+  by_person = length room.objects ∷ length room.persons ∷ [];
+  by_object = length room.prices ∷ length first ∷ [];
+  first = first;
+}
+
 -- an end of the call that has this code
 pub record IsReported (g : GivenLists) (before after : Buffers) (code : ℤ) : Type 0 where
   pub end : Result End Fault
   pub is : code ≡ end_code end
   pub solved : IsSolved g before after end
+
+-- the end of a call that solves a problem into these buffers, from first prices if there are any
+abbrev pub Solves : GivenLists → Option (List SplitPrice) → Buffers → Buffers → ℤ → Type 0
+Solves g first before after code = IsReported (with_buffers g first before) before after code

@@ -46,45 +46,15 @@ pub record HasLengths (g : GivenLists) : Type 0 where
   pub by_person : All (λ k. k ≡ g.n) g.by_person
   pub by_object : All (λ k. k ≡ g.m) g.by_object
 
--- a dense problem: each person lists each object
-abbrev pub dense : ℕ → ℕ → ℕ → List ℕ → List ℕ → List ℤ → List SplitPrice → GivenLists
-dense sense n m by_person by_object costs first = record {
-  form = Dense;
-  sense = sense;
-  n = n;
-  m = m;
-  by_person = by_person;
-  by_object = by_object;
-  persons = [];
-  objects = [];
-  costs = costs;
-  first = first;
-}
-
--- a sparse problem: the pairs are listed
-abbrev pub sparse : ℕ → ℕ → ℕ → List ℕ → List ℕ → List ℕ → List ℕ → List ℤ → List SplitPrice → GivenLists
-sparse sense n m by_person by_object persons objects costs first = record {
-  form = Sparse;
-  sense = sense;
-  n = n;
-  m = m;
-  by_person = by_person;
-  by_object = by_object;
-  persons = persons;
-  objects = objects;
-  costs = costs;
-  first = first;
-}
-
 -- without lists of pairs, dense if there are costs; otherwise sparse
 abbrev pub either_form : List ℕ → List ℕ → List ℤ → Form
 either_form persons objects costs =
     if (length persons == 0) && (length objects == 0) && not (length costs == 0) then Dense else Sparse
 
--- a problem of either form, without first prices
-abbrev pub either : ℕ → ℕ → ℕ → List ℕ → List ℕ → List ℤ → GivenLists
-either sense n m persons objects costs = record {
-  form = either_form persons objects costs;
+-- a problem alone, without first prices and further lists
+abbrev pub problem_alone : Form → ℕ → ℕ → ℕ → List ℕ → List ℕ → List ℤ → GivenLists
+problem_alone form sense n m persons objects costs = record {
+  form = form;
   sense = sense;
   n = n;
   m = m;
@@ -95,6 +65,11 @@ either sense n m persons objects costs = record {
   costs = costs;
   first = [];
 }
+
+-- a problem of either form
+abbrev pub either : ℕ → ℕ → ℕ → List ℕ → List ℕ → List ℤ → GivenLists
+either sense n m persons objects costs =
+    problem_alone (either_form persons objects costs) sense n m persons objects costs
 
 -- the rows of the problem, one for each person
 abbrev pub HasRows : Form → GivenLists → List Listing → Type 0

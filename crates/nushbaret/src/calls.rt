@@ -1,8 +1,9 @@
 // The calls, as `c/nushbaret.h` declares them.
-ghost use Rattle.std.specs.Prelude.{[], ◌∷◌, ◌⊎◌, length, map};
+ghost use Rattle.std.specs.Prelude.{[], ◌⊎◌, None, Some, map};
 ghost use Rattle.lent_lists.specs.Checks.{IsHallJudged, IsJudged, IsRefused};
-ghost use Rattle.lent_lists.specs.Ends.{IsReported, buffers};
-ghost use Rattle.lent_lists.specs.Given.{dense, either, sparse};
+ghost use Rattle.lent_lists.specs.Ends.{Solves, buffers};
+ghost use Rattle.lent_lists.specs.Given.{either, problem_alone};
+ghost use Rattle.lent_lists.specs.declared.form.Form.TheVariants.{Dense, Sparse};
 ghost use Rattle.lent_lists.specs.Prices.{price_in};
 
 use lent_lists::{
@@ -24,9 +25,7 @@ pub extern "C" fn nushbaret_dense(
     prices: &mut [SplitPrice],
     info: &mut Info,
 ) -> i32
-    ensures { IsReported
-        (dense sense n m (length objects.old ∷ length persons.old ∷ []) (length prices.old ∷ [])
-        costs.now [])
+    ensures { Solves (problem_alone Dense sense n m [] [] costs.now) None
         (buffers objects.old persons.old prices.old info.old)
         (buffers objects.new persons.new prices.new info.new) result }
 {
@@ -67,10 +66,7 @@ pub extern "C" fn nushbaret_dense_from(
     prices: &mut [SplitPrice],
     info: &mut Info,
 ) -> i32
-    ensures { IsReported
-        (dense sense n m (length objects.old ∷ length persons.old ∷ [])
-        (length prices.old ∷ length first.now ∷ [])
-        costs.now first.now)
+    ensures { Solves (problem_alone Dense sense n m [] [] costs.now) (Some first.now)
         (buffers objects.old persons.old prices.old info.old)
         (buffers objects.new persons.new prices.new info.new) result }
 {
@@ -113,9 +109,7 @@ pub extern "C" fn nushbaret_sparse(
     prices: &mut [SplitPrice],
     info: &mut Info,
 ) -> i32
-    ensures { IsReported
-        (sparse sense n m (length objects.old ∷ length persons.old ∷ []) (length prices.old ∷ [])
-        of_persons.now of_objects.now costs.now [])
+    ensures { Solves (problem_alone Sparse sense n m of_persons.now of_objects.now costs.now) None
         (buffers objects.old persons.old prices.old info.old)
         (buffers objects.new persons.new prices.new info.new) result }
 {
@@ -158,10 +152,7 @@ pub extern "C" fn nushbaret_sparse_from(
     prices: &mut [SplitPrice],
     info: &mut Info,
 ) -> i32
-    ensures { IsReported
-        (sparse sense n m (length objects.old ∷ length persons.old ∷ [])
-        (length prices.old ∷ length first.now ∷ [])
-        of_persons.now of_objects.now costs.now first.now)
+    ensures { Solves (problem_alone Sparse sense n m of_persons.now of_objects.now costs.now) (Some first.now)
         (buffers objects.old persons.old prices.old info.old)
         (buffers objects.new persons.new prices.new info.new) result }
 {
