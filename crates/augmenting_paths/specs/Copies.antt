@@ -1,5 +1,5 @@
 -- The range of copied costs.
-use Rattle.std.specs.Prelude.{ℕ, ℤ, ◌≤ℤ◌, List, map, Contains}
+use Rattle.std.specs.Prelude.{◌≡◌, ℕ, ℤ, ◌≤ℤ◌, List, Contains}
 use Rattle.assign_core.specs.Rows.{Listing, row_of}
 
 -- a cost is from the least to the greatest
@@ -13,6 +13,13 @@ pub record AreExtremes (P : ℤ → Type 0) (least greatest : ℤ) : Type 0 wher
   pub high : P greatest
   pub between : (c : ℤ) → P c → IsBetween least greatest c
 
+-- the person of a row lists an object at this cost
+pub record IsCostIn (row : Listing) (c : ℤ) : Type 0 where
+  pub pair : ℕ × ℤ
+  pub listed : Contains row pair
+  pub cost : pair.1 ≡ c
+
 -- somebody lists an object at this cost
-abbrev pub IsListedCost : List Listing → ℤ → Type 0
-IsListedCost rows c = (i : ℕ) × Contains (map (λ e. e.1) (row_of rows i)) c
+pub record IsListedCost (rows : List Listing) (c : ℤ) : Type 0 where
+  pub person : ℕ
+  pub in_row : IsCostIn (row_of rows person) c
