@@ -72,7 +72,7 @@
 extern "C" {
 #endif
 
-#define NUSHBARET_VERSION "3.0.0"
+#define NUSHBARET_VERSION "3.1.0"
 
 /* The sense: the least sum of costs, or the greatest. */
 #define NUSHBARET_MIN 0u
