@@ -47,8 +47,7 @@
    are numbered; then, in nushbaret_check, those from NUSHBARET_ANSWER_LENGTH to NUSHBARET_SLACK and
    NUSHBARET_OVERPRICED, and in nushbaret_check_hall those from NUSHBARET_HALL_RANGE to NUSHBARET_HALL_COUNT.
    info->place is the first place with this fault. NUSHBARET_MEMORY comes only where nothing is wrong with the problem:
-   memory was refused that the call can't do without. nushbaret_check_hall may return a fault of the persons and objects
-   before it asks for that memory.
+   memory was refused that the call can't do without. The checking calls ask for it before they judge an answer.
 
    A WORKED EXAMPLE
 
