@@ -10,6 +10,7 @@ from fractions import Fraction
 
 import nushbaret
 from drawn import drawing
+from nushbaret import _exact, _problem, _proved
 from optional import np, pd
 
 LEAST, MOST = -2**63, 2**63 - 1
@@ -241,7 +242,9 @@ class Views(unittest.TestCase):
         self.assertEqual(nushbaret.solve([tenth]).cost, Decimal("0.1"))
         self.assertEqual(nushbaret.solve((ctypes.c_float * 1 * 1)((0.1,))).cost, Decimal("0.1"))
         self.assertEqual(nushbaret.solve_sparse(1, 1, [0], [0], tenth).cost, Decimal("0.1"))
-        self.assertTrue(nushbaret.check([[Decimal("0.2"), Decimal("0.3")], [1, 2]], [0, 1], array("f", [0.1, 0])))
+        problem = _problem.of_matrix([[1]], _exact.manner(False))
+        for prices in [tenth, memoryview(tenth)] + ([np.array(tenth), [*np.array(tenth)]] if np else []):
+            self.assertEqual(_proved.exact_prices(problem, prices), [Fraction(1, 10)])
         self.assertLess(0.1, exact)
         # By hand: as decimals both plans cost 0.1 + 0.1, as doubles the first one costs more.
         view = memoryview(array("f", [0.1, 0.1, 0.1, 0.1])).cast("B").cast("f", (2, 2))
@@ -309,10 +312,8 @@ class Ends(unittest.TestCase):
                 self.assertEqual(nushbaret.solve(costs).cost, printed + Decimal(other))
                 self.assertEqual(nushbaret.solve(costs[:1, :1]).cost, printed)
                 # SciPy's call weighs the exact value against its neighbours.
-                for great, column in (exact + 0.5, 0), (exact - 0.5, 1):
-                    rows = [[costs[0, 0], great], [math.inf, 0], [math.inf, math.inf]]
-                    found = nushbaret.linear_sum_assignment([rows[0]])
-                    self.assertEqual(found[1], [column])
+                for near, column in (exact * (1 + 2.0**-50), 0), (exact * (1 - 2.0**-50), 1):
+                    self.assertEqual(nushbaret.linear_sum_assignment([[costs[0, 0], near]])[1], [column])
 
     def test_all_of_16_bits(self):
         """Each float of 16 bits, and drawn ones of 32, are what NumPy prints."""
