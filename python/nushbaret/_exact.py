@@ -343,7 +343,7 @@ def array_of_frame(numpy: Any, frame: Any, manner: Manner) -> Any:
 
 
 def _small_kind(kind: Any) -> Any:
-    """The kind of NumPy's behind one of pandas' own, if its floats have less than 64 bits."""
+    """The kind of NumPy's that one of pandas' own is made of, if its floats have less than 64 bits."""
     own: Any = getattr(kind, "numpy_dtype", None)
     return own if getattr(own, "kind", "") == "f" and own.itemsize < 8 else None
 

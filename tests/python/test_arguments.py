@@ -119,7 +119,7 @@ class Counts(unittest.TestCase):
             self.assertEqual(sum(1 for _ in nushbaret.k_best(COSTS, count)), 2)
             _, most = tracemalloc.get_traced_memory()
             tracemalloc.stop()
-            self.assertLess(most, 10**6)
+            self.assertLess(most, 10**7)
 
 
 class TooFewPairs(unittest.TestCase):

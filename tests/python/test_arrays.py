@@ -225,16 +225,18 @@ class Views(unittest.TestCase):
 
     def test_beside_lists(self):
         draw = drawing(63)
-        for turn in range(1200):
+        for turn in range(5000):
             code, height, width = VIEWS[turn % len(VIEWS)], draw.randint(1, 3), draw.randint(1, 3)
             given, numbers = self.cells(draw, code, height * width)
             view = memoryview(array(code, given)).cast("B").cast(code, (height, width))
             rows = [numbers[begin:begin + width] for begin in range(0, height * width, width)]
             call, maximize = CALLS[turn // len(VIEWS) % len(CALLS)], draw.random() < 0.5
             with self.subTest(turn=turn, code=code, rows=rows, call=call.__name__):
-                self.assertEqual(outcome(call, view, maximize=maximize), outcome(call, rows, maximize=maximize))
-                self.assertEqual(outcome(call, [array(code, view.tolist()[row]) for row in range(height)], maximize=maximize),
-                                 outcome(call, rows, maximize=maximize))
+                form = view if draw.random() < 0.7 else [array(code, row) for row in view.tolist()]
+                self.assertEqual(outcome(call, form, maximize=maximize), outcome(call, rows, maximize=maximize))
+                exact = [list(map(Fraction, row)) for row in view.tolist()]
+                found, wanted = (nushbaret.linear_sum_assignment(costs, maximize) for costs in (form, exact))
+                self.assertEqual(cost_of(exact, found), cost_of(exact, wanted))
 
     def test_small_floats(self):
         """0.1 of 32 bits is 0.1 also in listed pairs, prices and rows, and exactly its double in SciPy's call."""
@@ -303,7 +305,7 @@ class Ends(unittest.TestCase):
             nushbaret.linear_sum_assignment(np.ma.array([[1]], mask=True), missing="forbid")
 
     def test_one_meaning_of_small_floats(self):
-        """Whatever stands beside them: 65504 of 16 bits prints as 65500, 16777217 of 32 bits is 16777216, and 123456792 prints as 123456790."""
+        """Whatever stands next to them: 65504 of 16 bits prints as 65500, 16777217 of 32 bits is 16777216, and 123456792 prints as 123456790."""
         for kind, value, printed, exact in (("float16", 65504, 65500, 65504), ("float32", 123456789, 123456790, 123456792),
                                             ("float32", 16777217, 16777216, 16777216), ("float32", 1e20, 10**20, 100000002004087734272),
                                             ("float16", 2049, 2048, 2048), ("float16", 2051, 2052, 2052)):
