@@ -305,6 +305,11 @@ def within(problem: Problem, worst: Ratio) -> Problem:
     problem = listed(problem)
     # The nearest double is the one that prints as this decimal.
     most: Any = float(bound) if problem.raw else (math.ceil if problem.maximize else math.floor)(bound * problem.unit.denominator)
+    if problem.numpy and not problem.raw:
+        # Of 64 bits, since NumPy would compare others as doubles.
+        least, greatest = -2**63, 2**63 - 1
+        if not least <= most <= greatest:
+            return problem if (most < least) == problem.maximize else kept(problem, problem.numpy.arange(0))
     if problem.numpy:
         return kept(problem, problem.costs >= most if problem.maximize else problem.costs <= most)
     return kept(problem, [place for place, cost in enumerate(problem.costs) if (cost >= most if problem.maximize else cost <= most)])

@@ -283,6 +283,13 @@ class Ends(unittest.TestCase):
         self.assertFalse(nushbaret.check(costs, [1], [0, 0]))
         self.assertEqual(nushbaret.solve(np.array([[2**63 - 1, 2**64 - 1]], np.uint64)).cost, MOST)
 
+    def test_bounds_beyond_64_bits(self):
+        """A bound is compared as a whole number, where NumPy would compare doubles."""
+        for worst, kept, kept_greatest in (2**63, 2, 0), (2**70, 2, 0), (MOST, 2, 1), (LEAST, 1, 2), (LEAST - 1, 0, 2), (-2**70, 0, 2):
+            for maximize, wanted in (False, kept), (True, kept_greatest):
+                problem = _problem.of_matrix(np.array([[LEAST, MOST]]), _exact.manner(maximize))
+                self.assertEqual(len(_problem.within(problem, (worst, 1)).costs), wanted)
+
     def test_small_numbers_of_rows_and_columns(self):
         """The last number that a kind of few bits has."""
         for kind, count in ("uint8", 256), ("int8", 128):
