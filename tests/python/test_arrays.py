@@ -361,6 +361,23 @@ class Frames(unittest.TestCase):
         with self.assertRaisesRegex(ValueError, "nan at row 0, column b"):
             nushbaret.solve(own)
 
+    def test_drawn_columns(self):
+        """Each column of a kind of its own, compared with lists."""
+        draw, kinds = drawing(64), [kind for kind in KINDS if kind[0] != ">" and kind != "longdouble" and kind != "object"]
+        for turn in range(600):
+            height, width = draw.randint(1, 3), draw.randint(1, 3)
+            columns = [Kind(draw.choice(kinds)).matrix(draw, height, 1).ravel() for _ in range(width)]
+            frame, call = pd.DataFrame(dict(enumerate(columns))), CALLS[turn % len(CALLS)]
+            named = {"maximize": draw.random() < 0.5, "missing": draw.choice(["forbid", "refuse"])}
+            rows, doubles = ([[meaning(column[row], exactly) for column in columns] for row in range(height)] for exactly in (False, True))
+            with self.subTest(turn=turn, call=call.__name__, rows=rows, named=named):
+                self.assertEqual(outcome(call, frame, **named), outcome(call, rows, **named))
+                found, wanted = (outcome(nushbaret.linear_sum_assignment, costs, **named) for costs in (frame, doubles))
+                if isinstance(wanted[0], str):
+                    self.assertEqual(found, wanted)
+                else:
+                    self.assertEqual(cost_of(doubles, found), cost_of(doubles, wanted))
+
     def test_nan_by_labels(self):
         frame = pd.DataFrame([[1, math.nan], [2, 3]], index=["Ada", "Ben"], columns=["early", "late"])
         for form in frame, frame.astype("float32"), frame.astype(object), frame.astype("Float64"), frame.astype("Float32"):
