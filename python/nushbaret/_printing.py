@@ -11,6 +11,8 @@ from typing import Any, NamedTuple, Tuple
 
 # Up to this power ten is a double exactly.
 _MOST_POWER = 22
+# Up to so many floats NumPy's own text of each is faster.
+_FEW = 256
 # How near a half a product may be that is a half, and how near an end of what is read as a float a decimal may be.
 _NEAR_HALF = 2.0**-20
 _NEAR_END = 2.0**-45
@@ -70,6 +72,8 @@ def of_buffer(values: Any) -> Any:
 
 def of_array(numpy: Any, flat: Any) -> Any:
     """What the floats of an array of 16 or 32 bits print as."""
+    if flat.size <= _FEW:
+        return flat.astype("U32").astype(numpy.float64)
     kind = _KINDS[flat.dtype.itemsize]
     found = flat.astype(numpy.float64)
     sizes = numpy.abs(found)
