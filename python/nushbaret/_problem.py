@@ -141,7 +141,7 @@ def _of_view(view: memoryview, manner: exact.Manner) -> Problem:
     if own and not manner.decimals and view.nbytes:
         return Problem(n_rows, n_columns, manner.maximize, Lent(view))
     rows: Any = view.tolist()
-    if kind in "ef" and not manner.doubles:
+    if kind in ("e", "f") and not manner.doubles:
         rows = [[printing.shortest(cost, kind) for cost in row] for row in rows]
     return _dense(n_rows, n_columns, manner, exact.of_rows(rows, n_columns, manner, _place_in(n_columns, None)))
 
