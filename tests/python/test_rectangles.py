@@ -156,7 +156,7 @@ class Checked(unittest.TestCase):
                 yes += 1
                 out += fewer
         self.assertGreater(yes, 500)
-        self.assertGreater(out, 100)
+        self.assertGreater(out, 50)
 
     def test_words(self):
         check = nushbaret.check
