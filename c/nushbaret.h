@@ -196,7 +196,7 @@ int32_t nushbaret_check_hall(size_t n, size_t m,
     const uint16_t *objects, size_t objects_count,
     struct nushbaret_info *info);
 
-/* Writes the version of the library and a 0 into a room of 6 bytes or more, leaves a smaller one as it is, and
+/* Writes the version of the library and a 0 into the room if they fit, leaves a smaller room as it is, and
    returns the length of the version without the 0. */
 size_t nushbaret_version(uint8_t *room, size_t room_count);
 
