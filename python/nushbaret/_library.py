@@ -82,7 +82,7 @@ def _load() -> None:
     with contextlib.suppress(MemoryError):
         bytes(_KEPT)
     # Without types, so that prepared arguments aren't converted again.
-    _calls["dense, made ready"] = library["nushbaret_dense"]
+    _calls["dense, made ready"], _calls["sparse, made ready"] = library["nushbaret_dense"], library["nushbaret_sparse"]
 
 
 class Lent:
@@ -228,18 +228,38 @@ def _waited_for(work: Callable[[], int], end: Optional[float], *lists: Any) -> i
     return found[0]
 
 
-class Room:
+class Whole:
+    """Memory for costs that are to become whole numbers: `doubles`, `numbers` and `flat` are one memory, and `calls` has the arguments for
+    these under minimize and maximize."""
+
+    doubles: Any = None
+    numbers: Any = None
+    flat: Any = None
+    calls: Any = None
+
+    def words(self, sense: Any, costs: Any) -> Tuple[Any, ...]:
+        """The arguments of a call with these costs."""
+        raise NotImplementedError
+
+    def _hold(self, numpy: Any, shape: Tuple[int, ...], senses: Tuple[Any, Any]) -> None:
+        self.doubles = numpy.empty(shape)
+        self.numbers = self.doubles.view(numpy.int64)
+        self.flat = memoryview(self.numbers).cast("B").cast("q")
+        own = address_of(self.numbers)
+        self.calls = tuple(self.words(sense, own) for sense in senses)
+
+
+class Room(Whole):
     """What a dense call on an array of NumPy's fills, with its arguments made ready, since to convert them takes as long as a small
     problem: a sense, sizes, costs, and the rest. The call answers 0 where it found a best assignment, whose objects stand here
-    then. `doubles`, `numbers` and `flat` are one memory, for costs that are to become whole numbers, and
-    `calls` has the arguments for these under minimize and maximize. `home` is the
-    list that the room goes back to after a call, if it is kept. `is_rounded` says whether costs were rounded, `is_turned` whether columns
-    are the persons."""
+    then. `home` is the list that the room goes back to after a call, if it is kept. `is_rounded` says whether costs were rounded, `places`
+    of how many decimal places they are whole numbers otherwise, `is_turned` whether columns are the persons, and `listed` has the pairs
+    where some are forbidden."""
 
     def __init__(self, numpy: Any, n: int, m: int, home: Optional[List["Room"]]):
-        self.words, self.shape, self.home = array("Q", bytes(_INFO + 16 * m + 4 * n + 8 - 4 * n % 8)), (n, m), home
-        self.rows, self.objects = numpy.arange(n), numpy.frombuffer(self.words, numpy.uint16, n, _INFO + 16 * m)
-        info = self.words.buffer_info()[0]
+        self.memory, self.shape, self.home = array("Q", bytes(_INFO + 16 * m + 4 * n + 8 - 4 * n % 8)), (n, m), home
+        self.rows, self.objects = numpy.arange(n), numpy.frombuffer(self.memory, numpy.uint16, n, _INFO + 16 * m)
+        info = self.memory.buffer_info()[0]
         prices, objects, persons = info + _INFO, info + _INFO + 16 * m, info + _INFO + 16 * m + 2 * n
         sense, count, address = ctypes.c_uint32.from_param, ctypes.c_size_t.from_param, ctypes.c_void_p.from_param
         many, few = count(m), count(n)
@@ -249,31 +269,65 @@ class Room:
         # Where the costs of each row begin, less 1.
         self.before = range(-1, n * m - 1, m)
         self.halves = Halves()
-        self.halves.words = numpy.frombuffer(self.words, numpy.uint64, 2 * m, _INFO)
-        self.total = ctypes.c_int64.from_buffer(self.words)
-        self.doubles: Any = None
-        self.numbers: Any = None
-        self.flat: Any = None
-        self.calls: Any = None
-        self.is_rounded = self.is_turned = False
+        self.halves.words = numpy.frombuffer(self.memory, numpy.uint64, 2 * m, _INFO)
+        self.total = ctypes.c_int64.from_buffer(self.memory)
+        self.is_rounded = self.is_turned = self.of_list = False
+        self.places = 0
+        self.listed: Optional["Listed"] = None
+        self.every: Any = None
 
     def give_back(self) -> None:
         """Lets another call have the room."""
+        self.listed = None
         if self.home is not None:
             self.home.append(self)
 
-    def hold_doubles(self, numpy: Any, shape: Tuple[int, int]) -> None:
+    def words(self, sense: Any, costs: Any) -> Tuple[Any, ...]:
+        return (sense, *self.sizes, costs, *self.rest)
+
+    def hold_doubles(self, numpy: Any, shape: Tuple[int, ...]) -> None:
         """Makes memory for costs that are to become whole numbers."""
-        self.doubles = numpy.empty(shape)
-        self.numbers = self.doubles.view(numpy.int64)
-        self.flat = memoryview(self.numbers).cast("B").cast("q")
-        own = address_of(self.numbers)
-        self.calls = tuple((sense, *self.sizes, own, *self.rest) for sense in (self.minimized, self.maximized))
+        self._hold(numpy, shape, (self.minimized, self.maximized))
+
+    def every_pair(self, numpy: Any) -> Tuple[Any, Any]:
+        """The persons and the objects of all pairs."""
+        if self.every is None:
+            n, m = self.shape
+            kind = numpy.uint16
+            self.every = numpy.repeat(numpy.arange(1, n + 1, dtype=kind), m), numpy.tile(numpy.arange(1, m + 1, dtype=kind), n)
+        persons, objects = self.every
+        return persons, objects
+
+
+class Listed(Whole):
+    """The pairs of a room's problem, where some are forbidden, and the arguments of a sparse call that fills the room. `places` are those
+    of the pairs among all."""
+
+    def __init__(self, numpy: Any, room: Room, places: Any):
+        self.senses = room.minimized, room.maximized
+        persons, objects = room.every_pair(numpy)
+        self.persons, self.objects = persons.take(places), objects.take(places)
+        self.call = _calls["sparse, made ready"]
+        count = ctypes.c_size_t.from_param(len(places))
+        self.before = *room.sizes, lent(self.persons), count, lent(self.objects), count
+        self.rest = count, *room.rest[1:]
+
+    def words(self, sense: Any, costs: Any) -> Tuple[Any, ...]:
+        return (sense, *self.before, costs, *self.rest)
+
+    def hold_doubles(self, numpy: Any, shape: Tuple[int, ...]) -> None:
+        """As in `Room`."""
+        self._hold(numpy, shape, self.senses)
 
 
 def address_of(numbers: Any) -> Any:
     """The address of an array, which must live until the call ends."""
     return ctypes.c_void_p.from_param(numbers.__array_interface__["data"][0])
+
+
+def lent(numbers: Any) -> Any:
+    """An array as an argument that was made ready: bytes where it has few numbers, else its address."""
+    return numbers.tobytes() if numbers.size <= FEW else address_of(numbers)
 
 
 # Rooms of calls that have ended, by their sizes; at most so many sizes.
