@@ -1,6 +1,7 @@
 """`nushbaret` and `python3 -m nushbaret`: the command for rosters with names."""
 import signal
 import sys
+import traceback
 
 
 def main() -> int:
@@ -8,8 +9,12 @@ def main() -> int:
     # Ctrl-C ends the process at once, also where the library solves, and without a traceback. Only while files are written it raises.
     if signal.getsignal(signal.SIGINT) is signal.default_int_handler:
         signal.signal(signal.SIGINT, signal.SIG_DFL)
-    from ._command import main as run
-    return run()
+    from ._command import DEVICE, main as run
+    try:
+        return run()
+    except Exception:
+        traceback.print_exc()
+        return DEVICE
 
 
 if __name__ == "__main__":

@@ -81,7 +81,7 @@ def nodes_around(roster: Roster, fixed: Sequence[PlanLine]) -> Nodes:
 
 
 def answer_of(roster: Roster, wish: Wish) -> Answer:
-    """The answer to a roster in which each name counts once; ValueError where it is too large for the library."""
+    """The answer to a roster in which each name counts once; TooLarge where it is so for the library."""
     nodes = nodes_around(roster, wish.fixed)
     costs = least_costs(nodes, wish.maximize)
     if wish.kept is not None and wish.change:

@@ -6,23 +6,24 @@ from typing import List, Sequence, Tuple
 from ._answer import Answer, Pair, Plan, Short, Wish, plural, with_following
 from ._counts import planned
 from ._exchanges import exchanges_of, free_pairs
-from ._gadgets import Bounds, Counted, TooLarge
+from ._gadgets import Bounds, Counted, TooManyNodes
 from ._groups import order_of
 from ._lack import Lack
 from ._nodes import Swap
+from ._problem import TooLarge
 from ._ranked import plans_after
 from ._roster import PlanLine, Roster
 from ._sentences import sentence_of
 
 
 def answer_by_counts(roster: Roster, wish: Wish) -> Answer:
-    """The answer to a roster with counts or groups; ValueError where it is too large for the library."""
+    """The answer to a roster with counts or groups; TooLarge where it is so for the library."""
     counted = counted_of(roster, wish)
     try:
         lacks, pairs = planned(counted, wish.fullest, wish.kept if wish.change is None else None)
-    except TooLarge as fault:
+    except TooManyNodes as fault:
         persons, objects = map(plural, roster.titles[:2])
-        raise ValueError(fault.said(f"{objects} that {persons} may take", f"places at {objects}")) from fault
+        raise TooLarge(fault.said(f"{objects} that {persons} may take", f"places at {objects}")) from fault
     groups = [_short(roster, counted, lack, bool(wish.fixed)) for lack in lacks]
     if pairs is None:
         return Answer(None, groups)

@@ -14,6 +14,7 @@ from ._answer import Answer, Plan, Wish, answer_of, listed
 from ._exact import MOST_PLACES
 from ._files import STANDARD_OUTPUT, Output, OutputFault, print_content, refuse_existing, write_files
 from ._groups import missing_of, read_counts, read_groups, refuse_two_of_a_group, with_rules
+from ._problem import TooLarge
 from ._roster import OldPlan, PlanLine, Roster, read_old_plan, read_plan, read_roster
 from ._sheets import RosterFault, quoted
 from ._texts import Fair, Report, as_csv, first_lines, gone_line, printed, read_lines
@@ -34,7 +35,7 @@ def main(words: Optional[Sequence[str]] = None) -> int:
     Returns
     -------
     int
-        The status, 0 to 4, or 130 after Ctrl-C. Words that are refused, and `--help`, end by `SystemExit` with status 2 and 0.
+        The status, 0 to 4, or 130 after Ctrl-C. A fault of nushbaret itself is raised where NUSHBARET_DEBUG is set. Words that are refused, and `--help`, end by `SystemExit` with status 2 and 0.
     """
     options = read_words(words)
     for stream in (sys.stdout, sys.stderr):
@@ -51,9 +52,16 @@ def main(words: Optional[Sequence[str]] = None) -> int:
     except KeyboardInterrupt:
         return INTERRUPTED
     except Exception as fault:
-        if os.environ.get("NUSHBARET_DEBUG"):
-            raise
-        return _refused(f"a fault of nushbaret itself: {type(fault).__name__}: {fault} (NUSHBARET_DEBUG=1 shows where)", DEVICE)
+        return _own_fault(fault)
+
+
+def _own_fault(fault: Exception) -> int:
+    """Says in one line that nushbaret failed, and raises the fault again where its trace is asked for."""
+    text = " ".join(str(fault).split())
+    _say(f"a fault of nushbaret itself: {type(fault).__name__}: {text} (NUSHBARET_DEBUG=1 shows where)")
+    if os.environ.get("NUSHBARET_DEBUG"):
+        raise fault
+    return DEVICE
 
 
 def _refused(fault: object, status: int) -> int:
@@ -96,7 +104,7 @@ def _report(options: Options, roster: Roster) -> Report:
     wish = Wish(fixed, options.max, options.as_many_as_can, pairs, change_cost(options, roster), options.others, options.plans)
     try:
         answer, fair = _answered(roster, wish, options.fair)
-    except ValueError as fault:
+    except TooLarge as fault:
         raise RosterFault(options.roster, str(fault)) from fault
     if hand is not None and answer.plan is not None:
         judge_hand(roster, hand, answer.plan)

@@ -4,13 +4,13 @@ from collections import Counter
 from functools import cached_property
 from typing import Any, Collection, Dict, List, NamedTuple, Optional, Tuple
 
-from . import _library as library
+from . import _library as library, _naming as naming
 from ._exact import manner
 from ._gadgets import Bounds, Counted, Pair, best_pairs, trimmed
-from ._infeasible import Infeasible, Labels, numbered
+from ._infeasible import Infeasible, numbered
 from ._lack import Lack, lacks_of
 from ._numbers import Number
-from ._problem import Problem, in_whole_numbers, lists_of
+from ._problem import Labels, Problem, in_whole_numbers, lists_of
 from ._result import Lasting, in_frames
 from ._source import lasting, problem_of
 
@@ -219,26 +219,26 @@ def _bound(value: Any, where: str) -> Bounds:
     return bound
 
 
-def bounds_of(counts: Any, number: int, what: str) -> List[Bounds]:
-    """The counts of all rows, or of all columns."""
+def bounds_of(counts: Any, kind: str, number: int, labels: Optional[List[Any]]) -> List[Bounds]:
+    """The counts of all rows, or of all columns, as `kind` says."""
+    what = f"{kind}_counts"
     if counts is None:
         return [ONE_AT_MOST] * number
     if _is_whole(counts) or isinstance(counts, tuple) and _is_range(counts):
         return [_bound(counts, what)] * number
-    try:
-        values = counts.tolist() if hasattr(counts, "tolist") else list(counts)
-    except TypeError:
-        raise TypeError(f"{what} is {counts!r}: a count is a whole number, or the least and the most") from None
+    if not hasattr(counts, "__iter__"):
+        raise TypeError(f"{what} is {counts!r}: a count is a whole number, or the least and the most")
+    values = naming.listed(counts, what, kind, number, labels)
     if len(values) != number:
         raise ValueError(f"{what} has {len(values)} counts, where {number} are needed (one for all is a number, or a tuple of least and "
                          "most)")
     return [_bound(value, f"{what}[{place}]") for place, value in enumerate(values)]
 
 
-def groups_of(column_groups: Any, n_columns: int) -> Tuple[List[int], int]:
+def groups_of(column_groups: Any, n_columns: int, labels: Optional[List[Any]]) -> Tuple[List[int], int]:
     """The group of each column, and how many groups were given; columns in none come after these."""
     given: List[Optional[int]] = [None] * n_columns
-    values = [] if column_groups is None else list(column_groups)
+    values = [] if column_groups is None else naming.listed(column_groups, "column_groups", "column", n_columns, labels)
     are_lists = [hasattr(value, "__iter__") and not isinstance(value, (str, bytes)) for value in values]
     if all(are_lists):
         count = _of_lists(values, given)
@@ -297,10 +297,10 @@ def assign_counts(costs: Any, row_counts: Any = None, column_counts: Any = None,
     ----------
     costs : matrix
         As in `solve`.
-    row_counts, column_counts : int, tuple or list, optional
+    row_counts, column_counts : int, tuple, list, dict or Series, optional
         How many columns a row takes, and how many rows a column: a number, exactly so many, or a tuple (least, most). One for all, or a
-        list with one for each. None is (0, 1); not both may be None.
-    column_groups : list, optional
+        list with one for each, or a dict or a Series by the labels of a DataFrame, else by numbers. None is (0, 1); not both may be None.
+    column_groups : list, dict or Series, optional
         Groups of columns, no two of which share any: a list of lists of column numbers, or a label for each column, None for no group.
     maximize, decimals, missing, timeout
         As in `solve`.
@@ -333,8 +333,9 @@ def assign_counts(costs: Any, row_counts: Any = None, column_counts: Any = None,
     if row_counts is None and column_counts is None:
         raise TypeError("row_counts and column_counts are both missing: give one, or call solve")
     problem = in_whole_numbers(problem_of(lasting(costs), None, None, None, manner(maximize, decimals, missing)))
-    rows, columns = bounds_of(row_counts, problem.n_rows, "row_counts"), bounds_of(column_counts, problem.n_columns, "column_counts")
-    counted = _counted(problem, rows, columns, groups_of(column_groups, problem.n_columns))
+    of_rows, of_columns = problem.labels or (None, None)
+    rows, columns = bounds_of(row_counts, "row", problem.n_rows, of_rows), bounds_of(column_counts, "column", problem.n_columns, of_columns)
+    counted = _counted(problem, rows, columns, groups_of(column_groups, problem.n_columns, of_columns))
     with library.limited(timeout):
         lacks, pairs = planned(counted, partial)
     if pairs is None:

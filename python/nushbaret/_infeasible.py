@@ -5,10 +5,7 @@ from collections import deque
 from typing import Any, Dict, List, NamedTuple, Optional, Sequence, Set, Tuple, Union
 
 from . import _library as library
-from ._problem import Problem
-
-
-Labels = Optional[Tuple[List[Any], List[Any]]]
+from ._problem import Labels, Problem
 
 
 def numbered(kind: str, numbers: Any, labels: Optional[List[Any]] = None) -> str:

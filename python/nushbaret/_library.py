@@ -182,6 +182,8 @@ def limited(timeout: Optional[float]) -> Iterator[None]:
     if timeout is None:
         yield
         return
+    if not hasattr(timeout, "__float__"):
+        raise TypeError(f"timeout is {timeout!r}: it must be a number of seconds")
     if not timeout >= 0:
         raise ValueError(f"timeout is {timeout!r}: it must be a number of seconds, 0 or more")
     before, end = getattr(_limits, "end", None), time.monotonic() + timeout

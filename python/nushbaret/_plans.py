@@ -7,7 +7,6 @@ part. Rows and columns that stay out are held by one dummy column and one dummy 
 The library checks each plan before it is handed out: the duals of its part prove that it is a best plan of the part. That the parts
 hold all plans, and that no part that waits has a better one, is computed here."""
 import heapq
-import operator
 from array import array
 from bisect import insort
 from fractions import Fraction
@@ -15,8 +14,8 @@ from itertools import compress, repeat
 from typing import Any, Dict, FrozenSet, Iterable, Iterator, List, NamedTuple, Optional, Sequence, Tuple
 
 from . import _library as library, _source as sources
-from ._checking import check_problem
-from ._exact import manner
+from ._checking import judged
+from ._exact import manner, whole_number
 from ._infeasible import Group, prove_short
 from ._numbers import Unit, in_unit, unit_of
 from ._problem import Problem, in_whole_numbers, lists_of, owned
@@ -237,7 +236,7 @@ class Ranking:
         left = self._left(part, free)
         rows = [row for row in range(first, self.n_rows) if part.columns[row] < self.n_columns]
         numbers = {column: number for number, column in enumerate(free)}
-        verdict = check_problem(left, [row - first for row in rows], [numbers[part.columns[row]] for row in rows],
+        verdict = judged(left, [row - first for row in rows], [numbers[part.columns[row]] for row in rows],
                                 [Fraction(-part.column_duals[column]) for column in free])
         if not verdict:
             raise RuntimeError(f"a plan was found to be the best of its part, and the library says otherwise: {verdict.why}")
@@ -394,7 +393,7 @@ def k_best(costs: Any, k: int, maximize: bool = False, decimals: Optional[int] =
     >>> [(plan.columns, plan.cost) for plan in nushbaret.k_best([[4, 1], [2, 3]], 2)]
     [([1, 0], 3), ([0, 1], 7)]
     """
-    k = operator.index(k)
+    k = whole_number(k, "k")
     if k < 0:
         raise ValueError(f"k is {k}: it must be 0 or more")
     source = Source(sources.lasting(costs), None, None, None, manner(maximize, decimals, missing))

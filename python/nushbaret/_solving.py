@@ -61,7 +61,9 @@ def _answer(problem: Problem, start: Start, partial: bool) -> proved.Answer:
 def start_prices(problem: Problem, start: Start) -> Prices:
     """Prices of columns to start from, from a result or from the caller. None where those of a result need costs that were changed since."""
     if not isinstance(start, Result):
-        return proved.exact_prices(problem, start)
+        if not hasattr(start, "__iter__"):
+            raise TypeError(f"start is {start!r}: it must be a result, or a list of prices")
+        return proved.exact_prices(problem, start, "start")
     try:
         prices = start._exact_rents
     except ValueError:
@@ -227,7 +229,7 @@ def solve_without(result: Result, row: Any, column: Any, timeout: Optional[float
     """Solves the problem of a result again with one pair forbidden."""
     shape = result._shape
     rows, columns = shape.labels or (None, None)
-    row, column = numbered(row, rows), numbered(column, columns)
+    row, column = numbered(row, rows, "row"), numbered(column, columns, "column")
     if not (0 <= row < shape.n_rows and 0 <= column < shape.n_columns):
         raise IndexError(f"row {row}, column {column}: there are {shape.n_rows} rows and {shape.n_columns} columns")
     with library.limited(timeout):
