@@ -6,9 +6,10 @@ from collections import deque
 from typing import Any, Dict, List, Optional, Tuple
 
 from . import _array_levels as arrays, _exact as exact, _levels as levels, _library as library, _proved as proved
-from ._library import FEW, GREATEST_COST, MOST_PERSONS
+from ._library import GREATEST_COST, MOST_PERSONS
+from ._naming import is_frame
 from ._numbers import of_places
-from ._problem import Problem, is_frame
+from ._problem import Problem
 from ._result import Found
 from ._shortest import of_short_floats
 
