@@ -1,10 +1,11 @@
 """Arrays of every kind take the shorter way, and get the answers, duals and refusals of the longer one."""
 import pickle
 import unittest
+from fractions import Fraction
 from unittest import mock
 
 import nushbaret
-from nushbaret import _levels, _library as library, _solving
+from nushbaret import _levels, _library as library, _problem, _solving
 from drawn import drawing
 
 try:
@@ -160,6 +161,39 @@ class Forms(unittest.TestCase):
                 costs = _drawn(draw, "f8", "ties", "infinite", (4, 5))
                 self.both(costs, False)
             self.assertGreater(finer.call_count, 40)
+
+
+@unittest.skipUnless(np, "NumPy isn't there")
+class Listed(unittest.TestCase):
+    """Listed pairs as arrays, beside the same as lists."""
+
+    def test_pairs_given_several_times(self):
+        draw = drawing(177)
+        for turn in range(1200):
+            n, m, count = draw.randint(1, 5), draw.randint(1, 5), draw.randint(0, 24)
+            rows, columns = [draw.randrange(n) for _ in range(count)], [draw.randrange(m) for _ in range(count)]
+            if turn % 3 == 0:
+                rows, columns = map(list, zip(*sorted(zip(rows, columns)))) if count else ([], [])
+            value = VALUES[draw.choice(list(VALUES))]
+            costs, maximize = [draw.choice([value(draw), 0.25, -0.0, 1e300 if turn % 5 == 0 else 1.0]) for _ in range(count)], turn % 2 == 0
+            arrays = np.array(rows, draw.choice(["u1", "i8", "i4"])), np.array(columns, np.intp), np.array(costs)
+            with self.subTest(rows=rows, columns=columns, costs=costs, maximize=maximize):
+                listed = nushbaret.solve_sparse(n, m, rows, columns, costs, maximize, partial=True)
+                found = nushbaret.solve_sparse(n, m, *arrays, maximize, partial=True)
+                self.assertEqual((Fraction(found.cost), len(found.rows)), (Fraction(listed.cost), len(listed.rows)))
+                self.assertEqual(self.once_by_lists(n, m, rows, columns, costs), self.once_by_arrays(n, m, *arrays))
+
+    def once_by_lists(self, n, m, rows, columns, costs):
+        """The pairs with their first least costs, by a plain search."""
+        pairs = list(zip(rows, columns, costs))
+        return [pair for place, pair in enumerate(pairs)
+                if all(other[:2] != pair[:2] or other[2] > pair[2] or other[2] == pair[2] and place <= before
+                       for before, other in enumerate(pairs))]
+
+    def once_by_arrays(self, n, m, rows, columns, costs):
+        kind = np.uint16
+        problem = _problem.once(_problem.Problem(n, m, False, costs, (rows + 1).astype(kind), (columns + 1).astype(kind), raw=True, numpy=np))
+        return list(zip((problem.persons - 1).tolist(), (problem.objects - 1).tolist(), problem.costs.tolist()))
 
 
 @unittest.skipUnless(np, "NumPy isn't there")
