@@ -1,7 +1,6 @@
 """`nushbaret` and `python3 -m nushbaret`: the command for rosters with names."""
 import signal
 import sys
-import traceback
 
 
 def main() -> int:
@@ -13,6 +12,7 @@ def main() -> int:
     try:
         return run()
     except Exception:
+        import traceback
         traceback.print_exc()
         return DEVICE
 

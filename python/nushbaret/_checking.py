@@ -89,9 +89,9 @@ def _listed(values: Any, what: str) -> List[Any]:
     return list(values)
 
 
-def check_problem(problem: Problem, rows: Sequence[int], columns: Sequence[int], prices: List[Fraction]) -> Verdict:
+def check_wholly(problem: Problem, rows: Sequence[int], columns: Sequence[int], prices: List[Fraction]) -> Verdict:
     """The verdict on a plan whose rows and columns are numbers of the problem, no row twice."""
-    verdict, count = judged(problem, rows, columns, prices), len(rows)
+    verdict, count = check_problem(problem, rows, columns, prices), len(rows)
     if not verdict or count == min(problem.n_rows, problem.n_columns):
         return verdict
     most = most_served(problem)
@@ -102,8 +102,8 @@ def check_problem(problem: Problem, rows: Sequence[int], columns: Sequence[int],
     return verdict
 
 
-def judged(problem: Problem, rows: Sequence[int], columns: Sequence[int], prices: List[Fraction]) -> Verdict:
-    """As `check_problem`, among plans of as many pairs."""
+def check_problem(problem: Problem, rows: Sequence[int], columns: Sequence[int], prices: List[Fraction]) -> Verdict:
+    """As `check_wholly`, among plans of as many pairs."""
     pairs = list(zip(rows, columns))
     if not pairs:
         return _verdict_on_none(problem)
@@ -328,7 +328,7 @@ def check(costs: Any, columns: Any, prices: Any, rows: Any = None, maximize: boo
     """
     problem = sources.problem_of(sources.lasting(costs), None, None, None, exact.manner(maximize, decimals, missing))
     pairs = _pairs_of(problem, columns, rows)
-    return check_problem(problem, [row for row, _ in pairs], [column for _, column in pairs], proved.exact_prices(problem, prices))
+    return check_wholly(problem, [row for row, _ in pairs], [column for _, column in pairs], proved.exact_prices(problem, prices))
 
 
 def compare(costs: Any, columns: Any, rows: Any = None, maximize: bool = False,

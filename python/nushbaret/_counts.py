@@ -2,12 +2,12 @@
 import operator
 from collections import Counter
 from functools import cached_property
-from typing import Any, Collection, Dict, List, NamedTuple, Optional, Tuple
+from typing import Any, Collection, Dict, List, Optional, Tuple
 
 from . import _library as library, _naming as naming
 from ._exact import manner
 from ._gadgets import Bounds, Counted, Pair, best_pairs, trimmed
-from ._infeasible import Infeasible, numbered
+from ._infeasible import Infeasible, Shortage, numbered
 from ._lack import Lack, lacks_of
 from ._numbers import Number
 from ._problem import Labels, Problem, in_whole_numbers, lists_of
@@ -17,36 +17,20 @@ from ._source import lasting, problem_of
 ONE_AT_MOST = Bounds(0, 1)
 
 
-class Shortage(NamedTuple):
-    """Least counts that can't be met. If `of_columns` is false, these rows must have `wanted` columns and can have no more than `had`: as
-    many as `columns` take at most, and for each of `once`, a row and some columns, one of these. If it is true, these columns must have
-    `wanted` rows and can have no more than `had`: as many as `rows` take at most, and for each of `once` one.
+class CountsInfeasible(Infeasible):
+    """No plan meets all least counts, and each of `shortages` proves it. No two of them share rows and columns that they need.
+
+    Attributes
+    ----------
+    groups, rows, columns
+        The rows and columns of each shortage, and those of the first one.
 
     >>> import nushbaret
     >>> try:
     ...     nushbaret.assign_counts([[4, 1], [2, 3]], (0, 1), (2, 2))
-    ... except nushbaret.Infeasible as short:
-    ...     print(short.shortages[0].columns, short.shortages[0].wanted, short.shortages[0].had)
-    [0, 1] 4 2
-    """
-
-    of_columns: bool
-    rows: List[int]
-    columns: List[int]
-    once: List[Tuple[int, List[int]]]
-    wanted: int
-    had: int
-
-
-class CountsInfeasible(Infeasible):
-    """No plan meets all least counts, and each shortage proves it.
-
-    Attributes
-    ----------
-    shortages : list of Shortage
-        No two share rows and columns that they need.
-    groups, rows, columns
-        The rows and columns of each shortage, and those of the first one.
+    ... except nushbaret.CountsInfeasible as short:
+    ...     print(short)
+    counts can't be met: columns 0, 1 must have 4 rows, and can have 2: 2 by the most of rows 0, 1
     """
 
     def __init__(self, shortages: List[Shortage], labels: Labels = None):

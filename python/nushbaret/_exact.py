@@ -130,9 +130,10 @@ class _Reader:
         if isinstance(value, numbers.Rational):
             fraction = Fraction(int(value.numerator), int(value.denominator))
             return fraction if fraction.denominator > 1 else int(fraction)
-        if getattr(getattr(value, "dtype", None), "kind", "") == "f":
-            return self._of_numpy(place, value)
-        return self._of_any(place, value)
+        kind = getattr(getattr(value, "dtype", None), "kind", "")
+        if kind == "b":
+            return int(value)
+        return self._of_numpy(place, value) if kind == "f" else self._of_any(place, value)
 
     def _whole(self, value: int) -> int:
         if self.manner.doubles and abs(value) > _MOST_WHOLE:
@@ -332,7 +333,7 @@ def of_array(numpy: Any, values: Any, manner: Manner, where: Where) -> Costs:
 def array_of_frame(numpy: Any, frame: Any, manner: Manner) -> Any:
     """The costs of a frame of pandas. Columns of several kinds are read one by one: an array of one kind may not hold all of them."""
     kinds = set(frame.dtypes)
-    if len(kinds) < 2 and not any(map(_small_kind, kinds)):
+    if len(kinds) < 2 and (manner.doubles or not any(map(_small_kind, kinds))):
         return frame.to_numpy()
     columns = [_column(numpy, frame.iloc[:, place], manner) for place in range(frame.shape[1])]
     kind = numpy.float64 if all(map(_fits_doubles, columns)) else object
@@ -350,7 +351,7 @@ def _small_kind(kind: Any) -> Any:
 
 def _column(numpy: Any, column: Any, manner: Manner) -> Any:
     """The costs of a column; floats of fewer bits as doubles."""
-    small = _small_kind(column.dtype)
+    small = None if manner.doubles else _small_kind(column.dtype)
     values = column.to_numpy() if small is None else column.to_numpy(dtype=small, na_value=math.nan)
     if values.dtype.kind != "f":
         return values

@@ -17,6 +17,27 @@ def numbered(kind: str, numbers: Any, labels: Optional[List[Any]] = None) -> str
     return f"{kind}{'s' if len(numbers) > 1 else ''} {shown}{more}"
 
 
+class Shortage(NamedTuple):
+    """Least counts that can't be met. If `of_columns` is false, these rows must have `wanted` columns and can have no more than `had`: as
+    many as `columns` take at most, and for each of `once`, a row and some columns, one of these. If it is true, these columns must have
+    `wanted` rows and can have no more than `had`: as many as `rows` take at most, and for each of `once` one.
+
+    >>> import nushbaret
+    >>> try:
+    ...     nushbaret.assign_counts([[4, 1], [2, 3]], (0, 1), (2, 2))
+    ... except nushbaret.Infeasible as short:
+    ...     print(short.shortages[0].columns, short.shortages[0].wanted, short.shortages[0].had)
+    [0, 1] 4 2
+    """
+
+    of_columns: bool
+    rows: List[int]
+    columns: List[int]
+    once: List[Tuple[int, List[int]]]
+    wanted: int
+    had: int
+
+
 class Infeasible(ValueError):
     """There is no assignment, and each group of rows and columns proves it.
 
@@ -29,6 +50,8 @@ class Infeasible(ValueError):
         Rows and columns of each group that is short, in the order of their first rows (or columns). No two groups share any.
     rows, columns : list of int, or NumPy arrays if the costs are one
         Those of the first group: numbers from 0, rising. The text names them by the labels of a DataFrame.
+    shortages : list of Shortage
+        What `assign_counts` is short of; empty for any other call.
 
     >>> import nushbaret
     >>> try:
@@ -48,6 +71,7 @@ class Infeasible(ValueError):
         self.groups = groups
         self.rows = rows
         self.columns = columns
+        self.shortages: List[Shortage] = []
         self._labels = labels
 
     def __reduce__(self) -> Tuple[Any, ...]:

@@ -14,7 +14,7 @@ from itertools import compress, repeat
 from typing import Any, Dict, FrozenSet, Iterable, Iterator, List, NamedTuple, Optional, Sequence, Tuple
 
 from . import _library as library, _source as sources
-from ._checking import judged
+from ._checking import check_problem
 from ._exact import manner, whole_number
 from ._infeasible import Group, prove_short
 from ._numbers import Unit, in_unit, unit_of
@@ -236,7 +236,7 @@ class Ranking:
         left = self._left(part, free)
         rows = [row for row in range(first, self.n_rows) if part.columns[row] < self.n_columns]
         numbers = {column: number for number, column in enumerate(free)}
-        verdict = judged(left, [row - first for row in rows], [numbers[part.columns[row]] for row in rows],
+        verdict = check_problem(left, [row - first for row in rows], [numbers[part.columns[row]] for row in rows],
                                 [Fraction(-part.column_duals[column]) for column in free])
         if not verdict:
             raise RuntimeError(f"a plan was found to be the best of its part, and the library says otherwise: {verdict.why}")

@@ -231,9 +231,9 @@ class Result(Lasting):
 
     def _checked(self) -> Problem:
         """The problem of the call; ValueError unless the duals prove that the plan is best for its costs as they are now."""
-        from ._checking import check_problem
+        from ._checking import check_wholly
         problem = self._read_again()
-        if not check_problem(problem, self._pairs[0], self._pairs[1], self._exact_rents):
+        if not check_wholly(problem, self._pairs[0], self._pairs[1], self._exact_rents):
             raise ValueError(CHANGED)
         return problem
 
@@ -304,7 +304,7 @@ class Result(Lasting):
         >>> result.verify(), bool(result.verify([[1, 2], [3, 3]]))
         (<nushbaret.Verdict: proved>, False)
         """
-        from ._checking import Verdict, check_problem
+        from ._checking import Verdict, check_wholly
         if costs is None:
             problem = self._source.read()
         else:
@@ -314,7 +314,7 @@ class Result(Lasting):
             prices = self._exact_rents
         except ValueError as fault:
             return Verdict(str(fault))
-        return check_problem(problem, self._pairs[0], self._pairs[1], prices)
+        return check_wholly(problem, self._pairs[0], self._pairs[1], prices)
 
     @property
     def _decimals(self) -> Optional[int]:

@@ -1,6 +1,6 @@
 """The solving calls."""
 from fractions import Fraction
-from typing import Any, List, Optional, Sequence, Tuple, Union
+from typing import Any, List, Optional, Sequence, Tuple, Union, overload
 
 from . import _exact as exact, _levels as levels, _library as library, _problem as reading, _proved as proved, _source as sources
 from ._infeasible import infeasible, most_served
@@ -185,6 +185,16 @@ def solve_sparse(n_rows: Any, n_columns: Optional[int] = None, rows: Any = None,
     else:
         source = Source(sources.listed(costs), sources.listed(rows), sources.listed(columns), (n_rows, n_columns), manner)
     return solve_source(source, start, partial, timeout)
+
+
+@overload
+def linear_sum_assignment(cost_matrix: Sequence[Sequence[Any]], maximize: bool = ..., *, missing: str = ...,
+                          timeout: Optional[float] = ...) -> Tuple[List[int], List[int]]: ...
+
+
+@overload
+def linear_sum_assignment(cost_matrix: Any, maximize: bool = ..., *, missing: str = ...,
+                          timeout: Optional[float] = ...) -> Tuple[Any, Any]: ...
 
 
 def linear_sum_assignment(cost_matrix: Any, maximize: bool = False, *, missing: str = "refuse",
