@@ -1,11 +1,12 @@
 """The shared library, by ctypes: where it is, its calls, codes and limits. The codes are those of c/nushbaret.h."""
 import contextlib
 import ctypes
+import math
 import pathlib
 import threading
 import time
 from array import array
-from typing import TYPE_CHECKING, Any, Callable, Dict, Iterator, List, Optional, Tuple, Union
+from typing import TYPE_CHECKING, Any, Callable, Dict, List, Optional, Tuple, Union
 
 # An array of whole numbers; before Python 3.12 `array` takes no type while a program runs.
 if TYPE_CHECKING:
@@ -153,8 +154,7 @@ def call(name: str, sense: Optional[bool], n: int, m: int, *lists: Any) -> Tuple
     """The name of the code, and its record. `sense` is None for `check_hall`; MemoryError where memory is refused, and TimeoutError
     where the time of `limited` is over."""
     info = Info()
-    end = getattr(_limits, "end", None)
-    in_thread = end is not None or n * max(map(len, lists)) >= LONG and threading.current_thread() is threading.main_thread()
+    in_thread = _end() is not None or n * max(map(len, lists)) >= LONG and threading.current_thread() is threading.main_thread()
     if in_thread:
         lists = tuple(map(_owned, lists))
     words: List[Any] = [n, m] if sense is None else [1 if sense else 0, n, m]
@@ -162,43 +162,123 @@ def call(name: str, sense: Optional[bool], n: int, m: int, *lists: Any) -> Tuple
         words += _lend(values)
     function = _loaded()[name]
     words.append(ctypes.addressof(info))
-    code = CODES[_waited_for(lambda: int(function(*words)), end, lists, info) if in_thread else function(*words)]
+    code = CODES[waited_for(lambda: int(function(*words)), lists, info) if in_thread else function(*words)]
     if code == "MEMORY":
         raise MemoryError("the library was refused memory")
     return code, info
 
 
-# The time at which a thread's calls have to end.
+# The alarm of a thread's call.
 _limits = threading.local()
 # A call whose persons times pairs are so many may take long. It gets a thread of its own, so that Ctrl-C ends the wait for it.
 LONG = 2**27
 _SLICE = 0.2
 _AT_ONCE = 2**22
+_LONGEST_WAIT = 10.0**5
+_TIME_IS_OVER = "the time is over; nothing of the caller's was changed"
 
 
-@contextlib.contextmanager
-def limited(timeout: Optional[float]) -> Iterator[None]:
-    """Within, calls raise TimeoutError after so many seconds."""
-    if timeout is None:
-        yield
-        return
-    if not hasattr(timeout, "__float__"):
-        raise TypeError(f"timeout is {timeout!r}: it must be a number of seconds")
-    if not timeout >= 0:
-        raise ValueError(f"timeout is {timeout!r}: it must be a number of seconds, 0 or more")
-    before, end = getattr(_limits, "end", None), time.monotonic() + timeout
-    _limits.end = end if before is None else min(before, end)
+class TimeIsOver(TimeoutError):
+    """What an alarm lets Python raise in a thread, between any two of its steps."""
+
+    def __init__(self) -> None:
+        super().__init__(_TIME_IS_OVER)
+
+
+def _raise_in(thread: int, fault: Optional[type]) -> None:
+    """Lets a thread raise this in its next step, or nothing of what it hasn't yet raised so."""
+    python = getattr(ctypes, "pythonapi", None)
+    if python is not None:
+        python.PyThreadState_SetAsyncExc(ctypes.c_ulong(thread), None if fault is None else ctypes.py_object(fault))
+
+
+class _Alarm:
+    """Ends the steps of the thread that makes it, as Ctrl-C would, once its time is over, unless it is stopped before. An alarm that has
+    rung limits nothing any more."""
+
+    def __init__(self, end: float):
+        self.end, self.thread, self.rang = end, threading.get_ident(), False
+        self.lock, self.stopped = threading.Lock(), threading.Event()
+        if end < math.inf:
+            started(threading.Thread(target=self._wait, daemon=True))
+
+    def _wait(self) -> None:
+        while not self.stopped.wait(min(max(self.end - time.monotonic(), 0), _LONGEST_WAIT)):
+            if time.monotonic() >= self.end:
+                return self._ring()
+
+    def _ring(self) -> None:
+        with self.lock:
+            if not self.stopped.is_set():
+                self.rang = True
+                _raise_in(self.thread, TimeIsOver)
+
+    def stop(self) -> None:
+        """After this it raises nothing."""
+        with self.lock:
+            self.stopped.set()
+        if self.rang:
+            _raise_in(self.thread, None)
+
+
+def started(thread: threading.Thread) -> None:
+    """Starts a thread; MemoryError where the system has none left."""
     try:
-        yield
-    finally:
-        _limits.end = before
+        thread.start()
+    except RuntimeError as fault:
+        raise MemoryError(f"no thread could be started: {fault}") from None
+
+
+class limited:
+    """Within, calls and the steps of Python raise TimeoutError after so many seconds; never where that is None."""
+
+    def __init__(self, timeout: Optional[float]):
+        if timeout is not None and not hasattr(timeout, "__float__"):
+            raise TypeError(f"timeout is {timeout!r}: it must be a number of seconds")
+        if timeout is not None and not timeout >= 0:
+            raise ValueError(f"timeout is {timeout!r}: it must be a number of seconds, 0 or more")
+        self.timeout = timeout
+
+    def __enter__(self) -> None:
+        self.before, self.alarm = getattr(_limits, "alarm", None), None
+        if self.timeout is None:
+            return
+        end = time.monotonic() + self.timeout
+        if self.timeout == 0:
+            raise TimeoutError(_TIME_IS_OVER)
+        if _end() is None or end < self.before.end:
+            try:
+                self.alarm = _limits.alarm = _Alarm(end)
+            except TimeIsOver:
+                raise TimeoutError(_TIME_IS_OVER) from None
+
+    def __exit__(self, kind: Any, fault: Any, trace: Any) -> None:
+        try:
+            self._leave()
+        except TimeIsOver:
+            # It rang while it was to be stopped.
+            self._leave()
+            kind = kind or TimeIsOver
+        if kind is TimeIsOver and (self.before is None or not self.before.rang):
+            raise TimeoutError(_TIME_IS_OVER) from None
+
+    def _leave(self) -> None:
+        _limits.alarm = self.before
+        if self.alarm is not None:
+            self.alarm.stop()
+
+
+def _end() -> Optional[float]:
+    """When this thread's call has to end."""
+    alarm = getattr(_limits, "alarm", None)
+    return None if alarm is None or alarm.rang else alarm.end
 
 
 def look_at_time() -> None:
     """Raises TimeoutError where the time of `limited` is over."""
-    end = getattr(_limits, "end", None)
+    end = _end()
     if end is not None and time.monotonic() >= end:
-        raise TimeoutError("the time is over; nothing of the caller's was changed")
+        raise TimeoutError(_TIME_IS_OVER)
 
 
 def _owned(values: Any) -> Any:
@@ -214,19 +294,27 @@ def _owned(values: Any) -> Any:
     return own
 
 
-def _waited_for(work: Callable[[], int], end: Optional[float], *lists: Any) -> int:
+def waited_for(work: Callable[[], Any], *lists: Any) -> Any:
     """What some work returns that a thread does. Where the wait ends early, the thread goes on, and keeps its lists until it ends."""
     look_at_time()
-    found: List[int] = []
+    found: List[Any] = []
+    faults: List[BaseException] = []
     done = threading.Event()
 
     def run(*kept: Any) -> None:
-        found.append(work())
-        done.set()
+        try:
+            found.append(work())
+        except BaseException as fault:
+            faults.append(fault)
+        finally:
+            done.set()
 
-    threading.Thread(target=run, args=lists, daemon=True).start()
+    started(threading.Thread(target=run, args=lists, daemon=True))
+    end = _end()
     while not done.wait(_SLICE if end is None else min(_SLICE, max(end - time.monotonic(), 0))):
         look_at_time()
+    if faults:
+        raise faults[0]
     return found[0]
 
 

@@ -445,14 +445,14 @@ def _places_once(problem: Problem) -> Any:
     keys = (problem.persons.astype(numpy.int64) - 1) * problem.n_columns + problem.objects - 1
     if (keys[1:] > keys[:-1]).all() or _are_different(numpy, keys, problem.n_rows * problem.n_columns):
         return None
-    order = numpy.lexsort((problem.costs, keys))
+    order = parts.whole(len(keys), lambda: numpy.lexsort((problem.costs, keys)))
     return numpy.sort(order[numpy.diff(keys[order], prepend=-1) > 0])
 
 
 def _are_different(numpy: Any, keys: Any, most: int) -> bool:
     """Whether no two of some numbers from 0 below a bound are the same."""
     if most > 64 * len(keys):
-        ordered = numpy.sort(keys)
+        ordered = parts.whole(len(keys), lambda: numpy.sort(keys))
         return bool((ordered[1:] > ordered[:-1]).all())
     seen = numpy.zeros(most, bool)
     seen[keys] = True
