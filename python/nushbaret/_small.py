@@ -231,11 +231,9 @@ class SmallArrays:
         sign = -1 if maximize else 1
         duals = arrays.duals_of(asked, proved.Answer(n, m, None, room.objects, room.halves), sign)
         level = levels.Level(asked, room.objects, *duals, shift, sign)
-        pairs = levels.kept(level, n + levels.MORE)
-        if not levels.is_only_plan(level, pairs):
-            problem = Problem(n, m, maximize, costs.ravel(), *(lists if held else ()), raw=True, doubles=not printed, numpy=self.numpy)
-            with levels.quiet(problem):
-                room.objects[:] = levels.finer(problem, level, pairs)
+        problem = Problem(n, m, maximize, costs.ravel(), *(lists if held else ()), raw=True, doubles=not printed, numpy=self.numpy)
+        with levels.quiet(problem):
+            room.objects[:] = levels.after_first(problem, level)
 
     def _scaled(self, costs: Any, room: library.Room, shift: int) -> bool:
         """Gives the room the costs times 2**shift, rounded to the nearest whole numbers; false where doubles don't suffice for it."""

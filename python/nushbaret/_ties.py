@@ -1,0 +1,210 @@
+"""Matrices of doubles with many ties, where a level would leave most pairs.
+
+There costs are made whole numbers of one unit, exactly, and potentials are taken off them, so that the library can take what is left.
+Where the costs of each row are near to each other, the potentials are the rows' least costs, and one call solves the problem. Elsewhere
+they are near the duals of a first level, and what is left of the pairs that a best plan may have is small. All other pairs are made dear
+then: if a best plan has none of the dear ones, it is best among the plans that have none, and so among all.
+
+Whole numbers are added and subtracted here as those of 64 bits, which may wrap around: what is left in the end is small."""
+import math
+from fractions import Fraction
+from typing import TYPE_CHECKING, Any, List, NamedTuple, Optional, Sequence, Tuple
+
+from . import _array_levels as arrays, _parts as parts, _proved as proved
+from ._exact import size_of
+from ._library import GREATEST_COST
+from ._numbers import in_unit, ratio_of, unit_of
+from ._problem import Problem
+
+if TYPE_CHECKING:
+    from ._levels import Level
+
+# What is taken of a float for the decimal that it prints as may be off by this part of a unit, for each of 8192 pairs.
+MORE = 2
+# In so many rows costs are looked at, and a share of this size has to be near the least one of its row.
+_ROWS = 16
+_SHARE = 1 / 8
+# At most so many different costs are read as decimals.
+_MOST_VALUES = 2**14
+_BITS = 64
+
+
+class Matrix(NamedTuple):
+    """The doubles of persons and objects, to be minimised, and whether they are decimals that print so."""
+
+    numpy: Any
+    costs: Any
+    printed: bool
+
+    def blocks(self) -> List[slice]:
+        height = max(1, parts.PART // self.costs.shape[1])
+        return [slice(begin, begin + height) for begin in range(0, len(self.costs), height)]
+
+
+class Values(NamedTuple):
+    """Costs that are decimals, rising, and what each is in a unit, which is 1 / denominator, in 64 bits."""
+
+    costs: Any
+    wholes: List[int]
+    wrapped: Any
+    denominator: int
+
+
+def of_problem(problem: Problem) -> Optional[Matrix]:
+    """The matrix of a problem of doubles that has many ties; None elsewhere."""
+    numpy = problem.numpy
+    if numpy is None or not problem.raw or problem.persons is not None or not len(problem.costs) or arrays.is_extreme(problem):
+        return None
+    costs = problem.costs.reshape(problem.n_rows, problem.n_columns)
+    costs = costs.T if proved.is_turned(problem) else costs
+    near = math.ldexp(len(costs) + 2.0, -arrays.shift_of(problem, 39))
+    rows = costs[::max(1, len(costs) // _ROWS)]
+    rows = -rows if problem.maximize else rows
+    if numpy.count_nonzero(rows <= rows.min(axis=1)[:, None] + near) < _SHARE * rows.size:
+        return None
+    return Matrix(numpy, numpy.ascontiguousarray(-costs if problem.maximize else costs), not problem.doubles)
+
+
+def best(matrix: Matrix) -> Optional[Any]:
+    """The objects of a best plan, where the costs of each row are near to each other; else None."""
+    left = _left_of_decimals(matrix) if matrix.printed else _left_of_doubles(matrix)
+    return None if left is None else _solved(matrix, left)
+
+
+def _solved(matrix: Matrix, left: Any) -> Optional[Any]:
+    n, m = left.shape
+    problem = Problem(n, m, False, left.ravel(), numpy=matrix.numpy)
+    answer = proved.answer(problem, proved.Given(n, m, proved.NONE, proved.NONE, problem.costs))
+    return answer.objects if isinstance(answer, proved.Answer) else None
+
+
+def _left_of_doubles(matrix: Matrix) -> Optional[Any]:
+    """By how much each cost is above the least of its row, as whole numbers of a power of two; None where that isn't exact."""
+    numpy, costs = matrix.numpy, matrix.costs
+    least, left = costs.min(axis=1)[:, None], numpy.empty(costs.shape)
+    for rows in matrix.blocks():
+        left[rows], lost = arrays.sum_of(costs[rows], -least[rows])
+        if lost.any():
+            return None
+    most = float(left.max())
+    power = 39 - math.frexp(most)[1] if most else 0
+    return _whole(matrix, left, power)
+
+
+def _whole(matrix: Matrix, doubles: Any, power: int) -> Optional[Any]:
+    """Doubles times a power of two as whole numbers; None where they aren't whole."""
+    numpy = matrix.numpy
+    whole = numpy.empty(doubles.shape, numpy.int64)
+    for rows in matrix.blocks():
+        scaled = numpy.ldexp(doubles[rows], power)
+        whole[rows] = scaled
+        if not (whole[rows] == scaled).all() or power < 0 and not (numpy.ldexp(scaled, -power) == doubles[rows]).all():
+            return None
+    return whole
+
+
+def _left_of_decimals(matrix: Matrix) -> Optional[Any]:
+    """By how much each cost is above the least of its row, as whole numbers of a decimal unit; None where that is too much."""
+    numpy, costs = matrix.numpy, matrix.costs
+    least, most = costs.min(axis=1), costs.max(axis=1)
+    values = _values_of(matrix, numpy.concatenate([_sample(matrix), least, most]))
+    lowest, highest = _known(numpy, values, least), _known(numpy, values, most)
+    if max(values.wholes[high] - values.wholes[low] for low, high in zip(lowest.tolist(), highest.tolist())) > GREATEST_COST:
+        return None
+    left, taken = numpy.zeros(costs.shape, numpy.int64), values.wrapped[lowest]
+    for rows in matrix.blocks():
+        row, column = (costs[rows] != least[rows, None]).nonzero()
+        places = _known(numpy, values, costs[rows][row, column])
+        if places is None:
+            values = _all_values(matrix)
+            return None if values is None else _whole_values(matrix, values) - values.wrapped[_known(numpy, values, least)][:, None]
+        left[rows][row, column] = values.wrapped.take(places) - taken[rows].take(row)
+    return left
+
+
+def _sample(matrix: Matrix) -> Any:
+    """Costs among which mostly all different ones are, where these are few."""
+    flat = matrix.costs.ravel()
+    return matrix.numpy.concatenate([matrix.costs[0], matrix.costs[:, 0], flat[::max(1, flat.size // 1024)]])
+
+
+def _all_values(matrix: Matrix) -> Optional[Values]:
+    """All different costs; None where they are too many."""
+    found = parts.whole(matrix.costs.size, lambda: matrix.numpy.unique(matrix.costs))
+    return None if len(found) > _MOST_VALUES else _values_of(matrix, found)
+
+
+def _values_of(matrix: Matrix, costs: Any) -> Values:
+    """Some costs in the greatest decimal unit that makes all of them whole."""
+    found = matrix.numpy.unique(costs)
+    ratios = [ratio_of(cost, False) for cost in found.tolist()]
+    unit = unit_of(set((1, denominator) for _, denominator in ratios))
+    wholes = [in_unit(ratio, unit) for ratio in ratios]
+    return Values(found, wholes, _wrapped(matrix.numpy, wholes), unit.denominator)
+
+
+def _whole_values(matrix: Matrix, values: Values) -> Optional[Any]:
+    """All costs in the unit of the values, in 64 bits; None where one isn't among them."""
+    numpy, whole = matrix.numpy, matrix.numpy.empty(matrix.costs.shape, matrix.numpy.int64)
+    for rows in matrix.blocks():
+        places = _known(numpy, values, matrix.costs[rows].ravel())
+        if places is None:
+            return None
+        whole[rows] = values.wrapped.take(places).reshape(whole[rows].shape)
+    return whole
+
+
+def _known(numpy: Any, values: Values, costs: Any) -> Optional[Any]:
+    """The places of costs among the values; None where one isn't there."""
+    places = numpy.minimum(numpy.searchsorted(values.costs, costs), len(values.costs) - 1)
+    return places if (values.costs.take(places) == costs).all() else None
+
+
+def _wrapped(numpy: Any, numbers: Sequence[int]) -> Any:
+    """Whole numbers of any size in 64 bits."""
+    half = 1 << _BITS - 1
+    return numpy.array([(number + half) % (1 << _BITS) - half for number in numbers], numpy.int64)
+
+
+def after_level(matrix: Matrix, level: "Level") -> Optional[Any]:
+    """The objects of a best plan, from the duals of a first level; None where what is left isn't small."""
+    asked, numpy = level.asked, matrix.numpy
+    whole, denominator = _decimals(matrix) if matrix.printed else _doubles(matrix)
+    n, m = matrix.costs.shape
+    if whole is None or len(asked.persons) or (2 * n + 8) * denominator > Fraction(2)**level.shift * (GREATEST_COST // 4):
+        return None
+    unit = denominator / Fraction(2)**level.shift
+    of_persons, of_objects = level.of_persons[1:], level.of_objects[1:]
+    taken = numpy.minimum(of_objects + (2 * n + 2), 0) if n < m else of_objects
+    whole -= _scaled(numpy, of_persons, unit)[:, None]
+    whole -= _scaled(numpy, taken, unit)
+    rounded, bounds = asked.costs.reshape(n, m), (of_persons + (n + MORE))[:, None]
+    for rows in matrix.blocks():
+        far = level.sign * rounded[rows] - of_objects > bounds[rows]
+        whole[rows][far] = GREATEST_COST
+    objects = _solved(matrix, whole)
+    if objects is None or (whole[numpy.arange(n), numpy.array(objects, numpy.intp) - 1] == GREATEST_COST).any():
+        return None
+    return objects
+
+
+def _scaled(numpy: Any, numbers: Any, unit: Fraction) -> Any:
+    """Whole numbers of a unit, rounded, in 64 bits."""
+    return _wrapped(numpy, [round(number * unit) for number in numbers.tolist()])
+
+
+def _decimals(matrix: Matrix) -> Tuple[Any, Fraction]:
+    """All costs as whole numbers of a decimal unit, in 64 bits, and its denominator; None where they are too many."""
+    values: Optional[Values] = _values_of(matrix, _sample(matrix))
+    assert values is not None
+    whole = _whole_values(matrix, values)
+    if whole is None:
+        values = _all_values(matrix)
+        whole = None if values is None else _whole_values(matrix, values)
+    return whole, Fraction(values.denominator if values else 1)
+
+
+def _doubles(matrix: Matrix) -> Tuple[Any, Fraction]:
+    """All costs as whole numbers of a power of two, and its denominator; None where they aren't whole."""
+    power = arrays.MOST_BITS - math.frexp(size_of(matrix.costs.ravel()))[1]
+    return _whole(matrix, matrix.costs, power), Fraction(2)**power
