@@ -200,9 +200,9 @@ class _Doubles:
         numpy, most = self.numpy, 0.0
         before, self.high = self.high, numpy.empty(len(taken))
         for part in parts.parts(len(taken)):
-            high, lower = sum_of(before[part], -numpy.ldexp(taken[part].astype(numpy.float64), -shift))
-            lower, lost = sum_of(lower, self.low[part])
-            self.high[part], self.low[part] = sum_of(high, lower)
+            high, lower = _sum(before[part], -numpy.ldexp(taken[part].astype(numpy.float64), -shift))
+            lower, lost = _sum(lower, self.low[part])
+            self.high[part], self.low[part] = _sum(high, lower)
             most = max(most, float(numpy.abs(lost).max()))
         self.loose += most
 
@@ -288,7 +288,7 @@ def _shifted(numpy: Any, whole: Any, up: Any) -> Any:
     return numpy.where(up < 64, whole << numpy.minimum(numpy.maximum(up, 0), 63), 0)
 
 
-def sum_of(first: Any, second: Any) -> Tuple[Any, Any]:
+def _sum(first: Any, second: Any) -> Tuple[Any, Any]:
     """The sum of doubles, and what rounding it lost, exactly (Knuth's TwoSum)."""
     whole = first + second
     part = whole - first

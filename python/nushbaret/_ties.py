@@ -37,7 +37,7 @@ class Matrix(NamedTuple):
     printed: bool
 
     def blocks(self) -> List[slice]:
-        height = max(1, parts.PART // self.costs.shape[1])
+        height = max(1, arrays.BLOCK // self.costs.shape[1])
         return [slice(begin, begin + height) for begin in range(0, len(self.costs), height)]
 
 
@@ -81,26 +81,26 @@ def _solved(matrix: Matrix, left: Any) -> Optional[Any]:
 def _left_of_doubles(matrix: Matrix) -> Optional[Any]:
     """By how much each cost is above the least of its row, as whole numbers of a power of two; None where that isn't exact."""
     numpy, costs = matrix.numpy, matrix.costs
-    least, left = costs.min(axis=1)[:, None], numpy.empty(costs.shape)
+    least = costs.min(axis=1)
+    most = float((costs.max(axis=1) - least).max())
+    power = 39 - math.frexp(most)[1]
+    if not abs(power) < arrays.MOST_SHIFT:
+        return None
+    left = numpy.empty(costs.shape, numpy.int64)
     for rows in matrix.blocks():
-        left[rows], lost = arrays.sum_of(costs[rows], -least[rows])
-        if lost.any():
+        block, low = costs[rows], least[rows, None]
+        above = block - low
+        # One of the two says whether the difference is exact (Dekker 1971).
+        if not ((block - above == low).all() and (above + low == block).all() and _put_whole(above, power, left[rows])):
             return None
-    most = float(left.max())
-    power = 39 - math.frexp(most)[1] if most else 0
-    return _whole(matrix, left, power)
+    return left
 
 
-def _whole(matrix: Matrix, doubles: Any, power: int) -> Optional[Any]:
-    """Doubles times a power of two as whole numbers; None where they aren't whole."""
-    numpy = matrix.numpy
-    whole = numpy.empty(doubles.shape, numpy.int64)
-    for rows in matrix.blocks():
-        scaled = numpy.ldexp(doubles[rows], power)
-        whole[rows] = scaled
-        if not (whole[rows] == scaled).all() or power < 0 and not (numpy.ldexp(scaled, -power) == doubles[rows]).all():
-            return None
-    return whole
+def _put_whole(doubles: Any, power: int, whole: Any) -> bool:
+    """Writes doubles times a power of two as whole numbers; false where they aren't whole."""
+    scaled = doubles * 2.0**power
+    whole[:] = scaled
+    return bool((whole == scaled).all()) and (power >= 0 or bool((scaled * 2.0**-power == doubles).all()))
 
 
 def _left_of_decimals(matrix: Matrix) -> Optional[Any]:
@@ -176,12 +176,14 @@ def after_level(matrix: Matrix, level: "Level") -> Optional[Any]:
     unit = denominator / Fraction(2)**level.shift
     of_persons, of_objects = level.of_persons[1:], level.of_objects[1:]
     taken = numpy.minimum(of_objects + (2 * n + 2), 0) if n < m else of_objects
-    whole -= _scaled(numpy, of_persons, unit)[:, None]
-    whole -= _scaled(numpy, taken, unit)
-    rounded, bounds = asked.costs.reshape(n, m), (of_persons + (n + MORE))[:, None]
+    scaled_persons, scaled_objects = _scaled(numpy, of_persons, unit), _scaled(numpy, taken, unit)
+    rounded, bounds = level.asked.costs.reshape(n, m), of_persons + (n + MORE)
     for rows in matrix.blocks():
-        far = level.sign * rounded[rows] - of_objects > bounds[rows]
-        whole[rows][far] = GREATEST_COST
+        block, far = whole[rows], level.sign * rounded[rows] - of_objects > bounds[rows, None]
+        block -= scaled_persons[rows, None]
+        block -= scaled_objects
+        if far.any():
+            block[far] = GREATEST_COST
     objects = _solved(matrix, whole)
     if objects is None or (whole[numpy.arange(n), numpy.array(objects, numpy.intp) - 1] == GREATEST_COST).any():
         return None
@@ -190,7 +192,8 @@ def after_level(matrix: Matrix, level: "Level") -> Optional[Any]:
 
 def _scaled(numpy: Any, numbers: Any, unit: Fraction) -> Any:
     """Whole numbers of a unit, rounded, in 64 bits."""
-    return _wrapped(numpy, [round(number * unit) for number in numbers.tolist()])
+    number, denominator = unit.numerator, unit.denominator
+    return _wrapped(numpy, [(2 * value * number + denominator) // (2 * denominator) for value in numbers.tolist()])
 
 
 def _decimals(matrix: Matrix) -> Tuple[Any, Fraction]:
@@ -207,4 +210,8 @@ def _decimals(matrix: Matrix) -> Tuple[Any, Fraction]:
 def _doubles(matrix: Matrix) -> Tuple[Any, Fraction]:
     """All costs as whole numbers of a power of two, and its denominator; None where they aren't whole."""
     power = arrays.MOST_BITS - math.frexp(size_of(matrix.costs.ravel()))[1]
-    return _whole(matrix, matrix.costs, power), Fraction(2)**power
+    whole = matrix.numpy.empty(matrix.costs.shape, matrix.numpy.int64)
+    for rows in matrix.blocks():
+        if not abs(power) < arrays.MOST_SHIFT or not _put_whole(matrix.costs[rows], power, whole[rows]):
+            return None, Fraction(1)
+    return whole, Fraction(2)**power
