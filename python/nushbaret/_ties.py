@@ -26,6 +26,8 @@ _ROWS = 16
 _SHARE = 1 / 8
 # At most so many different costs are read as decimals.
 _MOST_VALUES = 2**14
+# So few are counted by comparing each with all costs.
+_FEW_VALUES = 8
 _BITS = 64
 
 
@@ -73,7 +75,7 @@ def best(matrix: Matrix) -> Optional[Any]:
 
 def _solved(matrix: Matrix, left: Any) -> Optional[Any]:
     n, m = left.shape
-    problem = Problem(n, m, False, left.ravel(), numpy=matrix.numpy)
+    problem = Problem(n, m, False, left.base, numpy=matrix.numpy)
     answer = proved.answer(problem, proved.Given(n, m, proved.NONE, proved.NONE, problem.costs))
     return answer.objects if isinstance(answer, proved.Answer) else None
 
@@ -86,7 +88,7 @@ def _left_of_doubles(matrix: Matrix) -> Optional[Any]:
     power = 39 - math.frexp(most)[1]
     if not abs(power) < arrays.MOST_SHIFT:
         return None
-    left = numpy.empty(costs.shape, numpy.int64)
+    left = _room_for(matrix)
     for rows in matrix.blocks():
         block, low = costs[rows], least[rows, None]
         above = block - low
@@ -107,18 +109,32 @@ def _left_of_decimals(matrix: Matrix) -> Optional[Any]:
     """By how much each cost is above the least of its row, as whole numbers of a decimal unit; None where that is too much."""
     numpy, costs = matrix.numpy, matrix.costs
     least, most = costs.min(axis=1), costs.max(axis=1)
-    values = _values_of(matrix, numpy.concatenate([_sample(matrix), least, most]))
-    lowest, highest = _known(numpy, values, least), _known(numpy, values, most)
-    if max(values.wholes[high] - values.wholes[low] for low, high in zip(lowest.tolist(), highest.tolist())) > GREATEST_COST:
-        return None
-    left, taken = numpy.zeros(costs.shape, numpy.int64), values.wrapped[lowest]
+    values: Optional[Values] = _values_of(matrix, numpy.concatenate([_sample(matrix), least, most]))
+    while values is not None and _widest(numpy, values, least, most) <= GREATEST_COST:
+        left = _above_least(matrix, values, least)
+        if left is not None:
+            return left
+        values = _all_values(matrix)
+    return None
+
+
+def _widest(numpy: Any, values: Values, least: Any, most: Any) -> int:
+    """By how many units the greatest cost of a row is above its least one, at most."""
+    lowest, highest = _known(numpy, values, least).tolist(), _known(numpy, values, most).tolist()
+    return max(values.wholes[high] - values.wholes[low] for low, high in zip(lowest, highest))
+
+
+def _above_least(matrix: Matrix, values: Values, least: Any) -> Optional[Any]:
+    """By how many units each cost is above the least of its row; None where one isn't among the values."""
+    numpy, left = matrix.numpy, _room_for(matrix)
+    taken = values.wrapped[_known(numpy, values, least)]
     for rows in matrix.blocks():
-        row, column = (costs[rows] != least[rows, None]).nonzero()
-        places = _known(numpy, values, costs[rows][row, column])
-        if places is None:
-            values = _all_values(matrix)
-            return None if values is None else _whole_values(matrix, values) - values.wrapped[_known(numpy, values, least)][:, None]
-        left[rows][row, column] = values.wrapped.take(places) - taken[rows].take(row)
+        if (matrix.costs[rows] == least[rows, None]).all():
+            left[rows] = 0
+        elif _put(numpy, values, matrix.costs[rows], left[rows]):
+            left[rows] -= taken[rows, None]
+        else:
+            return None
     return left
 
 
@@ -145,19 +161,36 @@ def _values_of(matrix: Matrix, costs: Any) -> Values:
 
 def _whole_values(matrix: Matrix, values: Values) -> Optional[Any]:
     """All costs in the unit of the values, in 64 bits; None where one isn't among them."""
-    numpy, whole = matrix.numpy, matrix.numpy.empty(matrix.costs.shape, matrix.numpy.int64)
+    whole = _room_for(matrix)
     for rows in matrix.blocks():
-        places = _known(numpy, values, matrix.costs[rows].ravel())
-        if places is None:
+        if not _put(matrix.numpy, values, matrix.costs[rows], whole[rows]):
             return None
-        whole[rows] = values.wrapped.take(places).reshape(whole[rows].shape)
     return whole
+
+
+def _put(numpy: Any, values: Values, costs: Any, whole: Any) -> bool:
+    """Writes costs in the unit of the values, in 64 bits; false where one isn't among them."""
+    places = _known(numpy, values, costs)
+    if places is not None:
+        values.wrapped.take(places, out=whole, mode="clip")
+    return places is not None
+
+
+def _room_for(matrix: Matrix) -> Any:
+    """Room for a whole number for each cost: a view of a list that is the library's."""
+    return matrix.numpy.empty(matrix.costs.size, matrix.numpy.int64).reshape(matrix.costs.shape)
 
 
 def _known(numpy: Any, values: Values, costs: Any) -> Optional[Any]:
     """The places of costs among the values; None where one isn't there."""
-    places = numpy.minimum(numpy.searchsorted(values.costs, costs), len(values.costs) - 1)
-    return places if (values.costs.take(places) == costs).all() else None
+    if len(values.costs) > _FEW_VALUES:
+        places = numpy.searchsorted(values.costs, costs)
+    else:
+        counts = numpy.zeros(costs.shape, numpy.int8)
+        for cost in values.costs[1:].tolist():
+            counts += (costs >= cost).view(numpy.int8)
+        places = counts.astype(numpy.intp)
+    return places if (values.costs.take(places, mode="clip") == costs).all() else None
 
 
 def _wrapped(numpy: Any, numbers: Sequence[int]) -> Any:
@@ -182,8 +215,7 @@ def after_level(matrix: Matrix, level: "Level") -> Optional[Any]:
         block, far = whole[rows], level.sign * rounded[rows] - of_objects > bounds[rows, None]
         block -= scaled_persons[rows, None]
         block -= scaled_objects
-        if far.any():
-            block[far] = GREATEST_COST
+        numpy.copyto(block, GREATEST_COST, where=far)
     objects = _solved(matrix, whole)
     if objects is None or (whole[numpy.arange(n), numpy.array(objects, numpy.intp) - 1] == GREATEST_COST).any():
         return None
@@ -210,7 +242,7 @@ def _decimals(matrix: Matrix) -> Tuple[Any, Fraction]:
 def _doubles(matrix: Matrix) -> Tuple[Any, Fraction]:
     """All costs as whole numbers of a power of two, and its denominator; None where they aren't whole."""
     power = arrays.MOST_BITS - math.frexp(size_of(matrix.costs.ravel()))[1]
-    whole = matrix.numpy.empty(matrix.costs.shape, matrix.numpy.int64)
+    whole = _room_for(matrix)
     for rows in matrix.blocks():
         if not abs(power) < arrays.MOST_SHIFT or not _put_whole(matrix.costs[rows], power, whole[rows]):
             return None, Fraction(1)
