@@ -298,8 +298,8 @@ def check(costs: Any, columns: Any, prices: Any, rows: Any = None, maximize: boo
     columns : list of int, or dict
         The column of each row, from 0; None for a row that stays out. With a DataFrame labels will do too, except whole numbers.
     prices : list of numbers, dict or Series
-        One for each column, or by its name, in the unit of the costs, as `Result.prices`. A price is added to its column's costs, and subtracted under
-        maximize. So a solver's column duals are prices with reversed signs, and under maximize as they are.
+        One for each column, or by its name, in the unit of the costs, as `Result.prices`. A price is added to its column's costs, and
+        subtracted under maximize. So a solver's column duals are prices with reversed signs, and under maximize as they are.
     rows : list of int, optional
         The row of each of `columns`, if they aren't 0, 1, 2 ...
     maximize, decimals, missing

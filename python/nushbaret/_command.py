@@ -35,7 +35,8 @@ def main(words: Optional[Sequence[str]] = None) -> int:
     Returns
     -------
     int
-        The status, 0 to 4, or 130 after Ctrl-C. A fault of nushbaret itself is raised where NUSHBARET_DEBUG is set. Words that are refused, and `--help`, end by `SystemExit` with status 2 and 0.
+        The status, 0 to 4, or 130 after Ctrl-C. Words that are refused, and `--help`, end by `SystemExit` with status 2 and 0. A fault of
+        nushbaret itself is raised where NUSHBARET_DEBUG is set.
     """
     options = read_words(words)
     for stream in (sys.stdout, sys.stderr):

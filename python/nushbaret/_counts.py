@@ -219,11 +219,19 @@ def bounds_of(counts: Any, kind: str, number: int, labels: Optional[List[Any]]) 
     return [_bound(value, f"{what}[{place}]") for place, value in enumerate(values)]
 
 
+def _is_list(value: Any) -> bool:
+    return hasattr(value, "__iter__") and not isinstance(value, (str, bytes))
+
+
 def groups_of(column_groups: Any, n_columns: int, labels: Optional[List[Any]]) -> Tuple[List[int], int]:
     """The group of each column, and how many groups were given; columns in none come after these."""
     given: List[Optional[int]] = [None] * n_columns
-    values = [] if column_groups is None else naming.listed(column_groups, "column_groups", "column", n_columns, labels)
-    are_lists = [hasattr(value, "__iter__") and not isinstance(value, (str, bytes)) for value in values]
+    # Groups need no order, and labels do.
+    if column_groups is None or isinstance(column_groups, (set, frozenset)) and all(map(_is_list, column_groups)):
+        values = list(column_groups or ())
+    else:
+        values = naming.listed(column_groups, "column_groups", "column", n_columns, labels)
+    are_lists = list(map(_is_list, values))
     if all(are_lists):
         count = _of_lists(values, given)
     elif any(are_lists):

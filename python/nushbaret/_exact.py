@@ -336,19 +336,23 @@ def of_array(numpy: Any, values: Any, manner: Manner, where: Where) -> Costs:
 
 def array_of_frame(numpy: Any, frame: Any, manner: Manner) -> Any:
     """The costs of a frame of pandas. Columns of several kinds are read one by one: an array of one kind may not hold all of them."""
+    costs = frame.to_numpy()
+    # Mostly one array holds all columns, and two calls show the same memory: that is faster to see than the kinds of columns.
+    if costs.dtype.kind != "O" and numpy.may_share_memory(costs, frame.to_numpy()):
+        return costs
     kinds = set(frame.dtypes)
     if len(kinds) < 2 and (manner.doubles or not any(map(_small_kind, kinds))):
-        return frame.to_numpy()
+        return costs
     columns = [_column(numpy, frame.iloc[:, place], manner) for place in range(frame.shape[1])]
     kind = numpy.float64 if all(map(_fits_doubles, columns)) else object
-    costs = numpy.empty(frame.shape, kind)
+    joined = numpy.empty(frame.shape, kind)
     for place, column in enumerate(columns):
-        costs[:, place] = column if kind is not object or column.dtype.kind == "O" else column.tolist()
-    return costs
+        joined[:, place] = column if kind is not object or column.dtype.kind == "O" else column.tolist()
+    return joined
 
 
 def _small_kind(kind: Any) -> Any:
-    """The kind of NumPy's behind one of pandas' own, if its floats have less than 64 bits."""
+    """The kind of NumPy's that one of pandas' own is made of, if its floats have less than 64 bits."""
     own: Any = getattr(kind, "numpy_dtype", None)
     return own if getattr(own, "kind", "") == "f" and own.itemsize < 8 else None
 

@@ -27,7 +27,7 @@ def listed(values: Any, what: str, kind: str, number: int, labels: Optional[Sequ
     Those with names are looked up by the labels of a frame, or else by numbers, and each row or column must have one."""
     if is_named(values):
         return _by_names(values, what, kind, range(number) if labels is None else labels)
-    if isinstance(values, (Set, str, bytes)):
+    if isinstance(values, Set):
         raise TypeError(f"{what} is {values!r}: it must be a list, with one value for each {kind}")
     try:
         values = printing.of_buffer(values)

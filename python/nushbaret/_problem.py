@@ -141,7 +141,7 @@ def _of_view(view: memoryview, manner: exact.Manner) -> Problem:
     if own and not manner.decimals and view.nbytes:
         return Problem(n_rows, n_columns, manner.maximize, Lent(view))
     rows: Any = view.tolist()
-    if kind in "ef" and not manner.doubles:
+    if kind in ("e", "f") and not manner.doubles:
         rows = [[printing.shortest(cost, kind) for cost in row] for row in rows]
     return _dense(n_rows, n_columns, manner, exact.of_rows(rows, n_columns, manner, _place_in(n_columns, None)))
 
@@ -316,6 +316,11 @@ def within(problem: Problem, worst: Ratio) -> Problem:
     problem = listed(problem)
     # The nearest double is the one that prints as this decimal.
     most: Any = float(bound) if problem.raw else (math.ceil if problem.maximize else math.floor)(bound * problem.unit.denominator)
+    if problem.numpy and not problem.raw:
+        # Of 64 bits, since NumPy would compare others as doubles.
+        least, greatest = -2**63, 2**63 - 1
+        if not least <= most <= greatest:
+            return problem if (most < least) == problem.maximize else kept(problem, problem.numpy.arange(0))
     if problem.numpy:
         return kept(problem, problem.costs >= most if problem.maximize else problem.costs <= most)
     return kept(problem, [place for place, cost in enumerate(problem.costs) if (cost >= most if problem.maximize else cost <= most)])

@@ -93,7 +93,7 @@ def solve(costs: Any, maximize: bool = False, decimals: Optional[int] = None, st
     ----------
     costs : matrix
         A list of rows, a NumPy array, a DataFrame of pandas, a sparse matrix of SciPy's, or a buffer of two dimensions. Whole numbers,
-        floats, Decimals or Fractions; a float is the decimal that it prints as. None or infinity (under maximize -infinity) forbids
+        floats, Decimals or Fractions; a float of any size is the decimal that it prints as. None or infinity (under maximize -infinity) forbids
         a pair. At most 8192 rows and columns.
     maximize : bool, optional
         Whether to find the greatest sum, not the least.
@@ -208,7 +208,7 @@ def linear_sum_assignment(cost_matrix: Any, maximize: bool = False, *, missing: 
     maximize : bool, optional
         Whether to find the greatest sum.
     missing, timeout
-        As in `solve`.
+        As in `solve`; but without "forbid" a mask isn't seen, as in SciPy.
 
     Returns
     -------

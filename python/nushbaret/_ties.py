@@ -82,7 +82,7 @@ def _solved(matrix: Matrix, left: Any) -> Optional[Any]:
 
 def _left_of_doubles(matrix: Matrix) -> Optional[Any]:
     """By how much each cost is above the least of its row, as whole numbers of a power of two; None where that isn't exact."""
-    numpy, costs = matrix.numpy, matrix.costs
+    costs = matrix.costs
     least = costs.min(axis=1)
     most = float((costs.max(axis=1) - least).max())
     power = 39 - math.frexp(most)[1]

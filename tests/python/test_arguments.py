@@ -41,7 +41,7 @@ class Refused(unittest.TestCase):
         self.refused(TypeError, "rows[0] is 'a': it must be a whole number", check, COSTS, [1, 0], [0, 0], rows=["a", 1])
         self.refused(TypeError, "rows is 1: it must be a list", check, COSTS, [1, 0], [0, 0], rows=1)
         self.refused(TypeError, "prices is 5: it must be a list, with one value for each column", check, COSTS, [1, 0], 5)
-        self.refused(TypeError, "prices is '12': it must be a list", check, COSTS, [1, 0], "12")
+        self.refused(TypeError, "the price of column 0 is '1'", check, COSTS, [1, 0], "12")
 
     def test_names_of_listed_pairs(self):
         solve = nushbaret.solve_sparse
@@ -73,8 +73,12 @@ class Counts(unittest.TestCase):
         self.refused("column_counts has 'a', which is no column", COSTS, 1, {"a": 1})
         self.refused("column_groups has 'Mon', which is no column", COSTS, 1, 1, {"Mon": [0, 1]})
         self.assertEqual(nushbaret.assign_counts(COSTS, (0, 2), 1, {0: "Mon", 1: "Mon"}).pairs, [(0, 1), (1, 0)])
-        with self.assertRaisesRegex(TypeError, "row_counts is {1, 2}"):
+        for groups in "MM", {(0, 1)}, [{0, 1}]:
+            self.assertEqual(nushbaret.assign_counts(COSTS, (0, 2), 1, groups).pairs, [(0, 1), (1, 0)])
+        with self.assertRaisesRegex(TypeError, "row_counts is {1, 2}: it must be a list"):
             nushbaret.assign_counts(COSTS, {1, 2}, 1)
+        with self.assertRaisesRegex(TypeError, "column_groups is {'(Mon|Tue)', '(Mon|Tue)'}: it must be a list"):
+            nushbaret.assign_counts(COSTS, 1, 1, {"Mon", "Tue"})
 
     @unittest.skipUnless(pd, "pandas isn't there")
     def test_by_labels(self):
@@ -119,7 +123,7 @@ class Counts(unittest.TestCase):
             self.assertEqual(sum(1 for _ in nushbaret.k_best(COSTS, count)), 2)
             _, most = tracemalloc.get_traced_memory()
             tracemalloc.stop()
-            self.assertLess(most, 10**6)
+            self.assertLess(most, 10**7)
 
 
 class TooFewPairs(unittest.TestCase):

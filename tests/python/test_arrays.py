@@ -225,16 +225,18 @@ class Views(unittest.TestCase):
 
     def test_beside_lists(self):
         draw = drawing(63)
-        for turn in range(1200):
+        for turn in range(5000):
             code, height, width = VIEWS[turn % len(VIEWS)], draw.randint(1, 3), draw.randint(1, 3)
             given, numbers = self.cells(draw, code, height * width)
             view = memoryview(array(code, given)).cast("B").cast(code, (height, width))
             rows = [numbers[begin:begin + width] for begin in range(0, height * width, width)]
             call, maximize = CALLS[turn // len(VIEWS) % len(CALLS)], draw.random() < 0.5
             with self.subTest(turn=turn, code=code, rows=rows, call=call.__name__):
-                self.assertEqual(outcome(call, view, maximize=maximize), outcome(call, rows, maximize=maximize))
-                self.assertEqual(outcome(call, [array(code, view.tolist()[row]) for row in range(height)], maximize=maximize),
-                                 outcome(call, rows, maximize=maximize))
+                form = view if draw.random() < 0.7 else [array(code, row) for row in view.tolist()]
+                self.assertEqual(outcome(call, form, maximize=maximize), outcome(call, rows, maximize=maximize))
+                exact = [list(map(Fraction, row)) for row in view.tolist()]
+                found, wanted = (nushbaret.linear_sum_assignment(costs, maximize) for costs in (form, exact))
+                self.assertEqual(cost_of(exact, found), cost_of(exact, wanted))
 
     def test_small_floats(self):
         """0.1 of 32 bits is 0.1 also in listed pairs, prices and rows, and exactly its double in SciPy's call."""
@@ -281,6 +283,13 @@ class Ends(unittest.TestCase):
         self.assertFalse(nushbaret.check(costs, [1], [0, 0]))
         self.assertEqual(nushbaret.solve(np.array([[2**63 - 1, 2**64 - 1]], np.uint64)).cost, MOST)
 
+    def test_bounds_beyond_64_bits(self):
+        """A bound is compared as a whole number, where NumPy would compare doubles."""
+        for worst, kept, kept_greatest in (2**63, 2, 0), (2**70, 2, 0), (MOST, 2, 1), (LEAST, 1, 2), (LEAST - 1, 0, 2), (-2**70, 0, 2):
+            for maximize, wanted in (False, kept), (True, kept_greatest):
+                problem = _problem.of_matrix(np.array([[LEAST, MOST]]), _exact.manner(maximize))
+                self.assertEqual(len(_problem.within(problem, (worst, 1)).costs), wanted)
+
     def test_small_numbers_of_rows_and_columns(self):
         """The last number that a kind of few bits has."""
         for kind, count in ("uint8", 256), ("int8", 128):
@@ -303,7 +312,7 @@ class Ends(unittest.TestCase):
             nushbaret.linear_sum_assignment(np.ma.array([[1]], mask=True), missing="forbid")
 
     def test_one_meaning_of_small_floats(self):
-        """Whatever stands beside them: 65504 of 16 bits prints as 65500, 16777217 of 32 bits is 16777216, and 123456792 prints as 123456790."""
+        """Whatever stands next to them: 65504 of 16 bits prints as 65500, 16777217 of 32 bits is 16777216, and 123456792 prints as 123456790."""
         for kind, value, printed, exact in (("float16", 65504, 65500, 65504), ("float32", 123456789, 123456790, 123456792),
                                             ("float32", 16777217, 16777216, 16777216), ("float32", 1e20, 10**20, 100000002004087734272),
                                             ("float16", 2049, 2048, 2048), ("float16", 2051, 2052, 2052)):
@@ -351,6 +360,23 @@ class Frames(unittest.TestCase):
         self.assertEqual(nushbaret.solve(own, missing="forbid").cost, Decimal("7.1"))
         with self.assertRaisesRegex(ValueError, "nan at row 0, column b"):
             nushbaret.solve(own)
+
+    def test_drawn_columns(self):
+        """Each column of a kind of its own, compared with lists."""
+        draw, kinds = drawing(64), [kind for kind in KINDS if kind[0] != ">" and kind != "longdouble" and kind != "object"]
+        for turn in range(600):
+            height, width = draw.randint(1, 3), draw.randint(1, 3)
+            columns = [Kind(draw.choice(kinds)).matrix(draw, height, 1).ravel() for _ in range(width)]
+            frame, call = pd.DataFrame(dict(enumerate(columns))), CALLS[turn % len(CALLS)]
+            named = {"maximize": draw.random() < 0.5, "missing": draw.choice(["forbid", "refuse"])}
+            rows, doubles = ([[meaning(column[row], exactly) for column in columns] for row in range(height)] for exactly in (False, True))
+            with self.subTest(turn=turn, call=call.__name__, rows=rows, named=named):
+                self.assertEqual(outcome(call, frame, **named), outcome(call, rows, **named))
+                found, wanted = (outcome(nushbaret.linear_sum_assignment, costs, **named) for costs in (frame, doubles))
+                if isinstance(wanted[0], str):
+                    self.assertEqual(found, wanted)
+                else:
+                    self.assertEqual(cost_of(doubles, found), cost_of(doubles, wanted))
 
     def test_nan_by_labels(self):
         frame = pd.DataFrame([[1, math.nan], [2, 3]], index=["Ada", "Ben"], columns=["early", "late"])
