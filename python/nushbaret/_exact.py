@@ -14,7 +14,6 @@ from typing import Any, Callable, List, NamedTuple, NoReturn, Optional, Tuple
 from . import _parts as parts, _printing as printing
 from ._library import FEW, GREATEST_COST, Numbers
 from ._numbers import ONE, Ratio, Unit, in_unit, of_places, ratio_of, unit_of
-from ._shortest import of_short_floats
 
 # With so many places at most, costs are made whole before they are solved.
 MOST_PLACES = 6
@@ -368,7 +367,7 @@ def _column(numpy: Any, column: Any, manner: Manner) -> Any:
     if values.dtype.itemsize == 8 or manner.doubles:
         return values.astype(numpy.float64)
     with numpy.errstate(all="ignore"):
-        return of_short_floats(numpy, values)
+        return printing.of_array(numpy, values)
 
 
 def _fits_doubles(column: Any) -> bool:
@@ -403,7 +402,7 @@ def _of_whole_array(numpy: Any, flat: Any, manner: Manner, where: Where) -> Cost
 
 def _of_float_array(numpy: Any, flat: Any, manner: Manner, where: Where) -> Costs:
     if flat.dtype.itemsize < 8 and not manner.doubles:
-        flat = of_short_floats(numpy, flat)
+        flat = printing.of_array(numpy, flat)
     wide = flat.astype(numpy.float64, copy=not flat.flags.aligned)
     found = None if manner.decimals else whole_numbers(numpy, wide)
     if found is not None:

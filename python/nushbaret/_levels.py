@@ -66,7 +66,8 @@ def _solved(problem: Problem, served: Optional[int], prices: Any) -> Union[prove
     tied = ties.of_problem(problem) if served is None else None
     objects = None if tied is None else ties.best(tied)
     if objects is not None:
-        return proved.Answer(*sorted((problem.n_rows, problem.n_columns)), None, objects, None)
+        n, m = sorted((problem.n_rows, problem.n_columns))
+        return proved.Answer(n, m, None, objects, None)
     priced = None if served is not None or tied or prices is not None else pricing.first_level(problem, BITS, _most_left(problem))
     found = priced.level if priced else first_level(problem, served, prices)
     if isinstance(found, proved.Short):

@@ -240,13 +240,15 @@ class limited:
         self.timeout = timeout
 
     def __enter__(self) -> None:
-        self.before, self.alarm = getattr(_limits, "alarm", None), None
+        self.before: Optional[_Alarm] = getattr(_limits, "alarm", None)
+        self.alarm: Optional[_Alarm] = None
         if self.timeout is None:
             return
         end = time.monotonic() + self.timeout
         if self.timeout == 0:
             raise TimeoutError(_TIME_IS_OVER)
-        if _end() is None or end < self.before.end:
+        before = _end()
+        if before is None or end < before:
             try:
                 self.alarm = _limits.alarm = _Alarm(end)
             except TimeIsOver:

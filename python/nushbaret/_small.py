@@ -5,13 +5,12 @@ from array import array
 from collections import deque
 from typing import Any, Dict, List, Optional, Tuple
 
-from . import _array_levels as arrays, _exact as exact, _levels as levels, _library as library, _proved as proved
+from . import _array_levels as arrays, _exact as exact, _levels as levels, _library as library, _printing as printing, _proved as proved
 from ._library import GREATEST_COST, MOST_PERSONS
 from ._naming import is_frame
 from ._numbers import of_places
 from ._problem import Problem
 from ._result import Found
-from ._shortest import of_short_floats
 
 # Beyond these powers of two the double that rounds is none.
 MOST_SHIFT = 850
@@ -94,7 +93,7 @@ class SmallArrays:
             return costs
         own = self.kinds.get(kind)
         if own is self.float64 and printed and kind.itemsize < 8:
-            return of_short_floats(self.numpy, costs.ravel()).reshape(costs.shape)
+            return printing.of_array(self.numpy, costs.ravel()).reshape(costs.shape)
         return own and costs.astype(own, copy=False)
 
     def _of_frame(self, costs: Any) -> Any:
@@ -231,7 +230,8 @@ class SmallArrays:
         sign = -1 if maximize else 1
         duals = arrays.duals_of(asked, proved.Answer(n, m, None, room.objects, room.halves), sign)
         level = levels.Level(asked, room.objects, *duals, shift, sign)
-        problem = Problem(n, m, maximize, costs.ravel(), *(lists if held else ()), raw=True, doubles=not printed, numpy=self.numpy)
+        persons, objects = lists if held else (None, None)
+        problem = Problem(n, m, maximize, costs.ravel(), persons, objects, raw=True, doubles=not printed, numpy=self.numpy)
         with levels.quiet(problem):
             room.objects[:] = levels.after_first(problem, level)
 
@@ -266,8 +266,8 @@ def _is_small(n: int, m: int) -> bool:
 def _greatest(costs: Any) -> float:
     """The greatest size of doubles; NaN where one is. Reading them in their order in memory is faster."""
     seen = costs if costs.flags.c_contiguous else costs.T
-    item = seen.item
-    return max(item(seen.argmax()), -item(seen.argmin()))
+    greatest: float = max(seen.item(seen.argmax()), -seen.item(seen.argmin()))
+    return greatest
 
 
 def _may_be_shorter(rows: Any) -> bool:

@@ -7,6 +7,7 @@ then: if a best plan has none of the dear ones, it is best among the plans that 
 
 Whole numbers are added and subtracted here as those of 64 bits, which may wrap around: what is left in the end is small."""
 import math
+import operator
 from fractions import Fraction
 from typing import TYPE_CHECKING, Any, List, NamedTuple, Optional, Sequence, Tuple
 
@@ -120,8 +121,9 @@ def _left_of_decimals(matrix: Matrix) -> Optional[Any]:
 
 def _widest(numpy: Any, values: Values, least: Any, most: Any) -> int:
     """By how many units the greatest cost of a row is above its least one, at most."""
-    lowest, highest = _known(numpy, values, least).tolist(), _known(numpy, values, most).tolist()
-    return max(values.wholes[high] - values.wholes[low] for low, high in zip(lowest, highest))
+    lowest, highest = ([values.wholes[place] for place in numpy.searchsorted(values.costs, costs).tolist()] for costs in (least, most))
+    most_apart: int = max(map(operator.sub, highest, lowest))
+    return most_apart
 
 
 def _above_least(matrix: Matrix, values: Values, least: Any) -> Optional[Any]:

@@ -10,7 +10,7 @@ from drawn import drawing
 
 try:
     import numpy as np
-    from nushbaret import _shortest, _small
+    from nushbaret import _printing, _small
 except ImportError:
     np = None
 try:
@@ -202,7 +202,7 @@ class Shortest(unittest.TestCase):
 
     def compare(self, floats):
         with np.errstate(all="ignore"):
-            np.testing.assert_array_equal(_shortest.of_short_floats(np, floats), floats.astype("U32").astype(float))
+            np.testing.assert_array_equal(_printing.of_array(np, floats), floats.astype("U32").astype(float))
 
     def test_all_of_16_bits(self):
         every = np.arange(2**16, dtype=np.uint16).view(np.float16)
