@@ -17,6 +17,8 @@ from ._numbers import ONE, Ratio, Unit, in_unit, of_places, ratio_of, unit_of
 
 # With so many places at most, costs are made whole before they are solved.
 MOST_PLACES = 6
+# Costs may be rounded to so many places at most. A double prints with at most 340.
+MOST_DECIMALS = 1000
 FORBID = "forbid"
 _PLAIN = frozenset((int, float, bool, type(None)))
 # Doubles that are whole stay so below this; a greater one may print as another whole number.
@@ -82,6 +84,8 @@ def manner(maximize: Any, decimals: Any = None, missing: Any = "refuse", doubles
         decimals = whole_number(decimals, "decimals")
         if decimals < 0:
             raise ValueError(f"decimals is {decimals}: it must be 0 or more")
+        if decimals > MOST_DECIMALS:
+            raise ValueError(f"decimals is above {MOST_DECIMALS}: costs can be rounded to at most so many places")
     return Manner(bool(maximize), decimals, missing == FORBID, doubles)
 
 

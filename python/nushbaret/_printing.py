@@ -6,31 +6,24 @@ import math
 import struct
 import sys
 from decimal import ROUND_HALF_EVEN, ROUND_UP, Context, Decimal
+from functools import lru_cache
 from itertools import product
-from typing import Any, NamedTuple, Tuple
+from typing import Any, Tuple
 
-# Up to this power ten is a double exactly.
-_MOST_POWER = 22
-# Up to so many floats NumPy's own text of each is faster.
-_FEW = 256
-# How near a half a product may be that is a half, and how near an end of what is read as a float a decimal may be.
-_NEAR_HALF = 2.0**-20
-_NEAR_END = 2.0**-45
+from . import _parts as parts
+from ._library import FEW
 
-
-class _Kind(NamedTuple):
-    """A size of floats: its letter in `struct`; how many digits a decimal may have that is always printed again, and how many any float
-    needs at most; the least float of all bits; and up to where whole numbers print as themselves."""
-
-    letter: str
-    digits: int
-    most_digits: int
-    least: float
-    most_whole: float
-
-
-_KINDS = {2: _Kind("e", 3, 5, 2.0**-14, 2.0**11), 4: _Kind("f", 6, 9, 2.0**-126, 2.0**24)}
-_LETTERS = frozenset(kind.letter for kind in _KINDS.values())
+# The letters in `struct` of floats of so many bytes.
+_LETTER = {2: "e", 4: "f"}
+_LETTERS = frozenset(_LETTER.values())
+# With so many places a float times the power of ten is exact as a double, and so is the test of what the quotient rounds to.
+_MOST_PLACES = 12
+_POWERS = [float(10**places) for places in range(_MOST_PLACES + 1)]
+# Smaller floats of 32 bits may have more places.
+_LEAST = 1e-4
+# Of all floats of 16 bits only this one prints as a decimal that isn't the nearest of its digits: a power of two has a nearer neighbour
+# below. Floats of 32 bits have no such power from _LEAST on.
+_UNEVEN = 2.0**-6
 
 
 def shortest(value: float, letter: str) -> float:
@@ -57,8 +50,8 @@ def _packed(letter: str, value: float) -> bytes:
 def of_scalar(value: Any) -> Any:
     """What a finite float of NumPy's of any size prints as."""
     size = value.dtype.itemsize
-    if size in _KINDS:
-        return shortest(float(value), _KINDS[size].letter)
+    if size in _LETTER:
+        return shortest(float(value), _LETTER[size])
     return float(value) if size == 8 else Decimal(sys.modules["numpy"].format_float_scientific(value))
 
 
@@ -70,36 +63,66 @@ def of_buffer(values: Any) -> Any:
     return [shortest(value, letter) for value in values.tolist()]
 
 
+@lru_cache(maxsize=1)
+def _powers_of(numpy: Any) -> Any:
+    return numpy.array(_POWERS)
+
+
 def of_array(numpy: Any, flat: Any) -> Any:
-    """What the floats of an array of 16 or 32 bits print as."""
-    if flat.size <= _FEW:
-        return flat.astype("U32").astype(numpy.float64)
-    kind = _KINDS[flat.dtype.itemsize]
-    found = flat.astype(numpy.float64)
-    sizes = numpy.abs(found)
-    left = numpy.flatnonzero(((numpy.rint(found) != found) | (sizes > kind.most_whole)) & (sizes < math.inf))
-    doubtful = []
-    for digits in range(kind.digits, kind.most_digits + 1):
-        left, more = _of_digits(numpy, found, left, digits, flat.dtype)
-        doubtful.append(more)
-    slow = numpy.concatenate([left, *doubtful])
-    found[slow] = flat[slow].astype("U32").astype(numpy.float64)
+    """What the floats of an array of 16 or 32 bits print as; infinities and NaN stay."""
+    if flat.size <= FEW:
+        return _of_part(numpy, flat)
+    return parts.filled(numpy, numpy.float64, len(flat), lambda part: _of_part(numpy, flat[part]))
+
+
+def _of_part(numpy: Any, floats: Any) -> Any:
+    wide = floats.astype(numpy.float64)
+    sizes = numpy.abs(wide)
+    # From here on floats end in zeros where they print.
+    great = 2048.0 if floats.itemsize == 2 else 2.0**24
+    find = _of_few if len(floats) <= FEW else _of_many
+    if floats.itemsize > 2 and len(sizes) and _LEAST <= sizes.item(sizes.argmin()) and sizes.item(sizes.argmax()) < great:
+        return find(numpy, floats, wide)
+    with numpy.errstate(all="ignore"):
+        found = find(numpy, floats, wide)
+        odd = (sizes >= great) | (wide != wide)
+        odd |= sizes == _UNEVEN if floats.itemsize == 2 else (sizes < _LEAST) & (sizes > 0)
+        places = odd.nonzero()[0]
+        if len(places):
+            found[places] = floats[places].astype("U32").astype(numpy.float64)
+        return found
+
+
+def _tried(numpy: Any, floats: Any, wide: Any, power: Any) -> Tuple[Any, Any]:
+    """Floats rounded to some decimal places, and which of them print as these decimals or shorter ones."""
+    decimals = numpy.rint(wide * power)
+    decimals /= power
+    return decimals, decimals.astype(floats.dtype) == floats
+
+
+def _of_few(numpy: Any, floats: Any, wide: Any) -> Any:
+    """Tries all numbers of places at once."""
+    decimals, fit = _tried(numpy, floats[:, None], wide[:, None], _powers_of(numpy))
+    return decimals[numpy.arange(len(floats)), fit.argmax(axis=1)]
+
+
+def _of_many(numpy: Any, floats: Any, wide: Any) -> Any:
+    """Tries the places that the first one has, and then fewer for those that fit and more for the others."""
+    start = int(_tried(numpy, floats[:1], wide[:1], _powers_of(numpy))[1].argmax())
+    found, fit = _tried(numpy, floats, wide, _POWERS[start])
+    left = fit.nonzero()[0]
+    for power in _POWERS[:start][::-1]:
+        decimals, fit_too = _tried(numpy, floats.take(left), wide.take(left), power)
+        few = fit_too.nonzero()[0]
+        left = left.take(few)
+        found[left] = decimals.take(few)
+    _with_more_places(numpy, floats, wide, found, (~fit).nonzero()[0], start)
     return found
 
 
-def _of_digits(numpy: Any, found: Any, left: Any, digits: int, dtype: Any) -> Tuple[Any, Any]:
-    """Puts decimals of so many digits at the places where these print; which places are left, and which must be looked at one by one."""
-    exact = found[left]
-    powers = digits - 1 - numpy.floor(numpy.log10(numpy.abs(exact))).astype(numpy.int64)
-    tens = 10.0**numpy.minimum(numpy.abs(powers), _MOST_POWER)
-    scaled = numpy.where(powers >= 0, exact * tens, exact / tens)
-    whole = numpy.rint(scaled)
-    near = numpy.where(powers >= 0, whole / tens, whole * tens)
-    small = numpy.abs(exact) < _KINDS[dtype.itemsize].least
-    below, above = (((near * (1 + end)).astype(dtype) == exact) for end in (-_NEAR_END, _NEAR_END))
-    half = numpy.abs(numpy.abs(scaled - whole) - 0.5) < _NEAR_HALF
-    lonely = numpy.abs(numpy.frexp(exact)[0]) == 0.5
-    doubtful = small | (numpy.abs(powers) > _MOST_POWER) | (below != above) | below & half | ~below & lonely
-    prints = below & ~doubtful
-    found[left[prints]] = near[prints]
-    return left[~prints & ~doubtful], left[doubtful]
+def _with_more_places(numpy: Any, floats: Any, wide: Any, found: Any, left: Any, start: int) -> None:
+    for power in _POWERS[start + 1:]:
+        if not len(left):
+            return
+        found[left], fit = _tried(numpy, floats.take(left), wide.take(left), power)
+        left = left.take((~fit).nonzero()[0])

@@ -5,9 +5,9 @@ import sys
 from array import array
 from fractions import Fraction
 from itertools import compress
-from typing import Any, Dict, List, NamedTuple, Optional, Sequence, Tuple
+from typing import Any, Dict, Iterable, List, NamedTuple, Optional, Sequence, Tuple
 
-from . import _exact as exact, _naming as naming, _printing as printing
+from . import _exact as exact, _naming as naming, _parts as parts, _printing as printing
 from ._library import MOST_PERSONS, Lent
 from ._numbers import ONE, Ratio, Unit, in_unit, ratio_of, unit_of
 
@@ -207,15 +207,26 @@ def costs_of_pairs(problem: Problem, rows: Any, columns: Any) -> List[Any]:
             places = problem.numpy.asarray(rows, problem.numpy.intp) * problem.n_columns + columns
             return list(costs[places.astype(problem.numpy.intp)].tolist())
         return [costs[row * problem.n_columns + column] for row, column in zip(rows, columns)]
-    own = [0] * (problem.n_rows + 1)
-    for row, column in zip(rows, columns):
-        own[row + 1] = column + 1
-    persons = problem.persons.tolist()
-    wanted = map(operator.eq, map(own.__getitem__, persons), problem.objects.tolist())
     least: Dict[int, Any] = {}
-    for person, cost in compress(zip(persons, listed_costs(problem)), wanted):
+    for person, cost in _listed_of_pairs(problem, rows, columns):
         least[person] = min(cost, least.get(person, cost))
     return [least.get(row + 1) for row in map(int, rows)]
+
+
+def _listed_of_pairs(problem: Problem, rows: Any, columns: Any) -> Iterable[Tuple[int, Any]]:
+    """The persons and costs of listed pairs that are among some pairs, no two of one row."""
+    if problem.numpy:
+        own = problem.numpy.zeros(problem.n_rows + 1, problem.numpy.uint16)
+        own[problem.numpy.asarray(rows, problem.numpy.intp) + 1] = problem.numpy.asarray(columns, problem.numpy.intp) + 1
+        persons, objects = problem.persons, problem.objects
+        places = parts.places_where(problem.numpy, len(persons), lambda part: own[persons[part]] == objects[part])
+        return zip(persons[places].tolist(), plain(problem.costs)[places].tolist())
+    numbers = [0] * (problem.n_rows + 1)
+    for row, column in zip(rows, columns):
+        numbers[row + 1] = column + 1
+    listed_persons = problem.persons.tolist()
+    wanted = map(operator.eq, map(numbers.__getitem__, listed_persons), problem.objects.tolist())
+    return compress(zip(listed_persons, listed_costs(problem)), wanted)
 
 
 def listed_costs(problem: Problem) -> List[Any]:
@@ -418,6 +429,9 @@ def of_pairs(n_rows: Any, n_columns: Any, rows: Any, columns: Any, costs: Any, m
 
 def once(problem: Problem) -> Problem:
     """The problem in which a pair that is given several times has its least cost alone."""
+    if problem.numpy:
+        places = _places_once(problem)
+        return problem if places is None else kept(problem, places)
     keys = [MOST_PERSONS * int(person) + int(item) for person, item in zip(problem.persons, problem.objects)]
     if len(set(keys)) == len(keys):
         return problem
@@ -427,6 +441,27 @@ def once(problem: Problem) -> Problem:
         if before != place and _is_less(problem, place, before):
             least[key] = place
     return kept(problem, sorted(least.values()))
+
+
+def _places_once(problem: Problem) -> Any:
+    """The places of the first of the least costs of each pair, rising; None where no pair is given twice. Doubles are in the order of the
+    decimals that they print as."""
+    numpy = problem.numpy
+    keys = (problem.persons.astype(numpy.int64) - 1) * problem.n_columns + problem.objects - 1
+    if (keys[1:] > keys[:-1]).all() or _are_different(numpy, keys, problem.n_rows * problem.n_columns):
+        return None
+    order = parts.whole(len(keys), lambda: numpy.lexsort((problem.costs, keys)))
+    return numpy.sort(order[numpy.diff(keys[order], prepend=-1) > 0])
+
+
+def _are_different(numpy: Any, keys: Any, most: int) -> bool:
+    """Whether no two of some numbers from 0 below a bound are the same."""
+    if most > 64 * len(keys):
+        ordered = parts.whole(len(keys), lambda: numpy.sort(keys))
+        return bool((ordered[1:] > ordered[:-1]).all())
+    seen = numpy.zeros(most, bool)
+    seen[keys] = True
+    return bool(numpy.count_nonzero(seen) == len(keys))
 
 
 def _is_less(problem: Problem, place: int, other: int) -> bool:

@@ -98,7 +98,7 @@ def solve(costs: Any, maximize: bool = False, decimals: Optional[int] = None, st
     maximize : bool, optional
         Whether to find the greatest sum, not the least.
     decimals : int, optional
-        Rounds each cost to so many decimal places first, halves to even. If it isn't given, nothing is rounded.
+        Rounds each cost to so many decimal places first, 0 to 1000, halves to even. If it isn't given, nothing is rounded.
     start : Result or list of numbers, optional
         The result of a similar problem, or prices to start from: one for each column, in the unit of the costs, as those of `check`.
         The cost is the same whatever they are.
@@ -107,8 +107,8 @@ def solve(costs: Any, maximize: bool = False, decimals: Optional[int] = None, st
     missing : {"refuse", "forbid"}, optional
         Whether NaN, and what the mask of an array covers, is refused, or forbids its pair.
     timeout : float, optional
-        After so many seconds TimeoutError is raised. The library's work goes on in a thread of its own until it ends, and
-        nothing of the caller's is changed.
+        After so many seconds TimeoutError is raised, in reading too. The library's work goes on in a thread of its own until it ends,
+        and nothing of the caller's is changed.
 
     Returns
     -------
