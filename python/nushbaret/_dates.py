@@ -71,6 +71,9 @@ def dates_of(names: Sequence[str]) -> Dates:
         if found is None:
             return Dates(None, f"{name} is no date")
         written.append(found)
+    wrong = [own.name for own in written if own.year is not None and _dated(own) is None]
+    if wrong:
+        return Dates(None, f"{wrong[0]} is no day of the calendar")
     if all(own.year is None for own in written):
         return Dates(None, f"no date has a year: {names[0]}" if names else "there are none")
     return _all_dated(written, sorted(found for found in map(_dated, written) if found is not None))
