@@ -14,6 +14,7 @@ from ._answer import Answer, Plan, Wish, answer_of, listed
 from ._exact import MOST_PLACES
 from ._files import STANDARD_OUTPUT, Output, OutputFault, print_content, refuse_existing, write_files
 from ._groups import missing_of, read_counts, read_groups, refuse_two_of_a_group, with_rules
+from ._names import without_marks
 from ._roster import OldPlan, PlanLine, Roster, read_old_plan, read_plan, read_roster
 from ._sheets import RosterFault, quoted
 from ._texts import Fair, Report, as_csv, first_lines, gone_line, printed, read_lines
@@ -79,7 +80,7 @@ def _run(options: Options) -> int:
     for plan in (report.kept, report.hand):
         if plan is not None and plan.gone:
             _say(gone_line(plan, report.roster))
-    lines = first_lines(report)
+    lines = list(map(without_marks, first_lines(report)))
     is_content = _write(report, lines)
     skipped = [f"{output.path} isn't written: there is no plan" for output in options.outputs if not _is_written(output, answer)]
     _print_lines(lines + printed(report) + skipped, is_content)

@@ -5,6 +5,7 @@ from typing import Dict, List, NamedTuple, Optional, Sequence, Tuple
 
 from ._answer import MOST_NAMES_SHOWN, Answer, Pair, Plan, counted, left_out, named, sentence
 from ._groups import order_of
+from ._names import joined
 from ._roster import OldPlan, PlanLine, Roster, alike, like
 from ._sheets import SEPARATORS, quoted
 from ._words import Options
@@ -60,7 +61,7 @@ def gone_line(plan: OldPlan, roster: Roster) -> str:
 
 
 def first_lines(report: Report) -> List[str]:
-    """A sentence for each group that is short, and the cost of the plan."""
+    """A sentence for each group that is short, with marks around names, and the cost of the plan."""
     roster, answer, fair = report.roster, report.answer, report.fair
     lines = [sentence(roster, short, bool(report.options.fixed)) for short in answer.groups]
     if answer.plan is not None:
@@ -86,7 +87,7 @@ def printed(report: Report) -> List[str]:
     plan = report.answer.plan
     if plan is None:
         return []
-    lines = rows_of(report.roster, plan) + [f"{out.how}: {', '.join(out.names)}" for out in left_out(report.roster, plan)]
+    lines = rows_of(report.roster, plan) + [f"{out.how}: {joined(out.names)}" for out in left_out(report.roster, plan)]
     for note in notes_of(report, plan):
         lines += [note.line, *("  " + detail for detail in note.details)]
     return lines
@@ -112,7 +113,7 @@ def rows_of(roster: Roster, plan: Plan) -> List[str]:
         text = f"{roster.objects[pair.object]}, {roster.shown(pair.cost)}" + (" (fixed)" if pair.fixed else "")
         own.setdefault(pair.person, []).append(text)
     lines = [f"{roster.persons[person]}{_times(roster, len(texts))}: {'; '.join(texts)}" for person, texts in own.items()]
-    return lines + [f"at {roster.objects[object_]}{_times(roster, len(who))}: {', '.join(who)}" for object_, who in persons_at(roster, plan)]
+    return lines + [f"at {roster.objects[object_]}{_times(roster, len(who))}: {joined(who)}" for object_, who in persons_at(roster, plan)]
 
 
 def persons_at(roster: Roster, plan: Plan) -> List[Tuple[int, List[str]]]:

@@ -44,15 +44,15 @@ class Week(Runs):
         self.expect(0, "least hours: 7\nAda (2): early Tue, 3; early Mon, 1\nBen (2): early Tue, 2; late Mon, 1\n"
                     "at early Tue (2): Ada, Ben\nat early Mon: Ada\nat late Mon: Ben\n", "", *RULES)
         self.file("g.csv", "shift,day\nearly Tue,all\nearly Mon,all\nlate Mon,all\n")
-        self.expect(1, "Ada must take 2 shifts, and can take at most 1: Ada at most one of day all: allow others, or let Ada take one fewer\n"
-                    "Ben must take 2 shifts, and can take at most 1: Ben at most one of day all: allow others, or let Ben take one fewer\n"
+        self.expect(1, "Ada must take 2 shifts, and can take at most 1: one of each day (all): allow others, or let this nurse take one fewer\n"
+                    "Ben must take 2 shifts, and can take at most 1: one of each day (all): allow others, or let this nurse take one fewer\n"
                     "least hours of 2 pairs: 2\nAda: early Mon, 1\nBen: late Mon, 1\nat early Mon: Ada\nat late Mon: Ben\nwithout: Ada (1 of 2), Ben (1 of 2)\n"
                     "unused: early Tue (0 of 2)\n", "", *RULES, "--as-many-as-can")
 
     def test_as_many_as_can(self):
         self.file("p.csv", "shift,at least,at most\nearly Mon,2,2\nlate Mon,2,2\nearly Tue,1,2\n")
-        short = ("3 nurses (Ada, Ben, Cleo) can take at most 3 of the 4 places that must be filled at 2 shifts (early Mon (2), late Mon (2)) of "
-                 "day Mon: Ada, Ben, Cleo at most one each of day Mon: allow others there, or fill one fewer")
+        short = ("3 nurses can take at most 3 of the 4 places that must be filled at 2 shifts (early Mon (2), late Mon (2)) of day Mon: "
+                 "3 one of each day, so at most 1 each (Ada, Ben, Cleo): allow others there, or fill one fewer")
         self.expect(1, short + "\n", "", *RULES)
         status, out, _ = self.run_words(*RULES, "--as-many-as-can", "--output", "p.json", "--html", "p.html")
         self.assertEqual(status, 1)
@@ -77,8 +77,8 @@ class Week(Runs):
         self.file("f.csv", "a,b\nBen,early Mon\nCleo,late Mon\n")
         self.file("t.csv", TASKS.replace("Ada,1,2", "Ada,2,2"))
         self.file("g.csv", DAYS.replace("early Tue,Tue", "early Tue,Mon"))
-        self.expect(1, "around the fixed pairs, Ada must take 2 shifts, and can take at most 1: Ada at most one of day Mon: allow others, or let "
-                    "Ada take one fewer\n", "", *RULES, "--fixed", "f.csv")
+        self.expect(1, "around the fixed pairs, Ada must take 2 shifts, and can take at most 1: one of each day (Mon): allow others, or let "
+                    "this nurse take one fewer\n", "", *RULES, "--fixed", "f.csv")
 
     def test_others(self):
         self.assertIn("no other plan is as good: the next best is 4, 1 more\n", self.run_words(*RULES, "--others")[1])
