@@ -5,7 +5,7 @@ from typing import Dict, List, NamedTuple, Optional, Sequence, Tuple
 
 from ._answer import MOST_NAMES_SHOWN, Answer, Pair, Plan, counted, left_out, named, sentence
 from ._groups import order_of
-from ._names import joined
+from ._names import joined, marked
 from ._roster import OldPlan, PlanLine, Roster, alike, like
 from ._sheets import SEPARATORS, quoted
 from ._words import Options
@@ -50,6 +50,18 @@ def read_lines(path: str, roster: Roster, on_terminal: bool) -> List[str]:
     if len(groups) > MOST_NAMES_SHOWN:
         lines.append(f"{path}: and {len(groups) - MOST_NAMES_SHOWN} more of these names")
     return lines
+
+
+def with_marks(report: Report) -> Report:
+    """A report whose texts have marks around names."""
+    groups, kept = report.roster.groups, report.kept
+    if groups is not None:
+        groups = groups._replace(names=list(map(marked, groups.names)))
+    if kept is not None:
+        kept = kept._replace(pairs=[(marked(person), marked(object_)) for person, object_ in kept.pairs], gone=list(map(marked, kept.gone)))
+    roster = report.roster._replace(persons=list(map(marked, report.roster.persons)), objects=list(map(marked, report.roster.objects)),
+                                    groups=groups)
+    return report._replace(roster=roster, kept=kept)
 
 
 def gone_line(plan: OldPlan, roster: Roster) -> str:

@@ -6,7 +6,7 @@ import unittest
 
 sys.path.insert(0, str(pathlib.Path(__file__).resolve().parents[2] / "python"))
 
-from test_command import OTHERS, Runs
+from test_command import OTHERS, Runs, without_names
 
 WEEK = ("nurse,shift,hours\nAda,early Mon,1\nAda,late Mon,2\nAda,early Tue,3\nBen,early Mon,2\nBen,late Mon,1\nBen,early Tue,2\n"
         "Cleo,late Mon,5\nCleo,early Tue,1\nCleo,office,4\n")
@@ -63,7 +63,7 @@ class Week(Runs):
         lack = plan["missing"][0]
         self.assertEqual((lack["had"], lack["least"]), (1, 2))
         self.assertIn(f"missing: {lack['object']}: 1 of 2\n", out)
-        self.assertIn("<em>1 of 2</em>", self.read("p.html"))
+        self.assertIn('<em lang="en">1 of 2</em>', self.read("p.html"))
 
     def test_keep_fixed_and_compare(self):
         self.file("k.csv", "a,b\nAda,late Mon\nBen,early Mon\nCleo,early Tue\n")
@@ -90,19 +90,22 @@ class Week(Runs):
     def test_page_by_days(self):
         self.run_words(*RULES, "--html", "p.html")
         page = self.read("p.html")
-        self.assertIn('<thead><tr><th scope="col">nurse</th><th scope="col">Tue</th><th scope="col">Mon</th><th scope="col"></th></tr>', page)
-        self.assertIn('<tr><th scope="row">Ada</th><td></td><td>early</td><td></td></tr>', page)
-        self.assertIn('<tr><th scope="row">early</th><td>Cleo</td><td>Ada</td><td></td></tr>', page)
-        self.assertIn('<tr><th scope="row">office</th><td></td><td></td><td></td></tr>', page)
+        self.assertIn('<thead><tr><th scope="col">nurse</th><th scope="col">Tue</th><th scope="col">Mon</th><th scope="col"></th>'
+                      '<th scope="col" class="total" lang="en">total</th></tr></thead>', page)
+        self.assertIn('<tr><th scope="row">Ada</th><td class="free">\u2013</td><td>early</td><td class="free"><small lang="en">off</small></td>'
+                      '<td class="total">1</td></tr>', page)
+        self.assertIn('<tr class="totals"><th scope="row" lang="en">total</th><td>1</td><td>2</td><td>0</td><td class="total">3</td></tr>', page)
+        self.assertIn('<tr><th scope="row">early</th><td><div>Cleo</div></td><td><div>Ada</div></td><td class="none"></td></tr>', page)
+        self.assertIn('<tr><th scope="row">office</th><td class="none"></td><td class="none"></td><td></td></tr>', page)
 
     def test_many_days_stand_in_several_tables(self):
         self.file("r.csv", "a,b,c\n" + "".join(f"Ada,early {day},1\n" for day in range(1, 32)))
         self.file("t.csv", "a,least,most\nAda,20,31\n")
         self.file("g.csv", "b,day\n" + "".join(f"early {day},{day}\n" for day in range(1, 32)))
         self.run_words("r.csv", "--tasks", "t.csv", "--groups", "g.csv", "--html", "p.html")
-        page = self.read("p.html")
+        page = without_names(self.read("p.html"))
         for caption in ("day 1 to 7", "day 8 to 14", "day 15 to 21", "day 22 to 28", "day 29 to 31"):
-            self.assertEqual(page.count(f"<caption>{caption}</caption>"), 2)
+            self.assertEqual(page.count(f'<caption lang="en">{caption}</caption>'), 2)
 
     def test_labels_stay_apart(self):
         """A group's name isn't left out where two objects would look the same."""
