@@ -224,7 +224,7 @@ def content_of(report: Report, lines: List[str], kind: str) -> bytes:
     if kind == "xlsx":
         from ._workbook import as_xlsx
         return as_xlsx(report, plan)
-    return as_csv(report.roster, plan).encode()
+    return as_csv(report.roster, plan, report.kept).encode()
 
 
 def _print_lines(lines: List[str], is_content: bool) -> None:
