@@ -5,7 +5,7 @@ from typing import Dict, Iterator, List, NamedTuple, Optional, Sequence, Tuple
 
 from ._answer import MOST_NAMES_SHOWN, Answer, Pair, Plan, counted, left_out, named, sentence
 from ._changes import Lost, OfPerson, by_person, changes_of
-from ._groups import order_of
+from ._groups import Counts, order_of
 from ._roster import CHANGE, COMES, GOES, NOT_POSSIBLE, OldPlan, PlanLine, Roster, alike, like
 from ._sheets import SEPARATORS, quoted
 from ._words import Options
@@ -38,11 +38,11 @@ class Note(NamedTuple):
 
 
 def read_lines(path: str, roster: Roster, on_terminal: bool) -> List[str]:
-    """What standard error says of a roster: on a terminal how much was read, and always which names are hardly two."""
+    """What standard error says of a roster: on a terminal how much was read and how names count, and always which names are hardly two."""
     lines = []
     if on_terminal:
         persons, objects = counted(len(roster.persons), roster.titles[0]), counted(len(roster.objects), roster.titles[1])
-        lines.append(f"{persons}, {objects}, {counted(len(roster.costs), 'pair')}")
+        lines.append(f"{persons}, {objects}, {counted(len(roster.costs), 'pair')}{_rule(roster)}")
     if len(roster.sheets) > 1:
         lines.append(f"{path}: the sheet {quoted(roster.sheets[0])} was read, of {len(roster.sheets)}: --sheet reads another")
     groups = alike(roster.persons) + alike(roster.objects)
@@ -50,6 +50,24 @@ def read_lines(path: str, roster: Roster, on_terminal: bool) -> List[str]:
     if len(groups) > MOST_NAMES_SHOWN:
         lines.append(f"{path}: and {len(groups) - MOST_NAMES_SHOWN} more of these names")
     return lines
+
+
+def _rule(roster: Roster) -> str:
+    """Which rule decides, where names may count several times."""
+    if not roster.ruled:
+        return ""
+    return "; single counts: the side with the smaller sum takes all" if roster.least is None else "; bounds: each name's counts are kept"
+
+
+def forgotten_line(roster: Roster, counts: Counts, side: int) -> Optional[str]:
+    """What standard error says of the persons (side 0) or the objects that have no line in a file of counts; None where all have one."""
+    names = roster.objects if side else roster.persons
+    numbers = [number for number in range(len(names)) if number not in counts.bounds]
+    if not numbers:
+        return None
+    bound = "" if roster.least is None else "exactly " if side else "at most "
+    takes = "takes" if len(numbers) == 1 else "each takes"
+    return f"{counts.path}: no line for {named(numbers, roster.titles[side], names)}: {takes} {bound}one"
 
 
 def gone_line(plan: OldPlan, roster: Roster) -> str:
