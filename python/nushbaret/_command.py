@@ -8,7 +8,7 @@ import io
 import os
 import re
 import sys
-from typing import List, Optional, Sequence, Tuple
+from typing import TYPE_CHECKING, List, Optional, Sequence, Tuple
 
 from ._answer import Answer, Plan, Wish, answer_of, listed
 from ._exact import MOST_PLACES
@@ -18,6 +18,9 @@ from ._roster import OldPlan, PlanLine, Roster, read_old_plan, read_plan, read_r
 from ._sheets import RosterFault, quoted
 from ._texts import Fair, Report, as_csv, first_lines, forgotten_line, gone_line, printed, read_lines
 from ._words import Options, read_words
+
+if TYPE_CHECKING:
+    from ._past import Past
 
 PLANNED, NONE, WORDS, REFUSED, DEVICE = range(5)
 INTERRUPTED = 130
@@ -88,10 +91,14 @@ def _run(options: Options) -> int:
 
 def _report(options: Options, roster: Roster) -> Report:
     """The answer, and what was read to compare it with."""
-    fixed = _read_fixed(options.fixed, roster) if options.fixed else []
-    hand = read_hand(options.compare, roster, fixed) if options.compare else None
     # Counts may have changed since an earlier plan: what of it can't be any more is changed.
     kept = read_old_plan(options.keep, roster, not roster.ruled) if options.keep else None
+    roster, kept, past = _read_past(options, roster, kept)
+    fixed = _read_fixed(options.fixed, roster) if options.fixed else []
+    if past is not None:
+        from ._past import with_fixed
+        fixed = with_fixed(roster, past, fixed, options.fixed or "")
+    hand = read_hand(options.compare, roster, fixed) if options.compare else None
     pairs = None if kept is None else {(pair.person, pair.object) for pair in kept.known}
     wish = Wish(fixed, options.max, options.as_many_as_can, pairs, change_cost(options, roster), options.others, options.plans)
     try:
@@ -101,6 +108,17 @@ def _report(options: Options, roster: Roster) -> Report:
     if hand is not None and answer.plan is not None:
         judge_hand(roster, hand, answer.plan)
     return Report(options, roster, answer, kept, hand, fair)
+
+
+def _read_past(options: Options, roster: Roster, kept: Optional[OldPlan]) -> Tuple[Roster, Optional[OldPlan], Optional["Past"]]:
+    """The roster and the kept plan with what is past, if any is."""
+    if options.past is None or kept is None or roster.groups is None:
+        return roster, kept, None
+    from ._past import with_past
+    roster, kept, past = with_past(roster, roster.groups, kept, options.past, options.round)
+    for line in past.lines:
+        _say(line)
+    return roster, kept, past
 
 
 def _answered(roster: Roster, wish: Wish, is_fair: bool) -> Tuple[Answer, Optional[Fair]]:

@@ -24,8 +24,10 @@ def _short(roster: Roster, short: Short, line: str) -> Content:
 
 
 def _pair(roster: Roster, pair: Pair, cost: str) -> Content:
-    """A pair, and the group of its object, where it is in one."""
+    """A pair, the group of its object, where it is in one, and whether it is in the past, where there is one."""
     found: Content = {"person": roster.persons[pair.person], "object": roster.objects[pair.object], "cost": cost, "fixed": pair.fixed}
+    if roster.past:
+        found["past"] = pair.object in roster.past
     if roster.groups is not None and pair.object in roster.groups.of_objects:
         found["group"] = roster.groups.names[roster.groups.of_objects[pair.object]]
     return found

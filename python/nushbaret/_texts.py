@@ -72,7 +72,7 @@ def forgotten_line(roster: Roster, counts: Counts, side: int) -> Optional[str]:
 
 def gone_line(plan: OldPlan, roster: Roster) -> str:
     """What an earlier plan has and the roster has no more, or under another name."""
-    names = roster.persons + roster.objects
+    names = [name for name in roster.persons + roster.objects if name not in plan.gone]
     near = [like(name, names) if len(plan.gone) <= MOST_NAMES_SHOWN else [] for name in plan.gone]
     shown = [name + (f" (did you mean {' or '.join(those)}?)" if those else "") for name, those in zip(plan.gone, near)]
     return f"{plan.path}: the roster has no {', '.join(shown)}"
@@ -128,10 +128,14 @@ def rows_of(roster: Roster, plan: Plan) -> List[str]:
     """Each person with all of its own, then, if any object may have several, each object with all of its own."""
     own: Dict[int, List[str]] = {}
     for pair in plan.pairs:
-        text = f"{roster.objects[pair.object]}, {roster.shown(pair.cost)}" + (" (fixed)" if pair.fixed else "")
+        text = f"{roster.objects[pair.object]}, {roster.shown(pair.cost)}{_why_fixed(roster, pair)}"
         own.setdefault(pair.person, []).append(text)
     lines = [f"{roster.persons[person]}{_times(roster, len(texts))}: {'; '.join(texts)}" for person, texts in own.items()]
     return lines + [f"at {roster.objects[object_]}{_times(roster, len(who))}: {', '.join(who)}" for object_, who in persons_at(roster, plan)]
+
+
+def _why_fixed(roster: Roster, pair: Pair) -> str:
+    return "" if not pair.fixed else " (past)" if pair.object in roster.past else " (fixed)"
 
 
 def persons_at(roster: Roster, plan: Plan) -> List[Tuple[int, List[str]]]:
@@ -288,10 +292,10 @@ def _lines_with_changes(roster: Roster, plan: Plan, kept: OldPlan) -> List[Tuple
     """The lines of a plan and of the pairs that go, person by person, and those of pairs that aren't possible now."""
     found = changes_of(roster, plan, kept)
     new = set(found.comes)
-    lines = [(pair.person, (*line, COMES if pair in new else "")) for pair, line in zip(plan.pairs, _lines_of(roster, plan))]
+    lines: List[Tuple[int, Tuple[str, ...]]] = [(pair.person, (*line, COMES if pair in new else "")) for pair, line in zip(plan.pairs, _lines_of(roster, plan))]
     lines += [(pair.person, (roster.persons[pair.person], roster.objects[pair.object], "", GOES)) for pair in found.goes]
-    lost = [(pair.person, pair.object, "", NOT_POSSIBLE) for pair in found.lost]
-    return [line for _, line in sorted(lines, key=lambda those: those[0])] + lost
+    lost = ((pair.person, pair.object, "", NOT_POSSIBLE) for pair in found.lost)
+    return [*(line for _, line in sorted(lines, key=lambda those: those[0])), *lost]
 
 
 def _title_quoting(roster: Roster) -> int:
