@@ -53,7 +53,7 @@ def counted_of(roster: Roster, wish: Wish) -> Counted:
             costs.append(sign * cost)
     if wish.kept is not None and wish.change:
         costs = [2 * cost + (-wish.change if pair in wish.kept else wish.change) for cost, pair in zip(costs, zip(rows, columns))]
-    return Counted(*_bounds(roster, wish.fixed), group_of, n_groups, rows, columns, costs)
+    return Counted(*bounds_around(roster, wish.fixed), group_of, n_groups, rows, columns, costs)
 
 
 def _groups(roster: Roster) -> Tuple[List[int], int]:
@@ -65,7 +65,7 @@ def _groups(roster: Roster) -> Tuple[List[int], int]:
     return [groups.of_objects.get(object_, count + object_) for object_ in range(len(roster.objects))], count
 
 
-def _bounds(roster: Roster, fixed: Sequence[PlanLine]) -> Tuple[List[Bounds], List[Bounds]]:
+def bounds_around(roster: Roster, fixed: Sequence[PlanLine]) -> Tuple[List[Bounds], List[Bounds]]:
     """How many each person and each object takes in addition to fixed pairs, in the past none. With single numbers the smaller side takes
     all."""
     had, used = Counter(pair.person for pair in fixed), Counter(pair.object for pair in fixed)

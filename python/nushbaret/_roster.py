@@ -438,6 +438,14 @@ def read_old_plan(path: str, roster: Roster, by_counts: bool = True) -> OldPlan:
     return old_plan_of(path, roster, _named_pairs(path, roster), by_counts)
 
 
+def read_hand_plan(path: str, roster: Roster) -> Tuple[OldPlan, List[NamedPair]]:
+    """Reads a plan from elsewhere, whatever rules it breaks: each pair once, and those that stand again."""
+    first: Dict[Tuple[str, str], NamedPair] = {}
+    named = _named_pairs(path, roster)
+    repeated = [pair for pair in named if first.setdefault(pair[:2], pair) is not pair]
+    return old_plan_of(path, roster, list(first.values()), False), repeated
+
+
 def old_plan_of(path: str, roster: Roster, named: List[NamedPair], by_counts: bool) -> OldPlan:
     """An earlier plan beside a roster."""
     gone: Dict[str, None] = {}
