@@ -21,6 +21,12 @@ def marked(name: str) -> str:
     return f"{BEGIN}{name}{END}"
 
 
+def with_names_marked(text: str, names: Sequence[str]) -> str:
+    """A text with marks around those of some names that it has."""
+    longest_first = "|".join(map(re.escape, sorted(set(names), key=len, reverse=True)))
+    return re.sub(rf"(?<!\w)(?:{longest_first})(?!\w)", lambda found: marked(found[0]), text) if names else text
+
+
 def without_marks(text: str) -> str:
     """A text as people read it."""
     return text.replace(BEGIN, "").replace(END, "")

@@ -10,7 +10,7 @@ from array import array
 from bisect import bisect_left, bisect_right
 from itertools import compress, islice, repeat
 from operator import add, le, mul
-from typing import Any, Dict, List, NamedTuple, Optional, Sequence, Set, Tuple, cast
+from typing import Any, Dict, FrozenSet, List, NamedTuple, Optional, Sequence, Set, Tuple, cast
 
 from ._costs import Costs
 from ._library import MOST_PERSONS, Numbers
@@ -19,7 +19,9 @@ from ._sheets import MOST_BYTES, RosterFault, Sheet, is_json, quoted, unit_of
 LINES, MATRIX = "lines", "matrix"
 TITLES = ("person", "object", "cost")
 # Of plans in JSON; those before are read too.
-FORMAT = 2
+FORMAT = 3
+# The column of a plan that says what changed from an earlier one, and its words: for a new pair, and for two that are no pairs of the plan.
+CHANGE, COMES, GOES, NOT_POSSIBLE = "change", "comes", "goes", "not possible"
 
 
 def is_plain(name: str) -> bool:
@@ -95,7 +97,8 @@ class Roster(NamedTuple):
     objects how many they take at most, where it isn't one; None where nothing was said. Where bounds alone decide, `least` says of persons
     and of objects how many they take at least, where it isn't 0. `rounded` says whether any cost was changed by
     rounding, `has_bom` whether the file began with a BOM, `is_matrix` whether it is a matrix, and `by_persons`
-    whether the pairs stand person by person. `sheets` are those of a workbook, first the one that was read."""
+    whether the pairs stand person by person. `sheets` are those of a workbook, first the one that was read. Of the objects in `past` nothing
+    is planned."""
 
     persons: List[str]
     objects: List[str]
@@ -117,6 +120,7 @@ class Roster(NamedTuple):
     least: Optional[Tuple[Dict[int, int], Dict[int, int]]] = None
     groups: Optional[Groups] = None
     sheets: Sequence[str] = ()
+    past: FrozenSet[int] = frozenset()
 
     @property
     def ruled(self) -> bool:
@@ -392,7 +396,7 @@ def read_plan(path: str, roster: Roster) -> List[PlanLine]:
     then for the first pair that the roster forbids; and `OSError` where the file can't be read.
     """
     places = [(_known(path, roster, person, line, 1, 1), _known(path, roster, object_, line, 2, 2), line)
-              for person, object_, line in _named_pairs(path, roster)]
+              for person, object_, line, _ in _named_pairs(path, roster)]
     _refuse_twice(path, roster, places)
     costs = roster.costs_of({(person, object_) for person, object_, _ in places})
     for person, object_, line in places:
@@ -401,15 +405,29 @@ def read_plan(path: str, roster: Roster) -> List[PlanLine]:
     return [PlanLine(person, object_, line, costs[person, object_]) for person, object_, line in places]
 
 
+class NamedPair(NamedTuple):
+    """A pair of a plan by names, the line where it stands, or in JSON its number, and its cost as it is written there, if any is."""
+
+    person: str
+    object: str
+    line: int
+    cost: str
+
+
 class OldPlan(NamedTuple):
     """An earlier plan, by the file's name: its pairs by names, those that the roster allows, the names that the roster doesn't have, and
     the pairs of known names that it forbids, each with its line."""
 
     path: str
-    pairs: List[Tuple[str, str]]
+    named: List[NamedPair]
     known: List[PlanLine]
     gone: List[str]
     forbidden: List[Tuple[int, int, int]]
+
+    @property
+    def pairs(self) -> List[Tuple[str, str]]:
+        """All pairs by names."""
+        return [pair[:2] for pair in self.named]
 
 
 def read_old_plan(path: str, roster: Roster, by_counts: bool = True) -> OldPlan:
@@ -417,10 +435,22 @@ def read_old_plan(path: str, roster: Roster, by_counts: bool = True) -> OldPlan:
 
     Raises `RosterFault` for the first name that stands more often than it may, if counts are to be kept, and for a pair that stands twice.
     """
+    return old_plan_of(path, roster, _named_pairs(path, roster), by_counts)
+
+
+def read_hand_plan(path: str, roster: Roster) -> Tuple[OldPlan, List[NamedPair]]:
+    """Reads a plan from elsewhere, whatever rules it breaks: each pair once, and those that stand again."""
+    first: Dict[Tuple[str, str], NamedPair] = {}
     named = _named_pairs(path, roster)
+    repeated = [pair for pair in named if first.setdefault(pair[:2], pair) is not pair]
+    return old_plan_of(path, roster, list(first.values()), False), repeated
+
+
+def old_plan_of(path: str, roster: Roster, named: List[NamedPair], by_counts: bool) -> OldPlan:
+    """An earlier plan beside a roster."""
     gone: Dict[str, None] = {}
     places = []
-    for person, object_, line in named:
+    for person, object_, line, _ in named:
         gone.update({} if person in roster.person_numbers else {person: None})
         gone.update({} if object_ in roster.object_numbers else {object_: None})
         if person in roster.person_numbers and object_ in roster.object_numbers:
@@ -428,27 +458,26 @@ def read_old_plan(path: str, roster: Roster, by_counts: bool = True) -> OldPlan:
     _refuse_twice(path, roster, places, by_counts)
     costs = roster.costs_of({(person, object_) for person, object_, _ in places})
     known = [PlanLine(person, object_, line, costs[person, object_]) for person, object_, line in places if (person, object_) in costs]
-    return OldPlan(path, [(person, object_) for person, object_, _ in named], known, list(gone),
-                   [place for place in places if place[:2] not in costs])
+    return OldPlan(path, named, known, list(gone), [place for place in places if place[:2] not in costs])
 
 
-NamedPairs = List[Tuple[str, str, int]]
-
-
-def _named_pairs(path: str, roster: Roster) -> NamedPairs:
-    """The pairs of a plan by names, each with its line, or in JSON with its number."""
+def _named_pairs(path: str, roster: Roster) -> List[NamedPair]:
+    """The pairs of a plan by names. A third column has costs, unless it is that of groups."""
     if is_json(path):
         return _plan_of_json(path)
-    sheet = Sheet(path)
+    sheet = Sheet(path, roster.comma)
     line, title = sheet.title()
     if len(title) < 2:
         sheet.refuse("each line must have a person and an object", line)
     if title[0] in roster.person_numbers and title[1] in roster.object_numbers:
         sheet.refuse(f"a title line must come first, and {title[0]}, {title[1]} is a pair", line)
-    return [(sheet.name(cells[0], line, 1), sheet.name(cells[1], line, 2), line) for line, cells in sheet.body(len(title))]
+    change = title.index(CHANGE, len(TITLES)) if CHANGE in title[len(TITLES):] else None
+    has_costs = len(title) > 2 and (roster.groups is None or title[2] != roster.groups.title)
+    return [NamedPair(sheet.name(cells[0], line, 1), sheet.name(cells[1], line, 2), line, cells[2] if has_costs else "")
+            for line, cells in sheet.body(len(title)) if change is None or cells[change] not in (GOES, NOT_POSSIBLE)]
 
 
-def _plan_of_json(path: str) -> NamedPairs:
+def _plan_of_json(path: str) -> List[NamedPair]:
     with open(path, "rb") as file:
         data = file.read(MOST_BYTES)
     try:
@@ -458,14 +487,16 @@ def _plan_of_json(path: str) -> NamedPairs:
         raise RosterFault(path, f"no plan with pairs in JSON: {fault}") from fault
     if form not in range(1, FORMAT + 1):
         raise RosterFault(path, f"format {form} of a plan in JSON, where 1 to {FORMAT} can be read")
-    return [(*_pair_of_json(path, pair, number), number) for number, pair in enumerate(pairs, 1)]
+    return [_pair_of_json(path, pair, number) for number, pair in enumerate(pairs, 1)]
 
 
-def _pair_of_json(path: str, pair: Any, number: int) -> Tuple[str, str]:
+def _pair_of_json(path: str, pair: Any, number: int) -> NamedPair:
     person, object_ = (pair.get(key) if isinstance(pair, dict) else None for key in ("person", "object"))
     if not isinstance(person, str) or not isinstance(object_, str) or not (person and object_):
         raise RosterFault(path, "a person and an object are needed, each a text", number)
-    return unicodedata.normalize("NFC", person), unicodedata.normalize("NFC", object_)
+    cost = pair.get("cost", "")
+    is_number = isinstance(cost, (str, int, float)) and not isinstance(cost, bool)
+    return NamedPair(unicodedata.normalize("NFC", person), unicodedata.normalize("NFC", object_), number, str(cost) if is_number else "")
 
 
 def known(sheet: Sheet, roster: Roster, cell: str, line: int, side: int, column: int) -> int:
