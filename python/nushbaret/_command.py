@@ -15,8 +15,8 @@ from ._exact import MOST_PLACES
 from ._files import STANDARD_OUTPUT, Output, OutputFault, print_content, refuse_existing, write_files
 from ._groups import missing_of, read_counts, read_groups, refuse_two_of_a_group, with_rules
 from ._roster import OldPlan, PlanLine, Roster, read_old_plan, read_plan, read_roster
-from ._sheets import RosterFault, quoted
-from ._texts import Fair, Report, as_csv, first_lines, gone_line, printed, read_lines
+from ._sheets import Reading, RosterFault, quoted
+from ._texts import Fair, Report, encoded_csv, first_lines, gone_line, printed, read_lines
 from ._words import Options, read_words
 
 PLANNED, NONE, WORDS, REFUSED, DEVICE = range(5)
@@ -118,7 +118,7 @@ def _answered(roster: Roster, wish: Wish, is_fair: bool) -> Tuple[Answer, Option
 def _read(options: Options) -> Roster:
     """The roster, with how many each name takes."""
     roster = read_roster(options.roster, options.form, options.decimals, options.decimal_comma, options.round, options.sheet,
-                         options.skip_rows)
+                         options.skip_rows, Reading(options.encoding, _say))
     for line in read_lines(options.roster, roster, sys.stderr is not None and sys.stderr.isatty()):
         _say(line)
     tasks = read_counts(options.tasks, roster, False) if options.tasks else None
@@ -224,7 +224,7 @@ def content_of(report: Report, lines: List[str], kind: str) -> bytes:
     if kind == "xlsx":
         from ._workbook import as_xlsx
         return as_xlsx(report, plan)
-    return as_csv(report.roster, plan).encode()
+    return encoded_csv(report.roster, plan)
 
 
 def _print_lines(lines: List[str], is_content: bool) -> None:

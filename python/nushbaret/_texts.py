@@ -42,8 +42,6 @@ def read_lines(path: str, roster: Roster, on_terminal: bool) -> List[str]:
     if on_terminal:
         persons, objects = counted(len(roster.persons), roster.titles[0]), counted(len(roster.objects), roster.titles[1])
         lines.append(f"{persons}, {objects}, {counted(len(roster.costs), 'pair')}")
-    if len(roster.sheets) > 1:
-        lines.append(f"{path}: the sheet {quoted(roster.sheets[0])} was read, of {len(roster.sheets)}: --sheet reads another")
     groups = alike(roster.persons) + alike(roster.objects)
     lines += [f"{path}: {', '.join(map(quoted, group))} differ in case or spaces alone" for group in groups[:MOST_NAMES_SHOWN]]
     if len(groups) > MOST_NAMES_SHOWN:
@@ -253,6 +251,15 @@ def as_csv(roster: Roster, plan: Plan) -> str:
     for pair in plan.pairs:
         writer.writerow((roster.persons[pair.person], roster.objects[pair.object], roster.shown(pair.cost)))
     return text.getvalue()
+
+
+def encoded_csv(roster: Roster, plan: Plan) -> bytes:
+    """The plan as CSV in the encoding of the roster's file, if it has all the letters there, and else in UTF-8."""
+    text = as_csv(roster, plan)
+    try:
+        return text.encode(roster.encoding)
+    except UnicodeEncodeError:
+        return text.encode("utf-8-sig")
 
 
 def _title_quoting(roster: Roster) -> int:

@@ -1,12 +1,15 @@
 """The words of the command: one table of options, from which the parser and the help come."""
 import argparse
+import contextlib
 import os
-from typing import Any, Callable, Dict, List, NamedTuple, NoReturn, Optional, Sequence, Tuple
+from typing import Any, Callable, Dict, NamedTuple, NoReturn, Optional, Sequence, Tuple
 
+from ._encodings import WESTERN
 from ._exact import MOST_PLACES
 from ._files import KINDS, Output
 from ._library import VERSION
 from ._roster import LINES, MATRIX
+from ._sheets import file_and_sheet
 
 NAME = "nushbaret"
 MOST_PLANS = 1000
@@ -55,6 +58,7 @@ class Options(NamedTuple):
     places: Optional[str]
     tasks: Optional[str]
     groups: Optional[str]
+    encoding: Optional[str]
     sheet: Optional[str]
     skip_rows: int
     max: bool
@@ -92,6 +96,16 @@ def _number(least: int, most: int) -> Callable[[str], int]:
     return read
 
 
+def _encoding(word: str) -> str:
+    """The name of an encoding that Python has."""
+    with contextlib.suppress(UnicodeError):
+        try:
+            b" ".decode(word)
+        except LookupError:
+            raise argparse.ArgumentTypeError(f"{word!r} is no encoding that Python has, such as Windows-1252 or UTF-8") from None
+    return word
+
+
 PLACES = tuple(map(str, range(MOST_PLACES + 1)))
 COUNT_OF_PLACES = Value("K", choices=PLACES, read=_number(0, MOST_PLACES))
 PLAN = Value("PLAN", True, (".csv", ".json", ".xlsx"))
@@ -108,7 +122,10 @@ OPTIONS = (
     Option("--round", "round costs to K decimal places, and say by how much that may matter", READING, "round", COUNT_OF_PLACES,
            choice="places"),
     Option("--decimal-comma", "costs are written as 2,50", READING, "decimal_comma"),
-    Option("--sheet", "read this sheet of a workbook (else the first)", READING, "sheet", Value("NAME")),
+    Option("--encoding", f"files of text are in this encoding (else UTF-8, or plain {WESTERN})", READING, "encoding",
+           Value("NAME", read=_encoding)),
+    Option("--sheet", "read this sheet of the roster's workbook (else the first); FILE.xlsx#SHEET names one of any file", READING, "sheet",
+           Value("NAME")),
     Option("--skip-rows", "skip so many rows above the titles", READING, "skip_rows", Value("K", read=_number(0, 10**6)), default=0),
     Option("--places", "lines of an object and how many persons it takes (else one): a number, or at least and at most", COUNTING, "places",
            COUNTS),
@@ -200,7 +217,9 @@ def _judge_files(options: Options, refuse: Callable[[str], NoReturn]) -> None:
                                if option.value is not None and option.value.is_file and not option.repeats]
     if "-" in read[1:]:
         refuse("only the roster can come from standard input")
-    seen = {os.path.realpath(path) for path in read if path}
+    if options.sheet is not None and file_and_sheet(options.roster)[1] is not None:
+        refuse(f"--sheet and {options.roster} both name a sheet")
+    seen = {os.path.realpath(file_and_sheet(path)[0]) for path in read if path}
     for output in options.outputs:
         place = os.path.realpath(output.path)
         if place in seen:
