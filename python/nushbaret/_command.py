@@ -16,7 +16,7 @@ from ._files import STANDARD_OUTPUT, Output, OutputFault, print_content, refuse_
 from ._groups import missing_of, read_counts, read_groups, refuse_two_of_a_group, with_rules
 from ._roster import OldPlan, PlanLine, Roster, read_old_plan, read_plan, read_roster
 from ._sheets import Reading, RosterFault, quoted
-from ._texts import Fair, Report, encoded_csv, first_lines, gone_line, printed, read_lines
+from ._texts import Fair, Report, as_csv, encoded_csv, first_lines, gone_line, printed, read_lines
 from ._words import Options, read_words
 
 PLANNED, NONE, WORDS, REFUSED, DEVICE = range(5)
@@ -36,10 +36,10 @@ def main(words: Optional[Sequence[str]] = None) -> int:
     int
         The status, 0 to 4, or 130 after Ctrl-C. Words that are refused, and `--help`, end by `SystemExit` with status 2 and 0.
     """
-    options = read_words(words)
     for stream in (sys.stdout, sys.stderr):
         if isinstance(stream, io.TextIOWrapper):
-            stream.reconfigure(errors="backslashreplace")
+            stream.reconfigure(encoding=None if stream.isatty() else "utf-8", errors="backslashreplace")
+    options = read_words(words)
     try:
         return _run(options)
     except RosterFault as fault:
@@ -82,7 +82,7 @@ def _run(options: Options) -> int:
     lines = first_lines(report)
     is_content = _write(report, lines)
     skipped = [f"{output.path} isn't written: there is no plan" for output in options.outputs if not _is_written(output, answer)]
-    _print_lines(lines + printed(report) + skipped, is_content)
+    _print_lines(lines + ([] if options.quiet else printed(report)) + skipped, is_content)
     return PLANNED if not answer.groups else NONE
 
 
@@ -202,7 +202,7 @@ def _write(report: Report, lines: List[str]) -> bool:
     """Writes the outputs, the files first. Whether standard output got one."""
     options = report.options
     outputs = [*options.outputs, *([Output(STANDARD_OUTPUT[0], options.print)] if options.print else [])]
-    contents = [(output, content_of(report, lines, output.kind)) for output in outputs if _is_written(output, report.answer)]
+    contents = [(output, content_of(report, lines, output)) for output in outputs if _is_written(output, report.answer)]
     write_files([(output.path, content) for output, content in contents if not output.is_standard], options.force)
     for output, content in contents:
         if output.is_standard:
@@ -210,8 +210,9 @@ def _write(report: Report, lines: List[str]) -> bool:
     return any(output.is_standard for output in outputs)
 
 
-def content_of(report: Report, lines: List[str], kind: str) -> bytes:
-    """What is written of a kind."""
+def content_of(report: Report, lines: List[str], output: Output) -> bytes:
+    """What is written to an output. Standard output is UTF-8."""
+    kind = output.kind
     if kind == "json":
         from ._json import as_json
         return as_json(report, lines).encode()
@@ -224,7 +225,7 @@ def content_of(report: Report, lines: List[str], kind: str) -> bytes:
     if kind == "xlsx":
         from ._workbook import as_xlsx
         return as_xlsx(report, plan)
-    return encoded_csv(report.roster, plan)
+    return as_csv(report.roster, plan).encode() if output.is_standard else encoded_csv(report.roster, plan)
 
 
 def _print_lines(lines: List[str], is_content: bool) -> None:

@@ -1,7 +1,10 @@
 """The words of the command: one table of options, from which the parser and the help come."""
 import argparse
 import contextlib
+import difflib
 import os
+import re
+import sys
 from typing import Any, Callable, Dict, NamedTuple, NoReturn, Optional, Sequence, Tuple
 
 from ._encodings import WESTERN
@@ -34,7 +37,7 @@ class Value(NamedTuple):
 class Option(NamedTuple):
     """An option: its word; what it does, in the words of the help; the section of the help; the field of Options that it sets; what
     stands after it, None for nothing; what it sets where nothing does; whether it may stand several times; and what is set where it
-    doesn't stand. Of the options of one `choice` only one may stand."""
+    doesn't stand. Of the options of one `choice` only one may stand. `short` is a word of one letter for it."""
 
     word: str
     help: str
@@ -45,6 +48,7 @@ class Option(NamedTuple):
     repeats: bool = False
     choice: str = ""
     default: Any = None
+    short: str = ""
 
 
 class Options(NamedTuple):
@@ -73,6 +77,7 @@ class Options(NamedTuple):
     rents: bool
     print: Optional[str]
     outputs: Sequence[Output]
+    quiet: bool
     force: bool
 
 
@@ -134,11 +139,11 @@ OPTIONS = (
     Option("--groups", "lines of an object and its group: nobody takes two objects of one group", COUNTING, "groups", COUNTS),
     Option("--max", "find the plan of greatest cost", PLANNING, "max"),
     Option("--fair", "make the dearest pair as cheap as possible, and then the sum", PLANNING, "fair"),
-    Option("--fixed", "keep the pairs of this plan (.csv or .json)", PLANNING, "fixed", PLAN),
+    Option("--fixed", "keep the pairs of this plan (.csv, .json or .xlsx)", PLANNING, "fixed", PLAN),
     Option("--as-many-as-can", "where there is no plan for all, find the fullest", PLANNING, "as_many_as_can"),
-    Option("--keep", "of all best plans take one with the fewest changes from this one (.csv or .json)", PLANNING, "keep", PLAN),
+    Option("--keep", "of all best plans take one with the fewest changes from this one (.csv, .json or .xlsx)", PLANNING, "keep", PLAN),
     Option("--change-cost", "weigh each change from the kept plan as a cost of C", PLANNING, "change_cost", Value("C")),
-    Option("--compare", "show by how much this plan is worse than the best", SHOWING, "compare", PLAN),
+    Option("--compare", "show by how much this plan (.csv, .json or .xlsx) is worse than the best", SHOWING, "compare", PLAN),
     Option("--others", "show who could change places at no cost, or the next best plan", SHOWING, "others"),
     Option("--plans", f"show the K best plans, 2 to {MOST_PLANS}: each as what differs from the first", SHOWING, "plans",
            Value("K", read=_number(2, MOST_PLANS)), default=1),
@@ -146,17 +151,55 @@ OPTIONS = (
     Option("--print", "write the plan to standard output as csv or json, and what is printed else to standard error", SHOWING, "print",
            Value("KIND", choices=("csv", "json"))),
     Option("--output", "write the plan as .csv, .json, .html or .xlsx; may be given several times", WRITING, "outputs",
-           Value("FILE", True, tuple("." + kind for kind in KINDS), read=_output), repeats=True),
+           Value("FILE", True, tuple("." + kind for kind in KINDS), read=_output), repeats=True, short="-o"),
     Option("--html", "draw the plan as a page", WRITING, "outputs", Value("FILE", True, (".html",), read=_page), repeats=True),
+    Option("--quiet", "print the cost alone, or who is short", WRITING, "quiet", short="-q"),
     Option("--force", "overwrite an output that exists", WRITING, "force"),
 )
 
 
+# What an option shows that needs no roster.
+GENERAL = (("-V", "--version", "show program's version number and exit"),)
+HINT = f"{NAME} --help lists all options"
+DASHES = "-\u2013\u2014"
+
+
+class _Help(argparse.HelpFormatter):
+    """Shows what stands after an option once, also where the option has a short word."""
+
+    def _format_action_invocation(self, action: argparse.Action) -> str:
+        if not action.option_strings or action.nargs == 0:
+            return super()._format_action_invocation(action)
+        return ", ".join(action.option_strings) + f" {action.metavar}"
+
+
+class _Parser(argparse.ArgumentParser):
+    """A parser that says in one line why words are refused."""
+
+    def error(self, message: str) -> NoReturn:
+        for begin, text in (("the following arguments are required: ROSTER", "which roster? Its file is needed"),
+                            ("unrecognized arguments: ", "one roster at a time, and there is also ")):
+            if message.startswith(begin):
+                message = text + message[len(begin):]
+        self.exit(2, f"{NAME}: {message} ({HINT})\n")
+
+
+class _Once(argparse.Action):
+    """Takes a file that is asked for once."""
+
+    def __call__(self, parser: argparse.ArgumentParser, namespace: argparse.Namespace, values: Any, option_string: Optional[str] = None) -> None:
+        before = getattr(namespace, self.dest)
+        if before is not None:
+            raise argparse.ArgumentError(self, f"given twice, with {before} and {values}")
+        setattr(namespace, self.dest, values)
+
+
 def parser_of(options: Sequence[Option] = OPTIONS) -> argparse.ArgumentParser:
     """The parser of a table of options."""
-    parser = argparse.ArgumentParser(prog=NAME, allow_abbrev=False, description=SUMMARY, epilog=STATUSES)
+    parser = _Parser(prog=NAME, allow_abbrev=False, description=SUMMARY, epilog=STATUSES, formatter_class=_Help)
     parser.add_argument("roster", metavar="ROSTER", help=ROSTER)
-    parser.add_argument("--version", action="version", version=f"{NAME} {VERSION}")
+    for short, word, help_ in GENERAL:
+        parser.add_argument(short, word, action="version", version=f"{NAME} {VERSION}", help=help_)
     sections = {name: parser.add_argument_group(name) for name in SECTIONS}
     choices: Dict[str, Any] = {}
     for option in options:
@@ -169,22 +212,52 @@ def parser_of(options: Sequence[Option] = OPTIONS) -> argparse.ArgumentParser:
 
 def _add(place: Any, option: Option) -> None:
     """Adds an option to a group of the parser."""
+    words = [word for word in (option.short, option.word) if word]
     if option.value is None:
         default = False if option.sets is True else None
-        place.add_argument(option.word, dest=option.field, action="store_const", const=option.sets, default=default, help=option.help)
+        place.add_argument(*words, dest=option.field, action="store_const", const=option.sets, default=default, help=option.help)
         return
     # A word that isn't one of the choices is refused by argparse; numbers refuse their own.
     choices = option.value.choices if option.value.read is str and option.value.choices else None
-    place.add_argument(option.word, dest=option.field, metavar=option.value.name, type=option.value.read, choices=choices, help=option.help,
-                       action="append" if option.repeats else "store", default=[] if option.repeats else option.default)
+    action = "append" if option.repeats else _Once if option.value.is_file else "store"
+    place.add_argument(*words, dest=option.field, metavar=option.value.name, type=option.value.read, choices=choices, help=option.help,
+                       action=action, default=[] if option.repeats else option.default)
 
 
 def read_words(words: Optional[Sequence[str]]) -> Options:
     """The options of a command line. Words that are refused, and `--help`, end by `SystemExit`."""
     parser = parser_of()
+    words = sys.argv[1:] if words is None else words
+    _refuse_unknown(words, parser)
     options = Options(**vars(parser.parse_args(words)))
     _judge(options, parser.error)
     return options
+
+
+def _refuse_unknown(words: Sequence[str], parser: argparse.ArgumentParser) -> None:
+    """Refuses the first word that looks like an option and is none, with the nearest option."""
+    known = ["-h", "--help", *(word for short, long, _ in GENERAL for word in (short, long))]
+    known += [word for option in OPTIONS for word in (option.word, option.short) if word]
+    valued = {word for option in OPTIONS if option.value is not None for word in (option.word, option.short)}
+    words = words[:words.index("--")] if "--" in words else words
+    for before, word in zip(("", *words), words):
+        name = word.partition("=")[0]
+        if before in valued or not _looks_like_option(name) or name in known or name[:2] in known and "--" + name[1:] not in known:
+            continue
+        near = _nearest(name.strip(DASHES), [word for word in known if word.startswith("--")])
+        if near or word[0] == "-":
+            parser.error(f"no option {name}" + (f": did you mean {near}?" if near else ""))
+
+
+def _looks_like_option(word: str) -> bool:
+    """Whether a word begins with a dash of any length, and isn't a number."""
+    return word[:1] in tuple(DASHES) and word.strip(DASHES) != "" and re.fullmatch("-[0-9.,]+", word) is None
+
+
+def _nearest(name: str, known: Sequence[str]) -> Optional[str]:
+    """The option that a word was meant to be, if one is near: one that begins so, or looks so."""
+    begin = [word for word in known if word[2:].startswith(name)]
+    return begin[0] if begin else next(iter(difflib.get_close_matches("--" + name, known, 1, 0.7)), None)
 
 
 def _judge(options: Options, refuse: Callable[[str], NoReturn]) -> None:
