@@ -61,8 +61,8 @@ class Answer(NamedTuple):
 
 class Wish(NamedTuple):
     """What is asked of a roster: pairs that stand, whatever they cost; the greatest cost, not the least; where there is no plan for all
-    the fullest one; pairs to be kept where that costs nothing, or where it costs no more than `change` for each pair; the best other
-    plan, if it isn't as good; and so many plans in all, in order."""
+    the fullest one; the pairs of an earlier plan, from which as little is to change as can be at no cost, or where each pair that comes
+    and each that goes costs half of `change`; the best other plan, if it isn't as good; and so many plans in all, in order."""
 
     fixed: Sequence[PlanLine] = ()
     maximize: bool = False

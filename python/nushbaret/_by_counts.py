@@ -38,11 +38,11 @@ def answer_by_counts(roster: Roster, wish: Wish) -> Answer:
 
 
 def counted_of(roster: Roster, wish: Wish) -> Counted:
-    """What is left to plan around the fixed pairs, with costs that are to be least."""
+    """What is left to plan around the fixed pairs, with costs that are to be least. Where changes cost, these are doubled: half of what a
+    change costs is that of a pair that comes, and of one that goes."""
     group_of, n_groups = _groups(roster)
     taken = {(pair.person, group_of[pair.object]) for pair in wish.fixed}
-    sign, change = -1 if wish.maximize else 1, wish.change or 0
-    kept = wish.kept if wish.kept is not None and change else None
+    sign = -1 if wish.maximize else 1
     rows: List[int] = []
     columns: List[int] = []
     costs: List[int] = []
@@ -50,7 +50,9 @@ def counted_of(roster: Roster, wish: Wish) -> Counted:
         if not taken or (person, group_of[object_]) not in taken:
             rows.append(person)
             columns.append(object_)
-            costs.append(sign * cost + (change if kept is not None and (person, object_) not in kept else 0))
+            costs.append(sign * cost)
+    if wish.kept is not None and wish.change:
+        costs = [2 * cost + (-wish.change if pair in wish.kept else wish.change) for cost, pair in zip(costs, zip(rows, columns))]
     return Counted(*_bounds(roster, wish.fixed), group_of, n_groups, rows, columns, costs)
 
 

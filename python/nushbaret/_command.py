@@ -16,7 +16,7 @@ from ._files import STANDARD_OUTPUT, Output, OutputFault, print_content, refuse_
 from ._groups import missing_of, read_counts, read_groups, refuse_two_of_a_group, with_rules
 from ._roster import OldPlan, PlanLine, Roster, read_old_plan, read_plan, read_roster
 from ._sheets import Reading, RosterFault, quoted
-from ._texts import Fair, Report, as_csv, encoded_csv, first_lines, gone_line, printed, read_lines
+from ._texts import Fair, Report, as_csv, first_lines, forgotten_line, gone_line, in_encoding_of, printed, read_lines
 from ._words import Options, read_words
 
 PLANNED, NONE, WORDS, REFUSED, DEVICE = range(5)
@@ -116,14 +116,19 @@ def _answered(roster: Roster, wish: Wish, is_fair: bool) -> Tuple[Answer, Option
 
 
 def _read(options: Options) -> Roster:
-    """The roster, with how many each name takes."""
+    """The roster, with how many each name takes. What is said of it is also said where its counts or groups are refused."""
     roster = read_roster(options.roster, options.form, options.decimals, options.decimal_comma, options.round, options.sheet,
                          options.skip_rows, Reading(options.encoding, _say))
-    for line in read_lines(options.roster, roster, sys.stderr is not None and sys.stderr.isatty()):
-        _say(line)
-    tasks = read_counts(options.tasks, roster, False) if options.tasks else None
-    places = read_counts(options.places, roster, True) if options.places else None
-    return with_rules(roster, tasks, places, read_groups(options.groups, roster) if options.groups else None)
+    forgotten: List[Optional[str]] = []
+    try:
+        tasks = read_counts(options.tasks, roster, False) if options.tasks else None
+        places = read_counts(options.places, roster, True) if options.places else None
+        roster = with_rules(roster, tasks, places, read_groups(options.groups, roster) if options.groups else None)
+        forgotten = [forgotten_line(roster, counts, side) for side, counts in ((1, places), (0, tasks)) if counts is not None]
+    finally:
+        for line in [*read_lines(options.roster, roster, sys.stderr is not None and sys.stderr.isatty()), *filter(None, forgotten)]:
+            _say(line)
+    return roster
 
 
 def _say(line: str) -> None:
@@ -225,7 +230,8 @@ def content_of(report: Report, lines: List[str], output: Output) -> bytes:
     if kind == "xlsx":
         from ._workbook import as_xlsx
         return as_xlsx(report, plan)
-    return as_csv(report.roster, plan).encode() if output.is_standard else encoded_csv(report.roster, plan)
+    text = as_csv(report.roster, plan, report.kept)
+    return text.encode() if output.is_standard else in_encoding_of(report.roster, text)
 
 
 def _print_lines(lines: List[str], is_content: bool) -> None:

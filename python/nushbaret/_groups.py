@@ -11,15 +11,16 @@ from ._sheets import RosterFault, Sheet, quoted, unit_of
 
 
 class Counts(NamedTuple):
-    """How many names take, by their numbers; and whether any line has two numbers."""
+    """How many names take, by their numbers; whether any line has two numbers; and the file."""
 
     bounds: Dict[int, Bounds]
     are_ranges: bool
+    path: str
 
 
 def read_counts(path: str, roster: Roster, of_objects: bool) -> Counts:
     """Reads how many each object, or each person, takes: a title line, and lines of a name and one whole number, or two: at least and at
-    most.
+    most. Of two, where both have a title, either may be left empty: then there is no least or no greatest number.
 
     Raises `RosterFault` for the first name that the roster doesn't have or that stands twice, number that is none from 0 to 8192, or least
     number that is greater than the most.
@@ -32,27 +33,38 @@ def read_counts(path: str, roster: Roster, of_objects: bool) -> Counts:
         sheet.refuse(f"a title line must come first, and {quoted(title[1])} is a number", line, 2)
     bounds: Dict[int, Bounds] = {}
     are_ranges = False
+    limit = len(roster.persons if of_objects else roster.objects)
     for line, cells in _lines(sheet, len(title)):
         number = known(sheet, roster, cells[0], line, 2 if of_objects else 1, 1)
         if number in bounds:
             sheet.refuse(f"the name {quoted(cells[0])} a second time", line, 1)
-        least = _count(sheet, cells[1], line, 2)
-        most = _count(sheet, cells[2], line, 3) if cells[2] else least
-        if least > most:
-            sheet.refuse(f"at least {least} and at most {most}: the second number can't be less", line, 3)
-        bounds[number] = Bounds(least, most)
-        are_ranges = are_ranges or bool(cells[2])
-    return Counts(bounds, are_ranges)
+        bounds[number] = _bounds(sheet, cells[1:], limit, line)
+        are_ranges = are_ranges or len(cells) == 3
+    return Counts(bounds, are_ranges, path)
 
 
 def _lines(sheet: Sheet, width: int) -> Iterator[Tuple[int, List[str]]]:
-    """The lines after the title, each with a name and room for two numbers."""
+    """The lines after the title, each with a name and one number or two. An empty cell below a third title is an empty number."""
     records = sheet.records()
     next(records)
     for line, cells in records:
         if any(cells[max(width, 3):]):
             sheet.refuse(f"{len(cells)} cells, where a name and one or two numbers are needed", line)
-        yield line, (cells + ["", ""])[:3]
+        has_two = len(cells) > 2 and (width > 2 or cells[2] != "")
+        yield line, cells[:3] if has_two else (cells + [""])[:2]
+
+
+def _bounds(sheet: Sheet, cells: Sequence[str], limit: int, line: int) -> Bounds:
+    """At least and at most so many: one number is both, and an empty one of two is 0 or the limit."""
+    if not any(cells):
+        sheet.refuse("no number: how many are needed", line, 2)
+    least = _count(sheet, cells[0], line, 2) if cells[0] else 0
+    if len(cells) == 1:
+        return Bounds(least, least)
+    most = _count(sheet, cells[1], line, 3) if cells[1] else max(limit, least)
+    if least > most:
+        sheet.refuse(f"at least {least} and at most {most}: the second number can't be less", line, 3)
+    return Bounds(least, most)
 
 
 def _count(sheet: Sheet, cell: str, line: int, column: int) -> int:
@@ -91,13 +103,14 @@ def read_groups(path: str, roster: Roster) -> Groups:
 
 
 def with_rules(roster: Roster, tasks: Optional[Counts], places: Optional[Counts], groups: Optional[Groups]) -> Roster:
-    """The roster with counts and groups. Where any line has two numbers bounds alone decide."""
+    """The roster with counts and groups. Where any line has two numbers bounds alone decide: then an object without a line takes exactly
+    one, and a person at most one."""
     most = [None if counts is None else {number: bound.most for number, bound in counts.bounds.items()} for counts in (tasks, places)]
     least = None
     if any(counts is not None and counts.are_ranges for counts in (tasks, places)):
         of_persons, of_objects = ({number: bound.least for number, bound in counts.bounds.items()} if counts else {}
                                   for counts in (tasks, places))
-        least = of_persons, of_objects
+        least = of_persons, {**dict.fromkeys(range(len(roster.objects)), 1), **of_objects}
     return roster._replace(tasks=most[0], places=most[1], least=least, groups=groups)
 
 

@@ -4,9 +4,10 @@ from collections import Counter
 from typing import Callable, Dict, List, Sequence
 
 from ._answer import Pair, Plan, Short
+from ._changes import by_person, changes_of
 from ._groups import missing_of
 from ._roster import FORMAT, OldPlan, Roster, decimal_text
-from ._texts import Report, changes_of, is_comparable, only_there, worse_by
+from ._texts import Report, is_comparable, only_there, worse_by
 
 Content = Dict[str, object]
 
@@ -85,10 +86,10 @@ def _outside(roster: Roster, plan: Plan) -> Content:
 
 
 def _changes(roster: Roster, plan: Plan, kept: OldPlan) -> Content:
-    """What changed from an earlier plan."""
-    changed = [{"person": roster.persons[change.pair.person], "object": roster.objects[change.pair.object], "before": change.before}
-               for change in changes_of(roster, plan, kept)]
-    return {"plan": kept.path, "gone": kept.gone, "changed": changed}
+    """What goes and what comes from an earlier plan, by person; and what can't be any more."""
+    found = changes_of(roster, plan, kept)
+    return {"plan": kept.path, "gone": kept.gone, "changes": [own._asdict() for own in by_person(roster, found)],
+            "not_possible": [lost._asdict() for lost in found.lost]}
 
 
 def _comparison(report: Report, plan: Plan, hand: OldPlan, text: Callable[[int], str]) -> Content:

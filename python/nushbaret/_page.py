@@ -149,7 +149,7 @@ def _pieces(report: Report, heading: str, lines: List[str]) -> Iterator[str]:
         kind = ' class="short"' if place < len(answer.groups) else ""
         yield f"<p{kind}>{escape(line)}</p>\n"
     if answer.plan is not None:
-        yield from by_days(roster, answer.plan) if roster.groups is not None else _list(roster, answer.plan)
+        yield from by_days(roster, answer.plan, report.kept) if roster.groups is not None else _list(roster, answer.plan)
         yield from _folded(roster, answer.plan)
         yield from _notes(notes_of(report, answer.plan))
     frame = frame_of(roster, answer)

@@ -20,9 +20,11 @@ from ._sheets import MOST_BYTES, Reading, RosterFault, Sheet, is_json, quoted, u
 LINES, MATRIX = "lines", "matrix"
 TITLES = ("person", "object", "cost")
 # Of plans in JSON; those before are read too.
-FORMAT = 2
+FORMAT = 3
 # Where a workbook has its plan.
 PLAN_SHEET = "Plan"
+# The column of a plan that says what changed from an earlier one, and its words: for a new pair, and for two that are no pairs of the plan.
+CHANGE, COMES, GOES, NOT_POSSIBLE = "change", "comes", "goes", "not possible"
 
 
 def is_plain(name: str) -> bool:
@@ -458,7 +460,9 @@ def _named_pairs(path: str, roster: Roster) -> NamedPairs:
         sheet.refuse("each line must have a person and an object", line)
     if title[0] in roster.person_numbers and title[1] in roster.object_numbers:
         sheet.refuse(f"a title line must come first, and {title[0]}, {title[1]} is a pair", line)
-    return [(sheet.name(cells[0], line, 1), sheet.name(cells[1], line, 2), line) for line, cells in sheet.body(len(title))]
+    last = title.index(CHANGE, len(TITLES)) if CHANGE in title[len(TITLES):] else None
+    return [(sheet.name(cells[0], line, 1), sheet.name(cells[1], line, 2), line) for line, cells in sheet.body(len(title))
+            if last is None or cells[last] not in (GOES, NOT_POSSIBLE)]
 
 
 def _plan_of_json(path: str) -> NamedPairs:

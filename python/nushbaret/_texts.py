@@ -1,11 +1,12 @@
 """What the command says: lines for people, and the plan as CSV."""
 import csv
 import io
-from typing import Dict, List, NamedTuple, Optional, Sequence, Tuple
+from typing import Dict, Iterator, List, NamedTuple, Optional, Sequence, Tuple
 
 from ._answer import MOST_NAMES_SHOWN, Answer, Pair, Plan, counted, left_out, named, sentence
-from ._groups import order_of
-from ._roster import OldPlan, PlanLine, Roster, alike, like
+from ._changes import Lost, OfPerson, by_person, changes_of
+from ._groups import Counts, order_of
+from ._roster import CHANGE, COMES, GOES, NOT_POSSIBLE, OldPlan, PlanLine, Roster, alike, like
 from ._sheets import SEPARATORS, quoted
 from ._words import Options
 
@@ -37,16 +38,34 @@ class Note(NamedTuple):
 
 
 def read_lines(path: str, roster: Roster, on_terminal: bool) -> List[str]:
-    """What standard error says of a roster: on a terminal how much was read, and always which names are hardly two."""
+    """What standard error says of a roster: on a terminal how much was read and how names count, and always which names are hardly two."""
     lines = []
     if on_terminal:
         persons, objects = counted(len(roster.persons), roster.titles[0]), counted(len(roster.objects), roster.titles[1])
-        lines.append(f"{persons}, {objects}, {counted(len(roster.costs), 'pair')}")
+        lines.append(f"{persons}, {objects}, {counted(len(roster.costs), 'pair')}{_rule(roster)}")
     groups = alike(roster.persons) + alike(roster.objects)
     lines += [f"{path}: {', '.join(map(quoted, group))} differ in case or spaces alone" for group in groups[:MOST_NAMES_SHOWN]]
     if len(groups) > MOST_NAMES_SHOWN:
         lines.append(f"{path}: and {len(groups) - MOST_NAMES_SHOWN} more of these names")
     return lines
+
+
+def _rule(roster: Roster) -> str:
+    """Which rule decides, where names may count several times."""
+    if not roster.ruled:
+        return ""
+    return "; single counts: the side with the smaller sum takes all" if roster.least is None else "; bounds: each name's counts are kept"
+
+
+def forgotten_line(roster: Roster, counts: Counts, side: int) -> Optional[str]:
+    """What standard error says of the persons (side 0) or the objects that have no line in a file of counts; None where all have one."""
+    names = roster.objects if side else roster.persons
+    numbers = [number for number in range(len(names)) if number not in counts.bounds]
+    if not numbers:
+        return None
+    bound = "" if roster.least is None else "exactly " if side else "at most "
+    takes = "takes" if len(numbers) == 1 else "each takes"
+    return f"{counts.path}: no line for {named(numbers, roster.titles[side], names)}: {takes} {bound}one"
 
 
 def gone_line(plan: OldPlan, roster: Roster) -> str:
@@ -184,31 +203,35 @@ def _there(roster: Roster, plan: Plan, pairs: Sequence[Pair]) -> List[str]:
     return [f"there {roster.persons[person]}: {text}" for person in sorted(lines) for text in lines[person]]
 
 
-class Change(NamedTuple):
-    """A pair that the kept plan doesn't have, and what its person has there and no more."""
-
-    pair: Pair
-    before: List[str]
-
-
-def changes_of(roster: Roster, plan: Plan, kept: OldPlan) -> List[Change]:
-    """The pairs that the kept plan doesn't have."""
-    before = set(kept.pairs)
-    now = {(roster.persons[pair.person], roster.objects[pair.object]) for pair in plan.pairs}
-    new = [pair for pair in plan.pairs if (roster.persons[pair.person], roster.objects[pair.object]) not in before]
-    left: Dict[str, List[str]] = {}
-    for person, object_ in kept.pairs:
-        if (person, object_) not in now:
-            left.setdefault(person, []).append(object_)
-    return [Change(pair, left.get(roster.persons[pair.person], [])) for pair in new]
-
-
 def changes(roster: Roster, plan: Plan, kept: OldPlan) -> Note:
-    """How many pairs the kept plan didn't have, and what these persons had there."""
-    new = changes_of(roster, plan, kept)
-    return Note(f"{kept.path}: {len(new)} of {len(plan.pairs)} pairs changed", [
-        f"{roster.persons[change.pair.person]}: {roster.objects[change.pair.object]}"
-        + (f", before {', '.join(change.before)}" if change.before else "") for change in new])
+    """How many pairs come and go from an earlier plan, and whose; and what can't be any more."""
+    found = changes_of(roster, plan, kept)
+    counts = [counted(len(found.comes), "pair") + _comes(found.comes)] if found.comes else []
+    counts += [(str(len(found.goes)) if counts else counted(len(found.goes), "pair")) + _goes(found.goes)] if found.goes else []
+    details = [f"{own.person}: {'; '.join(_words_of(own))}" for own in by_person(roster, found)]
+    return Note(f"{kept.path}: {', '.join(counts) or 'no pair changes'}", details + _lost_lines(found.lost))
+
+
+def _comes(those: Sequence[object]) -> str:
+    return " comes" if len(those) == 1 else " come"
+
+
+def _goes(those: Sequence[object]) -> str:
+    return " goes" if len(those) == 1 else " go"
+
+
+def _words_of(own: OfPerson) -> List[str]:
+    """What goes and what comes."""
+    goes, comes = ", ".join(own.goes) + _goes(own.goes), ", ".join(own.comes) + _comes(own.comes)
+    return [goes] * bool(own.goes) + [comes] * bool(own.comes)
+
+
+def _lost_lines(lost: Sequence[Lost]) -> List[str]:
+    """What of an earlier plan can't be any more, by person and reason."""
+    names: Dict[Tuple[str, str], List[str]] = {}
+    for pair in lost:
+        names.setdefault((pair.person, pair.why), []).append(pair.object)
+    return [f"{person}: {', '.join(own)} {NOT_POSSIBLE} now ({why})" for (person, why), own in names.items()]
 
 
 def worse_by(report: Report, plan: Plan, hand: OldPlan) -> int:
@@ -241,21 +264,36 @@ def compared(report: Report, plan: Plan, hand: OldPlan) -> Note:
         f"there {roster.persons[pair.person]}: {roster.objects[pair.object]}, {roster.shown(pair.cost)}" for pair in only_there(plan, hand)])
 
 
-def as_csv(roster: Roster, plan: Plan) -> str:
-    """The pairs as a roster of lines, with the titles, the separator and the decimal mark of the roster that was read."""
+def as_csv(roster: Roster, plan: Plan, kept: Optional[OldPlan] = None) -> str:
+    """The pairs as a roster of lines, with the titles, the separator and the decimal mark of the roster that was read. With an earlier plan
+    one more column says which pairs come, and which go or aren't possible now: these stand in lines without a cost."""
     text = io.StringIO()
     text.write("\ufeff" if roster.has_bom else "")
     writer = csv.writer(text, delimiter=roster.separator, lineterminator="\n")
+    titles = (*roster.titles, *([CHANGE] if kept else ()))
     # Readers take the separator from the title line, so no other may seem to be there.
-    csv.writer(text, delimiter=roster.separator, lineterminator="\n", quoting=_title_quoting(roster)).writerow(roster.titles)
-    for pair in plan.pairs:
-        writer.writerow((roster.persons[pair.person], roster.objects[pair.object], roster.shown(pair.cost)))
+    csv.writer(text, delimiter=roster.separator, lineterminator="\n", quoting=_title_quoting(roster)).writerow(titles)
+    writer.writerows(_lines_of(roster, plan) if kept is None else _lines_with_changes(roster, plan, kept))
     return text.getvalue()
 
 
-def encoded_csv(roster: Roster, plan: Plan) -> bytes:
-    """The plan as CSV in the encoding of the roster's file, if it has all the letters there, and else in UTF-8."""
-    text = as_csv(roster, plan)
+def _lines_of(roster: Roster, plan: Plan) -> Iterator[Tuple[str, ...]]:
+    for pair in plan.pairs:
+        yield roster.persons[pair.person], roster.objects[pair.object], roster.shown(pair.cost)
+
+
+def _lines_with_changes(roster: Roster, plan: Plan, kept: OldPlan) -> List[Tuple[str, ...]]:
+    """The lines of a plan and of the pairs that go, person by person, and those of pairs that aren't possible now."""
+    found = changes_of(roster, plan, kept)
+    new = set(found.comes)
+    lines = [(pair.person, (*line, COMES if pair in new else "")) for pair, line in zip(plan.pairs, _lines_of(roster, plan))]
+    lines += [(pair.person, (roster.persons[pair.person], roster.objects[pair.object], "", GOES)) for pair in found.goes]
+    lost = [(pair.person, pair.object, "", NOT_POSSIBLE) for pair in found.lost]
+    return [line for _, line in sorted(lines, key=lambda those: those[0])] + lost
+
+
+def in_encoding_of(roster: Roster, text: str) -> bytes:
+    """A text in the encoding of the roster's file, or in UTF-8 with a BOM where that lacks a letter."""
     try:
         return text.encode(roster.encoding)
     except UnicodeEncodeError:

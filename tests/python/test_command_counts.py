@@ -101,7 +101,7 @@ class Week(Runs):
         self.file("g.csv", "b,day\n" + "".join(f"early {day},{day}\n" for day in range(1, 32)))
         self.run_words("r.csv", "--tasks", "t.csv", "--groups", "g.csv", "--html", "p.html")
         page = self.read("p.html")
-        for caption in ("day 1 to 8", "day 9 to 16", "day 17 to 24", "day 25 to 31"):
+        for caption in ("day 1 to 7", "day 8 to 14", "day 15 to 21", "day 22 to 28", "day 29 to 31"):
             self.assertEqual(page.count(f"<caption>{caption}</caption>"), 2)
 
     def test_labels_stay_apart(self):

@@ -123,20 +123,20 @@ class Commands(Runs):
 class Plans(unittest.TestCase):
     def test_kept_beside_all_best_plans(self):
         draw, changed = random.Random(2), 0
-        for number, case in enumerate(drawings(2, CASES, 2)):
+        for number, case in enumerate(drawings(2, 500, 2)):
             kept = {pair for pair in case.pairs() if draw.random() < 0.4}
             change = draw.choice((None, None, 0, 1, 3))
             plan = answer_by_counts(case.roster(), Wish((), case.maximize, True, kept, change)).plan
 
             def judged(missed, cost, pairs):
-                new = len(set(pairs) - kept)
-                return (missed, cost, new) if change is None else (missed, cost + change * new, 0)
+                changes = len(set(pairs) ^ kept)
+                return (missed, cost, changes) if change is None else (missed, 2 * cost + change * changes, 0)
 
             plans = case.plans()
             own = next(those for those in plans if those[2] == pairs_of(plan))
             with self.subTest(case=number):
                 self.assertEqual(judged(*own), min(judged(*those) for those in plans))
-            changed += len(set(own[2]) - kept) > 0
+            changed += len(set(own[2]) ^ kept) > len(set(own[2]) - kept) > 0
         self.assertGreater(changed, 50)
 
     def test_others_beside_all_plans(self):

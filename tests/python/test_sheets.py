@@ -8,7 +8,7 @@ import zipfile
 
 from test_command import SQUARE, Runs
 
-from nushbaret._dates import date_of, spellings
+from nushbaret._dates import spellings
 from nushbaret._encodings import LETTERS, MARKS
 
 try:
@@ -164,11 +164,12 @@ class Cells(Books):
 
 class Dates(unittest.TestCase):
     def test_each_spelling_is_the_date(self):
-        day = datetime.date(2027, 3, 1)
-        self.assertEqual(set(spellings("01.3.2027")), {"2027-03-01", "01.03.2027", "1.03.2027", "01.3.2027", "1.3.2027"})
-        self.assertEqual({date_of(text) for text in spellings("2027-03-01")}, {day})
-        for text in ("31.02.2027", "2027-3-1", "01.03.27", "Mo 01.03.2027", "01.03.", "2027-13-01", "\u0661.3.2027"):
-            self.assertEqual((date_of(text), spellings(text)), (None, (text,)))
+        written = {"2027-03-01", "01.03.2027", "1.03.2027", "01.3.2027", "1.3.2027"}
+        for text in written:
+            self.assertEqual((spellings(text)[0], set(spellings(text))), ("2027-03-01", written))
+        self.assertEqual(set(spellings("1. 3. 2027")), written | {"1. 3. 2027"})
+        for text in ("31.02.2027", "01.03.27", "Mo 01.03.2027", "01.03.", "2027-13-01", "\u0661.3.2027", "Ada", "1.5"):
+            self.assertEqual(spellings(text), (text,))
 
 
 class Encodings(Runs):
