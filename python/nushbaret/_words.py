@@ -177,11 +177,15 @@ class _Parser(argparse.ArgumentParser):
     """A parser that says in one line why words are refused."""
 
     def error(self, message: str) -> NoReturn:
-        for begin, text in (("the following arguments are required: ROSTER", "which roster? Its file is needed"),
+        for begin, text in (("the following arguments are required: ROSTER", "the file of a roster is needed"), ("argument ", ""),
                             ("unrecognized arguments: ", "one roster at a time, and there is also ")):
             if message.startswith(begin):
                 message = text + message[len(begin):]
-        self.exit(2, f"{NAME}: {message} ({HINT})\n")
+        self.refuse(f"{message} ({HINT})")
+
+    def refuse(self, text: str) -> NoReturn:
+        """Ends with a line that says what is wrong."""
+        self.exit(2, f"{NAME}: {text}\n")
 
 
 class _Once(argparse.Action):
@@ -194,7 +198,7 @@ class _Once(argparse.Action):
         setattr(namespace, self.dest, values)
 
 
-def parser_of(options: Sequence[Option] = OPTIONS) -> argparse.ArgumentParser:
+def parser_of(options: Sequence[Option] = OPTIONS) -> _Parser:
     """The parser of a table of options."""
     parser = _Parser(prog=NAME, allow_abbrev=False, description=SUMMARY, epilog=STATUSES, formatter_class=_Help)
     parser.add_argument("roster", metavar="ROSTER", help=ROSTER)
@@ -230,7 +234,7 @@ def read_words(words: Optional[Sequence[str]]) -> Options:
     words = sys.argv[1:] if words is None else words
     _refuse_unknown(words, parser)
     options = Options(**vars(parser.parse_args(words)))
-    _judge(options, parser.error)
+    _judge(options, parser.refuse)
     return options
 
 
@@ -238,9 +242,9 @@ def _refuse_unknown(words: Sequence[str], parser: argparse.ArgumentParser) -> No
     """Refuses the first word that looks like an option and is none, with the nearest option."""
     known = ["-h", "--help", *(word for short, long, _ in GENERAL for word in (short, long))]
     known += [word for option in OPTIONS for word in (option.word, option.short) if word]
-    valued = {word for option in OPTIONS if option.value is not None for word in (option.word, option.short)}
+    valued = {word for option in OPTIONS if option.value is not None for word in (option.word, option.short) if word}
     words = words[:words.index("--")] if "--" in words else words
-    for before, word in zip(("", *words), words):
+    for before, word in zip((NAME, *words), words):
         name = word.partition("=")[0]
         if before in valued or not _looks_like_option(name) or name in known or name[:2] in known and "--" + name[1:] not in known:
             continue
@@ -256,8 +260,8 @@ def _looks_like_option(word: str) -> bool:
 
 def _nearest(name: str, known: Sequence[str]) -> Optional[str]:
     """The option that a word was meant to be, if one is near: one that begins so, or looks so."""
-    begin = [word for word in known if word[2:].startswith(name)]
-    return begin[0] if begin else next(iter(difflib.get_close_matches("--" + name, known, 1, 0.7)), None)
+    found = [word for word in known if word[2:].startswith(name)] or difflib.get_close_matches("--" + name, known, 1, 0.7)
+    return found[0] if found else None
 
 
 def _judge(options: Options, refuse: Callable[[str], NoReturn]) -> None:
