@@ -1,8 +1,13 @@
 """What changes from an earlier plan: who loses which pairs, and who gets which."""
-from typing import Dict, List, NamedTuple, Tuple
+from collections import Counter
+from typing import Dict, Iterable, List, NamedTuple, Set, Tuple
 
 from ._answer import Pair, Plan
+from ._groups import Paired
 from ._roster import OldPlan, PlanLine, Roster
+
+# A person and an object, by number.
+Numbered = Tuple[int, int]
 
 
 class Lost(NamedTuple):
@@ -22,30 +27,31 @@ class Changes(NamedTuple):
     lost: List[Lost]
 
 
+def pairs_of(pairs: Iterable[Paired]) -> Set[Numbered]:
+    """The persons and objects of pairs, by number."""
+    return {(pair.person, pair.object) for pair in pairs}
+
+
 def changes_of(roster: Roster, plan: Plan, kept: OldPlan) -> Changes:
     """What changed from an earlier plan, in the order of persons."""
-    before, now = ({(pair.person, pair.object) for pair in pairs} for pairs in (kept.known, plan.pairs))
-    left = sorted(pair for pair in kept.known if (pair.person, pair.object) not in now)
+    before, now = pairs_of(kept.known), pairs_of(plan.pairs)
+    left = [pair for pair in sorted(kept.known) if (pair.person, pair.object) not in now]
+    past = Counter(pair.person for pair in plan.pairs if pair.object in roster.past)
+    full = {(pair.person, pair.object) for pair in left
+            if roster.tasks_of(pair.person) <= past[pair.person] or roster.places_of(pair.object) == 0}
     return Changes([pair for pair in plan.pairs if (pair.person, pair.object) not in before],
-                   [pair for pair in left if not _takes_none(roster, pair)], _lost(roster, kept, left))
+                   [pair for pair in left if (pair.person, pair.object) not in full], _lost(roster, kept, full, now))
 
 
-def _takes_none(roster: Roster, pair: PlanLine) -> bool:
-    return roster.tasks_of(pair.person) == 0 or roster.places_of(pair.object) == 0
-
-
-def _lost(roster: Roster, kept: OldPlan, left: List[PlanLine]) -> List[Lost]:
+def _lost(roster: Roster, kept: OldPlan, full: Set[Numbered], now: Set[Numbered]) -> List[Lost]:
     """What of an earlier plan can't be any more: names are gone, or take none, or a pair is forbidden."""
     lost = []
-    taking = {(roster.persons[pair.person], roster.objects[pair.object]) for pair in left if _takes_none(roster, pair)}
-    forbidden = {(roster.persons[person], roster.objects[object_]) for person, object_, _ in kept.forbidden}
+    forbidden = {(person, object_) for person, object_, _ in kept.forbidden}
     for person, object_ in kept.pairs:
-        if person in kept.gone or object_ in kept.gone:
-            lost.append(Lost(person, object_, "gone"))
-        elif (person, object_) in forbidden:
-            lost.append(Lost(person, object_, "forbidden"))
-        elif (person, object_) in taking:
-            lost.append(Lost(person, object_, "takes none"))
+        pair = roster.person_numbers.get(person, -1), roster.object_numbers.get(object_, -1)
+        is_gone = person in kept.gone or object_ in kept.gone
+        if pair not in now and (is_gone or pair in full or pair in forbidden):
+            lost.append(Lost(person, object_, "gone" if is_gone else "takes none" if pair in full else "forbidden"))
     return lost
 
 

@@ -8,16 +8,19 @@ import io
 import os
 import re
 import sys
-from typing import List, Optional, Sequence, Tuple
+from typing import TYPE_CHECKING, List, Optional, Sequence, Tuple
 
-from ._answer import Answer, Plan, Wish, answer_of, listed
+from ._answer import Answer, Wish, answer_of
 from ._exact import MOST_PLACES
 from ._files import STANDARD_OUTPUT, Output, OutputFault, print_content, refuse_existing, write_files
-from ._groups import missing_of, read_counts, read_groups, refuse_two_of_a_group, with_rules
-from ._roster import OldPlan, PlanLine, Roster, read_old_plan, read_plan, read_roster
+from ._groups import read_counts, read_groups, refuse_two_of_a_group, with_rules
+from ._roster import OldPlan, PlanLine, Roster, read_hand_plan, read_old_plan, read_plan, read_roster
 from ._sheets import Reading, RosterFault, quoted
-from ._texts import Fair, Report, as_csv, first_lines, forgotten_line, gone_line, in_encoding_of, printed, read_lines
+from ._texts import Fair, Hand, Report, as_csv, first_lines, forgotten_line, gone_line, in_encoding_of, printed, read_lines
 from ._words import Options, read_words
+
+if TYPE_CHECKING:
+    from ._past import Past
 
 PLANNED, NONE, WORDS, REFUSED, DEVICE = range(5)
 INTERRUPTED = 130
@@ -76,7 +79,7 @@ def _run(options: Options) -> int:
             need_openpyxl(output.path)
     report = _report(options, _read(options))
     answer = report.answer
-    for plan in (report.kept, report.hand):
+    for plan in (report.kept, report.hand.plan if report.hand else None):
         if plan is not None and plan.gone:
             _say(gone_line(plan, report.roster))
     lines = first_lines(report)
@@ -88,10 +91,14 @@ def _run(options: Options) -> int:
 
 def _report(options: Options, roster: Roster) -> Report:
     """The answer, and what was read to compare it with."""
-    fixed = _read_fixed(options.fixed, roster) if options.fixed else []
-    hand = read_hand(options.compare, roster, fixed) if options.compare else None
     # Counts may have changed since an earlier plan: what of it can't be any more is changed.
     kept = read_old_plan(options.keep, roster, not roster.ruled) if options.keep else None
+    roster, kept, past = _read_past(options, roster, kept)
+    fixed = _read_fixed(options.fixed, roster) if options.fixed else []
+    if past is not None:
+        from ._past import with_fixed
+        fixed = with_fixed(roster, past, fixed, options.fixed or "")
+    hand = _read_hand(options.compare, roster, fixed) if options.compare else None
     pairs = None if kept is None else {(pair.person, pair.object) for pair in kept.known}
     wish = Wish(fixed, options.max, options.as_many_as_can, pairs, change_cost(options, roster), options.others, options.plans)
     try:
@@ -99,8 +106,27 @@ def _report(options: Options, roster: Roster) -> Report:
     except ValueError as fault:
         raise RosterFault(options.roster, str(fault)) from fault
     if hand is not None and answer.plan is not None:
-        judge_hand(roster, hand, answer.plan)
+        from ._rules import lack_of
+        hand = hand._replace(best_lack=lack_of(roster, answer.plan.pairs, fixed))
     return Report(options, roster, answer, kept, hand, fair)
+
+
+def _read_hand(path: str, roster: Roster, fixed: List[PlanLine]) -> Hand:
+    """The plan that is to be compared, and the rules that it breaks."""
+    from ._rules import broken_rules, lack_of
+    plan, repeated = read_hand_plan(path, roster)
+    return Hand(plan, broken_rules(roster, plan, repeated, fixed), lack_of(roster, plan.known, fixed))
+
+
+def _read_past(options: Options, roster: Roster, kept: Optional[OldPlan]) -> Tuple[Roster, Optional[OldPlan], Optional["Past"]]:
+    """The roster and the kept plan with what is past, if any is."""
+    if options.past is None or kept is None or roster.groups is None:
+        return roster, kept, None
+    from ._past import with_past
+    roster, kept, past = with_past(roster, roster.groups, kept, options.past, options.round)
+    for line in past.lines:
+        _say(line)
+    return roster, kept, past
 
 
 def _answered(roster: Roster, wish: Wish, is_fair: bool) -> Tuple[Answer, Optional[Fair]]:
@@ -142,43 +168,6 @@ def _read_fixed(path: str, roster: Roster) -> List[PlanLine]:
     fixed = read_plan(path, roster)
     refuse_two_of_a_group(path, roster, fixed)
     return fixed
-
-
-def read_hand(path: str, roster: Roster, fixed: List[PlanLine]) -> OldPlan:
-    """A plan made by hand, refused where it leaves out a fixed pair or has one that is forbidden."""
-    hand = read_old_plan(path, roster)
-    for person, object_, line in hand.forbidden:
-        raise RosterFault(path, f"{roster.persons[person]}, {roster.objects[object_]} is a forbidden pair", line)
-    refuse_two_of_a_group(path, roster, hand.known)
-    pairs = {(pair.person, pair.object) for pair in hand.known}
-    for pair in fixed:
-        if (pair.person, pair.object) not in pairs:
-            raise RosterFault(path, f"the fixed pair {roster.persons[pair.person]}, {roster.objects[pair.object]} is missing")
-    return hand
-
-
-def judge_hand(roster: Roster, hand: OldPlan, plan: Plan) -> None:
-    """Refuses a plan made by hand that has fewer pairs than possible, or with bounds misses more, unless names are gone: its cost can't be
-    compared with that of a whole plan."""
-    if hand.gone or roster.least is None and len(hand.known) == len(plan.pairs):
-        return
-    if roster.least is not None:
-        _judge_bounds(roster, hand, plan)
-        return
-    missing = ""
-    if not roster.counts:
-        names, side = (roster.persons, 0) if len(roster.persons) <= len(roster.objects) else (roster.objects, 1)
-        had = {pair[side] for pair in hand.known}
-        missing = ": none has " + listed(names, [number for number in range(len(names)) if number not in had])
-    raise RosterFault(hand.path, f"{len(hand.known)} pairs, where {len(plan.pairs)} can be{missing}")
-
-
-def _judge_bounds(roster: Roster, hand: OldPlan, plan: Plan) -> None:
-    own = missing_of(roster, hand.known)
-    lack = [sum(missing.least - missing.had for missing in those) for those in (own, missing_of(roster, plan.pairs))]
-    if lack[0] > lack[1]:
-        names = [f"{missing.name}: {missing.had} of {missing.least}" for missing in own]
-        raise RosterFault(hand.path, f"{lack[0]} too few, where {lack[1] or 'none'} must be: {listed(names, list(range(len(names))))}")
 
 
 def change_cost(options: Options, roster: Roster) -> Optional[int]:

@@ -114,6 +114,15 @@ def with_rules(roster: Roster, tasks: Optional[Counts], places: Optional[Counts]
     return roster._replace(tasks=most[0], places=most[1], least=least, groups=groups)
 
 
+class Broken(NamedTuple):
+    """A rule that a plan breaks, the persons and objects that it is about, and the line that says so."""
+
+    rule: str
+    persons: List[str]
+    objects: List[str]
+    sentence: str
+
+
 def refuse_two_of_a_group(path: str, roster: Roster, pairs: Sequence[PlanLine]) -> None:
     """Refuses a plan in which a person has two objects of one group."""
     groups = roster.groups

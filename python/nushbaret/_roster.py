@@ -10,7 +10,7 @@ from array import array
 from bisect import bisect_left, bisect_right
 from itertools import compress, islice, repeat
 from operator import add, le, mul
-from typing import Any, Dict, List, NamedTuple, Optional, Sequence, Set, Tuple, cast
+from typing import Any, Dict, FrozenSet, List, NamedTuple, Optional, Sequence, Set, Tuple, cast
 
 from ._costs import Costs
 from ._dates import spellings
@@ -101,7 +101,8 @@ class Roster(NamedTuple):
     objects how many they take at most, where it isn't one; None where nothing was said. Where bounds alone decide, `least` says of persons
     and of objects how many they take at least, where it isn't 0. `rounded` says whether any cost was changed by
     rounding, `has_bom` whether the file began with a BOM, `is_matrix` whether it is a matrix, and `by_persons`
-    whether the pairs stand person by person. `encoding` is that of the file, and `reading` how other files are read."""
+    whether the pairs stand person by person. `encoding` is that of the file, and `reading` how other files are read. Of the objects in
+    `past` nothing is planned."""
 
     persons: List[str]
     objects: List[str]
@@ -124,6 +125,7 @@ class Roster(NamedTuple):
     groups: Optional[Groups] = None
     encoding: str = "utf-8"
     reading: Reading = Reading()
+    past: FrozenSet[int] = frozenset()
 
     @property
     def ruled(self) -> bool:
@@ -401,7 +403,7 @@ def read_plan(path: str, roster: Roster) -> List[PlanLine]:
     then for the first pair that the roster forbids; and `OSError` where the file can't be read.
     """
     places = [(_known(path, roster, person, line, 1, 1), _known(path, roster, object_, line, 2, 2), line)
-              for person, object_, line in _named_pairs(path, roster)]
+              for person, object_, line, _ in _named_pairs(path, roster)]
     _refuse_twice(path, roster, places)
     costs = roster.costs_of({(person, object_) for person, object_, _ in places})
     for person, object_, line in places:
@@ -410,15 +412,29 @@ def read_plan(path: str, roster: Roster) -> List[PlanLine]:
     return [PlanLine(person, object_, line, costs[person, object_]) for person, object_, line in places]
 
 
+class NamedPair(NamedTuple):
+    """A pair of a plan by names, the line where it stands, or in JSON its number, and its cost as it is written there, if any is."""
+
+    person: str
+    object: str
+    line: int
+    cost: str
+
+
 class OldPlan(NamedTuple):
     """An earlier plan, by the file's name: its pairs by names, those that the roster allows, the names that the roster doesn't have, and
     the pairs of known names that it forbids, each with its line."""
 
     path: str
-    pairs: List[Tuple[str, str]]
+    named: List[NamedPair]
     known: List[PlanLine]
     gone: List[str]
     forbidden: List[Tuple[int, int, int]]
+
+    @property
+    def pairs(self) -> List[Tuple[str, str]]:
+        """All pairs by names."""
+        return [pair[:2] for pair in self.named]
 
 
 def read_old_plan(path: str, roster: Roster, by_counts: bool = True) -> OldPlan:
@@ -426,11 +442,22 @@ def read_old_plan(path: str, roster: Roster, by_counts: bool = True) -> OldPlan:
 
     Raises `RosterFault` for the first name that stands more often than it may, if counts are to be kept, and for a pair that stands twice.
     """
-    named = [(_as_written(roster.persons, roster.person_numbers, person), _as_written(roster.objects, roster.object_numbers, object_), line)
-             for person, object_, line in _named_pairs(path, roster)]
+    return old_plan_of(path, roster, _named_pairs(path, roster), by_counts)
+
+
+def read_hand_plan(path: str, roster: Roster) -> Tuple[OldPlan, List[NamedPair]]:
+    """Reads a plan from elsewhere, whatever rules it breaks: each pair once, and those that stand again."""
+    first: Dict[Tuple[str, str], NamedPair] = {}
+    named = _named_pairs(path, roster)
+    repeated = [pair for pair in named if first.setdefault(pair[:2], pair) is not pair]
+    return old_plan_of(path, roster, list(first.values()), False), repeated
+
+
+def old_plan_of(path: str, roster: Roster, named: List[NamedPair], by_counts: bool) -> OldPlan:
+    """An earlier plan beside a roster."""
     gone: Dict[str, None] = {}
     places = []
-    for person, object_, line in named:
+    for person, object_, line, _ in named:
         gone.update({} if person in roster.person_numbers else {person: None})
         gone.update({} if object_ in roster.object_numbers else {object_: None})
         if person in roster.person_numbers and object_ in roster.object_numbers:
@@ -438,8 +465,7 @@ def read_old_plan(path: str, roster: Roster, by_counts: bool = True) -> OldPlan:
     _refuse_twice(path, roster, places, by_counts)
     costs = roster.costs_of({(person, object_) for person, object_, _ in places})
     known = [PlanLine(person, object_, line, costs[person, object_]) for person, object_, line in places if (person, object_) in costs]
-    return OldPlan(path, [(person, object_) for person, object_, _ in named], known, list(gone),
-                   [place for place in places if place[:2] not in costs])
+    return OldPlan(path, named, known, list(gone), [place for place in places if place[:2] not in costs])
 
 
 def _as_written(names: List[str], numbers: Dict[str, int], name: str) -> str:
@@ -447,25 +473,28 @@ def _as_written(names: List[str], numbers: Dict[str, int], name: str) -> str:
     return names[numbers[name]] if name in numbers else name
 
 
-NamedPairs = List[Tuple[str, str, int]]
+def _named_pairs(path: str, roster: Roster) -> List[NamedPair]:
+    """The pairs of a plan by names."""
+    pairs = _plan_of_json(path) if is_json(path) else _plan_of_sheet(path, roster)
+    return [NamedPair(_as_written(roster.persons, roster.person_numbers, pair.person),
+                      _as_written(roster.objects, roster.object_numbers, pair.object), pair.line, pair.cost) for pair in pairs]
 
 
-def _named_pairs(path: str, roster: Roster) -> NamedPairs:
-    """The pairs of a plan by names, each with its line, or in JSON with its number."""
-    if is_json(path):
-        return _plan_of_json(path)
-    sheet = Sheet(path, reading=roster.reading, preferred=PLAN_SHEET)
+def _plan_of_sheet(path: str, roster: Roster) -> List[NamedPair]:
+    """The pairs of a plan in lines. A third column has costs, unless it is that of groups."""
+    sheet = Sheet(path, roster.comma, reading=roster.reading, preferred=PLAN_SHEET)
     line, title = sheet.title()
     if len(title) < 2:
         sheet.refuse("each line must have a person and an object", line)
     if title[0] in roster.person_numbers and title[1] in roster.object_numbers:
         sheet.refuse(f"a title line must come first, and {title[0]}, {title[1]} is a pair", line)
-    last = title.index(CHANGE, len(TITLES)) if CHANGE in title[len(TITLES):] else None
-    return [(sheet.name(cells[0], line, 1), sheet.name(cells[1], line, 2), line) for line, cells in sheet.body(len(title))
-            if last is None or cells[last] not in (GOES, NOT_POSSIBLE)]
+    change = title.index(CHANGE, len(TITLES)) if CHANGE in title[len(TITLES):] else None
+    has_costs = len(title) > 2 and (roster.groups is None or title[2] != roster.groups.title)
+    return [NamedPair(sheet.name(cells[0], line, 1), sheet.name(cells[1], line, 2), line, cells[2] if has_costs else "")
+            for line, cells in sheet.body(len(title)) if change is None or cells[change] not in (GOES, NOT_POSSIBLE)]
 
 
-def _plan_of_json(path: str) -> NamedPairs:
+def _plan_of_json(path: str) -> List[NamedPair]:
     with open(path, "rb") as file:
         data = file.read(MOST_BYTES)
     try:
@@ -475,14 +504,16 @@ def _plan_of_json(path: str) -> NamedPairs:
         raise RosterFault(path, f"no plan with pairs in JSON: {fault}") from fault
     if form not in range(1, FORMAT + 1):
         raise RosterFault(path, f"format {form} of a plan in JSON, where 1 to {FORMAT} can be read")
-    return [(*_pair_of_json(path, pair, number), number) for number, pair in enumerate(pairs, 1)]
+    return [_pair_of_json(path, pair, number) for number, pair in enumerate(pairs, 1)]
 
 
-def _pair_of_json(path: str, pair: Any, number: int) -> Tuple[str, str]:
+def _pair_of_json(path: str, pair: Any, number: int) -> NamedPair:
     person, object_ = (pair.get(key) if isinstance(pair, dict) else None for key in ("person", "object"))
     if not isinstance(person, str) or not isinstance(object_, str) or not (person and object_):
         raise RosterFault(path, "a person and an object are needed, each a text", number)
-    return unicodedata.normalize("NFC", person), unicodedata.normalize("NFC", object_)
+    cost = pair.get("cost", "")
+    is_number = isinstance(cost, (str, int, float)) and not isinstance(cost, bool)
+    return NamedPair(unicodedata.normalize("NFC", person), unicodedata.normalize("NFC", object_), number, str(cost) if is_number else "")
 
 
 def known(sheet: Sheet, roster: Roster, cell: str, line: int, side: int, column: int) -> int:

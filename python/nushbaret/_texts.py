@@ -5,7 +5,7 @@ from typing import Dict, Iterator, List, NamedTuple, Optional, Sequence, Tuple
 
 from ._answer import MOST_NAMES_SHOWN, Answer, Pair, Plan, counted, left_out, named, sentence
 from ._changes import Lost, OfPerson, by_person, changes_of
-from ._groups import Counts, order_of
+from ._groups import Broken, Counts, order_of
 from ._roster import CHANGE, COMES, GOES, NOT_POSSIBLE, OldPlan, PlanLine, Roster, alike, like
 from ._sheets import SEPARATORS, quoted
 from ._words import Options
@@ -19,6 +19,20 @@ class Fair(NamedTuple):
     best_pair: Pair
 
 
+class Hand(NamedTuple):
+    """A plan from elsewhere, the rules that it breaks, and by how much it and the best plan miss least counts."""
+
+    plan: OldPlan
+    broken: Sequence[Broken]
+    lack: int
+    best_lack: int = 0
+
+    @property
+    def is_comparable(self) -> bool:
+        """Whether it keeps all rules, or misses as much as the best plan and keeps all others."""
+        return self.lack == self.best_lack and all(broken.rule == "least" for broken in self.broken)
+
+
 class Report(NamedTuple):
     """All that is said of a run: what was asked for, the answer, the plans that were read, and what fairness costs."""
 
@@ -26,7 +40,7 @@ class Report(NamedTuple):
     roster: Roster
     answer: Answer
     kept: Optional[OldPlan] = None
-    hand: Optional[OldPlan] = None
+    hand: Optional[Hand] = None
     fair: Optional[Fair] = None
 
 
@@ -70,7 +84,7 @@ def forgotten_line(roster: Roster, counts: Counts, side: int) -> Optional[str]:
 
 def gone_line(plan: OldPlan, roster: Roster) -> str:
     """What an earlier plan has and the roster has no more, or under another name."""
-    names = roster.persons + roster.objects
+    names = [name for name in roster.persons + roster.objects if name not in plan.gone]
     near = [like(name, names) if len(plan.gone) <= MOST_NAMES_SHOWN else [] for name in plan.gone]
     shown = [name + (f" (did you mean {' or '.join(those)}?)" if those else "") for name, those in zip(plan.gone, near)]
     return f"{plan.path}: the roster has no {', '.join(shown)}"
@@ -100,11 +114,12 @@ def _bound(report: Report, fair: Fair) -> str:
 
 def printed(report: Report) -> List[str]:
     """The plan by names, who and what stays out, and what there is to say of it."""
-    plan = report.answer.plan
-    if plan is None:
-        return []
-    lines = rows_of(report.roster, plan) + [f"{out.how}: {', '.join(out.names)}" for out in left_out(report.roster, plan)]
-    for note in notes_of(report, plan):
+    plan, notes = report.answer.plan, broken_rules(report.hand)
+    lines: List[str] = []
+    if plan is not None:
+        lines = rows_of(report.roster, plan) + [f"{out.how}: {', '.join(out.names)}" for out in left_out(report.roster, plan)]
+        notes = notes_of(report, plan)
+    for note in notes:
         lines += [note.line, *("  " + detail for detail in note.details)]
     return lines
 
@@ -119,17 +134,21 @@ def notes_of(report: Report, plan: Plan) -> List[Note]:
     if options.rents:
         notes += [Note(f"rent of {roster.objects[number]}: {roster.shown(rent)}") for number, rent in plan.rents.items()]
     notes += [changes(roster, plan, report.kept)] if report.kept else []
-    return notes + ([compared(report, plan, report.hand)] if report.hand else [])
+    return notes + broken_rules(report.hand) + ([compared(report, plan, report.hand)] if report.hand else [])
 
 
 def rows_of(roster: Roster, plan: Plan) -> List[str]:
     """Each person with all of its own, then, if any object may have several, each object with all of its own."""
     own: Dict[int, List[str]] = {}
     for pair in plan.pairs:
-        text = f"{roster.objects[pair.object]}, {roster.shown(pair.cost)}" + (" (fixed)" if pair.fixed else "")
+        text = f"{roster.objects[pair.object]}, {roster.shown(pair.cost)}{_why_fixed(roster, pair)}"
         own.setdefault(pair.person, []).append(text)
     lines = [f"{roster.persons[person]}{_times(roster, len(texts))}: {'; '.join(texts)}" for person, texts in own.items()]
     return lines + [f"at {roster.objects[object_]}{_times(roster, len(who))}: {', '.join(who)}" for object_, who in persons_at(roster, plan)]
+
+
+def _why_fixed(roster: Roster, pair: Pair) -> str:
+    return "" if not pair.fixed else " (past)" if pair.object in roster.past else " (fixed)"
 
 
 def persons_at(roster: Roster, plan: Plan) -> List[Tuple[int, List[str]]]:
@@ -234,34 +253,36 @@ def _lost_lines(lost: Sequence[Lost]) -> List[str]:
     return [f"{person}: {', '.join(own)} {NOT_POSSIBLE} now ({why})" for (person, why), own in names.items()]
 
 
+def broken_rules(hand: Optional[Hand]) -> List[Note]:
+    """Which rules a plan from elsewhere breaks."""
+    if hand is None or not hand.broken:
+        return []
+    count = len(hand.broken)
+    return [Note(f"{hand.plan.path}: breaks {count} rule{'' if count == 1 else 's'}", [broken.sentence for broken in hand.broken])]
+
+
 def worse_by(report: Report, plan: Plan, hand: OldPlan) -> int:
-    """By how much a plan made by hand is worse than the best."""
+    """By how much a plan from elsewhere is worse than the best."""
     cost = sum(pair.cost for pair in hand.known)
     return plan.cost - cost if report.options.max else cost - plan.cost
 
 
-def is_comparable(roster: Roster, plan: Plan, hand: OldPlan) -> bool:
-    """Whether a plan made by hand is as full as the best."""
-    return len(hand.known) == len(plan.pairs) or not hand.gone and roster.least is not None
-
-
 def only_there(plan: Plan, hand: OldPlan) -> List[PlanLine]:
-    """The pairs of a plan made by hand that the best doesn't have."""
+    """The pairs of a plan from elsewhere that the best doesn't have."""
     own = {(pair.person, pair.object) for pair in plan.pairs}
     return [pair for pair in sorted(hand.known) if (pair.person, pair.object) not in own]
 
 
-def compared(report: Report, plan: Plan, hand: OldPlan) -> Note:
-    """By how much a plan made by hand is worse than the best, and where the two differ."""
-    roster, more, cost = report.roster, worse_by(report, plan, hand), sum(pair.cost for pair in hand.known)
-    if not is_comparable(roster, plan, hand):
-        line = f"{roster.shown(cost)} for {len(hand.known)} pairs that the roster allows, where {len(plan.pairs)} can be"
-    elif more == 0:
-        line = f"{roster.shown(cost)}, as good as the best"
-    else:
-        line = f"{roster.shown(cost)}, {roster.shown(more)} {'less' if report.options.max else 'more'} than the best"
-    return Note(f"{hand.path}: {line}", [
-        f"there {roster.persons[pair.person]}: {roster.objects[pair.object]}, {roster.shown(pair.cost)}" for pair in only_there(plan, hand)])
+def compared(report: Report, plan: Plan, hand: Hand) -> Note:
+    """By how much a plan from elsewhere is worse than the best, or better as far as it breaks rules, and where the two differ."""
+    roster, own = report.roster, hand.plan
+    cost = sum(pair.cost for pair in own.known)
+    more = cost - plan.cost
+    size = f"{roster.shown(abs(more))} {'more' if more > 0 else 'less'} than" if more else "as good as"
+    of_pairs = f" for {counted(len(own.known), 'pair')} that the roster allows" if len(own.known) < len(own.named) else ""
+    rest = ", which misses less" if hand.lack > hand.best_lack > 0 else "" if hand.is_comparable or hand.best_lack else ", which breaks none"
+    return Note(f"{own.path}: {roster.shown(cost)}{of_pairs}, {size} the best{rest}", [
+        f"there {roster.persons[pair.person]}: {roster.objects[pair.object]}, {roster.shown(pair.cost)}" for pair in only_there(plan, own)])
 
 
 def as_csv(roster: Roster, plan: Plan, kept: Optional[OldPlan] = None) -> str:
@@ -286,10 +307,10 @@ def _lines_with_changes(roster: Roster, plan: Plan, kept: OldPlan) -> List[Tuple
     """The lines of a plan and of the pairs that go, person by person, and those of pairs that aren't possible now."""
     found = changes_of(roster, plan, kept)
     new = set(found.comes)
-    lines = [(pair.person, (*line, COMES if pair in new else "")) for pair, line in zip(plan.pairs, _lines_of(roster, plan))]
+    lines: List[Tuple[int, Tuple[str, ...]]] = [(pair.person, (*line, COMES if pair in new else "")) for pair, line in zip(plan.pairs, _lines_of(roster, plan))]
     lines += [(pair.person, (roster.persons[pair.person], roster.objects[pair.object], "", GOES)) for pair in found.goes]
-    lost = [(pair.person, pair.object, "", NOT_POSSIBLE) for pair in found.lost]
-    return [line for _, line in sorted(lines, key=lambda those: those[0])] + lost
+    lost = ((pair.person, pair.object, "", NOT_POSSIBLE) for pair in found.lost)
+    return [*(line for _, line in sorted(lines, key=lambda those: those[0])), *lost]
 
 
 def in_encoding_of(roster: Roster, text: str) -> bytes:

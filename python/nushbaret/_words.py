@@ -70,6 +70,7 @@ class Options(NamedTuple):
     fixed: Optional[str]
     as_many_as_can: bool
     keep: Optional[str]
+    past: Optional[str]
     change_cost: Optional[str]
     compare: Optional[str]
     others: bool
@@ -142,7 +143,10 @@ OPTIONS = (
     Option("--fixed", "keep the pairs of this plan (.csv, .json or .xlsx)", PLANNING, "fixed", PLAN),
     Option("--as-many-as-can", "where there is no plan for all, find the fullest", PLANNING, "as_many_as_can"),
     Option("--keep", "of all best plans take one with the fewest changes from this one (.csv, .json or .xlsx)", PLANNING, "keep", PLAN),
-    Option("--change-cost", "weigh each change from the kept plan as a cost of C", PLANNING, "change_cost", Value("C")),
+    Option("--past", "with --keep: what the plan has in the groups before this one stays, and the rest is planned", PLANNING, "past",
+           Value("GROUP")),
+    Option("--change-cost", "weigh changes from the kept plan: half of C for each pair that comes, and for each that goes", PLANNING,
+           "change_cost", Value("C")),
     Option("--compare", "show by how much this plan (.csv, .json or .xlsx) is worse than the best", SHOWING, "compare", PLAN),
     Option("--others", "show who could change places at no cost, or the next best plan", SHOWING, "others"),
     Option("--plans", f"show the K best plans, 2 to {MOST_PLANS}: each as what differs from the first", SHOWING, "plans",
@@ -268,6 +272,8 @@ def _judge(options: Options, refuse: Callable[[str], NoReturn]) -> None:
     """Refuses options that don't go together."""
     if options.change_cost is not None and not options.keep:
         refuse("--change-cost needs --keep")
+    if options.past is not None and not (options.keep and options.groups):
+        refuse("--past needs --keep and --groups")
     if options.others and options.change_cost is not None:
         refuse("--others compares costs alone: not with --change-cost")
     if options.plans > 1 and options.change_cost is not None:

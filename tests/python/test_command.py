@@ -145,9 +145,11 @@ class Plans(Runs):
         status, out, _ = self.run_words("r.csv", "--compare", "h.csv", "--max")
         self.assertIn("h.csv: 6, 5 less than the best\n", out)
         self.file("h.csv", "a,b\nCleo,night\nAda,early\n")
-        self.refused(3, "h.csv: 2 pairs, where 3 can be: none has Ben", "r.csv", "--compare", "h.csv", "--output", "p.csv")
+        self.expect(0, best + "h.csv: breaks 1 rule\n  Ben: no object, at least 1\nh.csv: 6, 1 more than the best, which breaks none\n"
+                    "  there Ada: early, 4\n", "", "r.csv", "--compare", "h.csv")
         self.file("f.csv", "a,b\nAda,late\n")
-        self.refused(3, "h.csv: the fixed pair Ada, late is missing", "r.csv", "--compare", "h.csv", "--fixed", "f.csv")
+        self.assertIn("h.csv: breaks 2 rules\n  Ben: no object, at least 1\n  Ada, late: the fixed pair is missing\n",
+                      self.run_words("r.csv", "--compare", "h.csv", "--fixed", "f.csv")[1])
 
     def test_rents_prove_the_plan(self):
         self.file("r.csv", SQUARE)
@@ -160,15 +162,15 @@ class Plans(Runs):
     def test_keep(self):
         self.file("r.csv", ",x,y,z\nAda,1,1,1\nBen,1,1,1\nCleo,1,1,0\n")
         self.file("old.csv", "a,b\nAda,y\nBen,x\nEve,z\n")
-        self.expect(0, "least cost: 2\nAda: y, 1\nBen: x, 1\nCleo: z, 0\nold.csv: 1 of 3 pairs changed\n  Cleo: z\n",
-                    "old.csv: the roster has no Eve\n", "r.csv", "--keep", "old.csv")
+        self.expect(0, "least cost: 2\nAda: y, 1\nBen: x, 1\nCleo: z, 0\nold.csv: 1 pair comes\n  Cleo: z comes\n"
+                    "  Eve: z not possible now (gone)\n", "old.csv: the roster has no Eve\n", "r.csv", "--keep", "old.csv")
         self.file("old.csv", "a,b\nAda,z\nBen,x\nCleo,y\n")
-        self.expect(0, "least cost: 2\nAda: y, 1\nBen: x, 1\nCleo: z, 0\nold.csv: 2 of 3 pairs changed\n  Ada: y, before z\n"
-                    "  Cleo: z, before y\n", "", "r.csv", "--keep", "old.csv")
-        self.expect(0, "least cost: 3\nAda: z, 1\nBen: x, 1\nCleo: y, 1\nold.csv: 0 of 3 pairs changed\n", "",
+        self.expect(0, "least cost: 2\nAda: y, 1\nBen: x, 1\nCleo: z, 0\nold.csv: 2 pairs come, 2 go\n  Ada: z goes; y comes\n"
+                    "  Cleo: y goes; z comes\n", "", "r.csv", "--keep", "old.csv")
+        self.expect(0, "least cost: 3\nAda: z, 1\nBen: x, 1\nCleo: y, 1\nold.csv: no pair changes\n", "",
                     "r.csv", "--keep", "old.csv", "--change-cost", "1")
         self.run_words("r.csv", "--keep", "old.csv", "--change-cost", "1", "--output", "p.json")
-        self.assertIn("p.json: 0 of 3 pairs changed", self.run_words("r.csv", "--keep", "p.json", "--change-cost", "1")[1])
+        self.assertIn("p.json: no pair changes", self.run_words("r.csv", "--keep", "p.json", "--change-cost", "1")[1])
         self.refused(2, "--change-cost needs --keep", "r.csv", "--change-cost", "1")
         for cost, text in (("-1", "'-1' is no cost from 0 on"), ("x", "'x' is no cost"), ("0.5", "more decimal places than the roster's 0")):
             self.refused(3, text, "r.csv", "--keep", "old.csv", f"--change-cost={cost}")
@@ -201,14 +203,16 @@ class Plans(Runs):
         self.file("h.csv", "a,b\nAda,early\nEve,late\nCleo,night\n")
         status, out, err = self.run_words("r.csv", "--compare", "h.csv")
         self.assertEqual((status, err), (0, "h.csv: the roster has no Eve\n"))
-        self.assertIn("h.csv: 6 for 2 pairs that the roster allows, where 3 can be\n  there Ada: early, 4\n", out)
+        self.assertIn("h.csv: breaks 2 rules\n  Eve, late: the roster has no Eve\n  Ben: no object, at least 1\n"
+                      "h.csv: 6 for 2 pairs that the roster allows, 1 more than the best, which breaks none\n  there Ada: early, 4\n", out)
 
     def test_places(self):
         self.file("r.csv", ",day,night\nAda,1,5\nBen,2,4\nCleo,3,2\nDan,1,1\n")
         self.file("c.csv", "shift,places\nnight,3\n")
-        self.expect(0, "least cost: 8\nAda: day, 1\nBen: night, 4\nCleo: night, 2\nDan: night, 1\nat day: Ada\nat night: Ben, Cleo, Dan\n", "",
-                    "r.csv", "--places", "c.csv")
-        self.file("t.csv", "nurse,tasks\nAda,2\nDan,0\n")
+        self.expect(0, "least cost: 8\nAda: day, 1\nBen: night, 4\nCleo: night, 2\nDan: night, 1\nat day: Ada\nat night: Ben, Cleo, Dan\n",
+                    "c.csv: no line for 1 object (day): takes one\n", "r.csv", "--places", "c.csv")
+        self.file("c.csv", "shift,places\nnight,3\nday,1\n")
+        self.file("t.csv", "nurse,tasks\nAda,2\nDan,0\nBen,1\nCleo,1\n")
         self.expect(0, "least cost: 12\nAda: day, 1; night, 5\nBen: night, 4\nCleo: night, 2\nat day: Ada\nat night: Ada, Ben, Cleo\n", "",
                     "r.csv", "--places", "c.csv", "--tasks", "t.csv")
         self.file("t.csv", "nurse,tasks\nAda,3\nBen,0\nCleo,0\nDan,0\n")
@@ -367,7 +371,7 @@ class NoPlans(Runs):
         self.expect(1, SENTENCE + "\np.csv isn't written: there is no plan\n", "", "r.csv",
                     "--output", "p.csv", "--output", "p.json", "--html", "page")
         self.assertEqual(sorted(os.listdir()), ["p.json", "page", "r.csv"])
-        self.assertEqual(json.loads(self.read("p.json")), {"format": 2, "sense": "min", "short": [{
+        self.assertEqual(json.loads(self.read("p.json")), {"format": 3, "sense": "min", "short": [{
             "persons": ["Ben", "Cleo", "Dan"], "objects": ["night", "weekend"], "sentence": SENTENCE}]})
 
     def test_plurals(self):
@@ -598,8 +602,7 @@ class Statuses(Runs):
                               ("a,b\nBen,night\nDan,night\n", "f.csv, line 3, column 2: 'night' a second time"),
                               ("a,b\nEve,night\n", "f.csv, line 2, column 1: the roster has no person 'Eve'")):
             self.file("f.csv", content)
-            for option in ("--fixed", "--compare") if "Eve" not in content else ("--fixed",):
-                self.refused(3, text, "r.csv", option, "f.csv")
+            self.refused(3, text, "r.csv", "--fixed", "f.csv")
 
     def test_files(self):
         self.file("r.csv", SQUARE)

@@ -10,7 +10,7 @@ from test_command import OTHERS, Runs
 
 WEEK = ("nurse,shift,hours\nAda,early Mon,1\nAda,late Mon,2\nAda,early Tue,3\nBen,early Mon,2\nBen,late Mon,1\nBen,early Tue,2\n"
         "Cleo,late Mon,5\nCleo,early Tue,1\nCleo,office,4\n")
-PLACES = "shift,at least,at most\nearly Mon,1,2\nlate Mon,1,2\nearly Tue,1,2\n"
+PLACES = "shift,at least,at most\nearly Mon,1,2\nlate Mon,1,2\nearly Tue,1,2\noffice,,1\n"
 TASKS = "nurse,at least,at most\nAda,1,2\nBen,1,3\nCleo,0,2\n"
 DAYS = "shift,day\nearly Tue,Tue\nearly Mon,Mon\nlate Mon,Mon\n"
 RULES = ("r.csv", "--places", "p.csv", "--tasks", "t.csv", "--groups", "g.csv")
@@ -33,14 +33,14 @@ class Week(Runs):
         self.assertEqual([pair.get("group") for pair in pairs], ["Tue", "Mon", "Tue", "Mon", "Mon", None])
 
     def test_one_number_is_exact_beside_two(self):
-        self.file("p.csv", "shift,at least,at most\nearly Mon,2\nlate Mon,0,1\n")
+        self.file("p.csv", "shift,at least,at most\nearly Mon,2\nlate Mon,0,1\nearly Tue,,1\noffice,0,1\n")
         self.expect(0, "least hours: 3\nAda: early Mon, 1\nBen: early Mon, 2\nat early Mon (2): Ada, Ben\nwithout: Cleo\n"
                     "unused: late Mon, early Tue, office\n", "", "r.csv", "--places", "p.csv")
 
     def test_groups_with_single_numbers(self):
         """The smaller side gets all."""
         self.file("t.csv", "nurse,tasks\nAda,2\nBen,2\nCleo,0\n")
-        self.file("p.csv", "shift,places\nearly Tue,2\noffice,0\n")
+        self.file("p.csv", "shift,places\nearly Tue,2\noffice,0\nearly Mon,1\nlate Mon,1\n")
         self.expect(0, "least hours: 7\nAda (2): early Tue, 3; early Mon, 1\nBen (2): early Tue, 2; late Mon, 1\n"
                     "at early Tue (2): Ada, Ben\nat early Mon: Ada\nat late Mon: Ben\n", "", *RULES)
         self.file("g.csv", "shift,day\nearly Tue,all\nearly Mon,all\nlate Mon,all\n")
@@ -50,7 +50,7 @@ class Week(Runs):
                     "unused: early Tue (0 of 2)\n", "", *RULES, "--as-many-as-can")
 
     def test_as_many_as_can(self):
-        self.file("p.csv", "shift,at least,at most\nearly Mon,2,2\nlate Mon,2,2\nearly Tue,1,2\n")
+        self.file("p.csv", "shift,at least,at most\nearly Mon,2,2\nlate Mon,2,2\nearly Tue,1,2\noffice,0,1\n")
         short = ("3 nurses (Ada, Ben, Cleo) can take at most 3 of the 4 places that must be filled at 2 shifts (early Mon (2), late Mon (2)) of "
                  "day Mon: Ada, Ben, Cleo at most one each of day Mon: allow others there, or fill one fewer")
         self.expect(1, short + "\n", "", *RULES)
@@ -67,10 +67,12 @@ class Week(Runs):
 
     def test_keep_fixed_and_compare(self):
         self.file("k.csv", "a,b\nAda,late Mon\nBen,early Mon\nCleo,early Tue\n")
-        self.assertIn("k.csv: 2 of 3 pairs changed\n", self.run_words(*RULES, "--keep", "k.csv")[1])
+        self.assertIn("k.csv: 2 pairs come, 2 go\n  Ada: late Mon goes; early Mon comes\n  Ben: early Mon goes; late Mon comes\n",
+                      self.run_words(*RULES, "--keep", "k.csv")[1])
         self.file("sick.csv", TASKS.replace("Ben,1,3", "Ben,0,0"))
-        self.assertIn("k.csv: 1 of 3 pairs changed\n  Ada: early Mon\n", self.run_words("r.csv", *RULES[1:3], "--tasks", "sick.csv", "--keep", "k.csv")[1])
-        self.assertIn("k.csv: 0 of 3 pairs changed\n", self.run_words(*RULES, "--keep", "k.csv", "--change-cost", "2")[1])
+        self.assertTrue(self.run_words("r.csv", *RULES[1:3], "--tasks", "sick.csv", "--keep", "k.csv")[1].endswith(
+            "k.csv: 1 pair comes\n  Ada: early Mon comes\n  Ben: early Mon not possible now (takes none)\n"))
+        self.assertIn("k.csv: no pair changes\n", self.run_words(*RULES, "--keep", "k.csv", "--change-cost", "2")[1])
         self.expect(0, "least hours: 5\nAda: late Mon, 2 (fixed)\nBen: early Mon, 2 (fixed)\nCleo: early Tue, 1 (fixed)\nat early Tue: Cleo\n"
                     "at early Mon: Ben\nat late Mon: Ada\nunused: office\n", "", *RULES, "--fixed", "k.csv")
         self.assertIn("k.csv: 5, 2 more than the best\n", self.run_words(*RULES, "--compare", "k.csv")[1])
@@ -135,13 +137,7 @@ class Refusals(Runs):
 
     def test_two_of_a_group(self):
         self.file("f.csv", "a,b\nAda,early Mon\nBen,late Mon\nAda,late Mon\n")
-        text = "f.csv, line 4: Ada has late Mon and, in line 2, early Mon: two of day Mon"
-        self.refused(3, text, *RULES, "--fixed", "f.csv")
-        self.refused(3, text, *RULES, "--compare", "f.csv")
-
-    def test_compare_with_less_than_must_be(self):
-        self.file("h.csv", "a,b\nAda,early Mon\nCleo,early Tue\n")
-        self.refused(3, "h.csv: 2 too few, where none must be: late Mon: 0 of 1, Ben: 0 of 1", *RULES, "--compare", "h.csv")
+        self.refused(3, "f.csv, line 4: Ada has late Mon and, in line 2, early Mon: two of day Mon", *RULES, "--fixed", "f.csv")
 
     def test_too_many_nodes(self):
         self.file("r.csv", "nurse,shift,hours\n" + "".join(f"p{person},o{number},1\n" for person in range(100) for number in range(100)))
