@@ -36,7 +36,7 @@ STYLE = """
 .days td div { padding-left: .8em; text-indent: -.8em }
 .days em { color: var(--alarm); font-style: normal; font-weight: bold }
 .days s { color: var(--soft) }
-@media (max-width: 80em) {
+@media (max-width: 75em) {
 .days { --day: 6.5em }
 }
 @media (max-width: 40em) {
