@@ -156,7 +156,7 @@ class Month(Runs):
         self.assertEqual(re.findall("<caption.*", wall), re.findall("<caption.*", whole))
 
     def test_sizes_of_letters(self):
-        self.assertEqual(_size(["Ada"] * 20, [[["early"]] * 7] * 20, 7), 11)
+        self.assertEqual(_size(["Ada"] * 20, [[["early"]] * 7] * 20, 7), SIZES[0])
         self.assertEqual(_size(["Ada"] * 90, [[["early"]] * 7] * 90, 7), SIZES[-1])
         small = _size(["Ada"] * 3, [[[f"Nurse {number}" for number in range(14)]] * 7] * 3, 7)
         self.assertTrue(SIZES[-1] < small < SIZES[0], small)
