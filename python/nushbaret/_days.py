@@ -50,8 +50,8 @@ STYLE = """
 
 
 class Shown(NamedTuple):
-    """What is drawn of a block: whether other blocks are there, and whether it shows the plan alone, so neither what was given nor who can
-    have nothing."""
+    """What is drawn of a block: whether other blocks are there, and whether it shows the plan alone, without what was given and who can have
+    nothing."""
 
     is_part: bool
     plan_only: bool
