@@ -15,8 +15,8 @@ from ._exact import MOST_PLACES
 from ._files import STANDARD_OUTPUT, Output, OutputFault, print_content, refuse_existing, write_files
 from ._groups import read_counts, read_groups, refuse_two_of_a_group, with_rules
 from ._roster import OldPlan, PlanLine, Roster, read_hand_plan, read_old_plan, read_plan, read_roster
-from ._sheets import RosterFault, quoted
-from ._texts import Fair, Hand, Report, as_csv, first_lines, forgotten_line, gone_line, printed, read_lines
+from ._sheets import Reading, RosterFault, quoted
+from ._texts import Fair, Hand, Report, as_csv, first_lines, forgotten_line, gone_line, in_encoding_of, printed, read_lines
 from ._words import Options, read_words
 
 if TYPE_CHECKING:
@@ -39,10 +39,10 @@ def main(words: Optional[Sequence[str]] = None) -> int:
     int
         The status, 0 to 4, or 130 after Ctrl-C. Words that are refused, and `--help`, end by `SystemExit` with status 2 and 0.
     """
-    options = read_words(words)
     for stream in (sys.stdout, sys.stderr):
         if isinstance(stream, io.TextIOWrapper):
-            stream.reconfigure(errors="backslashreplace")
+            stream.reconfigure(encoding=None if stream.isatty() else "utf-8", errors="backslashreplace")
+    options = read_words(words)
     try:
         return _run(options)
     except RosterFault as fault:
@@ -85,7 +85,7 @@ def _run(options: Options) -> int:
     lines = first_lines(report)
     is_content = _write(report, lines)
     skipped = [f"{output.path} isn't written: there is no plan" for output in options.outputs if not _is_written(output, answer)]
-    _print_lines(lines + printed(report) + skipped, is_content)
+    _print_lines(lines + ([] if options.quiet else printed(report)) + skipped, is_content)
     return PLANNED if not answer.groups else NONE
 
 
@@ -144,7 +144,7 @@ def _answered(roster: Roster, wish: Wish, is_fair: bool) -> Tuple[Answer, Option
 def _read(options: Options) -> Roster:
     """The roster, with how many each name takes. What is said of it is also said where its counts or groups are refused."""
     roster = read_roster(options.roster, options.form, options.decimals, options.decimal_comma, options.round, options.sheet,
-                         options.skip_rows)
+                         options.skip_rows, Reading(options.encoding, _say))
     forgotten: List[Optional[str]] = []
     try:
         tasks = read_counts(options.tasks, roster, False) if options.tasks else None
@@ -196,7 +196,7 @@ def _write(report: Report, lines: List[str]) -> bool:
     """Writes the outputs, the files first. Whether standard output got one."""
     options = report.options
     outputs = [*options.outputs, *([Output(STANDARD_OUTPUT[0], options.print)] if options.print else [])]
-    contents = [(output, content_of(report, lines, output.kind)) for output in outputs if _is_written(output, report.answer)]
+    contents = [(output, content_of(report, lines, output)) for output in outputs if _is_written(output, report.answer)]
     write_files([(output.path, content) for output, content in contents if not output.is_standard], options.force)
     for output, content in contents:
         if output.is_standard:
@@ -204,8 +204,9 @@ def _write(report: Report, lines: List[str]) -> bool:
     return any(output.is_standard for output in outputs)
 
 
-def content_of(report: Report, lines: List[str], kind: str) -> bytes:
-    """What is written of a kind."""
+def content_of(report: Report, lines: List[str], output: Output) -> bytes:
+    """What is written to an output. Standard output is UTF-8."""
+    kind = output.kind
     if kind == "json":
         from ._json import as_json
         return as_json(report, lines).encode()
@@ -218,7 +219,8 @@ def content_of(report: Report, lines: List[str], kind: str) -> bytes:
     if kind == "xlsx":
         from ._workbook import as_xlsx
         return as_xlsx(report, plan)
-    return as_csv(report.roster, plan, report.kept).encode()
+    text = as_csv(report.roster, plan, report.kept)
+    return text.encode() if output.is_standard else in_encoding_of(report.roster, text)
 
 
 def _print_lines(lines: List[str], is_content: bool) -> None:

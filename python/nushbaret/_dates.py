@@ -2,7 +2,7 @@
 import re
 from bisect import bisect_left
 from datetime import date, timedelta
-from typing import Dict, FrozenSet, List, NamedTuple, Optional, Sequence, Set
+from typing import Dict, FrozenSet, List, NamedTuple, Optional, Sequence, Set, Tuple
 
 DAY_NAMES = ("Mon", "Tue", "Wed", "Thu", "Fri", "Sat", "Sun")
 SATURDAY = 5
@@ -135,3 +135,13 @@ def order_by_date(names: Sequence[str]) -> List[int]:
     """The numbers of names by date where they are dates, and otherwise as they stand."""
     dates: Dict[int, date] = dict(enumerate(dates_of(names).all or []))
     return sorted(range(len(names)), key=lambda number: (dates.get(number, date.min), number))
+
+
+def spellings(name: str) -> Tuple[str, ...]:
+    """All common ways to write a name that is a date with a year alone, first as date cells are read; of any other name itself."""
+    written = None if any(map(str.isalpha, name)) else _written(name)
+    day = None if written is None else _dated(written)
+    if day is None:
+        return (name,)
+    days, months = (dict.fromkeys((f"{number:02}", str(number))) for number in (day.day, day.month))
+    return tuple(dict.fromkeys((day.isoformat(), *(f"{one}.{other}.{day.year:04}" for one in days for other in months), name)))

@@ -3,6 +3,7 @@ import re
 from collections import Counter
 from typing import Dict, Iterator, List, NamedTuple, Optional, Protocol, Sequence, Tuple
 
+from ._dates import spellings
 from ._gadgets import Bounds
 from ._library import MOST_PERSONS
 from ._roster import Groups, PlanLine, Roster, known, looks_like_number
@@ -24,7 +25,7 @@ def read_counts(path: str, roster: Roster, of_objects: bool) -> Counts:
     Raises `RosterFault` for the first name that the roster doesn't have or that stands twice, number that is none from 0 to 8192, or least
     number that is greater than the most.
     """
-    sheet = Sheet(path)
+    sheet = Sheet(path, reading=roster.reading)
     line, title = sheet.title()
     if len(title) < 2:
         sheet.refuse("each line must have a name and how many it takes", line)
@@ -77,7 +78,7 @@ def read_groups(path: str, roster: Roster) -> Groups:
 
     Raises `RosterFault` for the first object that the roster doesn't have or that stands twice.
     """
-    sheet = Sheet(path)
+    sheet = Sheet(path, reading=roster.reading)
     line, title = sheet.title()
     if len(title) < 2:
         sheet.refuse("each line must have an object and its group", line)
@@ -93,8 +94,9 @@ def read_groups(path: str, roster: Roster) -> Groups:
             where = f"in {groups.names[groups.of_objects[object_]]}, since line {lines[object_]}"
             sheet.refuse(f"{quoted(cells[0])} a second time: it is {where}", line, 1)
         lines[object_] = line
-        groups.of_objects[object_] = numbers.setdefault(name, len(numbers))
-        groups.names.extend(list(numbers)[len(groups.names):])
+        number = numbers.setdefault(spellings(name)[0], len(groups.names))
+        groups.of_objects[object_] = number
+        groups.names.extend([name] if number == len(groups.names) else [])
     if not lines:
         sheet.refuse("no line after the title", line)
     return groups

@@ -13,13 +13,16 @@ from operator import add, le, mul
 from typing import Any, Dict, FrozenSet, List, NamedTuple, Optional, Sequence, Set, Tuple, cast
 
 from ._costs import Costs
+from ._dates import spellings
 from ._library import MOST_PERSONS, Numbers
-from ._sheets import MOST_BYTES, RosterFault, Sheet, is_json, quoted, unit_of
+from ._sheets import MOST_BYTES, Reading, RosterFault, Sheet, is_json, quoted, unit_of
 
 LINES, MATRIX = "lines", "matrix"
 TITLES = ("person", "object", "cost")
 # Of plans in JSON; those before are read too.
 FORMAT = 3
+# Where a workbook has its plan.
+PLAN_SHEET = "Plan"
 # The column of a plan that says what changed from an earlier one, and its words: for a new pair, and for two that are no pairs of the plan.
 CHANGE, COMES, GOES, NOT_POSSIBLE = "change", "comes", "goes", "not possible"
 
@@ -74,7 +77,8 @@ class Names:
         if len(self.list) == MOST_PERSONS:
             self._sheet.refuse(f"more than {MOST_PERSONS} {self._kind}", line, column)
         self.list.append(name)
-        self.numbers[name] = len(self.list) - 1
+        for spelling in spellings(name):
+            self.numbers[spelling] = len(self.list) - 1
         return len(self.list) - 1
 
 
@@ -97,8 +101,8 @@ class Roster(NamedTuple):
     objects how many they take at most, where it isn't one; None where nothing was said. Where bounds alone decide, `least` says of persons
     and of objects how many they take at least, where it isn't 0. `rounded` says whether any cost was changed by
     rounding, `has_bom` whether the file began with a BOM, `is_matrix` whether it is a matrix, and `by_persons`
-    whether the pairs stand person by person. `sheets` are those of a workbook, first the one that was read. Of the objects in `past` nothing
-    is planned."""
+    whether the pairs stand person by person. `encoding` is that of the file, and `reading` how other files are read. Of the objects in
+    `past` nothing is planned."""
 
     persons: List[str]
     objects: List[str]
@@ -119,7 +123,8 @@ class Roster(NamedTuple):
     by_persons: bool = False
     least: Optional[Tuple[Dict[int, int], Dict[int, int]]] = None
     groups: Optional[Groups] = None
-    sheets: Sequence[str] = ()
+    encoding: str = "utf-8"
+    reading: Reading = Reading()
     past: FrozenSet[int] = frozenset()
 
     @property
@@ -232,13 +237,13 @@ def are_lines(numbers: bool, words: bool, twice: bool) -> bool:
 
 
 def read_roster(path: str, form: Optional[str], decimals: Optional[int], comma: bool, rounds: Optional[int] = None,
-                sheet_name: Optional[str] = None, skipped: int = 0) -> Roster:
+                sheet_name: Optional[str] = None, skipped: int = 0, reading: Reading = Reading()) -> Roster:
     """Reads a roster.
 
     Parameters
     ----------
     path : str
-        A CSV file with a title line, or a workbook, `.xlsx`.
+        A CSV file with a title line, a workbook, `.xlsx`, or one with the name of a sheet, `FILE.xlsx#SHEET`.
     form : 'lines', 'matrix' or None
         None takes the form from the file.
     decimals : int or None
@@ -251,6 +256,8 @@ def read_roster(path: str, form: Optional[str], decimals: Optional[int], comma: 
         Which sheet of a workbook is read; None: the first.
     skipped : int
         How many rows above the titles aren't read.
+    reading : Reading
+        In which encoding text is read, here and in the files about this roster, and where it is said what was read.
 
     Raises
     ------
@@ -259,7 +266,7 @@ def read_roster(path: str, form: Optional[str], decimals: Optional[int], comma: 
     OSError
         Where the file can't be read.
     """
-    sheet = Sheet(path, comma, sheet_name, skipped)
+    sheet = Sheet(path, comma, sheet_name, skipped, reading)
     costs = Costs(sheet, decimals, comma, rounds)
     is_matrix = form == MATRIX or form is None and not _may_be_lines(sheet)
     read = _read_matrix if is_matrix else _read_lines if form else _read_sure_lines
@@ -267,7 +274,7 @@ def read_roster(path: str, form: Optional[str], decimals: Optional[int], comma: 
     used, scaled = costs.scaled()
     return Roster(persons.list, objects.list, persons.numbers, objects.numbers, of_persons, of_objects, scaled,
                   used, titles, sheet.separator, comma, rounded=costs.rounded, has_bom=sheet.has_bom, is_matrix=is_matrix,
-                  sheets=sheet.sheets, by_persons=is_matrix or all(map(le, of_persons, islice(of_persons, 1, None))))
+                  by_persons=is_matrix or all(map(le, of_persons, islice(of_persons, 1, None))), encoding=sheet.encoding, reading=reading)
 
 
 def _may_be_lines(sheet: Sheet) -> bool:
@@ -461,11 +468,21 @@ def old_plan_of(path: str, roster: Roster, named: List[NamedPair], by_counts: bo
     return OldPlan(path, named, known, list(gone), [place for place in places if place[:2] not in costs])
 
 
+def _as_written(names: List[str], numbers: Dict[str, int], name: str) -> str:
+    """A name as the roster writes it, if it has it: dates have several spellings."""
+    return names[numbers[name]] if name in numbers else name
+
+
 def _named_pairs(path: str, roster: Roster) -> List[NamedPair]:
-    """The pairs of a plan by names. A third column has costs, unless it is that of groups."""
-    if is_json(path):
-        return _plan_of_json(path)
-    sheet = Sheet(path, roster.comma)
+    """The pairs of a plan by names."""
+    pairs = _plan_of_json(path) if is_json(path) else _plan_of_sheet(path, roster)
+    return [NamedPair(_as_written(roster.persons, roster.person_numbers, pair.person),
+                      _as_written(roster.objects, roster.object_numbers, pair.object), pair.line, pair.cost) for pair in pairs]
+
+
+def _plan_of_sheet(path: str, roster: Roster) -> List[NamedPair]:
+    """The pairs of a plan in lines. A third column has costs, unless it is that of groups."""
+    sheet = Sheet(path, roster.comma, reading=roster.reading, preferred=PLAN_SHEET)
     line, title = sheet.title()
     if len(title) < 2:
         sheet.refuse("each line must have a person and an object", line)
@@ -501,16 +518,16 @@ def _pair_of_json(path: str, pair: Any, number: int) -> NamedPair:
 
 def known(sheet: Sheet, roster: Roster, cell: str, line: int, side: int, column: int) -> int:
     """The number of a person (side 1) or an object that the roster must have, by a cell."""
-    return _known(sheet.path, roster, sheet.name(cell, line, column), line, side, column)
+    return _known(sheet.path, roster, sheet.name(cell, line, column), line, side, column, sheet.others)
 
 
-def _known(path: str, roster: Roster, name: str, line: int, side: int, column: int) -> int:
+def _known(path: str, roster: Roster, name: str, line: int, side: int, column: int, others: str = "") -> int:
     """The number of a person (side 1) or an object that the roster must have, by name."""
     numbers = roster.person_numbers if side == 1 else roster.object_numbers
     if name not in numbers:
         near = like(name, list(numbers))
         hint = f": did you mean {' or '.join(map(quoted, near))}?" if near else ""
-        raise RosterFault(path, f"the roster has no {'person' if side == 1 else 'object'} {quoted(name)}{hint}", line, column)
+        raise RosterFault(path, f"the roster has no {'person' if side == 1 else 'object'} {quoted(name)}{hint}{others}", line, column)
     return numbers[name]
 
 

@@ -57,8 +57,6 @@ def read_lines(path: str, roster: Roster, on_terminal: bool) -> List[str]:
     if on_terminal:
         persons, objects = counted(len(roster.persons), roster.titles[0]), counted(len(roster.objects), roster.titles[1])
         lines.append(f"{persons}, {objects}, {counted(len(roster.costs), 'pair')}{_rule(roster)}")
-    if len(roster.sheets) > 1:
-        lines.append(f"{path}: the sheet {quoted(roster.sheets[0])} was read, of {len(roster.sheets)}: --sheet reads another")
     groups = alike(roster.persons) + alike(roster.objects)
     lines += [f"{path}: {', '.join(map(quoted, group))} differ in case or spaces alone" for group in groups[:MOST_NAMES_SHOWN]]
     if len(groups) > MOST_NAMES_SHOWN:
@@ -313,6 +311,14 @@ def _lines_with_changes(roster: Roster, plan: Plan, kept: OldPlan) -> List[Tuple
     lines += [(pair.person, (roster.persons[pair.person], roster.objects[pair.object], "", GOES)) for pair in found.goes]
     lost = ((pair.person, pair.object, "", NOT_POSSIBLE) for pair in found.lost)
     return [*(line for _, line in sorted(lines, key=lambda those: those[0])), *lost]
+
+
+def in_encoding_of(roster: Roster, text: str) -> bytes:
+    """A text in the encoding of the roster's file, or in UTF-8 with a BOM where that lacks a letter."""
+    try:
+        return text.encode(roster.encoding)
+    except UnicodeEncodeError:
+        return text.encode("utf-8-sig")
 
 
 def _title_quoting(roster: Roster) -> int:

@@ -577,11 +577,19 @@ def parsed(text):
 class Statuses(Runs):
     def test_words(self):
         self.file("r.csv", SQUARE)
-        for words in ((), ("r.csv", "--lines", "--matrix"), ("r.csv", "--decimals", "7"), ("r.csv", "--decimals", "x"),
-                      ("r.csv", "--output", "p.txt"), ("r.csv", "--dec", "2"), ("r.csv", "s.csv"), ("r.csv", "--output"),
-                      ("r.csv", "--output", "r.csv", "--force"), ("r.csv", "--output", "p.csv", "--html", "./p.csv")):
+        hint = " (nushbaret --help lists all options)"
+        for words, line in (
+                ((), "the file of a roster is needed" + hint),
+                (("r.csv", "--lines", "--matrix"), "--matrix: not allowed with argument --lines" + hint),
+                (("r.csv", "--decimals", "7"), "--decimals: '7' is no number from 0 to 6" + hint),
+                (("r.csv", "--decimals", "x"), "--decimals: 'x' is no number from 0 to 6" + hint),
+                (("r.csv", "--output", "p.txt"), "-o/--output: 'p.txt' ends in none of .csv, .json, .html and .xlsx" + hint),
+                (("r.csv", "s.csv"), "one roster at a time, and there is also s.csv" + hint),
+                (("r.csv", "--output"), "-o/--output: expected one argument" + hint),
+                (("r.csv", "--output", "r.csv", "--force"), "r.csv is named twice, or is read too"),
+                (("r.csv", "--output", "p.csv", "--html", "./p.csv"), "./p.csv is named twice, or is read too")):
             with self.subTest(words=words):
-                self.refused(2, "usage: nushbaret", *words)
+                self.expect(2, "", f"nushbaret: {line}\n", *words)
         status, out, _ = self.run_words("--help")
         self.assertEqual(status, 0)
         for option in parser_of()._option_string_actions:

@@ -270,7 +270,7 @@ class Sheets(Daily):
                 sheet.append(row)
         del book["Sheet"]
         book.save("b.xlsx")
-        self.expect(0, "least cost: 1\nAda: x, 1\n", "b.xlsx: the sheet 'May' was read, of 2: --sheet reads another\n",
+        self.expect(0, "least cost: 1\nAda: x, 1\n", "b.xlsx: the sheet 'May' was read, of 2: b.xlsx#SHEET reads another\n",
                     "b.xlsx", "--skip-rows", "1")
         self.assertEqual(self.run_words("b.xlsx", "--skip-rows", "1", "--sheet", "June")[1], "least cost: 2\nAda: x, 2\n")
         self.refused(3, "b.xlsx: no sheet 'July': it has 'May', 'June'", "b.xlsx", "--sheet", "July")
