@@ -35,11 +35,17 @@ class Entry(NamedTuple):
 
 
 class Cell(NamedTuple):
-    """What a person has on a day; whether none of the day's objects is allowed to it; and whether a kept plan has anything else there."""
+    """What a person has on a day; what it had there in a kept plan and has no more; and whether none of the day's objects is allowed to
+    it."""
 
     entries: List[Entry]
+    gone: List[str]
     is_off: bool
-    is_changed: bool
+
+    @property
+    def is_changed(self) -> bool:
+        """Whether a kept plan has anything else there."""
+        return bool(self.gone) or any(entry.is_new for entry in self.entries)
 
 
 class PersonRow(NamedTuple):
@@ -77,13 +83,17 @@ class Block(NamedTuple):
     objects: List[ObjectRow]
 
 
-class _Held(NamedTuple):
-    """What all blocks of a plan are made from: entries by person and group, the persons and groups with an allowed pair, which cells
-    changed, who is at which object, what is missing there, and how many each person has."""
+# A person and a group.
+Spot = Tuple[int, Optional[int]]
 
-    entries: Dict[Tuple[int, Optional[int]], List[Entry]]
-    allowed: Optional[Set[Tuple[int, Optional[int]]]]
-    changed: Set[Tuple[int, Optional[int]]]
+
+class _Held(NamedTuple):
+    """What all blocks of a plan are made from: entries and what is gone by person and group, the persons and groups with an allowed pair,
+    who is at which object, what is missing there, and how many each person has."""
+
+    entries: Dict[Spot, List[Entry]]
+    gone: Dict[Spot, List[str]]
+    allowed: Optional[Set[Spot]]
     who: Dict[int, List[str]]
     missing: Dict[int, Tuple[int, int]]
     whole: Dict[int, int]
@@ -93,7 +103,8 @@ def blocks_of(roster: Roster, plan: Plan, kept: Optional[OldPlan] = None) -> Lis
     """The blocks of a plan of a roster with groups: weeks from Monday where these are dates, else seven groups at a time."""
     if roster.groups is None:
         return []
-    labels, held = labels_of(roster), _held(roster, plan, kept)
+    labels = labels_of(roster)
+    held = _held(roster, plan, labels, kept)
     weeks = _weeks(roster, roster.groups)
     return [_block(roster, labels, held, week, _caption(roster.groups, week) if len(weeks) > 1 else "") for week in weeks]
 
@@ -163,10 +174,9 @@ def _without(name: str, group: str) -> str:
     return name
 
 
-def _held(roster: Roster, plan: Plan, kept: Optional[OldPlan]) -> _Held:
-    labels = labels_of(roster)
+def _held(roster: Roster, plan: Plan, labels: List[str], kept: Optional[OldPlan]) -> _Held:
     before = None if kept is None else set(kept.pairs)
-    entries: Dict[Tuple[int, Optional[int]], List[Entry]] = {}
+    entries: Dict[Spot, List[Entry]] = {}
     who: Dict[int, List[str]] = {}
     for pair in plan.pairs:
         person, object_ = roster.persons[pair.person], roster.objects[pair.object]
@@ -174,18 +184,22 @@ def _held(roster: Roster, plan: Plan, kept: Optional[OldPlan]) -> _Held:
         entries.setdefault((pair.person, group_of(roster, pair.object)), []).append(Entry(labels[pair.object], pair.object, pair.fixed, is_new))
         who.setdefault(pair.object, []).append(person)
     missing = {one.number: (one.had, one.least) for one in missing_of(roster, plan.pairs) if one.side == 1}
-    changed = _changed(roster, plan, before or set()) | {cell for cell, own in entries.items() if any(entry.is_new for entry in own)}
-    return _Held(entries, _allowed(roster), changed, who, missing, Counter(pair.person for pair in plan.pairs))
+    gone = {} if kept is None else _gone(roster, plan, labels, kept)
+    return _Held(entries, gone, _allowed(roster), who, missing, Counter(pair.person for pair in plan.pairs))
 
 
-def _changed(roster: Roster, plan: Plan, before: Set[Tuple[str, str]]) -> Set[Tuple[int, Optional[int]]]:
-    """The persons and groups of pairs that were before and are no more, as far as the roster has both names."""
+def _gone(roster: Roster, plan: Plan, labels: List[str], kept: OldPlan) -> Dict[Spot, List[str]]:
+    """What was before and is no more, as far as the roster has both names."""
     now = {(roster.persons[pair.person], roster.objects[pair.object]) for pair in plan.pairs}
-    return {(roster.person_numbers[person], group_of(roster, roster.object_numbers[object_])) for person, object_ in before - now
-            if person in roster.person_numbers and object_ in roster.object_numbers}
+    gone: Dict[Spot, List[str]] = {}
+    for person, object_ in kept.pairs:
+        number, other = roster.person_numbers.get(person), roster.object_numbers.get(object_)
+        if (person, object_) not in now and number is not None and other is not None:
+            gone.setdefault((number, group_of(roster, other)), []).append(labels[other])
+    return gone
 
 
-def _allowed(roster: Roster) -> Optional[Set[Tuple[int, Optional[int]]]]:
+def _allowed(roster: Roster) -> Optional[Set[Spot]]:
     """The persons and groups with an allowed pair; None where all have one."""
     if roster.is_full:
         return None
@@ -200,13 +214,13 @@ def _block(roster: Roster, labels: List[str], held: _Held, days: List[Day], capt
 
 
 def _person(held: _Held, person: int, name: str, days: List[Day]) -> PersonRow:
-    cells = [_cell(held, (person, day.group)) if day.has_objects else Cell([], False, False) for day in days]
+    cells = [_cell(held, (person, day.group)) if day.has_objects else Cell([], [], False) for day in days]
     return PersonRow(person, name, cells, sum(len(cell.entries) for cell in cells), held.whole.get(person, 0))
 
 
-def _cell(held: _Held, place: Tuple[int, Optional[int]]) -> Cell:
-    entries = held.entries.get(place, [])
-    return Cell(entries, not entries and held.allowed is not None and place not in held.allowed, place in held.changed)
+def _cell(held: _Held, spot: Spot) -> Cell:
+    entries = held.entries.get(spot, [])
+    return Cell(entries, held.gone.get(spot, []), not entries and held.allowed is not None and spot not in held.allowed)
 
 
 def _objects(roster: Roster, labels: List[str], held: _Held, days: List[Day]) -> List[ObjectRow]:

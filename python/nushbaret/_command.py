@@ -12,8 +12,9 @@ from typing import TYPE_CHECKING, List, Optional, Sequence, Tuple
 
 from ._answer import Answer, Wish, answer_of
 from ._exact import MOST_PLACES
-from ._files import STANDARD_OUTPUT, Output, OutputFault, print_content, refuse_existing, write_files
+from ._files import STANDARD_OUTPUT, Output, OutputFault, is_device, print_content, refuse_existing, write_files
 from ._groups import read_counts, read_groups, refuse_two_of_a_group, with_rules
+from ._names import without_marks
 from ._roster import OldPlan, PlanLine, Roster, read_hand_plan, read_old_plan, read_plan, read_roster
 from ._sheets import Reading, RosterFault, quoted
 from ._texts import Fair, Hand, Report, as_csv, first_lines, forgotten_line, gone_line, in_encoding_of, printed, read_lines
@@ -82,9 +83,9 @@ def _run(options: Options) -> int:
     for plan in (report.kept, report.hand.plan if report.hand else None):
         if plan is not None and plan.gone:
             _say(gone_line(plan, report.roster))
-    lines = first_lines(report)
+    lines = list(map(without_marks, first_lines(report)))
     is_content = _write(report, lines)
-    skipped = [f"{output.path} isn't written: there is no plan" for output in options.outputs if not _is_written(output, answer)]
+    skipped = [f"{output.path} isn't written: there is no plan" for output in options.outputs if not _is_written(output, answer, options)]
     _print_lines(lines + ([] if options.quiet else printed(report)) + skipped, is_content)
     return PLANNED if not answer.groups else NONE
 
@@ -187,21 +188,27 @@ def change_cost(options: Options, roster: Roster) -> Optional[int]:
     return int(found[1] + part.ljust(roster.decimals, "0"))
 
 
-def _is_written(output: Output, answer: Answer) -> bool:
-    """Whether an output is written: as a table only a plan is."""
-    return answer.plan is not None or output.kind in ("json", "html")
+def _is_written(output: Output, answer: Answer, options: Options) -> bool:
+    """Whether an output is written: without a plan as JSON, or as a page that isn't of the plan alone."""
+    return answer.plan is not None or output.kind == "json" or output.kind == "html" and not options.plan_only
 
 
 def _write(report: Report, lines: List[str]) -> bool:
     """Writes the outputs, the files first. Whether standard output got one."""
     options = report.options
     outputs = [*options.outputs, *([Output(STANDARD_OUTPUT[0], options.print)] if options.print else [])]
-    contents = [(output, content_of(report, lines, output)) for output in outputs if _is_written(output, report.answer)]
+    contents = [(output, content_of(report, lines, output)) for output in outputs if _is_written(output, report.answer, options)]
     write_files([(output.path, content) for output, content in contents if not output.is_standard], options.force)
     for output, content in contents:
         if output.is_standard:
             print_content(content)
     return any(output.is_standard for output in outputs)
+
+
+def title_of(options: Options, output: Output) -> str:
+    """The title of a page: its file's name without its end; of a page on a device or a pipe that of the roster."""
+    path = options.roster if is_device(output.path) else output.path
+    return os.path.splitext(os.path.basename(path))[0]
 
 
 def content_of(report: Report, lines: List[str], output: Output) -> bytes:
@@ -212,7 +219,7 @@ def content_of(report: Report, lines: List[str], output: Output) -> bytes:
         return as_json(report, lines).encode()
     if kind == "html":
         from ._page import page
-        return page(report, os.path.splitext(os.path.basename(report.options.roster))[0], lines).encode()
+        return page(report, title_of(report.options, output)).encode()
     plan = report.answer.plan
     if plan is None:
         raise ValueError("there is no plan")

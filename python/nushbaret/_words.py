@@ -78,6 +78,7 @@ class Options(NamedTuple):
     rents: bool
     print: Optional[str]
     outputs: Sequence[Output]
+    plan_only: bool
     quiet: bool
     force: bool
 
@@ -157,6 +158,7 @@ OPTIONS = (
     Option("--output", "write the plan as .csv, .json, .html or .xlsx; may be given several times", WRITING, "outputs",
            Value("FILE", True, tuple("." + kind for kind in KINDS), read=_output), repeats=True, short="-o"),
     Option("--html", "draw the plan as a page", WRITING, "outputs", Value("FILE", True, (".html",), read=_page), repeats=True),
+    Option("--plan-only", "leave wishes, costs, hints and other plans out of pages, as for the wall", WRITING, "plan_only"),
     Option("--quiet", "print the cost alone, or who is short", WRITING, "quiet", short="-q"),
     Option("--force", "overwrite an output that exists", WRITING, "force"),
 )

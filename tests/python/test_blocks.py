@@ -96,6 +96,7 @@ class Cells(unittest.TestCase):
         week, = blocks_of(roster, plan_of([(0, 0), (1, 0), (1, 3)]), kept)
         self.assertEqual([[cell.is_changed for cell in row.cells] for row in week.persons], [[False, True, False], [True, True, False]])
         self.assertEqual([[entry.is_new for entry in cell.entries] for cell in week.persons[1].cells], [[True], [True], []])
+        self.assertEqual([[cell.gone for cell in row.cells] for row in week.persons], [[[], ["early"], []], [["late"], [], []]])
 
     def test_missing(self):
         roster = roster_by_days(["Mon"])._replace(places={0: 3}, least=({}, {0: 2}))
