@@ -64,7 +64,7 @@ def lacking(roster: Roster, pairs: Sequence[Paired], fixed: Sequence[PlanLine]) 
     if roster.least is not None:
         return missing_of(roster, pairs)
     most = [[bound.most for bound in bounds] for bounds in bounds_around(roster, fixed)]
-    sums = list(map(sum, most))
+    sums = [sum(own) for own in most]
     had = Counter(pair.person for pair in pairs), Counter(pair.object for pair in pairs)
     given = Counter(pair.person for pair in fixed), Counter(pair.object for pair in fixed)
     return [Missing(side, (roster.persons, roster.objects)[side][number], number, had[side][number], left + given[side][number])
