@@ -16,17 +16,20 @@ BETWEEN = " -_/,.:"
 
 class Day(NamedTuple):
     """A column: a group, or the objects in none, or a day of the week that no group has (then `has_objects` is false). `weekday` is
-    its day of the week, where the name doesn't say it."""
+    its day of the week, where the name doesn't say it. `when` is there where groups are dates. Nothing is planned in the past."""
 
     name: str
     group: Optional[int]
     weekday: str
     is_weekend: bool
     has_objects: bool = True
+    when: Optional[date] = None
+    is_past: bool = False
 
 
 class Entry(NamedTuple):
-    """An object that a person has on a day, by a name that leaves the day out; whether it was given, and whether a kept plan lacks it."""
+    """An object that a person has on a day, by a name that leaves the day out; whether it was given, except by the past, and whether a kept
+    plan lacks it."""
 
     label: str
     object: int
@@ -116,15 +119,15 @@ def group_of(roster: Roster, object_: int) -> Optional[int]:
 
 def _weeks(roster: Roster, groups: Groups) -> List[List[Day]]:
     """The columns of each block. Objects in no group come last."""
-    dates, days = dates_of(groups.names).all, [Day("", None, "", False)]
-    rest = days if any(object_ not in groups.of_objects for object_ in range(len(roster.objects))) else []
+    dates, past = dates_of(groups.names).all, {groups.of_objects[object_] for object_ in roster.past}
+    rest = [Day("", None, "", False)] if any(object_ not in groups.of_objects for object_ in range(len(roster.objects))) else []
     if dates is not None:
-        return _dated_weeks(groups, dates) + ([rest] if rest else [])
-    days = [Day(name, number, "", is_weekend_name(name)) for number, name in enumerate(groups.names)] + rest
+        return _dated_weeks(groups, dates, past) + ([rest] if rest else [])
+    days = [Day(name, number, "", is_weekend_name(name), is_past=number in past) for number, name in enumerate(groups.names)] + rest
     return [days[begin:begin + MOST_DAYS] for begin in range(0, len(days), MOST_DAYS)]
 
 
-def _dated_weeks(groups: Groups, dates: Sequence[date]) -> List[List[Day]]:
+def _dated_weeks(groups: Groups, dates: Sequence[date], past: Set[int]) -> List[List[Day]]:
     """Weeks from Monday. A day of the week that no week has gets no column."""
     weekdays = sorted({day.weekday() for day in dates})
     of_dates: Dict[date, List[int]] = {}
@@ -134,13 +137,14 @@ def _dated_weeks(groups: Groups, dates: Sequence[date]) -> List[List[Day]]:
     for monday in sorted(set(map(monday_of, dates))):
         week: List[Day] = []
         for day in (monday + timedelta(days=weekday) for weekday in weekdays):
-            week += [_day(day, groups.names[number], number) for number in of_dates.get(day, [])] or [_day(day, "", None)]
+            week += [_day(day, groups.names[number], number, number in past) for number in of_dates.get(day, [])] or [_day(day, "", None, False)]
         weeks.append(week)
     return weeks
 
 
-def _day(day: date, name: str, number: Optional[int]) -> Day:
-    return Day(name, number, "" if has_weekday(name) else DAY_NAMES[day.weekday()], day.weekday() >= SATURDAY, number is not None)
+def _day(day: date, name: str, number: Optional[int], is_past: bool) -> Day:
+    weekday = "" if has_weekday(name) else DAY_NAMES[day.weekday()]
+    return Day(name, number, weekday, day.weekday() >= SATURDAY, number is not None, day, is_past)
 
 
 def _caption(groups: Groups, week: List[Day]) -> str:
@@ -181,7 +185,8 @@ def _held(roster: Roster, plan: Plan, labels: List[str], kept: Optional[OldPlan]
     for pair in plan.pairs:
         person, object_ = roster.persons[pair.person], roster.objects[pair.object]
         is_new = before is not None and (person, object_) not in before
-        entries.setdefault((pair.person, group_of(roster, pair.object)), []).append(Entry(labels[pair.object], pair.object, pair.fixed, is_new))
+        is_fixed = pair.fixed and pair.object not in roster.past
+        entries.setdefault((pair.person, group_of(roster, pair.object)), []).append(Entry(labels[pair.object], pair.object, is_fixed, is_new))
         who.setdefault(pair.object, []).append(person)
     missing = {one.number: (one.had, one.least) for one in missing_of(roster, plan.pairs) if one.side == 1}
     gone = {} if kept is None else _gone(roster, plan, labels, kept)

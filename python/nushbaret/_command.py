@@ -12,7 +12,7 @@ from typing import TYPE_CHECKING, List, Optional, Sequence, Tuple
 
 from ._answer import Answer, Wish, answer_of
 from ._exact import MOST_PLACES
-from ._files import STANDARD_OUTPUT, Output, OutputFault, is_device, print_content, refuse_existing, write_files
+from ._files import STANDARD_OUTPUT, Output, OutputFault, is_device, make_folder, print_content, refuse_existing, write_files
 from ._groups import read_counts, read_groups, refuse_two_of_a_group, with_rules
 from ._names import without_marks
 from ._roster import OldPlan, PlanLine, Roster, read_hand_plan, read_old_plan, read_plan, read_roster
@@ -78,7 +78,9 @@ def _run(options: Options) -> int:
         if output.kind == "xlsx":
             from ._workbook import need_openpyxl
             need_openpyxl(output.path)
-    report = _report(options, _read(options))
+    roster = _read(options)
+    _refuse_existing_of_each(options, roster)
+    report = _report(options, roster)
     answer = report.answer
     for plan in (report.kept, report.hand.plan if report.hand else None):
         if plan is not None and plan.gone:
@@ -86,6 +88,7 @@ def _run(options: Options) -> int:
     lines = list(map(without_marks, first_lines(report)))
     is_content = _write(report, lines)
     skipped = [f"{output.path} isn't written: there is no plan" for output in options.outputs if not _is_written(output, answer, options)]
+    skipped += _lines_on_each(report)
     _print_lines(lines + ([] if options.quiet else printed(report)) + skipped, is_content)
     return PLANNED if not answer.groups else NONE
 
@@ -198,11 +201,38 @@ def _write(report: Report, lines: List[str]) -> bool:
     options = report.options
     outputs = [*options.outputs, *([Output(STANDARD_OUTPUT[0], options.print)] if options.print else [])]
     contents = [(output, content_of(report, lines, output)) for output in outputs if _is_written(output, report.answer, options)]
-    write_files([(output.path, content) for output, content in contents if not output.is_standard], options.force)
+    files = [(output.path, content) for output, content in contents if not output.is_standard]
+    if options.each and report.answer.plan is not None:
+        from ._each import files_of
+        files += files_of(report.roster, report.answer.plan, report.kept, options.each)
+        make_folder(options.each)
+    write_files(files, options.force)
     for output, content in contents:
         if output.is_standard:
             print_content(content)
     return any(output.is_standard for output in outputs)
+
+
+def _refuse_existing_of_each(options: Options, roster: Roster) -> None:
+    """Refuses to write for each person what exists, unless it may be overwritten, or is another output."""
+    if options.each is None:
+        return
+    from ._each import paths_of
+    others = {os.path.realpath(output.path) for output in options.outputs}
+    for path in paths_of(roster, options.each):
+        if os.path.realpath(path) in others:
+            raise OutputFault(f"{path} is another output too")
+        if not options.force:
+            refuse_existing(path)
+
+
+def _lines_on_each(report: Report) -> List[str]:
+    """What is said of the files for each person that aren't written."""
+    folder, plan = report.options.each, report.answer.plan
+    if folder is None:
+        return []
+    from ._each import lines_on_calendars
+    return [f"{folder}: nothing is written: there is no plan"] if plan is None else lines_on_calendars(report.roster, plan, folder)
 
 
 def title_of(options: Options, output: Output) -> str:

@@ -28,7 +28,7 @@ STYLE = """
 .days thead th:first-child { position: sticky; left: 0; z-index: 2 }
 .days .weekend { background: var(--weekend) }
 .days .changed { background: var(--changed) }
-.days td.past { color: var(--soft) }
+.days td.past { color: var(--soft); font-style: italic }
 .days td.free { color: var(--soft); text-align: center }
 .days td.fixed { outline: 3px double var(--own); outline-offset: -3px }
 .days .total { text-align: right; font-variant-numeric: tabular-nums }
@@ -36,7 +36,7 @@ STYLE = """
 .days td div { padding-left: .8em; text-indent: -.8em }
 .days em { color: var(--alarm); font-style: normal; font-weight: bold }
 .days s { color: var(--soft) }
-@media (max-width: 80em) {
+@media (max-width: 75em) {
 .days { --day: 6.5em }
 }
 @media (max-width: 40em) {
@@ -114,12 +114,12 @@ def _caption(block: Block, roster: Roster, shown: Shown) -> str:
 
 def _day(day: Day) -> str:
     weekday = ours(day.weekday) + (" " if day.name else "") if day.weekday else ""
-    return weekday + escape(day.name)
+    return weekday + escape(day.name) + (" " + ours("past") if day.is_past else "")
 
 
 def _cell(cell: Cell, day: Day, shown: Shown) -> str:
     """What a person has on a day; where that is nothing, that it is free, or that it can have nothing there."""
-    kinds = ["weekend" if day.is_weekend else "", "changed" if cell.is_changed else ""]
+    kinds = ["weekend" if day.is_weekend else "", "past" if day.is_past else "", "changed" if cell.is_changed else ""]
     if not day.has_objects:
         return '<td class="none"></td>'
     fixed = not shown.plan_only and any(entry.is_fixed for entry in cell.entries)

@@ -38,6 +38,14 @@ def is_device(path: str) -> bool:
     return path.startswith("/dev/") and os.path.exists(path) and not (os.path.isfile(path) or os.path.isdir(path))
 
 
+def make_folder(path: str) -> None:
+    """Makes a folder, with those above it, if it isn't there."""
+    try:
+        os.makedirs(path, exist_ok=True)
+    except OSError as fault:
+        raise OutputFault(f"{path}: {'no folder' if isinstance(fault, (FileExistsError, NotADirectoryError)) else fault.strerror or fault}") from fault
+
+
 def write_files(contents: Sequence[Tuple[str, bytes]], force: bool) -> None:
     """Writes files, one after the other. While it does Ctrl-C raises, so that what is half written is removed."""
     with _interrupts_raise():

@@ -16,6 +16,7 @@ from ._costs import Costs
 from ._dates import spellings
 from ._library import MOST_PERSONS, Numbers
 from ._sheets import MOST_BYTES, Reading, RosterFault, Sheet, is_json, quoted, unit_of
+from ._times import Times
 
 LINES, MATRIX = "lines", "matrix"
 TITLES = ("person", "object", "cost")
@@ -87,12 +88,13 @@ Read = Tuple[Tuple[str, str, str], Names, Names, Numbers, Numbers]
 
 
 class Groups(NamedTuple):
-    """Groups of objects of which nobody takes two: their title, their names in the order of the file, and the group of each object that is
-    in one."""
+    """Groups of objects of which nobody takes two: their title, their names in the order of the file, the group of each object that is in
+    one, and when objects begin and end, where the file says it."""
 
     title: str
     names: List[str]
     of_objects: Dict[int, int]
+    times: Dict[int, Times] = {}
 
 
 class Roster(NamedTuple):
