@@ -6,6 +6,7 @@ from ._answer import counted
 from ._by_counts import bounds_around
 from ._changes import pairs_of
 from ._groups import Broken, Missing, Paired, missing_of, order_of
+from ._names import joined
 from ._roster import NamedPair, OldPlan, PlanLine, Roster
 from ._sheets import unit_of
 
@@ -46,7 +47,7 @@ def _two_of_a_group(roster: Roster, pairs: Sequence[Paired]) -> Iterator[Broken]
     for (person, group), objects in own.items():
         if groups is not None and len(objects) > 1:
             yield Broken("group", [roster.persons[person]], objects,
-                         f"{roster.persons[person]}: {', '.join(objects)}, {len(objects)} of {groups.title} {groups.names[group]}")
+                         f"{roster.persons[person]}: {joined(objects)}, {len(objects)} of {groups.title} {groups.names[group]}")
 
 
 def _too_many(roster: Roster, pairs: Sequence[Paired]) -> Iterator[Broken]:
