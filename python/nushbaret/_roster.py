@@ -456,7 +456,7 @@ def read_hand_plan(path: str, roster: Roster) -> Tuple[OldPlan, List[NamedPair]]
 
 
 def old_plan_of(path: str, roster: Roster, named: List[NamedPair], by_counts: bool) -> OldPlan:
-    """An earlier plan beside a roster."""
+    """An earlier plan as a roster has it now."""
     gone: Dict[str, None] = {}
     places = []
     for person, object_, line, _ in named:

@@ -6,6 +6,7 @@ from ._answer import counted
 from ._by_counts import bounds_around
 from ._changes import pairs_of
 from ._groups import Broken, Missing, Paired, missing_of, order_of
+from ._names import joined
 from ._roster import NamedPair, OldPlan, PlanLine, Roster
 from ._sheets import unit_of
 
@@ -46,7 +47,7 @@ def _two_of_a_group(roster: Roster, pairs: Sequence[Paired]) -> Iterator[Broken]
     for (person, group), objects in own.items():
         if groups is not None and len(objects) > 1:
             yield Broken("group", [roster.persons[person]], objects,
-                         f"{roster.persons[person]}: {', '.join(objects)}, {len(objects)} of {groups.title} {groups.names[group]}")
+                         f"{roster.persons[person]}: {joined(objects)}, {len(objects)} of {groups.title} {groups.names[group]}")
 
 
 def _too_many(roster: Roster, pairs: Sequence[Paired]) -> Iterator[Broken]:
@@ -64,7 +65,7 @@ def lacking(roster: Roster, pairs: Sequence[Paired], fixed: Sequence[PlanLine]) 
     if roster.least is not None:
         return missing_of(roster, pairs)
     most = [[bound.most for bound in bounds] for bounds in bounds_around(roster, fixed)]
-    sums = list(map(sum, most))
+    sums = [sum(own) for own in most]
     had = Counter(pair.person for pair in pairs), Counter(pair.object for pair in pairs)
     given = Counter(pair.person for pair in fixed), Counter(pair.object for pair in fixed)
     return [Missing(side, (roster.persons, roster.objects)[side][number], number, had[side][number], left + given[side][number])

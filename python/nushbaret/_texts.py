@@ -263,7 +263,7 @@ def _goes(those: Sequence[object]) -> str:
 
 def _words_of(own: OfPerson) -> List[str]:
     """What goes and what comes."""
-    goes, comes = ", ".join(own.goes) + _goes(own.goes), ", ".join(own.comes) + _comes(own.comes)
+    goes, comes = joined(own.goes) + _goes(own.goes), joined(own.comes) + _comes(own.comes)
     return [goes] * bool(own.goes) + [comes] * bool(own.comes)
 
 
@@ -272,7 +272,7 @@ def _lost_lines(lost: Sequence[Lost]) -> List[str]:
     names: Dict[Tuple[str, str], List[str]] = {}
     for pair in lost:
         names.setdefault((pair.person, pair.why), []).append(pair.object)
-    return [f"{person}: {', '.join(own)} {NOT_POSSIBLE} now ({why})" for (person, why), own in names.items()]
+    return [f"{person}: {joined(own)} {NOT_POSSIBLE} now ({why})" for (person, why), own in names.items()]
 
 
 def broken_rules(hand: Optional[Hand]) -> List[Note]:
@@ -302,7 +302,8 @@ def compared(report: Report, plan: Plan, hand: Hand) -> Note:
     more = cost - plan.cost
     size = f"{roster.shown(abs(more))} {'more' if more > 0 else 'less'} than" if more else "as good as"
     of_pairs = f" for {counted(len(own.known), 'pair')} that the roster allows" if len(own.known) < len(own.named) else ""
-    rest = ", which misses less" if hand.lack > hand.best_lack > 0 else "" if hand.is_comparable or hand.best_lack else ", which breaks none"
+    rest = "" if hand.is_comparable or hand.best_lack else ", which breaks none"
+    rest = ", which misses less" if hand.lack > hand.best_lack > 0 else rest
     return Note(f"{own.path}: {roster.shown(cost)}{of_pairs}, {size} the best{rest}", [
         f"there {roster.persons[pair.person]}: {roster.objects[pair.object]}, {roster.shown(pair.cost)}" for pair in only_there(plan, own)])
 
@@ -329,7 +330,8 @@ def _lines_with_changes(roster: Roster, plan: Plan, kept: OldPlan) -> List[Tuple
     """The lines of a plan and of the pairs that go, person by person, and those of pairs that aren't possible now."""
     found = changes_of(roster, plan, kept)
     new = set(found.comes)
-    lines: List[Tuple[int, Tuple[str, ...]]] = [(pair.person, (*line, COMES if pair in new else "")) for pair, line in zip(plan.pairs, _lines_of(roster, plan))]
+    lines: List[Tuple[int, Tuple[str, ...]]] = [(pair.person, (*line, COMES if pair in new else ""))
+                                                for pair, line in zip(plan.pairs, _lines_of(roster, plan))]
     lines += [(pair.person, (roster.persons[pair.person], roster.objects[pair.object], "", GOES)) for pair in found.goes]
     lost = ((pair.person, pair.object, "", NOT_POSSIBLE) for pair in found.lost)
     return [*(line for _, line in sorted(lines, key=lambda those: those[0])), *lost]

@@ -9,7 +9,7 @@ from typing import Any, Callable, Dict, NamedTuple, NoReturn, Optional, Sequence
 
 from ._encodings import WESTERN
 from ._exact import MOST_PLACES
-from ._files import KINDS, Output
+from ._files import KINDS, Output, OutputFault, print_content
 from ._library import VERSION
 from ._roster import LINES, MATRIX
 from ._sheets import file_and_sheet
@@ -167,8 +167,9 @@ OPTIONS = (
 )
 
 
-# What an option shows that needs no roster.
-GENERAL = (("-V", "--version", "show program's version number and exit"),)
+# The options that need no roster, with their short words, if any, after the one for help.
+GENERAL = (("-V", "--version", "show program's version number and exit"),
+           ("", "--guide", "print the guide to rosters, and where it lies with its examples, and exit"))
 HINT = f"{NAME} --help lists all options"
 DASHES = "-\u2013\u2014"
 
@@ -197,6 +198,21 @@ class _Parser(argparse.ArgumentParser):
         self.exit(2, f"{NAME}: {text}\n")
 
 
+class _Guide(argparse.Action):
+    """Prints the guide, and ends."""
+
+    def __init__(self, option_strings: Sequence[str], dest: str, **words: Any) -> None:
+        super().__init__(option_strings, argparse.SUPPRESS, nargs=0, **words)
+
+    def __call__(self, parser: argparse.ArgumentParser, namespace: argparse.Namespace, values: Any, option_string: Optional[str] = None) -> None:
+        from ._guide import guide
+        try:
+            print_content(guide())
+        except (OSError, OutputFault) as fault:
+            parser.exit(4, f"{NAME}: {fault}\n")
+        parser.exit()
+
+
 class _Once(argparse.Action):
     """Takes a file that is asked for once."""
 
@@ -211,8 +227,9 @@ def parser_of(options: Sequence[Option] = OPTIONS) -> _Parser:
     """The parser of a table of options."""
     parser = _Parser(prog=NAME, allow_abbrev=False, description=SUMMARY, epilog=STATUSES, formatter_class=_Help)
     parser.add_argument("roster", metavar="ROSTER", help=ROSTER)
-    for short, word, help_ in GENERAL:
-        parser.add_argument(short, word, action="version", version=f"{NAME} {VERSION}", help=help_)
+    (short, version, version_help), (_, guide, guide_help) = GENERAL
+    parser.add_argument(short, version, action="version", version=f"{NAME} {VERSION}", help=version_help)
+    parser.add_argument(guide, action=_Guide, help=guide_help)
     sections = {name: parser.add_argument_group(name) for name in SECTIONS}
     choices: Dict[str, Any] = {}
     for option in options:
@@ -249,7 +266,7 @@ def read_words(words: Optional[Sequence[str]]) -> Options:
 
 def _refuse_unknown(words: Sequence[str], parser: argparse.ArgumentParser) -> None:
     """Refuses the first word that looks like an option and is none, with the nearest option."""
-    known = ["-h", "--help", *(word for short, long, _ in GENERAL for word in (short, long))]
+    known = ["-h", "--help", *(word for *both, _ in GENERAL for word in both if word)]
     known += [word for option in OPTIONS for word in (option.word, option.short) if word]
     valued = {word for option in OPTIONS if option.value is not None for word in (option.word, option.short) if word}
     words = words[:words.index("--")] if "--" in words else words

@@ -147,7 +147,7 @@ class Plans(Runs):
         status, out, _ = self.run_words("r.csv", "--compare", "h.csv", "--max")
         self.assertIn("h.csv: 6, 5 less than the best\n", out)
         self.file("h.csv", "a,b\nCleo,night\nAda,early\n")
-        self.expect(0, best + "h.csv: breaks 1 rule\n  Ben: no object, at least 1\nh.csv: 6, 1 more than the best, which breaks none\n"
+        self.expect(0, best + "h.csv: breaks 2 rules\n  Ben: no object, at least 1\n  late: no person, at least 1\nh.csv: 6, 1 more than the best, which breaks none\n"
                     "  there Ada: early, 4\n", "", "r.csv", "--compare", "h.csv")
         self.file("f.csv", "a,b\nAda,late\n")
         self.assertIn("h.csv: breaks 2 rules\n  Ben: no object, at least 1\n  Ada, late: the fixed pair is missing\n",
@@ -205,7 +205,7 @@ class Plans(Runs):
         self.file("h.csv", "a,b\nAda,early\nEve,late\nCleo,night\n")
         status, out, err = self.run_words("r.csv", "--compare", "h.csv")
         self.assertEqual((status, err), (0, "h.csv: the roster has no Eve\n"))
-        self.assertIn("h.csv: breaks 2 rules\n  Eve, late: the roster has no Eve\n  Ben: no object, at least 1\n"
+        self.assertIn("h.csv: breaks 3 rules\n  Eve, late: the roster has no Eve\n  Ben: no object, at least 1\n  late: no person, at least 1\n"
                       "h.csv: 6 for 2 pairs that the roster allows, 1 more than the best, which breaks none\n  there Ada: early, 4\n", out)
 
     def test_places(self):
