@@ -15,7 +15,7 @@ from ._exact import MOST_PLACES
 from ._files import STANDARD_OUTPUT, Output, OutputFault, print_content, refuse_existing, write_files
 from ._groups import read_counts, read_groups, refuse_two_of_a_group, with_rules
 from ._roster import OldPlan, PlanLine, Roster, read_hand_plan, read_old_plan, read_plan, read_roster
-from ._sheets import Reading, RosterFault, quoted
+from ._sheets import Reading, RosterFault, heading_of, quoted
 from ._texts import Fair, Hand, Report, as_csv, first_lines, forgotten_line, gone_line, in_encoding_of, printed, read_lines
 from ._words import Options, read_words
 
@@ -212,7 +212,7 @@ def content_of(report: Report, lines: List[str], output: Output) -> bytes:
         return as_json(report, lines).encode()
     if kind == "html":
         from ._page import page
-        return page(report, os.path.splitext(os.path.basename(report.options.roster))[0], lines).encode()
+        return page(report, heading_of(report.options.roster), lines).encode()
     plan = report.answer.plan
     if plan is None:
         raise ValueError("there is no plan")
