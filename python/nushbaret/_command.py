@@ -16,7 +16,7 @@ from ._files import STANDARD_OUTPUT, Output, OutputFault, is_device, make_folder
 from ._groups import read_counts, read_groups, refuse_two_of_a_group, with_rules
 from ._names import without_marks
 from ._roster import OldPlan, PlanLine, Roster, read_hand_plan, read_old_plan, read_plan, read_roster
-from ._sheets import Reading, RosterFault, quoted
+from ._sheets import Reading, RosterFault, heading_of, quoted
 from ._texts import Fair, Hand, Report, as_csv, first_lines, forgotten_line, gone_line, in_encoding_of, printed, read_lines
 from ._words import Options, read_words
 
@@ -237,8 +237,7 @@ def _lines_on_each(report: Report) -> List[str]:
 
 def title_of(options: Options, output: Output) -> str:
     """The title of a page: its file's name without its end; of a page on a device or a pipe that of the roster."""
-    path = options.roster if is_device(output.path) else output.path
-    return os.path.splitext(os.path.basename(path))[0]
+    return heading_of(options.roster) if is_device(output.path) else os.path.splitext(os.path.basename(output.path))[0]
 
 
 def content_of(report: Report, lines: List[str], output: Output) -> bytes:

@@ -49,6 +49,12 @@ def file_and_sheet(path: str) -> Tuple[str, Optional[str]]:
     return (path, None) if found is None or os.path.lexists(path) else (found[1], found[2])
 
 
+def heading_of(path: str) -> str:
+    """What a file is called as a heading: its name without its end, and that of its sheet."""
+    file, sheet = file_and_sheet(path)
+    return ", ".join(filter(None, (os.path.splitext(os.path.basename(file))[0], sheet)))
+
+
 def is_json(path: str) -> bool:
     """Whether a file is a plan in JSON, by its name."""
     return os.path.splitext(file_and_sheet(path)[0])[1].lower() == ".json"

@@ -1,7 +1,6 @@
 """The words of the command: one table of options, from which the parser and the help come."""
 import argparse
 import contextlib
-import difflib
 import os
 import re
 import sys
@@ -286,7 +285,10 @@ def _looks_like_option(word: str) -> bool:
 
 def _nearest(name: str, known: Sequence[str]) -> Optional[str]:
     """The option that a word was meant to be, if one is near: one that begins so, or looks so."""
-    found = [word for word in known if word[2:].startswith(name)] or difflib.get_close_matches("--" + name, known, 1, 0.7)
+    found = [word for word in known if word[2:].startswith(name)]
+    if not found:
+        from difflib import get_close_matches
+        found = get_close_matches("--" + name, known, 1, 0.7)
     return found[0] if found else None
 
 

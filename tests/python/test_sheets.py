@@ -61,6 +61,7 @@ class Named(Books):
         self.assertIn("w.xlsx#Old: 5, 3 more than the best\n", out)
         self.assertIn("Ada: early, 2 (fixed)", self.run_words("r.csv", "--lines", "--fixed", "w.xlsx#Old")[1])
         self.assertEqual(self.run_words("w.xlsx#Roster", "--lines", "--html", "p.html")[0], 0)
+        self.assertIn('<title lang="">p</title>', self.read("p.html"))
 
     def test_refusals(self):
         self.refused(3, "w.xlsx#June: no sheet 'June': it has 'Roster', 'Places', 'Tasks', 'Days', 'Old'", "w.xlsx#June")

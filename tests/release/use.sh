@@ -263,6 +263,14 @@ installed() {
     fi
 }
 
+# Removes the tarball's files as the page says.
+removed() {
+    local line
+    line=$(sed -n 's/^    \(tar -tzf release.*\)$/\1/p' "$top/README.md")
+    (cd "$work" && HOME=$work/home done_by 'removing the tarball' bash -euc "$line")
+    [ -z "$(find "$prefix" ! -type d)" ] || fail "left after its removal: $(find "$prefix" ! -type d)"
+}
+
 # guide COMMAND..: whether the command prints the guide, with places of its page and its examples that are there.
 guide() {
     local place
@@ -332,4 +340,5 @@ tarball
 package
 manual
 completions
+removed
 exit 0
