@@ -16,17 +16,20 @@ BETWEEN = " -_/,.:"
 
 class Day(NamedTuple):
     """A column: a group, or the objects in none, or a day of the week that no group has (then `has_objects` is false). `weekday` is
-    its day of the week, where the name doesn't say it."""
+    its day of the week, where the name doesn't say it. `when` is there where groups are dates. Nothing is planned in the past."""
 
     name: str
     group: Optional[int]
     weekday: str
     is_weekend: bool
     has_objects: bool = True
+    when: Optional[date] = None
+    is_past: bool = False
 
 
 class Entry(NamedTuple):
-    """An object that a person has on a day, by a name that leaves the day out; whether it was given, and whether a kept plan lacks it."""
+    """An object that a person has on a day, by a name that leaves the day out; whether it was given, except by the past, and whether a kept
+    plan lacks it."""
 
     label: str
     object: int
@@ -35,11 +38,17 @@ class Entry(NamedTuple):
 
 
 class Cell(NamedTuple):
-    """What a person has on a day; whether none of the day's objects is allowed to it; and whether a kept plan has anything else there."""
+    """What a person has on a day; what it had there in a kept plan and has no more; and whether none of the day's objects is allowed to
+    it."""
 
     entries: List[Entry]
+    gone: List[str]
     is_off: bool
-    is_changed: bool
+
+    @property
+    def is_changed(self) -> bool:
+        """Whether a kept plan has anything else there."""
+        return bool(self.gone) or any(entry.is_new for entry in self.entries)
 
 
 class PersonRow(NamedTuple):
@@ -77,13 +86,17 @@ class Block(NamedTuple):
     objects: List[ObjectRow]
 
 
-class _Held(NamedTuple):
-    """What all blocks of a plan are made from: entries by person and group, the persons and groups with an allowed pair, which cells
-    changed, who is at which object, what is missing there, and how many each person has."""
+# A person and a group.
+Spot = Tuple[int, Optional[int]]
 
-    entries: Dict[Tuple[int, Optional[int]], List[Entry]]
-    allowed: Optional[Set[Tuple[int, Optional[int]]]]
-    changed: Set[Tuple[int, Optional[int]]]
+
+class _Held(NamedTuple):
+    """What all blocks of a plan are made from: entries and what is gone by person and group, the persons and groups with an allowed pair,
+    who is at which object, what is missing there, and how many each person has."""
+
+    entries: Dict[Spot, List[Entry]]
+    gone: Dict[Spot, List[str]]
+    allowed: Optional[Set[Spot]]
     who: Dict[int, List[str]]
     missing: Dict[int, Tuple[int, int]]
     whole: Dict[int, int]
@@ -93,7 +106,8 @@ def blocks_of(roster: Roster, plan: Plan, kept: Optional[OldPlan] = None) -> Lis
     """The blocks of a plan of a roster with groups: weeks from Monday where these are dates, else seven groups at a time."""
     if roster.groups is None:
         return []
-    labels, held = labels_of(roster), _held(roster, plan, kept)
+    labels = labels_of(roster)
+    held = _held(roster, plan, labels, kept)
     weeks = _weeks(roster, roster.groups)
     return [_block(roster, labels, held, week, _caption(roster.groups, week) if len(weeks) > 1 else "") for week in weeks]
 
@@ -105,15 +119,15 @@ def group_of(roster: Roster, object_: int) -> Optional[int]:
 
 def _weeks(roster: Roster, groups: Groups) -> List[List[Day]]:
     """The columns of each block. Objects in no group come last."""
-    dates, days = dates_of(groups.names).all, [Day("", None, "", False)]
-    rest = days if any(object_ not in groups.of_objects for object_ in range(len(roster.objects))) else []
+    dates, past = dates_of(groups.names).all, {groups.of_objects[object_] for object_ in roster.past}
+    rest = [Day("", None, "", False)] if any(object_ not in groups.of_objects for object_ in range(len(roster.objects))) else []
     if dates is not None:
-        return _dated_weeks(groups, dates) + ([rest] if rest else [])
-    days = [Day(name, number, "", is_weekend_name(name)) for number, name in enumerate(groups.names)] + rest
+        return _dated_weeks(groups, dates, past) + ([rest] if rest else [])
+    days = [Day(name, number, "", is_weekend_name(name), is_past=number in past) for number, name in enumerate(groups.names)] + rest
     return [days[begin:begin + MOST_DAYS] for begin in range(0, len(days), MOST_DAYS)]
 
 
-def _dated_weeks(groups: Groups, dates: Sequence[date]) -> List[List[Day]]:
+def _dated_weeks(groups: Groups, dates: Sequence[date], past: Set[int]) -> List[List[Day]]:
     """Weeks from Monday. A day of the week that no week has gets no column."""
     weekdays = sorted({day.weekday() for day in dates})
     of_dates: Dict[date, List[int]] = {}
@@ -123,13 +137,14 @@ def _dated_weeks(groups: Groups, dates: Sequence[date]) -> List[List[Day]]:
     for monday in sorted(set(map(monday_of, dates))):
         week: List[Day] = []
         for day in (monday + timedelta(days=weekday) for weekday in weekdays):
-            week += [_day(day, groups.names[number], number) for number in of_dates.get(day, [])] or [_day(day, "", None)]
+            week += [_day(day, groups.names[number], number, number in past) for number in of_dates.get(day, [])] or [_day(day, "", None, False)]
         weeks.append(week)
     return weeks
 
 
-def _day(day: date, name: str, number: Optional[int]) -> Day:
-    return Day(name, number, "" if has_weekday(name) else DAY_NAMES[day.weekday()], day.weekday() >= SATURDAY, number is not None)
+def _day(day: date, name: str, number: Optional[int], is_past: bool) -> Day:
+    weekday = "" if has_weekday(name) else DAY_NAMES[day.weekday()]
+    return Day(name, number, weekday, day.weekday() >= SATURDAY, number is not None, day, is_past)
 
 
 def _caption(groups: Groups, week: List[Day]) -> str:
@@ -163,29 +178,33 @@ def _without(name: str, group: str) -> str:
     return name
 
 
-def _held(roster: Roster, plan: Plan, kept: Optional[OldPlan]) -> _Held:
-    labels = labels_of(roster)
+def _held(roster: Roster, plan: Plan, labels: List[str], kept: Optional[OldPlan]) -> _Held:
     before = None if kept is None else set(kept.pairs)
-    entries: Dict[Tuple[int, Optional[int]], List[Entry]] = {}
+    entries: Dict[Spot, List[Entry]] = {}
     who: Dict[int, List[str]] = {}
     for pair in plan.pairs:
         person, object_ = roster.persons[pair.person], roster.objects[pair.object]
         is_new = before is not None and (person, object_) not in before
-        entries.setdefault((pair.person, group_of(roster, pair.object)), []).append(Entry(labels[pair.object], pair.object, pair.fixed, is_new))
+        is_fixed = pair.fixed and pair.object not in roster.past
+        entries.setdefault((pair.person, group_of(roster, pair.object)), []).append(Entry(labels[pair.object], pair.object, is_fixed, is_new))
         who.setdefault(pair.object, []).append(person)
     missing = {one.number: (one.had, one.least) for one in missing_of(roster, plan.pairs) if one.side == 1}
-    changed = _changed(roster, plan, before or set()) | {cell for cell, own in entries.items() if any(entry.is_new for entry in own)}
-    return _Held(entries, _allowed(roster), changed, who, missing, Counter(pair.person for pair in plan.pairs))
+    gone = {} if kept is None else _gone(roster, plan, labels, kept)
+    return _Held(entries, gone, _allowed(roster), who, missing, Counter(pair.person for pair in plan.pairs))
 
 
-def _changed(roster: Roster, plan: Plan, before: Set[Tuple[str, str]]) -> Set[Tuple[int, Optional[int]]]:
-    """The persons and groups of pairs that were before and are no more, as far as the roster has both names."""
+def _gone(roster: Roster, plan: Plan, labels: List[str], kept: OldPlan) -> Dict[Spot, List[str]]:
+    """What was before and is no more, as far as the roster has both names."""
     now = {(roster.persons[pair.person], roster.objects[pair.object]) for pair in plan.pairs}
-    return {(roster.person_numbers[person], group_of(roster, roster.object_numbers[object_])) for person, object_ in before - now
-            if person in roster.person_numbers and object_ in roster.object_numbers}
+    gone: Dict[Spot, List[str]] = {}
+    for person, object_ in kept.pairs:
+        number, other = roster.person_numbers.get(person), roster.object_numbers.get(object_)
+        if (person, object_) not in now and number is not None and other is not None:
+            gone.setdefault((number, group_of(roster, other)), []).append(labels[other])
+    return gone
 
 
-def _allowed(roster: Roster) -> Optional[Set[Tuple[int, Optional[int]]]]:
+def _allowed(roster: Roster) -> Optional[Set[Spot]]:
     """The persons and groups with an allowed pair; None where all have one."""
     if roster.is_full:
         return None
@@ -200,13 +219,13 @@ def _block(roster: Roster, labels: List[str], held: _Held, days: List[Day], capt
 
 
 def _person(held: _Held, person: int, name: str, days: List[Day]) -> PersonRow:
-    cells = [_cell(held, (person, day.group)) if day.has_objects else Cell([], False, False) for day in days]
+    cells = [_cell(held, (person, day.group)) if day.has_objects else Cell([], [], False) for day in days]
     return PersonRow(person, name, cells, sum(len(cell.entries) for cell in cells), held.whole.get(person, 0))
 
 
-def _cell(held: _Held, place: Tuple[int, Optional[int]]) -> Cell:
-    entries = held.entries.get(place, [])
-    return Cell(entries, not entries and held.allowed is not None and place not in held.allowed, place in held.changed)
+def _cell(held: _Held, spot: Spot) -> Cell:
+    entries = held.entries.get(spot, [])
+    return Cell(entries, held.gone.get(spot, []), not entries and held.allowed is not None and spot not in held.allowed)
 
 
 def _objects(roster: Roster, labels: List[str], held: _Held, days: List[Day]) -> List[ObjectRow]:

@@ -46,10 +46,11 @@ def changes_of(roster: Roster, plan: Plan, kept: OldPlan) -> Changes:
 def _lost(roster: Roster, kept: OldPlan, full: Set[Numbered], now: Set[Numbered]) -> List[Lost]:
     """What of an earlier plan can't be any more: names are gone, or take none, or a pair is forbidden."""
     lost = []
+    gone = set(kept.gone)
     forbidden = {(person, object_) for person, object_, _ in kept.forbidden}
     for person, object_ in kept.pairs:
         pair = roster.person_numbers.get(person, -1), roster.object_numbers.get(object_, -1)
-        is_gone = person in kept.gone or object_ in kept.gone
+        is_gone = person in gone or object_ in gone
         if pair not in now and (is_gone or pair in full or pair in forbidden):
             lost.append(Lost(person, object_, "gone" if is_gone else "takes none" if pair in full else "forbidden"))
     return lost

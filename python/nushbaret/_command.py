@@ -12,8 +12,9 @@ from typing import TYPE_CHECKING, List, Optional, Sequence, Tuple
 
 from ._answer import Answer, Wish, answer_of
 from ._exact import MOST_PLACES
-from ._files import STANDARD_OUTPUT, Output, OutputFault, print_content, refuse_existing, write_files
+from ._files import STANDARD_OUTPUT, Output, OutputFault, is_device, make_folder, print_content, refuse_existing, write_files
 from ._groups import read_counts, read_groups, refuse_two_of_a_group, with_rules
+from ._names import without_marks
 from ._roster import OldPlan, PlanLine, Roster, read_hand_plan, read_old_plan, read_plan, read_roster
 from ._sheets import Reading, RosterFault, heading_of, quoted
 from ._texts import Fair, Hand, Report, as_csv, first_lines, forgotten_line, gone_line, in_encoding_of, printed, read_lines
@@ -77,14 +78,17 @@ def _run(options: Options) -> int:
         if output.kind == "xlsx":
             from ._workbook import need_openpyxl
             need_openpyxl(output.path)
-    report = _report(options, _read(options))
+    roster = _read(options)
+    _refuse_existing_of_each(options, roster)
+    report = _report(options, roster)
     answer = report.answer
     for plan in (report.kept, report.hand.plan if report.hand else None):
         if plan is not None and plan.gone:
             _say(gone_line(plan, report.roster))
-    lines = first_lines(report)
+    lines = list(map(without_marks, first_lines(report)))
     is_content = _write(report, lines)
-    skipped = [f"{output.path} isn't written: there is no plan" for output in options.outputs if not _is_written(output, answer)]
+    skipped = [f"{output.path} isn't written: there is no plan" for output in options.outputs if not _is_written(output, answer, options)]
+    skipped += _lines_on_each(report)
     _print_lines(lines + ([] if options.quiet else printed(report)) + skipped, is_content)
     return PLANNED if not answer.groups else NONE
 
@@ -187,21 +191,53 @@ def change_cost(options: Options, roster: Roster) -> Optional[int]:
     return int(found[1] + part.ljust(roster.decimals, "0"))
 
 
-def _is_written(output: Output, answer: Answer) -> bool:
-    """Whether an output is written: as a table only a plan is."""
-    return answer.plan is not None or output.kind in ("json", "html")
+def _is_written(output: Output, answer: Answer, options: Options) -> bool:
+    """Whether an output is written: without a plan as JSON, or as a page that isn't of the plan alone."""
+    return answer.plan is not None or output.kind == "json" or output.kind == "html" and not options.plan_only
 
 
 def _write(report: Report, lines: List[str]) -> bool:
     """Writes the outputs, the files first. Whether standard output got one."""
     options = report.options
     outputs = [*options.outputs, *([Output(STANDARD_OUTPUT[0], options.print)] if options.print else [])]
-    contents = [(output, content_of(report, lines, output)) for output in outputs if _is_written(output, report.answer)]
-    write_files([(output.path, content) for output, content in contents if not output.is_standard], options.force)
+    contents = [(output, content_of(report, lines, output)) for output in outputs if _is_written(output, report.answer, options)]
+    files = [(output.path, content) for output, content in contents if not output.is_standard]
+    if options.each and report.answer.plan is not None:
+        from ._each import files_of
+        files += files_of(report.roster, report.answer.plan, report.kept, options.each)
+        make_folder(options.each)
+    write_files(files, options.force)
     for output, content in contents:
         if output.is_standard:
             print_content(content)
     return any(output.is_standard for output in outputs)
+
+
+def _refuse_existing_of_each(options: Options, roster: Roster) -> None:
+    """Refuses to write for each person what exists, unless it may be overwritten, or is another output."""
+    if options.each is None:
+        return
+    from ._each import paths_of
+    others = {os.path.realpath(output.path) for output in options.outputs}
+    for path in paths_of(roster, options.each):
+        if os.path.realpath(path) in others:
+            raise OutputFault(f"{path} is another output too")
+        if not options.force:
+            refuse_existing(path)
+
+
+def _lines_on_each(report: Report) -> List[str]:
+    """What is said of the files for each person that aren't written."""
+    folder, plan = report.options.each, report.answer.plan
+    if folder is None:
+        return []
+    from ._each import lines_on_calendars
+    return [f"{folder}: nothing is written: there is no plan"] if plan is None else lines_on_calendars(report.roster, plan, folder)
+
+
+def title_of(options: Options, output: Output) -> str:
+    """The title of a page: its file's name without its end; of a page on a device or a pipe that of the roster."""
+    return heading_of(options.roster if is_device(output.path) else output.path)
 
 
 def content_of(report: Report, lines: List[str], output: Output) -> bytes:
@@ -212,7 +248,7 @@ def content_of(report: Report, lines: List[str], output: Output) -> bytes:
         return as_json(report, lines).encode()
     if kind == "html":
         from ._page import page
-        return page(report, heading_of(report.options.roster), lines).encode()
+        return page(report, title_of(report.options, output)).encode()
     plan = report.answer.plan
     if plan is None:
         raise ValueError("there is no plan")

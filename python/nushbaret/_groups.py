@@ -8,6 +8,7 @@ from ._gadgets import Bounds
 from ._library import MOST_PERSONS
 from ._roster import Groups, PlanLine, Roster, known, looks_like_number
 from ._sheets import RosterFault, Sheet, quoted, unit_of
+from ._times import columns_of, times_of
 
 
 class Counts(NamedTuple):
@@ -74,9 +75,9 @@ def _count(sheet: Sheet, cell: str, line: int, column: int) -> int:
 
 
 def read_groups(path: str, roster: Roster) -> Groups:
-    """Reads groups of objects of which nobody takes two: a title line, and lines of an object and its group.
+    """Reads groups of objects of which nobody takes two: a title line, and lines of an object and its group; maybe with columns of times.
 
-    Raises `RosterFault` for the first object that the roster doesn't have or that stands twice.
+    Raises `RosterFault` for the first object that the roster doesn't have or that stands twice, or time that is none.
     """
     sheet = Sheet(path, reading=roster.reading)
     line, title = sheet.title()
@@ -85,7 +86,7 @@ def read_groups(path: str, roster: Roster) -> Groups:
     if title[0] in roster.object_numbers:
         sheet.refuse(f"a title line must come first, and {quoted(title[0])} is an object", line, 1)
     numbers: Dict[str, int] = {}
-    groups = Groups(title[1], [], {})
+    groups, columns = Groups(title[1], [], {}, {}), columns_of(sheet, title, line)
     lines: Dict[int, int] = {}
     for line, cells in sheet.body(len(title)):
         object_ = known(sheet, roster, cells[0], line, 2, 1)
@@ -97,6 +98,8 @@ def read_groups(path: str, roster: Roster) -> Groups:
         number = numbers.setdefault(spellings(name)[0], len(groups.names))
         groups.of_objects[object_] = number
         groups.names.extend([name] if number == len(groups.names) else [])
+        times = times_of(sheet, cells, columns, line) if columns else None
+        groups.times.update({object_: times} if times else {})
     if not lines:
         sheet.refuse("no line after the title", line)
     return groups

@@ -126,7 +126,8 @@ def _forbidden_lines(roster: Roster, kept: OldPlan, added: Sequence[Triple]) -> 
     own: Dict[int, List[str]] = {}
     for person, object_, cost in added:
         own.setdefault(person, []).append(f"{roster.objects[object_]}, {roster.shown(cost)}")
-    return [f"{kept.path}: {roster.persons[person]} keeps what the roster doesn't allow now: {'; '.join(pairs)}" for person, pairs in own.items()]
+    return [f"{kept.path}: {roster.persons[person]} keeps what the roster doesn't allow now: {'; '.join(pairs)}"
+            for person, pairs in own.items()]
 
 
 def _most_line(roster: Roster, kept: OldPlan, person: int, had: int) -> str:
@@ -137,8 +138,8 @@ def _most_line(roster: Roster, kept: OldPlan, person: int, had: int) -> str:
 def with_fixed(roster: Roster, past: Past, fixed: Sequence[PlanLine], path: str) -> List[PlanLine]:
     """The pairs of the past, and those of a file of fixed pairs.
 
-    Raises `RosterFault` for the first fixed pair in the past that the plan doesn't have, and for the first person who has more in both than it
-    takes.
+    Raises `RosterFault` for the first fixed pair in the past that the plan doesn't have, and for the first person who has more in both than
+    it takes.
     """
     pairs = {(pair.person, pair.object) for pair in past.pairs}
     new = [pair for pair in fixed if (pair.person, pair.object) not in pairs]

@@ -16,6 +16,7 @@ from ._costs import Costs
 from ._dates import spellings
 from ._library import MOST_PERSONS, Numbers
 from ._sheets import MOST_BYTES, Reading, RosterFault, Sheet, is_json, quoted, unit_of
+from ._times import Times
 
 LINES, MATRIX = "lines", "matrix"
 TITLES = ("person", "object", "cost")
@@ -87,12 +88,13 @@ Read = Tuple[Tuple[str, str, str], Names, Names, Numbers, Numbers]
 
 
 class Groups(NamedTuple):
-    """Groups of objects of which nobody takes two: their title, their names in the order of the file, and the group of each object that is
-    in one."""
+    """Groups of objects of which nobody takes two: their title, their names in the order of the file, the group of each object that is in
+    one, and when objects begin and end, where the file says it."""
 
     title: str
     names: List[str]
     of_objects: Dict[int, int]
+    times: Dict[int, Times] = {}
 
 
 class Roster(NamedTuple):
@@ -454,7 +456,7 @@ def read_hand_plan(path: str, roster: Roster) -> Tuple[OldPlan, List[NamedPair]]
 
 
 def old_plan_of(path: str, roster: Roster, named: List[NamedPair], by_counts: bool) -> OldPlan:
-    """An earlier plan beside a roster."""
+    """An earlier plan as a roster has it now."""
     gone: Dict[str, None] = {}
     places = []
     for person, object_, line, _ in named:

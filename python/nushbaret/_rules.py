@@ -5,7 +5,8 @@ from typing import Dict, Iterator, List, Sequence, Tuple
 from ._answer import counted
 from ._by_counts import bounds_around
 from ._changes import pairs_of
-from ._groups import Broken, Missing, Paired, missing_of
+from ._groups import Broken, Missing, Paired, missing_of, order_of
+from ._names import joined
 from ._roster import NamedPair, OldPlan, PlanLine, Roster
 from ._sheets import unit_of
 
@@ -46,7 +47,7 @@ def _two_of_a_group(roster: Roster, pairs: Sequence[Paired]) -> Iterator[Broken]
     for (person, group), objects in own.items():
         if groups is not None and len(objects) > 1:
             yield Broken("group", [roster.persons[person]], objects,
-                         f"{roster.persons[person]}: {', '.join(objects)}, {len(objects)} of {groups.title} {groups.names[group]}")
+                         f"{roster.persons[person]}: {joined(objects)}, {len(objects)} of {groups.title} {groups.names[group]}")
 
 
 def _too_many(roster: Roster, pairs: Sequence[Paired]) -> Iterator[Broken]:
@@ -54,21 +55,22 @@ def _too_many(roster: Roster, pairs: Sequence[Paired]) -> Iterator[Broken]:
     for person in sorted(had):
         if had[person] > roster.tasks_of(person):
             yield _of_count(roster, "most", 0, person, had[person], f"at most {roster.tasks_of(person)}")
-    for object_ in sorted(used):
+    for object_ in sorted(used, key=order_of(roster).__getitem__):
         if used[object_] > roster.places_of(object_) and object_ not in roster.past:
             yield _of_count(roster, "most", 1, object_, used[object_], f"at most {roster.places_of(object_)}")
 
 
 def lacking(roster: Roster, pairs: Sequence[Paired], fixed: Sequence[PlanLine]) -> List[Missing]:
-    """Which least counts pairs miss. With single numbers the smaller side must have all."""
+    """Which least counts pairs miss. With single numbers the side with the smaller sum must have all, and both where the sums are one."""
     if roster.least is not None:
         return missing_of(roster, pairs)
-    given = Counter(pair.object for pair in fixed), Counter(pair.person for pair in fixed)
-    had = Counter(pair.object for pair in pairs), Counter(pair.person for pair in pairs)
-    of_persons, of_objects = bounds_around(roster, fixed)
-    sides = zip((1, 0), (roster.objects, roster.persons), (of_objects, of_persons), given, had)
-    return [Missing(side, names[number], number, own[number], bound.least + fix[number]) for side, names, bounds, fix, own in sides
-            for number, bound in enumerate(bounds) if bound.least and own[number] < bound.least + fix[number]]
+    most = [[bound.most for bound in bounds] for bounds in bounds_around(roster, fixed)]
+    sums = [sum(own) for own in most]
+    had = Counter(pair.person for pair in pairs), Counter(pair.object for pair in pairs)
+    given = Counter(pair.person for pair in fixed), Counter(pair.object for pair in fixed)
+    return [Missing(side, (roster.persons, roster.objects)[side][number], number, had[side][number], left + given[side][number])
+            for side in range(2) if sums[side] <= sums[1 - side]
+            for number, left in enumerate(most[side]) if left and had[side][number] < left + given[side][number]]
 
 
 def lack_of(roster: Roster, pairs: Sequence[Paired], fixed: Sequence[PlanLine]) -> int:

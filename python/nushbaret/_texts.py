@@ -6,6 +6,7 @@ from typing import Dict, Iterator, List, NamedTuple, Optional, Sequence, Tuple
 from ._answer import MOST_NAMES_SHOWN, Answer, Pair, Plan, counted, left_out, named, sentence
 from ._changes import Lost, OfPerson, by_person, changes_of
 from ._groups import Broken, Counts, order_of
+from ._names import joined, marked, with_names_marked
 from ._roster import CHANGE, COMES, GOES, NOT_POSSIBLE, OldPlan, PlanLine, Roster, alike, like
 from ._sheets import SEPARATORS, quoted
 from ._words import Options
@@ -64,6 +65,27 @@ def read_lines(path: str, roster: Roster, on_terminal: bool) -> List[str]:
     return lines
 
 
+def with_marks(report: Report) -> Report:
+    """A report whose texts have marks around names."""
+    groups, kept, hand = report.roster.groups, report.kept, report.hand
+    if groups is not None:
+        groups = groups._replace(names=list(map(marked, groups.names)))
+    if kept is not None:
+        kept = kept._replace(named=[pair._replace(person=marked(pair.person), object=marked(pair.object)) for pair in kept.named],
+                             gone=list(map(marked, kept.gone)))
+    if hand is not None:
+        hand = hand._replace(broken=[broken._replace(sentence=with_names_marked(broken.sentence, (*broken.persons, *broken.objects)))
+                                     for broken in hand.broken])
+    persons, objects = list(map(marked, report.roster.persons)), list(map(marked, report.roster.objects))
+    roster = report.roster._replace(persons=persons, objects=objects, groups=groups, person_numbers=_numbers_of(persons),
+                                    object_numbers=_numbers_of(objects))
+    return report._replace(roster=roster, kept=kept, hand=hand)
+
+
+def _numbers_of(names: List[str]) -> Dict[str, int]:
+    return {name: number for number, name in enumerate(names)}
+
+
 def _rule(roster: Roster) -> str:
     """Which rule decides, where names may count several times."""
     if not roster.ruled:
@@ -91,7 +113,7 @@ def gone_line(plan: OldPlan, roster: Roster) -> str:
 
 
 def first_lines(report: Report) -> List[str]:
-    """A sentence for each group that is short, and the cost of the plan."""
+    """A sentence for each group that is short, with marks around names, and the cost of the plan."""
     roster, answer, fair = report.roster, report.answer, report.fair
     lines = [sentence(roster, short, bool(report.options.fixed)) for short in answer.groups]
     if answer.plan is not None:
@@ -117,7 +139,7 @@ def printed(report: Report) -> List[str]:
     plan, notes = report.answer.plan, broken_rules(report.hand)
     lines: List[str] = []
     if plan is not None:
-        lines = rows_of(report.roster, plan) + [f"{out.how}: {', '.join(out.names)}" for out in left_out(report.roster, plan)]
+        lines = rows_of(report.roster, plan) + [f"{out.how}: {joined(out.names)}" for out in left_out(report.roster, plan)]
         notes = notes_of(report, plan)
     for note in notes:
         lines += [note.line, *("  " + detail for detail in note.details)]
@@ -144,7 +166,7 @@ def rows_of(roster: Roster, plan: Plan) -> List[str]:
         text = f"{roster.objects[pair.object]}, {roster.shown(pair.cost)}{_why_fixed(roster, pair)}"
         own.setdefault(pair.person, []).append(text)
     lines = [f"{roster.persons[person]}{_times(roster, len(texts))}: {'; '.join(texts)}" for person, texts in own.items()]
-    return lines + [f"at {roster.objects[object_]}{_times(roster, len(who))}: {', '.join(who)}" for object_, who in persons_at(roster, plan)]
+    return lines + [f"at {roster.objects[object_]}{_times(roster, len(who))}: {joined(who)}" for object_, who in persons_at(roster, plan)]
 
 
 def _why_fixed(roster: Roster, pair: Pair) -> str:
@@ -241,7 +263,7 @@ def _goes(those: Sequence[object]) -> str:
 
 def _words_of(own: OfPerson) -> List[str]:
     """What goes and what comes."""
-    goes, comes = ", ".join(own.goes) + _goes(own.goes), ", ".join(own.comes) + _comes(own.comes)
+    goes, comes = joined(own.goes) + _goes(own.goes), joined(own.comes) + _comes(own.comes)
     return [goes] * bool(own.goes) + [comes] * bool(own.comes)
 
 
@@ -250,7 +272,7 @@ def _lost_lines(lost: Sequence[Lost]) -> List[str]:
     names: Dict[Tuple[str, str], List[str]] = {}
     for pair in lost:
         names.setdefault((pair.person, pair.why), []).append(pair.object)
-    return [f"{person}: {', '.join(own)} {NOT_POSSIBLE} now ({why})" for (person, why), own in names.items()]
+    return [f"{person}: {joined(own)} {NOT_POSSIBLE} now ({why})" for (person, why), own in names.items()]
 
 
 def broken_rules(hand: Optional[Hand]) -> List[Note]:
@@ -280,7 +302,8 @@ def compared(report: Report, plan: Plan, hand: Hand) -> Note:
     more = cost - plan.cost
     size = f"{roster.shown(abs(more))} {'more' if more > 0 else 'less'} than" if more else "as good as"
     of_pairs = f" for {counted(len(own.known), 'pair')} that the roster allows" if len(own.known) < len(own.named) else ""
-    rest = ", which misses less" if hand.lack > hand.best_lack > 0 else "" if hand.is_comparable or hand.best_lack else ", which breaks none"
+    rest = "" if hand.is_comparable or hand.best_lack else ", which breaks none"
+    rest = ", which misses less" if hand.lack > hand.best_lack > 0 else rest
     return Note(f"{own.path}: {roster.shown(cost)}{of_pairs}, {size} the best{rest}", [
         f"there {roster.persons[pair.person]}: {roster.objects[pair.object]}, {roster.shown(pair.cost)}" for pair in only_there(plan, own)])
 
@@ -307,7 +330,8 @@ def _lines_with_changes(roster: Roster, plan: Plan, kept: OldPlan) -> List[Tuple
     """The lines of a plan and of the pairs that go, person by person, and those of pairs that aren't possible now."""
     found = changes_of(roster, plan, kept)
     new = set(found.comes)
-    lines: List[Tuple[int, Tuple[str, ...]]] = [(pair.person, (*line, COMES if pair in new else "")) for pair, line in zip(plan.pairs, _lines_of(roster, plan))]
+    lines: List[Tuple[int, Tuple[str, ...]]] = [(pair.person, (*line, COMES if pair in new else ""))
+                                                for pair, line in zip(plan.pairs, _lines_of(roster, plan))]
     lines += [(pair.person, (roster.persons[pair.person], roster.objects[pair.object], "", GOES)) for pair in found.goes]
     lost = ((pair.person, pair.object, "", NOT_POSSIBLE) for pair in found.lost)
     return [*(line for _, line in sorted(lines, key=lambda those: those[0])), *lost]

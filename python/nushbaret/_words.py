@@ -77,6 +77,8 @@ class Options(NamedTuple):
     rents: bool
     print: Optional[str]
     outputs: Sequence[Output]
+    plan_only: bool
+    each: Optional[str]
     quiet: bool
     force: bool
 
@@ -156,6 +158,9 @@ OPTIONS = (
     Option("--output", "write the plan as .csv, .json, .html or .xlsx; may be given several times", WRITING, "outputs",
            Value("FILE", True, tuple("." + kind for kind in KINDS), read=_output), repeats=True, short="-o"),
     Option("--html", "draw the plan as a page", WRITING, "outputs", Value("FILE", True, (".html",), read=_page), repeats=True),
+    Option("--plan-only", "leave wishes, costs, hints and other plans out of pages, as for the wall", WRITING, "plan_only"),
+    Option("--each", "write for each person a page and, where groups are dates, a calendar (.ics) into this folder", WRITING, "each",
+           Value("FOLDER", True)),
     Option("--quiet", "print the cost alone, or who is short", WRITING, "quiet", short="-q"),
     Option("--force", "overwrite an output that exists", WRITING, "force"),
 )
@@ -316,7 +321,7 @@ def _judge_fair(options: Options, refuse: Callable[[str], NoReturn]) -> None:
 
 def _judge_files(options: Options, refuse: Callable[[str], NoReturn]) -> None:
     read = [options.roster] + [getattr(options, option.field) for option in OPTIONS
-                               if option.value is not None and option.value.is_file and not option.repeats]
+                               if option.value is not None and option.value.is_file and option.section != WRITING]
     if "-" in read[1:]:
         refuse("only the roster can come from standard input")
     if options.sheet is not None and file_and_sheet(options.roster)[1] is not None:

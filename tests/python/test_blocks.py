@@ -96,6 +96,17 @@ class Cells(unittest.TestCase):
         week, = blocks_of(roster, plan_of([(0, 0), (1, 0), (1, 3)]), kept)
         self.assertEqual([[cell.is_changed for cell in row.cells] for row in week.persons], [[False, True, False], [True, True, False]])
         self.assertEqual([[entry.is_new for entry in cell.entries] for cell in week.persons[1].cells], [[True], [True], []])
+        self.assertEqual([[cell.gone for cell in row.cells] for row in week.persons], [[[], ["early"], []], [["late"], [], []]])
+
+    def test_past(self):
+        """What is past is given, but not as fixed pairs are."""
+        roster = roster_by_days(["Mon", "Tue"])._replace(past=frozenset((0, 1)))
+        week, = blocks_of(roster, plan_of([(0, 0), (0, 2)], {(0, 0), (0, 2)}))
+        self.assertEqual([day.is_past for day in week.days], [True, False, False])
+        self.assertEqual([[entry.is_fixed for entry in cell.entries] for cell in week.persons[0].cells], [[False], [True], []])
+        roster = roster_by_days(["2027-03-02", "2027-03-01"])._replace(past=frozenset((2, 3)))
+        self.assertEqual([(day.is_past, day.when) for day in blocks_of(roster, plan_of([]))[0].days],
+                         [(True, date(2027, 3, 1)), (False, date(2027, 3, 2))])
 
     def test_missing(self):
         roster = roster_by_days(["Mon"])._replace(places={0: 3}, least=({}, {0: 2}))

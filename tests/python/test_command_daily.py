@@ -89,7 +89,7 @@ class Shown(Daily):
         self.file("o.csv", "a,b\nAda,early\nBen,late\nEve,night\n")
         self.file("h.csv", "a,b\nAda,early\nBen,late\nCleo,night\n")
         _, out, _ = self.run_words("r.csv", "--keep", "o.csv", "--compare", "h.csv", "--others", "--output", "p.json", "--html", "p.html")
-        plan, page = json.loads(self.read("p.json")), self.read("p.html")
+        plan, page = json.loads(self.read("p.json")), test_command.without_names(self.read("p.html"))
         self.assertEqual(plan["keep"], {"plan": "o.csv", "gone": ["Eve"], "changes": [
             {"person": "Ada", "goes": ["early"], "comes": ["late"]}, {"person": "Ben", "goes": ["late"], "comes": ["early"]},
             {"person": "Cleo", "goes": [], "comes": ["night"]}], "not_possible": [{"person": "Eve", "object": "night", "why": "gone"}]})
@@ -127,11 +127,10 @@ class Paper(Daily):
     def test_lists_are_unfolded(self):
         self.file("w.csv", ",x,y,z\nAda,5,1,4\n")
         self.run_words("w.csv", "--html", "p.html")
-        text = self.read("p.html")
+        text = test_command.without_names(self.read("p.html"))
         self.assertIn("<details><summary>unused: 2 objects</summary><p>x, z</p></details>\n<p class=\"paper\">unused: 2 objects: x, z</p>", text)
-        screen, paper = text.split("@media print", 1)
-        self.assertIn("p.paper { display: none }", screen)
-        self.assertIn("details { display: none }\np.paper { display: block }", paper)
+        self.assertIn("\n.matrix tr.part, p.paper { display: none }\n", text)
+        self.assertRegex(text, r"@media print \{\n[^@]*\ndetails \{ display: none \}\np\.paper \{ display: block \}\n")
 
 
 class Faults(Daily):
