@@ -10,8 +10,8 @@ from ._roster import OldPlan, Roster
 
 # What is printed of a block: the sizes of letters, in pixels of CSS; the height that a sheet has for it, and the widths of a column of names
 # and of one of days there. A letter is about so wide, and a line so high, in parts of the size; a row has so much more.
-SIZES = (11.0, 10.5, 10.0, 9.5, 9.0, 8.5, 8.0, 7.5, 7.0)
-HEIGHT, NAME_WIDTH, DAY_WIDTH = 600, 150, 105
+SIZES = (13.0, 12.5, 12.0, 11.5, 11.0, 10.5, 10.0, 9.5, 9.0, 8.5, 8.0, 7.5, 7.0)
+HEIGHT, NAME_WIDTH, DAY_WIDTH = 640, 150, 105
 LETTER, LINE, REST = 0.56, 1.3, 5
 MARGIN = 10
 
@@ -40,7 +40,7 @@ STYLE = """
 .days { --day: 6.5em }
 }
 @media (max-width: 40em) {
-.days { --name: 7.5em; --day: 5.5em; --total: 4.5em }
+.days { --name: 8.5em; --day: 6.2em; --total: 5em }
 }
 @media print {
 .days { --name: 150px; --day: calc(735px / max(7, var(--days))); --total: 60px; font-size: calc(1px * var(--size)); break-inside: avoid }
@@ -50,8 +50,8 @@ STYLE = """
 
 
 class Shown(NamedTuple):
-    """What is drawn of a block: whether other blocks are there, and whether it shows the plan alone, so neither what was given nor who can
-    have nothing."""
+    """What is drawn of a block: whether other blocks are there, and whether it shows the plan alone, without what was given and who can have
+    nothing."""
 
     is_part: bool
     plan_only: bool

@@ -43,8 +43,10 @@ body { margin: 1em }
 }
 @page { size: landscape; margin: 1cm }
 @media print {
-body { margin: 0; print-color-adjust: exact; -webkit-print-color-adjust: exact }
-.scroll { overflow: visible }
+body { margin: 0; font-size: 12px; print-color-adjust: exact; -webkit-print-color-adjust: exact }
+h1 { font-size: 16px; margin: 0 0 4px }
+p { margin: 4px 0 }
+.scroll { overflow: visible; margin: 6px 0 }
 tr { break-inside: avoid }
 caption, thead { break-after: avoid }
 thead { display: table-header-group }

@@ -3,8 +3,10 @@ import html
 import pathlib
 import re
 import shutil
+import struct
 import subprocess
 import sys
+import tempfile
 import unittest
 from datetime import date, timedelta
 
@@ -13,7 +15,7 @@ sys.path.insert(0, str(pathlib.Path(__file__).resolve().parents[2] / "python"))
 from nushbaret import _days, _html, _page
 from nushbaret._days import SIZES, _size
 from nushbaret._names import BEGIN, END, Piece, joined, marked, pieces, without_marks
-from test_command import SQUARE, Runs, parsed, without_names
+from test_command import SQUARE, TOP, Runs, parsed, without_names
 
 BROWSER = next(filter(None, map(shutil.which, ("chromium", "chromium-browser", "google-chrome"))), None)
 SHIFTS = ("early", "late", "night")
@@ -156,7 +158,7 @@ class Month(Runs):
         self.assertEqual(re.findall("<caption.*", wall), re.findall("<caption.*", whole))
 
     def test_sizes_of_letters(self):
-        self.assertEqual(_size(["Ada"] * 20, [[["early"]] * 7] * 20, 7), 11)
+        self.assertEqual(_size(["Ada"] * 20, [[["early"]] * 7] * 20, 7), SIZES[0])
         self.assertEqual(_size(["Ada"] * 90, [[["early"]] * 7] * 90, 7), SIZES[-1])
         small = _size(["Ada"] * 3, [[[f"Nurse {number}" for number in range(14)]] * 7] * 3, 7)
         self.assertTrue(SIZES[-1] < small < SIZES[0], small)
@@ -193,6 +195,31 @@ class Month(Runs):
                             (pathlib.Path.cwd() / "frame.html").as_uri())
             title = html.unescape(re.search("<title>(.*)</title>", found)[1]).split()
             self.assertEqual((int(title[0]), len(title)), (width, 2))
+
+
+class Picture(unittest.TestCase):
+    """The picture of a week that README.md shows."""
+
+    def size(self, path):
+        """The width and the height of a PNG."""
+        data = path.read_bytes()
+        self.assertEqual(data[:8], b"\x89PNG\r\n\x1a\n")
+        self.assertLess(len(data), 150_000)
+        return struct.unpack(">II", data[16:24])
+
+    def test_it_is_shown(self):
+        self.assertIn("](docs/pictures/week.png)", (TOP / "README.md").read_text(encoding="utf-8"))
+        self.assertEqual(self.size(TOP / "docs/pictures/week.png")[0], 990)
+
+    @unittest.skipUnless(BROWSER, "Chromium isn't installed")
+    def test_it_can_be_made_again(self):
+        with tempfile.TemporaryDirectory() as folder:
+            picture = pathlib.Path(folder) / "week.png"
+            subprocess.run([sys.executable, str(TOP / "docs/pictures.py"), str(picture)], check=True, timeout=300)
+            width, height = self.size(picture)
+        self.assertEqual(width, 990)
+        # Letters differ between machines.
+        self.assertLess(abs(height - self.size(TOP / "docs/pictures/week.png")[1]), 200)
 
 
 if __name__ == "__main__":

@@ -62,6 +62,7 @@ class Named(Books):
         self.assertIn("w.xlsx#Old: 5, 3 more than the best\n", out)
         self.assertIn("Ada: early, 2 (fixed)", self.run_words("r.csv", "--lines", "--fixed", "w.xlsx#Old")[1])
         self.assertEqual(self.run_words("w.xlsx#Roster", "--lines", "--html", "p.html")[0], 0)
+        self.assertIn('<title lang="">p</title>', self.read("p.html"))
         self.assertEqual((heading_of("a/p.2.html"), heading_of("a/w.xlsx#May 2.0"), heading_of("w.xlsx")), ("p.2", "w, May 2.0", "w"))
 
     def test_refusals(self):
