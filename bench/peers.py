@@ -244,7 +244,8 @@ def draw(measured, foot):
     """The picture of processor times."""
     problems = [(what, {name: tuple(times.least.get(kind) for kind in ("whole_processor", "alone_processor")) for name, times in rows.items()})
                 for what, rows in measured.items()]
-    heading = "Seconds of processor time, the least of three. In outline: whole runs, with reading and printing; filled: solving alone"
+    heading = ("Seconds of processor time, the least of three, on a scale of powers of ten. In outline: whole runs, with reading and printing; "
+               "filled: solving alone")
     with open(os.path.join(OUT, "peers.svg"), "w") as file:
         file.write(picture(heading, problems, foot))
 

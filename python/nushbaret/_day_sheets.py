@@ -12,8 +12,8 @@ from ._texts import Report
 MOST_WEEKS = 6
 TOTAL, ALL = "total", "in all"
 YEAR = re.compile(r"(?<=[0-9]\.)\s?[0-9]{4}|[0-9]{4}-(?=[0-9])")
-NOT_POSSIBLE = "\u2013"
-LEGENDS = (("fixed", "bold: fixed"), ("changed", "yellow: changed"), ("off", f"{NOT_POSSIBLE}: not possible"))
+FREE, OFF = "\u2013", "off"
+LEGENDS = (("fixed", "bold: fixed"), ("changed", "yellow: changed"), ("past", "italic: past"))
 
 
 class Column(NamedTuple):
@@ -32,17 +32,17 @@ def add_days(book: Any, looks: Looks, report: Report, plan: Plan) -> None:
     for number, part in enumerate(parts):
         sheet = book.create_sheet("Persons" if number == 0 else f"Persons {number + 1}", number)
         is_last = number == len(parts) - 1
-        _write_persons(sheet, looks, list(_columns(report.roster, part, is_last and len(blocks) > 1)))
+        _write_persons(sheet, looks, list(_columns(report, part, is_last and len(blocks) > 1)))
     _write_days(book.create_sheet("Days", len(parts)), looks, report.roster, blocks)
 
 
-def _columns(roster: Roster, blocks: Sequence[Block], is_whole: bool) -> Iterator[Column]:
+def _columns(report: Report, blocks: Sequence[Block], is_whole: bool) -> Iterator[Column]:
     """The columns of some weeks side by side; at the end how much each person has in the whole plan, if that isn't a week's."""
     rows = blocks[0].persons
-    yield Column("", [Marked(roster.titles[0], ("title",)), *(Marked(row.name, ("title",)) for row in rows), Marked(TOTAL, ("title",))])
+    yield Column("", [Marked(report.roster.titles[0], ("title",)), *(Marked(row.name, ("title",)) for row in rows), Marked(TOTAL, ("title",))])
     for block in blocks:
         for column, day in enumerate(block.days):
-            yield Column(block.caption, list(_day(block, column, day)))
+            yield Column(block.caption, list(_day(block, column, day, report.options.plan_only)))
         yield _numbers(block.caption, TOTAL, [row.total for row in block.persons])
     if is_whole:
         yield _numbers("", ALL, [row.whole for row in rows])
@@ -54,20 +54,24 @@ def _numbers(caption: str, title: str, numbers: Sequence[int]) -> Column:
     return Column(caption, [Marked(title, marks), *(Marked(number, marks) for number in (*numbers, sum(numbers)))])
 
 
-def _day(block: Block, column: int, day: Day) -> Iterator[Marked]:
+def _day(block: Block, column: int, day: Day, plan_only: bool) -> Iterator[Marked]:
     """A day of the persons from its title down, and how many pairs it has."""
-    base = ("centre", "weekend") if day.is_weekend else ("centre",)
+    base = ["centre", *(mark for mark, holds in (("weekend", day.is_weekend), ("past", day.is_past)) if holds)]
     name = YEAR.sub("", day.name) if block.caption else day.name
     yield Marked(f"{day.weekday}\n{name}".strip(), ("title", "centre"))
-    yield from (_entries(row.cells[column], base) for row in block.persons)
+    yield from (_entries(row.cells[column], base, plan_only) if day.has_objects else Marked("", base) for row in block.persons)
     yield Marked(block.totals[column] if day.has_objects else "", ("title", "centre"))
 
 
-def _entries(cell: Cell, base: Sequence[str]) -> Marked:
-    """What a person has on a day."""
-    marks = (("off", cell.is_off), ("changed", cell.is_changed), ("fixed", any(entry.is_fixed for entry in cell.entries)))
-    text = "\n".join(entry.label for entry in cell.entries) or (NOT_POSSIBLE if cell.is_off else "")
-    return Marked(text, (*base, *(mark for mark, holds in marks if holds)))
+def _entries(cell: Cell, base: Sequence[str], plan_only: bool) -> Marked:
+    """What a person has on a day; where that is nothing, what it had in a kept plan, or that it is free, or can have nothing there."""
+    marks = [*base, *(["changed"] if cell.is_changed else [])]
+    if cell.entries:
+        is_fixed = not plan_only and any(entry.is_fixed for entry in cell.entries)
+        return Marked("\n".join(entry.label for entry in cell.entries), [*marks, *(["fixed"] if is_fixed else [])])
+    if cell.gone:
+        return Marked("\n".join(cell.gone), [*marks, "gone"])
+    return Marked(OFF if cell.is_off and not plan_only else FREE, [*marks, "soft"])
 
 
 def _write_persons(sheet: Any, looks: Looks, columns: Sequence[Column]) -> None:
@@ -119,7 +123,7 @@ def _line(block: Block, column: int, day: Day, labels: Sequence[str]) -> List[Ma
 def _place(place: Optional[Place], base: Tuple[str, ...]) -> Marked:
     """Who is at an object on a day, and how many of how many where these are too few."""
     if place is None:
-        return Marked(NOT_POSSIBLE, base)
+        return Marked("", base)
     missing = [f"{place.missing[0]} of {place.missing[1]}"] if place.missing else []
     return Marked(", ".join([*place.persons, *missing]), (*base, "missing") if missing else base)
 

@@ -7,11 +7,17 @@ NARROWEST, WIDEST, ROOM = 4, 40, 1.5
 LINE_HEIGHT, LETTER_HEIGHT = 15, 6
 # Spreadsheets begin with this font.
 FONT = "Calibri"
-TITLE, WEEKEND, CHANGED, SHORT, LINE, WARNING = "FFDDE6F0", "FFE8E8E8", "FFFFE699", "FFFDECEE", "FFBFBFBF", "FFB00020"
+TITLE, WEEKEND, CHANGED, SHORT, LINE = "FFDDE6F0", "FFE8E8E8", "FFFFE699", "FFFDECEE", "FFBFBFBF"
+WARNING, SOFT = "FFB00020", "FF666666"
+
+
+# The letters of a cell by the first of these marks that it has.
+FONTS = {"title": {"bold": True}, "missing": {"bold": True, "color": WARNING}, "fixed": {"bold": True}, "gone": {"strike": True, "color": SOFT},
+         "past": {"italic": True, "color": SOFT}, "soft": {"color": SOFT}}
 
 
 class Marked(NamedTuple):
-    """What stands in a cell, and what it is: any of `title`, `centre`, `weekend`, `changed`, `fixed` and `missing`."""
+    """What stands in a cell, and what it is: any of `title`, `centre`, `weekend`, `changed`, and those of FONTS."""
 
     value: Union[str, int] = ""
     marks: Sequence[str] = ()
@@ -26,7 +32,7 @@ class Looks:
         self._left, self._centre = (styles.Alignment(vertical="top", horizontal=side, wrap_text=True) for side in ("left", "center"))
         self._fills = {mark: styles.PatternFill("solid", fgColor=colour)
                        for mark, colour in (("title", TITLE), ("weekend", WEEKEND), ("changed", CHANGED))}
-        self._bold, self._warning = (styles.Font(FONT, 11, bold=True, color=colour) for colour in (None, WARNING))
+        self._fonts = {mark: styles.Font(FONT, 11, **words) for mark, words in FONTS.items()}
 
     def put(self, sheet: Any, row: int, column: int, marked: Marked) -> None:
         """Writes a cell."""
@@ -36,10 +42,9 @@ class Looks:
         fill = next((mark for mark in ("changed", "title", "weekend") if mark in marked.marks), None)
         if fill:
             cell.fill = self._fills[fill]
-        if "missing" in marked.marks:
-            cell.font = self._warning
-        elif "title" in marked.marks or "fixed" in marked.marks:
-            cell.font = self._bold
+        font = next((mark for mark in FONTS if mark in marked.marks), None)
+        if font:
+            cell.font = self._fonts[font]
 
 
 def put_text(cell: Any, text: str) -> None:

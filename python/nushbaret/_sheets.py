@@ -50,7 +50,7 @@ def file_and_sheet(path: str) -> Tuple[str, Optional[str]]:
 
 
 def heading_of(path: str) -> str:
-    """What a file is called as a heading: its name without its end, and that of its sheet."""
+    """The title of what is made of a file: its name without its end, and that of its sheet."""
     file, sheet = file_and_sheet(path)
     return ", ".join(filter(None, (os.path.splitext(os.path.basename(file))[0], sheet)))
 

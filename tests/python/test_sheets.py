@@ -10,6 +10,7 @@ from test_command import SQUARE, Runs
 
 from nushbaret._dates import spellings
 from nushbaret._encodings import LETTERS, MARKS
+from nushbaret._sheets import heading_of
 
 try:
     import openpyxl
@@ -62,6 +63,7 @@ class Named(Books):
         self.assertIn("Ada: early, 2 (fixed)", self.run_words("r.csv", "--lines", "--fixed", "w.xlsx#Old")[1])
         self.assertEqual(self.run_words("w.xlsx#Roster", "--lines", "--html", "p.html")[0], 0)
         self.assertIn('<title lang="">p</title>', self.read("p.html"))
+        self.assertEqual((heading_of("a/p.2.html"), heading_of("a/w.xlsx#May 2.0"), heading_of("w.xlsx")), ("p.2", "w, May 2.0", "w"))
 
     def test_refusals(self):
         self.refused(3, "w.xlsx#June: no sheet 'June': it has 'Roster', 'Places', 'Tasks', 'Days', 'Old'", "w.xlsx#June")

@@ -50,18 +50,19 @@ class Days(Runs):
         weekdays = ("Mon", "Tue", "Wed", "Thu", "Fri", "Sat", "Sun")
         heads = [f"{weekday}\n{number + 1:02}.03." for number, weekday in enumerate(weekdays)]
         self.assertEqual(rows[1], ["nurse", *heads, "total", "Mon\n08.03.", "Tue\n09.03.", *weekdays[2:], "total", "in all"])
-        self.assertEqual([row[0] for row in rows[2:8]], ["Ada", "Ben", "=Cleo", "Dan Long-Name", "total", None])
+        self.assertEqual([row[0] for row in rows[2:8]], ["Ada", "Ben", "=Cleo", "Dan Long-Name", "total"])
         plan = {(person, date) for person, _, _, date in self.rows(book["Plan"])[1:]}
         dates = [day(number) for number in range(9)]
         for row, name in enumerate(("Ada", "Ben", "=Cleo", "Dan Long-Name"), 2):
             cells = rows[row][1:8] + rows[row][9:11]
-            off = "\u2013" if name == "Ben" else None
-            self.assertEqual(cells, ["early" if (name, date) in plan else off if date == dates[1] else None for date in dates])
+            off = "off" if name == "Ben" else "\u2013"
+            self.assertEqual(cells, ["early" if (name, date) in plan else off if date == dates[1] else "\u2013" for date in dates])
+            self.assertEqual(rows[row][11:16], [None] * 5)
             first, second = (sum((name, date) in plan for date in part) for part in (dates[:7], dates[7:]))
             self.assertEqual((rows[row][8], rows[row][16], rows[row][17]), (first, second, first + second))
         counts = [sum(date == held for _, held in plan) for date in dates]
         self.assertEqual(rows[6], ["total", *counts[:7], sum(counts[:7]), *counts[7:], *[None] * 5, sum(counts[7:]), sum(counts)])
-        self.assertEqual(rows[8:], [["\u2013: not possible", *[None] * 17]])
+        self.assertEqual(rows[7:], [])
         self.assertEqual(book["Persons"]["A5"].data_type, "s")
 
     def test_who_is_where(self):
@@ -110,7 +111,19 @@ class Days(Runs):
         self.assertEqual((sheet["B5"].value, sheet["B5"].font.bold, sheet["B5"].fill.fgColor.rgb), ("early", True, "FFFFE699"))
         self.assertEqual([sheet.cell(1, column).value for column in (2, 9)], ["Mon 01.03.2027".replace(" ", "\n"), "total"])
         self.assertEqual((sheet["G4"].fill.fgColor.rgb, sheet["F4"].fill.fill_type), ("FFE8E8E8", None))
-        self.assertEqual([sheet.cell(row, 1).value for row in (8, 9, 10)], ["bold: fixed", "yellow: changed", "\u2013: not possible"])
+        self.assertEqual([sheet.cell(row, 1).value for row in (8, 9, 10)], ["bold: fixed", "yellow: changed", None])
+        gone = [cell for cell in sheet["B"][1:5] if cell.font.strike]
+        self.assertEqual([(cell.value, cell.fill.fgColor.rgb) for cell in gone], [("early", "FFFFE699")])
+        wall = self.book("--fixed", "f.csv", "--plan-only").worksheets[0]
+        self.assertEqual((wall["B5"].value, wall["B5"].font.bold, wall["C3"].value, sheet["C3"].value), ("early", False, "\u2013", "off"))
+
+    def test_the_past(self):
+        self.roster(9)
+        self.run_words(*WORDS, "--output", "o.csv")
+        self.assertEqual(self.run_words(*WORDS, "--keep", "o.csv", "--past", day(2), "--output", "p.xlsx")[0], 0)
+        sheet = openpyxl.load_workbook("p.xlsx").worksheets[0]
+        self.assertEqual([sheet.cell(3, column).font.italic for column in (2, 3, 4, 5)], [True, True, False, False])
+        self.assertEqual(sheet.cell(9, 1).value, "italic: past")
 
     def test_many_weeks(self):
         self.roster(50)
