@@ -337,7 +337,7 @@ def best_pairs(counted: Counted, served: Optional[Served] = None, kept: Optional
     served : Served, optional
         How much of the least counts is to be met, as much as can be; all, if it isn't given.
     kept : collection of pairs, optional
-        Of all best plans take one that has as few other pairs as can be.
+        Of all best plans take one with the fewest changes: pairs that aren't kept, and kept ones that it doesn't have.
 
     Raises
     ------
@@ -375,11 +375,11 @@ def _fewest_changes(counted: Counted, nodes: Nodes, result: Any, kept: Collectio
     cost is 0."""
     lists, of_rows, of_columns = nodes.lists, result.row_duals, result.column_duals
     costs = [*counted.costs, 0]
-    changes = [*(pair not in kept for pair in zip(counted.rows, counted.columns)), False]
+    changes = [*(-1 if pair in kept else 1 for pair in zip(counted.rows, counted.columns)), 0]
     tight = [edge for edge, (row, column, place) in enumerate(zip(lists.rows, lists.columns, lists.places))
              if of_rows[row] + of_columns[column] == costs[place]]
     best = _Lists()
     for own, left in ((lists.rows, best.rows), (lists.columns, best.columns), (lists.places, best.places)):
         left.extend(array("q", [own[edge] for edge in tight]))
-    found = _solved(nodes._replace(lists=best), [int(changes[place]) for place in best.places])
+    found = _solved(nodes._replace(lists=best), [changes[place] for place in best.places])
     return nodes.pairs(found.rows, found.columns)

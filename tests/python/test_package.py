@@ -50,7 +50,8 @@ class Package(unittest.TestCase):
                 wanted = base64.urlsafe_b64encode(hashlib.sha256(text).digest()).rstrip(b"=").decode()
                 self.assertEqual((digest, int(size)), (f"sha256={wanted}", len(text)))
         self.assertEqual({row[0] for row in rows}, names)
-        self.assertLessEqual({"nushbaret/py.typed", "nushbaret/__main__.py", f"nushbaret/{build.NAME}", f"{build.DATA}/share/man/man1/nushbaret.1"}, names)
+        self.assertLessEqual({"nushbaret/py.typed", "nushbaret/__main__.py", f"nushbaret/{build.NAME}", f"{build.DATA}/share/man/man1/nushbaret.1",
+                              "nushbaret/guide/rosters.html", "nushbaret/guide/examples/week.csv"}, names)
         self.solves(str(self.folder / "out"))
         self.describes((self.folder / "out" / build.INFO / "METADATA").read_text(encoding="utf-8"))
 
