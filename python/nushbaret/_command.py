@@ -237,7 +237,7 @@ def _lines_on_each(report: Report) -> List[str]:
 
 def title_of(options: Options, output: Output) -> str:
     """The title of a page: its file's name without its end; of a page on a device or a pipe that of the roster."""
-    return heading_of(options.roster) if is_device(output.path) else os.path.splitext(os.path.basename(output.path))[0]
+    return heading_of(options.roster) if output.is_standard or is_device(output.path) else os.path.splitext(os.path.basename(output.path))[0]
 
 
 def content_of(report: Report, lines: List[str], output: Output) -> bytes:

@@ -17,8 +17,8 @@ class Piece(NamedTuple):
 
 
 def marked(name: str) -> str:
-    """A name with marks around it."""
-    return f"{BEGIN}{name}{END}"
+    """A name with marks around it, also if it has them."""
+    return name if name.startswith(BEGIN) else f"{BEGIN}{name}{END}"
 
 
 def with_names_marked(text: str, names: Sequence[str]) -> str:

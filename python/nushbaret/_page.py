@@ -184,7 +184,7 @@ def _matrix(roster: Roster, answer: Answer, frame: Frame) -> Iterator[str]:
             yield "</tr>\n"
         yield "</tbody>\n</table>"
     yield "</div>\n"
-    yield "<p>Bluer cells cost more, hatched ones are forbidden; the plan's are outlined, the fixed ones twice.</p>\n"
+    yield "<p>Stronger colours cost more, hatched cells are forbidden; the plan's are outlined, the fixed ones twice.</p>\n"
     if len(frame.persons) < len(roster.persons) or len(frame.objects) < len(roster.objects):
         yield "<p>Who and what is in no pair isn't drawn.</p>\n"
 

@@ -3,11 +3,11 @@ import csv
 import io
 from typing import Dict, Iterator, List, NamedTuple, Optional, Sequence, Tuple
 
-from ._answer import MOST_NAMES_SHOWN, Answer, Pair, Plan, counted, left_out, named, sentence
+from ._answer import MOST_NAMES_SHOWN, PLURALS, Answer, Pair, Plan, counted, left_out, named, sentence
 from ._changes import Lost, OfPerson, by_person, changes_of
 from ._groups import Broken, Counts, order_of
 from ._names import joined, marked, with_names_marked
-from ._roster import CHANGE, COMES, GOES, NOT_POSSIBLE, OldPlan, PlanLine, Roster, alike, like
+from ._roster import CHANGE, COMES, GOES, NOT_POSSIBLE, TITLES, OldPlan, PlanLine, Roster, alike, like
 from ._sheets import SEPARATORS, quoted
 from ._words import Options
 
@@ -69,7 +69,7 @@ def with_marks(report: Report) -> Report:
     """A report whose texts have marks around names."""
     groups, kept, hand = report.roster.groups, report.kept, report.hand
     if groups is not None:
-        groups = groups._replace(names=list(map(marked, groups.names)))
+        groups = groups._replace(title=_title(groups.title), names=list(map(marked, groups.names)))
     if kept is not None:
         kept = kept._replace(named=[pair._replace(person=marked(pair.person), object=marked(pair.object)) for pair in kept.named],
                              gone=list(map(marked, kept.gone)))
@@ -77,9 +77,15 @@ def with_marks(report: Report) -> Report:
         hand = hand._replace(broken=[broken._replace(sentence=with_names_marked(broken.sentence, (*broken.persons, *broken.objects)))
                                      for broken in hand.broken])
     persons, objects = list(map(marked, report.roster.persons)), list(map(marked, report.roster.objects))
+    person, object_, cost = map(_title, report.roster.titles)
     roster = report.roster._replace(persons=persons, objects=objects, groups=groups, person_numbers=_numbers_of(persons),
-                                    object_numbers=_numbers_of(objects))
+                                    object_numbers=_numbers_of(objects), titles=(person, object_, cost))
     return report._replace(roster=roster, kept=kept, hand=hand)
+
+
+def _title(title: str) -> str:
+    """A title with marks, unless it is a word of ours."""
+    return title if title in PLURALS or title in TITLES else marked(title)
 
 
 def _numbers_of(names: List[str]) -> Dict[str, int]:

@@ -304,6 +304,8 @@ def _judge(options: Options, refuse: Callable[[str], NoReturn]) -> None:
         refuse("--plans compares costs alone: not with --change-cost")
     if options.fair:
         _judge_fair(options, refuse)
+    if options.plan_only and all(output.kind != "html" for output in options.outputs):
+        refuse("--plan-only is of pages: name one, such as --output plan.html")
     if options.print and any(output.is_standard for output in options.outputs):
         refuse("standard output takes one thing: --print, or an output")
     if options.rents and (options.places or options.tasks or options.groups):

@@ -12,7 +12,7 @@ from datetime import date, timedelta
 
 sys.path.insert(0, str(pathlib.Path(__file__).resolve().parents[2] / "python"))
 
-from nushbaret import _days, _html, _page
+from nushbaret import _days, _each, _html, _page
 from nushbaret._days import SIZES, _size
 from nushbaret._names import BEGIN, END, Piece, joined, marked, pieces, without_marks
 from test_command import SQUARE, TOP, Runs, parsed, without_names
@@ -56,7 +56,7 @@ class Colours(unittest.TestCase):
 
     def test_no_colour_is_in_a_rule(self):
         """All colours are named, so that dark rooms have their own."""
-        for style in (_html.FRAME, _page.STYLE, _days.STYLE):
+        for style in (_html.FRAME, _page.STYLE, _days.STYLE, _each.STYLE):
             self.assertIsNone(re.search("#[0-9a-fA-F]{3}", style))
 
 
@@ -109,6 +109,16 @@ class Frame(Runs):
                          "<tr><td>Ada</td><td>late</td></tr>\n<tr><td>Ben</td><td>early</td></tr>\n<tr><td>Cleo</td><td>night</td></tr>\n"
                          "</tbody>\n</table>\n</div>\n</body>\n</html>\n")
 
+    def test_words_of_the_roster(self):
+        """Titles that aren't English words of ours are of no language that we know, too."""
+        self.file("r.csv", "Pflegekraft,shift,Punkte\nUwe,x,1\nEva,x,2\nUwe,y,1\nIda,x,1\n")
+        self.run_words("r.csv", "--html", "p.html")
+        self.assertIn('<p>least <bdi lang="">Punkte</bdi>: 2</p>', self.read("p.html"))
+        self.assertIn('<summary>without: 1 <bdi lang="">Pflegekraft</bdi></summary>', self.read("p.html"))
+
+    def test_plan_only_needs_a_page(self):
+        self.refused(2, "--plan-only is of pages: name one, such as --output plan.html", "r.csv", "--plan-only", "--output", "p.csv")
+
     def test_no_plan_alone(self):
         self.file("n.csv", ",x,y\nAda,1,\nBen,1,\n")
         status, out, _ = self.run_words("n.csv", "--html", "w.html", "--plan-only")
@@ -156,6 +166,22 @@ class Month(Runs):
             self.assertNotIn(word, wall)
             self.assertIn(word, whole)
         self.assertEqual(re.findall("<caption.*", wall), re.findall("<caption.*", whole))
+
+    def test_marks(self):
+        """What is fixed, what is new, what is gone, and what is past."""
+        self.file("k.csv", f'a,b\nNurse 01,late 2027-03-01\n"{LONG}",early 2027-03-05\nNurse 02,early 2027-03-09\n')
+        self.file("f.csv", "a,b\nNurse 03,late 2027-03-10\nNurse 02,night 2027-03-09\n")
+        status, _, _ = self.run_words(*self.words, "--keep", "k.csv", "--past", "2027-03-03", "--fixed", "f.csv", "--html", "m.html",
+                                      "--html", "w.html")
+        self.assertEqual(status, 0)
+        text = without_names(self.read("m.html"))
+        rows = {name: row for name in self.persons for row in [re.findall(f'<tr><th scope="row">{name}</th>(.*<td class="total">.*)</tr>', text)]}
+        self.assertTrue(rows["Nurse 01"][0].startswith('<td class="past">late</td><td class="past free">'), rows["Nurse 01"][0])
+        self.assertIn('<td class="changed fixed">night <small lang="en">fixed</small> <small lang="en">new</small><br><s>early</s></td>',
+                      rows["Nurse 02"][1])
+        self.assertIn('>late <small lang="en">fixed</small>', rows["Nurse 03"][1])
+        self.assertEqual(text.count('<small lang="en">past</small></th>'), 2 * 2)
+        self.assertEqual(text.count('<small lang="en">fixed</small>'), 2)
 
     def test_sizes_of_letters(self):
         self.assertEqual(_size(["Ada"] * 20, [[["early"]] * 7] * 20, 7), SIZES[0])

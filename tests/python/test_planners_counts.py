@@ -18,7 +18,7 @@ from nushbaret._names import without_marks
 from nushbaret._roster import Groups, Roster
 
 import drawn
-from test_command import Runs
+from test_command import Runs, without_names
 
 CASES = 300
 
@@ -175,8 +175,9 @@ class ManyNames(Runs):
                     "allow others there, or fill 14 fewer\n", "", *words, "--html", "p.html", "--output", "p.json")
         short, = json.loads(self.read("p.json"))["short"]
         self.assertEqual((short["persons"], short["objects"]), (persons, shifts))
-        for name in persons + shifts:
-            self.assertIn(f">{name}<", self.read("p.html"))
+        page = without_names(self.read("p.html"))
+        self.assertIn(f"<details><summary>28 nurses</summary><p>{', '.join(persons)}</p></details>", page)
+        self.assertIn(f"<details><summary>84 shifts</summary><p>{', '.join(shifts)}</p></details>", page)
 
     def test_one_each(self):
         self.file("r.csv", ",x\n" + "".join(f"p{number},1\n" for number in range(20)))
