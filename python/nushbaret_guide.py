@@ -3,7 +3,8 @@ import re
 from html import escape
 from typing import Dict, Iterator, List, Tuple
 
-# What is true in a checkout alone: a sentence, and the line of code below it.
+# What is true in a checkout alone: where it is said how to install, and a sentence with the line of code below it.
+INSTALLS = re.compile(r"\[README\.md\]\([^()]*\) installs it[;.]\s")
 CHECKOUT = re.compile(r"(?:(?<=\n)|(?<=\. ))[^.\n]*(?:\n[^.\n]+)*:\n\n    \$ export PYTHONPATH=python\n")
 INLINE = (
     (re.compile(r"\[([^][]+)\]\((#[^()]*)\)"), r'<a href="\2">\1</a>'),
@@ -22,7 +23,7 @@ def guide_text(page: str) -> str:
     found = CHECKOUT.findall(page)
     if len(found) != 1:
         raise SystemExit(f"the page of rosters says {len(found)} times how the command is found in a checkout")
-    page = re.sub(r"^(    .*)$", lambda line: line[1].replace("python3 -m nushbaret ", "nushbaret "), CHECKOUT.sub("\n", page), flags=re.M)
+    page = re.sub(r"^(    .*)$", lambda line: line[1].replace("python3 -m nushbaret ", "nushbaret "), CHECKOUT.sub("\n", INSTALLS.sub("", page)), flags=re.M)
     return re.sub(r"\[([^][]+)\]\((?!#|https?:)[^()]*\)", r"\1", page)
 
 

@@ -4,6 +4,7 @@ from typing import Any, Dict, Iterator, List, NamedTuple, Optional, Sequence, Tu
 
 from ._answer import Plan
 from ._blocks import Block, Cell, Day, Place, blocks_of
+from ._page import MOST_CELLS
 from ._roster import Roster
 from ._sheet_looks import Looks, Marked, set_to_print, set_widths
 from ._texts import Report
@@ -27,6 +28,9 @@ def add_days(book: Any, looks: Looks, report: Report, plan: Plan) -> None:
     """Puts the plan by days in front of the other sheets, if the roster has groups."""
     blocks = blocks_of(report.roster, plan, report.kept)
     if not blocks:
+        return
+    if len(report.roster.persons) * sum(len(block.days) + 1 for block in blocks) > MOST_CELLS:
+        book.create_sheet("Persons", 0)["A1"] = f"Persons by days are more than {MOST_CELLS} cells and aren't drawn."
         return
     parts = [blocks[begin:begin + MOST_WEEKS] for begin in range(0, len(blocks), MOST_WEEKS)]
     for number, part in enumerate(parts):

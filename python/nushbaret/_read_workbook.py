@@ -5,7 +5,7 @@ import posixpath
 import re
 import warnings
 import zipfile
-from typing import IO, Any, Dict, List, NamedTuple, Optional, Tuple
+from typing import IO, Any, Dict, List, NamedTuple, Optional, Set, Tuple
 from xml.etree import ElementTree
 
 from ._encodings import SAVE
@@ -28,11 +28,13 @@ class WorkbookFault(Exception):
 
 
 class Taken(NamedTuple):
-    """The rows of a sheet, all of one length, as a CSV file would have them; the sheet's name, and those of all."""
+    """The rows of a sheet, all of one length, as a CSV file would have them; the sheet's name, and those of all; and the lines that are one
+    merged cell."""
 
     rows: List[List[str]]
     name: str
     names: List[str]
+    merged: Set[int]
 
 
 def read_workbook(path: str, comma: bool, name: Optional[str], preferred: Optional[str], skipped: int) -> Taken:
@@ -73,7 +75,10 @@ def _taken(book: Any, path: str, comma: bool, wanted: Optional[str], is_needed: 
     for row, column in marks.unvalued:
         if row >= skipped:
             raise WorkbookFault("a formula without a value: open the workbook in your spreadsheet, and save it there", row + 1, column + 1)
-    return Taken(_with_merged(rows, marks.merged)[skipped:], names[place], names)
+    rows = _with_merged(rows, marks.merged)
+    whole = {row + 1 for (top, left), (bottom, right) in marks.merged if left == 0 and rows and right + 1 >= len(rows[0]) > 1
+             for row in range(top, min(bottom + 1, len(rows)))}
+    return Taken(rows[skipped:], names[place], names, whole)
 
 
 def listed_sheets(names: List[str]) -> str:

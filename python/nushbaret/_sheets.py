@@ -6,7 +6,7 @@ import re
 import sys
 import unicodedata
 from itertools import accumulate, islice
-from typing import Callable, Generator, Iterable, Iterator, List, NamedTuple, NoReturn, Optional, Sequence, Tuple
+from typing import Callable, Generator, Iterable, Iterator, List, NamedTuple, NoReturn, Optional, Sequence, Set, Tuple
 
 from ._encodings import Undecodable, decoded
 
@@ -99,8 +99,9 @@ class Sheet:
                  preferred: Optional[str] = None) -> None:
         self.path, self.skipped = "standard input" if path == "-" else path, skipped
         self.rows: Optional[List[List[str]]] = None
-        # What a refusal says of other sheets.
+        # What a refusal says of other sheets, and the lines that are one merged cell.
         self.others = ""
+        self.merged: Set[int] = set()
         file, own_name = file_and_sheet(path)
         if os.path.splitext(file)[1].lower() == ".xlsx":
             self._take_workbook(file, comma, own_name or name, preferred, reading)
@@ -113,7 +114,7 @@ class Sheet:
         from ._read_workbook import WorkbookFault, listed_sheets, read_workbook
         self.has_bom, self.has_hint, self.separator, self.encoding = False, False, ";" if comma else ",", "utf-8"
         try:
-            self.rows, read, names = read_workbook(path, comma, name, preferred, self.skipped)
+            self.rows, read, names, self.merged = read_workbook(path, comma, name, preferred, self.skipped)
         except WorkbookFault as fault:
             self.refuse(str(fault), fault.line, fault.column)
         if len(names) > 1 and name is None and read != preferred:
@@ -165,8 +166,8 @@ class Sheet:
         for line, cells in self.records():
             while not cells[-1]:
                 cells.pop()
-            if self.rows is not None and len(cells) > 1 and len(set(cells)) == 1:
-                self.refuse(f"{quoted(cells[0])} in each cell, where titles are needed; --skip-rows K skips rows above them", line)
+            if line in self.merged:
+                self.refuse(f"{quoted(cells[0])} in one merged cell, where titles are needed; --skip-rows K skips rows above them", line)
             return line, cells
         self.refuse("an empty file")
 

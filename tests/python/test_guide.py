@@ -79,6 +79,7 @@ class Made(unittest.TestCase):
 
     def test_text(self):
         self.assertNotIn("PYTHONPATH", self.text)
+        self.assertNotIn("README", self.text)
         self.assertNotIn("python3 -m nushbaret examples", self.text)
         self.assertNotRegex(self.text, r"\]\((?!#|https?:)")
         for named in re.findall(r"examples/[\w*.]+", self.text):

@@ -101,9 +101,12 @@ class Cells(Books):
     def test_merged(self):
         matrix = [["May", None, None], [None, "early", "late"], ["Ada", 2, None], ["Ben", 3, 1]]
         self.book("m.xlsx", {"May": matrix}, ("A1:C1", "B3:C3"))
-        self.refused(3, "m.xlsx, line 1: 'May' in each cell, where titles are needed; --skip-rows K skips rows above them", "m.xlsx")
+        self.refused(3, "m.xlsx, line 1: 'May' in one merged cell, where titles are needed; --skip-rows K skips rows above them", "m.xlsx")
         self.assertEqual(self.run_words("m.xlsx", "--skip-rows", "1")[1], "least cost: 3\nAda: early, 2\nBen: late, 1\n")
         self.assertIn("Ada: late, 2\n", self.run_words("m.xlsx", "--skip-rows", "1", "--max")[1])
+        self.book("w.xlsx", {"May": [["a", "a"], ["early", 1]]})
+        self.file("r.csv", ",early\nAda,1\n")
+        self.assertEqual(self.run_words("r.csv", "--places", "w.xlsx")[0], 0)
         self.book("t.xlsx", {"May": [[None, "early", None], ["Ada", 1, 2]]}, ("B1:C1",))
         self.refused(3, "t.xlsx, line 1, column 3: the name 'early' a second time", "t.xlsx")
 

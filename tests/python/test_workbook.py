@@ -1,6 +1,7 @@
 """What a workbook shows: the plan by days first, as the page has it, ready to print, and plans read from it again."""
 import datetime
 import unittest
+from unittest import mock
 
 from test_command import Runs
 
@@ -132,6 +133,15 @@ class Days(Runs):
         first, second = (self.rows(book[name])[1] for name in book.sheetnames[:2])
         self.assertEqual((first.count("total"), second.count("total"), "in all" in first, second[-1]), (6, 2, False, "in all"))
         self.assertEqual(len(self.rows(book["Days"])), 51)
+
+    def test_too_many_days(self):
+        self.roster(9)
+        with mock.patch.object(day_sheets, "MOST_CELLS", 63):
+            book = self.book()
+        self.assertEqual((book.sheetnames, self.rows(book["Persons"])), (
+            ["Persons", "Plan", "Left out", "Matrix"], [["Persons by days are more than 63 cells and aren't drawn."]]))
+        with mock.patch.object(day_sheets, "MOST_CELLS", 64):
+            self.assertEqual(self.book().sheetnames[:2], ["Persons", "Days"])
 
     def test_plans_are_read_again(self):
         self.roster(9)
