@@ -25,7 +25,7 @@ stop() {
 [ $# = 1 ] || stop "it takes one word, the new version; this is $old"
 [[ $new =~ ^(0|[1-9][0-9]*)(\.(0|[1-9][0-9]*)){2}$ ]] || stop "'$new' isn't a version of three numbers, as 1.20.3"
 [ "$new" != "$old" ] || stop "this is $old already"
-# The old version, with no digit and no number beside it.
+# The old version, with no digit and no number next to it.
 pattern="(^|[^0-9.])${old//./\\.}($|[^0-9.]|\.($|[^0-9]))"
 wanted=$(echo "$places" | sed 's/ /:/')
 found=$(git grep -cIE "$pattern" -- . ':!CHANGELOG.md' ':!release/SHA256SUMS' ':!release/SOURCE' || true)

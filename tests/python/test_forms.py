@@ -20,7 +20,7 @@ except ImportError:
 
 FLOATS = ("f8", "f4", "f2")
 WHOLE = ("i8", "i4", "i2", "i1", "u4", "u2", "u1", "?")
-# What is beside the other numbers of an array.
+# What is among the other numbers of an array.
 ODD = {
     "plain": (),
     "infinite": (float("inf"),) * 3,
@@ -165,7 +165,7 @@ class Forms(unittest.TestCase):
 
 @unittest.skipUnless(np, "NumPy isn't there")
 class Listed(unittest.TestCase):
-    """Listed pairs as arrays, beside the same as lists."""
+    """Listed pairs as arrays, compared with the same as lists."""
 
     def test_pairs_given_several_times(self):
         draw = drawing(177)
@@ -198,7 +198,7 @@ class Listed(unittest.TestCase):
 
 @unittest.skipUnless(np, "NumPy isn't there")
 class Shortest(unittest.TestCase):
-    """The decimals that short floats print as, beside what NumPy prints."""
+    """The decimals that short floats print as, compared with what NumPy prints."""
 
     def compare(self, floats):
         with np.errstate(all="ignore"):
