@@ -1,5 +1,5 @@
 #!/usr/bin/env bash
-# Writes a new version in each place that has it: release/bump.sh NEW, as release/bump.sh 3.10.0. It refuses, and
+# Writes a new version in each place that has it: release/bump.sh NEW, as release/bump.sh 1.20.3. It refuses, and
 # changes nothing, where a file hasn't the old version as often as it should, or where another file of git's has it.
 # The changes, the built files of release/ and examples of other versions stay as they are. Needs git.
 set -euo pipefail
@@ -23,12 +23,12 @@ stop() {
 }
 
 [ $# = 1 ] || stop "it takes one word, the new version; this is $old"
-[[ $new =~ ^(0|[1-9][0-9]*)(\.(0|[1-9][0-9]*)){2}$ ]] || stop "'$new' isn't a version of three numbers, as 3.10.0"
+[[ $new =~ ^(0|[1-9][0-9]*)(\.(0|[1-9][0-9]*)){2}$ ]] || stop "'$new' isn't a version of three numbers, as 1.20.3"
 [ "$new" != "$old" ] || stop "this is $old already"
 # The old version, with no digit and no number next to it.
 pattern="(^|[^0-9.])${old//./\\.}($|[^0-9.]|\.($|[^0-9]))"
 wanted=$(echo "$places" | sed 's/ /:/')
-found=$(git grep -cIE "$pattern" -- . ':!CHANGELOG.md' ':!release/SHA256SUMS' ':!release/SOURCE' ':!release/bump.sh' || true)
+found=$(git grep -cIE "$pattern" -- . ':!CHANGELOG.md' ':!release/SHA256SUMS' ':!release/SOURCE' || true)
 [ "$found" = "$wanted" ] || stop "$old doesn't stand where it should; lines of each file: $(diff <(echo "$wanted") <(echo "$found"))"
 echo "$places" | while read -r file _; do
     sed -i -E "s/$pattern/\1$new\2/g" "$file"

@@ -22,7 +22,7 @@ _POWERS = [float(10**places) for places in range(_MOST_PLACES + 1)]
 # Smaller floats of 32 bits may have more places.
 _LEAST = 1e-4
 # Of all floats of 16 bits only this one prints as a decimal that isn't the nearest of its digits: a power of two has a nearer neighbour
-# below. Among floats of 32 bits there is none from _LEAST on.
+# below. Floats of 32 bits have none from _LEAST on.
 _UNEVEN = 2.0**-6
 
 

@@ -20,7 +20,7 @@ except ImportError:
 
 FLOATS = ("f8", "f4", "f2")
 WHOLE = ("i8", "i4", "i2", "i1", "u4", "u2", "u1", "?")
-# What stands among the other numbers of an array.
+# What is among the other numbers of an array.
 ODD = {
     "plain": (),
     "infinite": (float("inf"),) * 3,
