@@ -157,7 +157,9 @@ def _plan_alone(report: Report) -> Iterator[str]:
 
 
 def _plan(report: Report, plan: Plan) -> Iterator[str]:
-    if report.roster.groups is not None:
+    """The plan by days, or as a list where there are no groups or too many cells."""
+    groups = report.roster.groups
+    if groups is not None and len(report.roster.persons) * len(groups.names) <= MOST_CELLS:
         yield from by_days(report.roster, plan, report.kept, report.options.plan_only)
     else:
         yield from _list(report.roster, plan, report.options.plan_only)

@@ -4,7 +4,7 @@ import pathlib
 import re
 import sys
 import unittest
-from datetime import date, datetime, timedelta
+from datetime import date, datetime, time, timedelta
 
 sys.path.insert(0, str(pathlib.Path(__file__).resolve().parents[2] / "python"))
 
@@ -12,6 +12,11 @@ from nushbaret._calendar import Event, calendar
 from nushbaret._each import file_names
 from nushbaret._times import Times
 from test_command import Runs, parsed, without_names
+
+try:
+    import openpyxl
+except ImportError:
+    openpyxl = None
 
 ROSTER = ("nurse,shift,points\nAda,early Mon,1\nAda,night Tue,2\nAda,early Wed,9\nBen,early Mon,5\nBen,early Wed,1\nBen,night Tue,7\n"
           "Cleo,office,1\n")
@@ -193,6 +198,17 @@ class TimesOfDay(Runs):
                 self.assertEqual(self.run_words("r.csv", "--groups", "g.csv", "--each", "out", "--force")[0], 0)
                 self.assertIn(f"<td>{shown}</td>", self.read("out/Ada.html"))
                 self.assertNotIn("time", self.read("out/Ben.html").partition("<body>")[2])
+
+    @unittest.skipUnless(openpyxl, "openpyxl isn't installed")
+    def test_cells_of_a_workbook(self):
+        book = openpyxl.Workbook()
+        for row in (["o", "day", "from", "to"], ["x", date(2027, 3, 1), time(6), time(14, 30)], ["y", date(2027, 3, 2), time(22), time(0)]):
+            book.active.append(row)
+        book.save("g.xlsx")
+        self.assertEqual(self.run_words("r.csv", "--groups", "g.xlsx", "--each", "out")[0], 0)
+        events = [components(pathlib.Path(f"out/{name}.ics").read_bytes())[1][1] for name in ("Ada", "Ben")]
+        self.assertEqual([(event["DTSTART"], event["DTEND"]) for event in events],
+                         [("20270301T060000", "20270301T143000"), ("20270302T220000", "20270303T000000")])
 
     def test_refusals(self):
         for content, text in (

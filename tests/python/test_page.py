@@ -9,6 +9,7 @@ import sys
 import tempfile
 import unittest
 from datetime import date, timedelta
+from unittest import mock
 
 sys.path.insert(0, str(pathlib.Path(__file__).resolve().parents[2] / "python"))
 
@@ -155,6 +156,14 @@ class Month(Runs):
         wholes = [int(re.search(f'<th scope="row">{name}</th>.*<small lang="en">of ([0-9]+)</small>', text)[1]) for name in self.persons]
         self.assertEqual(weeks, wholes)
         self.assertEqual(sum(wholes), sum(row[-1] for row in totals))
+
+    def test_too_many_cells(self):
+        """Where days have too many cells the plan is a list."""
+        with mock.patch.object(_page, "MOST_CELLS", 28 * 28 - 1):
+            self.run_words(*self.words, "--html", "m.html")
+        text = self.read("m.html")
+        self.assertNotIn('class="days"', text)
+        self.assertIn("<tr><td>Nurse 00</td><td>", text)
 
     def test_the_wall(self):
         """The plan alone has no costs, no matrix, and doesn't say who could have nothing."""
