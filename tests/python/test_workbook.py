@@ -115,7 +115,7 @@ class Days(Runs):
         self.assertEqual([sheet.cell(row, 1).value for row in (8, 9, 10)], ["bold: fixed", "yellow: changed", None])
         gone = [cell for cell in sheet["B"][1:5] if cell.font.strike]
         self.assertEqual([(cell.value, cell.fill.fgColor.rgb) for cell in gone], [("early", "FFFFE699")])
-        wall = self.book("--fixed", "f.csv", "--plan-only").worksheets[0]
+        wall = self.book("--fixed", "f.csv", "--plan-only", "--html", "w.html").worksheets[0]
         self.assertEqual((wall["B5"].value, wall["B5"].font.bold, wall["C3"].value, sheet["C3"].value), ("early", False, "\u2013", "off"))
 
     def test_the_past(self):
