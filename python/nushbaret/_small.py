@@ -33,7 +33,7 @@ class SmallArrays:
         whole = [numpy.dtype(f"{sign}{size}") for sign in "iu" for size in (1, 2, 4)]
         self.kinds = dict.fromkeys([self.int64, numpy.dtype(bool), *whole], self.int64)
         self.kinds.update(dict.fromkeys([self.float64, numpy.dtype("f4"), numpy.dtype("f2")], self.float64))
-        self.add, self.subtract, self.of_bytes = numpy.add, numpy.subtract, numpy.frombuffer
+        self.add, self.subtract, self.copy_to, self.of_bytes = numpy.add, numpy.subtract, numpy.copyto, numpy.frombuffer
         # Numbers from 0 on come out of an array that has -1, 0, 1 ..
         self.from_zero = numpy.arange(-1, MOST_PERSONS).take
         self.adders: Dict[int, Tuple[Any, Any]] = {}
@@ -184,13 +184,14 @@ class SmallArrays:
     def _is_alone(self, allowed: Any, room: library.Room, maximize: bool, dearer: int) -> bool:
         """Whether the plan of a room's whole numbers stays the best where its pairs are dearer. What isn't allowed is dear: if a best plan
         has none of it, it is best among those that have none."""
+        dear = -GREATEST_COST if maximize else GREATEST_COST
         if allowed is not None:
-            room.numbers[~allowed.reshape(room.shape)] = -GREATEST_COST if maximize else GREATEST_COST
+            self.copy_to(room.numbers, dear, where=~allowed.reshape(room.shape))
         if _call(room, maximize):
             return False
         objects, more, flat = room.objects.tolist(), -dearer if maximize else dearer, room.flat
         places = [before + item for before, item in zip(room.before, objects)]
-        if allowed is not None and not allowed[places].all():
+        if allowed is not None and dear in [flat[place] for place in places]:
             return False
         for place in places:
             flat[place] += more

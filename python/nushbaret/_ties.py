@@ -22,7 +22,7 @@ if TYPE_CHECKING:
 
 # What is taken of a float for the decimal that it prints as may be off by this part of a unit, for each of 8192 pairs.
 MORE = 2
-# In so many rows costs are looked at, and a share of this size has to be near the least one of its row.
+# In so many rows costs are looked at. A share of this size has to be near the least one of its row, without that one.
 _ROWS = 16
 _SHARE = 1 / 8
 # At most so many different costs are read as decimals.
@@ -63,7 +63,7 @@ def of_problem(problem: Problem) -> Optional[Matrix]:
     near = math.ldexp(len(costs) + 2.0, -arrays.shift_of(problem, 39))
     rows = costs[::max(1, len(costs) // _ROWS)]
     rows = -rows if problem.maximize else rows
-    if numpy.count_nonzero(rows <= rows.min(axis=1)[:, None] + near) < _SHARE * rows.size:
+    if numpy.count_nonzero(rows <= rows.min(axis=1)[:, None] + near) - len(rows) < _SHARE * rows.size:
         return None
     return Matrix(numpy, numpy.ascontiguousarray(-costs if problem.maximize else costs), not problem.doubles)
 
