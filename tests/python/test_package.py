@@ -62,7 +62,7 @@ class Package(unittest.TestCase):
         self.assertIn("linear assignment problem", ran["Keywords"].split(","))
         self.assertIn("Operating System :: POSIX :: Linux", ran.get_all("Classifier"))
         self.assertEqual(ran["Description-Content-Type"], "text/markdown")
-        self.assertIn("For rosters with names there is a command\n(ROSTERS.md).", ran.get_payload())
+        self.assertIn("For rosters with names see ROSTERS.md.", ran.get_payload())
         self.assertNotRegex(ran.get_payload(), r"\]\((?!https?:)")
 
     def test_sources(self):
