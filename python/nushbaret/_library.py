@@ -193,16 +193,22 @@ def _raise_in(thread: int, fault: Optional[type]) -> None:
 
 
 class _Alarm:
-    """Ends the steps of the thread that makes it, as Ctrl-C would, once its time is over, unless it is stopped before. An alarm that has
-    rung limits nothing any more."""
+    """Ends the steps of the thread that makes it, as Ctrl-C would, once it is armed and its time is over, unless it is stopped before. An
+    alarm that has rung limits nothing any more."""
 
     def __init__(self, end: float):
         self.end, self.thread, self.rang = end, threading.get_ident(), False
-        self.lock, self.stopped = threading.Lock(), threading.Event()
+        self.lock, self.gate, self.stopped = threading.Lock(), threading.Lock(), threading.Event()
+        self.gate.acquire()
         if end < math.inf:
             started(threading.Thread(target=self._wait, daemon=True))
 
+    def arm(self) -> None:
+        """From here on it may ring: while a thread is started it must not."""
+        self.gate.release()
+
     def _wait(self) -> None:
+        self.gate.acquire()
         while not self.stopped.wait(min(max(self.end - time.monotonic(), 0), _LONGEST_WAIT)):
             if time.monotonic() >= self.end:
                 return self._ring()
@@ -217,6 +223,8 @@ class _Alarm:
         """After this it raises nothing."""
         with self.lock:
             self.stopped.set()
+        if self.gate.locked():
+            self.gate.release()
         if self.rang:
             _raise_in(self.thread, None)
 
@@ -240,18 +248,22 @@ class limited:
         self.timeout = timeout
 
     def __enter__(self) -> None:
-        self.before: Optional[_Alarm] = getattr(_limits, "alarm", None)
+        before: Optional[_Alarm] = getattr(_limits, "alarm", None)
+        # What rings just as a block ends may leave its alarm here.
+        self.before = None if before is None or before.rang else before
         self.alarm: Optional[_Alarm] = None
         if self.timeout is None:
             return
         end = time.monotonic() + self.timeout
         if self.timeout == 0:
             raise TimeoutError(_TIME_IS_OVER)
-        before = _end()
-        if before is None or end < before:
+        if self.before is None or end < self.before.end:
+            self.alarm = _Alarm(end)
             try:
-                self.alarm = _limits.alarm = _Alarm(end)
+                _limits.alarm = self.alarm
+                self.alarm.arm()
             except TimeIsOver:
+                self._leave()
                 raise TimeoutError(_TIME_IS_OVER) from None
 
     def __exit__(self, kind: Any, fault: Any, trace: Any) -> None:
