@@ -1,6 +1,6 @@
 -- The best of the costs that are given for a pair.
-use Rattle.std.proofs.Common.{◌≡◌, ℕ, ℤ, ◌≤ℤ◌, List, [], ◌∷◌, Option, None, Some, nat_eq, cond, ◌&&◌, Bool, true, false, refl, ap, arith, sym, subst, ◌∙◌, inl, inr, ◌⊎◌}
-use Rattle.std.specs.List.{All, Contains}
+use Rattle.std.proofs.Common.{◌≡◌, ℕ, ℤ, List, [], ◌∷◌, Option, None, Some, nat_eq, cond, ◌&&◌, true, false, refl, ap, arith, sym, subst, ◌∙◌, inl, inr, ◌⊎◌}
+use Rattle.std.specs.List.{Contains}
 use Rattle.std.specs.Int.{int_min, int_max}
 use Rattle.std.proofs.lemmas.Int.{ints, clamps, by_lt_z}
 use Rattle.std.proofs.lemmas.Bool.Decides.{eqb_tells}

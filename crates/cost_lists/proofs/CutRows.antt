@@ -1,5 +1,5 @@
 -- Rows cut from a list of costs: what they list, and their limits.
-use Rattle.std.proofs.Common.{◌≡◌, ℕ, ℤ, pos, ◌<◌, ◌≤◌, ◌+◌, ◌-◌, ◌*◌, zero, suc, List, [], ◌∷◌, Some, length, get_or, take, drop, arith, ap, sym, subst, ◌∙◌, add-one, length-take-le}
+use Rattle.std.proofs.Common.{◌≡◌, ℕ, ℤ, pos, ◌<◌, ◌≤◌, ◌+◌, ◌-◌, ◌*◌, suc, List, [], Option, None, Some, IsSome, length, get_or, drop, refl, arith, ap, sym, subst, ◌∙◌, add-one, length-take-le}
 use Rattle.std.specs.List.{All}
 use Rattle.std.proofs.Math.Nat.{mul-le-mul_right}
 use Rattle.std.proofs.lemmas.List.{length-drop, get_or-take, get_or-drop, get_or_default}
@@ -8,7 +8,9 @@ use Rattle.assign_core.specs.Rows.{Listing, HasCosts, IsCost, IsRow, IsWithin, l
 use Rattle.assign_core.specs.Dense.{row_from, rows_cut}
 use Rattle.cost_lists.specs.Source.{part_of}
 use Rattle.assign_core.proofs.DensePairs.{row_cut, row_listed}
-use Rattle.assign_core.proofs.DenseRows.{IsRow-row_from, length-rows_cut}
+use Rattle.assign_core.proofs.DenseRows.{IsRow-row_from, length-row_from, length-rows_cut, row_from-index}
+use Rattle.assign_core.proofs.Listed.{place_of}
+use Rattle.assign_core.specs.Numbered.{IsNumber}
 
 pub part_fits : (n m i : ℕ) (costs : List ℤ) → length costs ≡ n * m → i < n → (i + 1) * m ≤ length costs
 part_fits n m i costs long lt = let most : suc i * m ≤ n * m = mul-le-mul_right m lt in omega arith
@@ -31,6 +33,30 @@ cut_listed n m i j costs long h k =
     ∙ ap (listed_in (row_from 1 (part_of m i costs))) e
     ∙ row_listed 1 j (part_of m i costs) (omega arith)
     ∙ ap (λ c. Some c) (get_or-take m (drop (i * m) costs) j (pos 0) k ∙ get_or-drop (i * m) costs j (pos 0))
+
+-- an object that a row of costs lists is the number of one of them
+listed_number : (costs : List ℤ) (j : ℕ) → IsSome (listed_in (row_from 1 costs) j) → IsNumber (length costs) j
+listed_number costs j s =
+    let p = place_of (row_from 1 costs) j s in
+    let below = p.below in
+    let long = length-row_from 1 costs in
+    let lt : p.place < length costs = omega arith in
+    let at = ap (λ (e : ℕ × ℤ). e.0) (row_from-index 1 p.place costs (0, pos 0) (pos 0) lt) in
+    let object = p.object (0, pos 0) in
+    record { first = omega arith; last = omega arith }
+
+pub no_cost : (costs : List ℤ) (j : ℕ) → ¬ IsNumber (length costs) j → listed_in (row_from 1 costs) j ≡ None
+no_cost costs j not = none (listed_in (row_from 1 costs) j) (λ s. not (listed_number costs j s)) where
+  none : (o : Option ℤ) → ¬ IsSome o → o ≡ None
+  none None h = refl
+  none (Some c) h = absurd (h refl)
+
+pub cost_read : (costs : List ℤ) (j : ℕ) → IsNumber (length costs) j → Some (get_or costs (j - 1) (pos 0)) ≡ listed_in (row_from 1 costs) j
+cost_read costs j number =
+    let first = number.first in
+    let last = number.last in
+    let here : 1 + (j - 1) ≡ j = omega arith in
+    sym (row_listed 1 (j - 1) costs (omega arith)) ∙ ap (listed_in (row_from 1 costs)) here
 
 module _ (n m : ℕ) (costs : List ℤ) (long : length costs ≡ n * m) (each : All IsCost costs) where
   cut_at : (P : Listing → Type 0) → ((r : Listing) → IsRow m r → P r) → All P (rows_cut m n costs)

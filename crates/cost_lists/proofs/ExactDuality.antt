@@ -1,7 +1,7 @@
 -- Weak duality with exact prices: no assignment is better than one whose persons have choices, if
 -- the prices of unowned objects are 0.
-use Rattle.std.proofs.Common.{◌≡◌, ℕ, ℤ, pos, ◌+ℤ◌, ◌-ℤ◌, ◌≤ℤ◌, ◌≤◌, ◌<◌, ◌+◌, zero, suc, List, [], ◌∷◌, IsSome, length, nat_eq, cond, true, false, ◌⊎◌, inl, inr, refl, arith, ap, sym, subst, ◌∙◌}
-use Rattle.std.specs.List.{All, Contains, IsDistinct}
+use Rattle.std.proofs.Common.{◌≡◌, ℕ, ℤ, pos, ◌+ℤ◌, ◌-ℤ◌, ◌≤ℤ◌, ◌<◌, zero, suc, List, [], ◌∷◌, Option, None, Some, IsSome, unwrap_or, length, nat_eq, cond, true, false, ◌⊎◌, inl, inr, refl, arith, rules, ap, sym, ◌∙◌}
+use Rattle.std.specs.List.{All, Contains}
 use Rattle.std.proofs.lemmas.Int.{ints}
 use Rattle.std.proofs.lemmas.Bool.{cases_lt, cond-true, cond-false}
 use Rattle.std.proofs.lemmas.Bool.Decides.{eqb_tells}
@@ -10,13 +10,13 @@ use Rattle.assign_core.specs.declared.sense.Sense.{Sense}
 use Rattle.assign_core.specs.declared.sense.Sense.TheVariants.{Min, Max}
 use Rattle.assign_core.specs.Numbered.{IsNumber}
 use Rattle.assign_core.specs.Rows.{Listing, listed_in, listed_or_zero}
-use Rattle.assign_core.specs.Assignment.{AreListed, IsAssignment, IsBest, IsNoWorse, total}
+use Rattle.assign_core.specs.Assignment.{AreListed, IsBest, IsNoWorse, total}
 use Rattle.assign_core.specs.Prices.{price_of}
-use Rattle.assign_core.proofs.Distinct.{InRange, at_most_all, sum_z, up_to}
-use Rattle.assign_core.proofs.Listed.{all_listed, objects_within}
+use Rattle.assign_core.proofs.Distinct.{at_most_all, sum_z, up_to}
+use Rattle.assign_core.proofs.Listed.{objects_within}
 use Rattle.assign_core.proofs.Members.{first_or_later}
 use Rattle.cost_lists.specs.ListedCosts.{ListedCosts, AreInLimits}
-use Rattle.cost_lists.specs.Exact.{AreChoices, AreFree, IsChoice, IsOptimum, IsPriceInLimits, with_price}
+use Rattle.cost_lists.specs.Exact.{AreChoices, IsOptimum, IsPriceInLimits}
 
 -- f with 0 at x
 abbrev cleared : (ℕ → ℤ) → ℕ → ℕ → ℤ
@@ -80,6 +80,10 @@ all_at_most f m (x ∷ xs) p h =
     let s = cleared_sum f x xs p in
     omega (arith, ints)
 
+some_cost : (o : Option ℤ) → IsSome o → o ≡ Some (unwrap_or o (pos 0))
+some_cost None s = absurd (search rules)
+some_cost (Some c) s = refl
+
 -- the sums over the rows
 weak_min : (prices : List ℤ) (rows : List Listing) (xs ys : List ℕ) → AreChoices Min prices rows xs → AreListed rows ys →
     (total rows xs +ℤ sum_z (price_of prices) xs) ≤ℤ (total rows ys +ℤ sum_z (price_of prices) ys)
@@ -90,7 +94,7 @@ weak_min prices (row ∷ rows) [] ys k g = absurd k
 weak_min prices (row ∷ rows) (x ∷ xs) [] k g = absurd g
 weak_min prices (row ∷ rows) (x ∷ xs) (y ∷ ys) k g =
     let h : (listed_or_zero row x +ℤ price_of prices x) ≤ℤ (listed_or_zero row y +ℤ price_of prices y) =
-    all_listed (λ e. (listed_or_zero row x +ℤ price_of prices x) ≤ℤ (e.1 +ℤ price_of prices e.0)) row y k.0 g.0 in
+    k.0 y (listed_or_zero row y) (some_cost (listed_in row y) g.0) in
     let i = weak_min prices rows xs ys k.1 g.1 in
     omega (arith, ints)
 
@@ -103,7 +107,7 @@ weak_max prices (row ∷ rows) [] ys k g = absurd k
 weak_max prices (row ∷ rows) (x ∷ xs) [] k g = absurd g
 weak_max prices (row ∷ rows) (x ∷ xs) (y ∷ ys) k g =
     let h : (listed_or_zero row y -ℤ price_of prices y) ≤ℤ (listed_or_zero row x -ℤ price_of prices x) =
-    all_listed (λ e. (e.1 -ℤ price_of prices e.0) ≤ℤ (listed_or_zero row x -ℤ price_of prices x)) row y k.0 g.0 in
+    k.0 y (listed_or_zero row y) (some_cost (listed_in row y) g.0) in
     let i = weak_max prices rows xs ys k.1 g.1 in
     omega (arith, ints)
 

@@ -1,6 +1,6 @@
 -- Rows of listed pairs: what they list, and their limits.
-use Rattle.std.proofs.Common.{◌≡◌, ℕ, ℤ, pos, ◌<◌, ◌≤◌, ◌+◌, zero, suc, List, [], ◌∷◌, Option, None, Some, length, get_or, refl, ap, arith, sym, subst, ◌∙◌, inl, inr, ◌⊎◌}
-use Rattle.std.specs.List.{All, Contains}
+use Rattle.std.proofs.Common.{◌≡◌, ℕ, ℤ, ◌<◌, ◌≤◌, ◌+◌, zero, suc, List, [], Option, None, Some, length, get_or, refl, ap, arith, sym, subst, ◌∙◌, inl, inr, ◌⊎◌}
+use Rattle.std.specs.List.{All}
 use Rattle.std.proofs.lemmas.Bool.{cases_lt}
 use Rattle.std.proofs.lemmas.Bool.Decides.{eqb_tells}
 use Rattle.std.proofs.lemmas.List.{get_or_past}

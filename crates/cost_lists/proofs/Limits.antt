@@ -1,8 +1,8 @@
 -- The rows of given costs are in the limits.
-use Rattle.std.proofs.Common.{◌≡◌, ℕ, List, length, ap, sym, subst, ◌∙◌}
+use Rattle.std.proofs.Common.{◌≡◌, ℕ, length, ap, sym, subst, ◌∙◌}
 use Rattle.std.specs.List.{All}
 use Rattle.assign_core.specs.declared.sense.Sense.{Sense}
-use Rattle.assign_core.specs.Rows.{Listing, HasCosts, IsWithin}
+use Rattle.assign_core.specs.Rows.{HasCosts, IsWithin}
 use Rattle.assign_core.proofs.DenseRows.{length-rows_cut}
 use Rattle.cost_lists.specs.declared.source.Source.{Source}
 use Rattle.cost_lists.specs.declared.source.Source.TheVariants.{Dense, Listed}
@@ -16,15 +16,15 @@ rows_long : (sense : Sense) (n m : ℕ) (source : Source) → length (rows_in se
 rows_long sense n m (Dense costs) = length-rows_cut m n costs.now
 rows_long sense n m (Listed pairs) = length-rows_given sense (triples_in pairs) m 1 n
 
-within : (sense : Sense) (n m : ℕ) (source : Source) → IsSource n m source → All (IsWithin m) (rows_in sense n m source)
-within sense n m (Dense costs) is = cut_within n m costs.now is.long is.costs_in
-within sense n m (Listed pairs) is =
+within_limits : (sense : Sense) (n m : ℕ) (source : Source) → IsSource n m source → All (IsWithin m) (rows_in sense n m source)
+within_limits sense n m (Dense costs) is = cut_within n m costs.now is.long is.costs_in
+within_limits sense n m (Listed pairs) is =
     rows_within sense (triples_in pairs) n m
     (triples_among pairs.persons.now pairs.objects.now pairs.costs.now is.objects_long is.costs_long n m is.persons_in is.objects_in is.costs_in)
 
-costs : (sense : Sense) (n m : ℕ) (source : Source) → IsSource n m source → All HasCosts (rows_in sense n m source)
-costs sense n m (Dense costs) is = cut_costs n m costs.now is.long is.costs_in
-costs sense n m (Listed pairs) is =
+costs_limits : (sense : Sense) (n m : ℕ) (source : Source) → IsSource n m source → All HasCosts (rows_in sense n m source)
+costs_limits sense n m (Dense costs) is = cut_costs n m costs.now is.long is.costs_in
+costs_limits sense n m (Listed pairs) is =
     rows_costs sense (triples_in pairs) n m
     (triples_among pairs.persons.now pairs.objects.now pairs.costs.now is.objects_long is.costs_long n m is.persons_in is.objects_in is.costs_in)
 
@@ -39,8 +39,8 @@ module _ (sense : Sense) (n m : ℕ) (source : Source) (l : ListedCosts) (is : I
   limits_shown = subst AreInLimits shown (record {
     persons = subst IsCount (sym (rows_long sense n m source)) is.persons;
     objects = is.objects;
-    within = within sense n m source is.costs;
-    costs = costs sense n m source is.costs;
+    within = within_limits sense n m source is.costs;
+    costs = costs_limits sense n m source is.costs;
   })
 
   pub given_shown : IsGiven (length l.rows) l.m source

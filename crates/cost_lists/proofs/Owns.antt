@@ -1,25 +1,24 @@
 -- The costs of persons' own objects, from listed pairs one after another, and their sum.
-use Rattle.std.proofs.Common.{◌≡◌, ℕ, ℤ, pos, neg_ℤ, ◌+ℤ◌, ◌≤ℤ◌, ◌<◌, ◌≤◌, ◌+◌, ◌-◌, zero, suc, List, [], ◌∷◌, Option, None, Some, IsSome, unwrap_or, length, get_or, set, drop, replicate, refl, ap, arith, sym, subst, ◌∙◌, inl, inr, ◌⊎◌, add-one, fold}
-use Rattle.std.specs.List.{All, AllZip, Contains}
+use Rattle.std.proofs.Common.{◌≡◌, ℕ, ℤ, pos, ◌+ℤ◌, ◌≤ℤ◌, ◌<◌, ◌+◌, ◌-◌, zero, suc, List, [], ◌∷◌, Option, None, Some, IsSome, unwrap_or, length, get_or, set, replicate, refl, rules, ap, arith, sym, subst, ◌∙◌, inl, inr, ◌⊎◌, fold}
+use Rattle.std.specs.List.{All, Contains}
 use Rattle.std.specs.Int.{int_min}
 use Rattle.std.proofs.lemmas.Int.{ints, clamps, by_lt_z}
-use Rattle.std.proofs.lemmas.Bool.{cases_lt}
 use Rattle.std.proofs.lemmas.Bool.Decides.{eqb_tells}
-use Rattle.std.proofs.lemmas.List.{length-set, get_or-set_same, get_or-set_other, get_or_default, drop_more}
+use Rattle.std.proofs.lemmas.List.{length-set, get_or-set_same, get_or-set_other, get_or_default}
 use Rattle.assign_core.specs.declared.sense.Sense.{Sense}
 use Rattle.assign_core.specs.declared.sense.Sense.TheVariants.{Min, Max}
-use Rattle.assign_core.specs.declared.numbers.TheConstants.{GREATEST_COST}
 use Rattle.assign_core.specs.Numbered.{IsNumber, numbered}
-use Rattle.assign_core.specs.Rows.{Listing, IsCost, listed_in, listed_or_zero, row_of}
+use Rattle.assign_core.specs.Rows.{Listing, HasCosts, IsCost, listed_in, listed_or_zero, row_of}
 use Rattle.assign_core.specs.Assignment.{AreListed, IsNoWorse, total}
-use Rattle.assign_core.specs.Sparse.{Triple}
 use Rattle.assign_core.proofs.NumberedLemmas.{low_or_same}
 use Rattle.assign_core.proofs.Orders.{le_antisymmetric}
+use Rattle.assign_core.proofs.RowLemmas.{IsCost-listed}
+use Rattle.assign_core.proofs.Zips.{zip_at}
 use Rattle.cost_lists.specs.declared.numbers.TheConstants.{UNLISTED}
 use Rattle.cost_lists.specs.Given.{IsBestGiven, best_given, triples_of}
 use Rattle.cost_lists.specs.Own.{AreOwnCosts, minimised, turned_or_unlisted}
 use Rattle.cost_lists.proofs.BestGiven.{best_given_is}
-use Rattle.cost_lists.proofs.Triples.{place_of_triple, triple_at, triple_contained}
+use Rattle.cost_lists.proofs.Triples.{place_of_triple, triple_contained}
 
 -- the place of a listed pair's person
 abbrev pub person_place : List ℕ → ℕ → ℕ
@@ -30,12 +29,12 @@ abbrev pub IsOwnPair : List ℕ → List ℕ → List ℕ → ℕ → Type 0
 IsOwnPair persons objects xs q = get_or objects q 0 ≡ get_or xs (person_place persons q) 0
 
 -- a pair among the first k that is the own one of the person at place i, at this cost
-pub record IsMet (sense : Sense) (persons objects : List ℕ) (costs : List ℤ) (xs : List ℕ) (k i : ℕ) (cost : ℤ) : Type 0 where
+pub record IsMet (sense : Sense) (persons objects : List ℕ) (costs : List ℤ) (xs : List ℕ) (k i : ℕ) (value : ℤ) : Type 0 where
   pub place : ℕ
   pub before : place < k
   pub person : person_place persons place ≡ i
   pub own : IsOwnPair persons objects xs place
-  pub cost : cost ≡ minimised sense (get_or costs place (pos 0))
+  pub cost : value ≡ minimised sense (get_or costs place (pos 0))
 
 -- each person's cost is the least of its own pairs among the first k, or the mark
 pub record AreOwnSoFar (sense : Sense) (persons objects : List ℕ) (costs : List ℤ) (xs : List ℕ) (k : ℕ) (own : List ℤ) : Type 0 where
@@ -163,3 +162,64 @@ module _ (sense : Sense) (n : ℕ) (persons objects : List ℕ) (costs : List �
   -- after all pairs
   pub own_given : (i : ℕ) → i < length own → get_or own i (pos 0) ≡ turned_or_unlisted sense (best_given sense (triples_of persons objects costs) (i + 1) (get_or xs i 0))
   own_given i lt = own_at i lt _ (best_given_is sense (triples_of persons objects costs) (i + 1) (get_or xs i 0))
+
+-- the costs by number
+pub own_numbered : (sense : Sense) (rows : List Listing) (xs : List ℕ) (own : List ℤ) → length own ≡ length rows →
+    ((i : ℕ) → i < length own → get_or own i (pos 0) ≡ turned_or_unlisted sense (listed_in (row_of rows (i + 1)) (get_or xs i 0))) → AreOwnCosts sense rows xs own
+own_numbered sense rows xs own long h = record { long = long; each = each } where
+  each : (i : ℕ) → IsNumber (length rows) i → numbered own i (pos 0) ≡ turned_or_unlisted sense (listed_in (row_of rows i) (numbered xs i 0))
+  each zero number = let some = number.first in absurd (omega arith)
+  each (suc k) number =
+      let last = number.last in
+      let e : k + 1 ≡ suc k = omega arith in
+      h k (omega arith) ∙ ap (λ i. turned_or_unlisted sense (listed_in (row_of rows i) (get_or xs k 0))) e
+
+-- the sum of own costs
+abbrev pub sum_of_costs : List ℤ → ℤ
+sum_of_costs own = fold ◌+ℤ◌ (pos 0) own
+
+turned_sum : (sense : Sense) (a b : ℤ) → minimised sense (a +ℤ b) ≡ minimised sense a +ℤ minimised sense b
+turned_sum Min a b = refl
+turned_sum Max a b = omega (arith, ints)
+
+turned_zero : (sense : Sense) → minimised sense (pos 0) ≡ pos 0
+turned_zero Min = refl
+turned_zero Max = refl
+
+listed_turned : (sense : Sense) (o : Option ℤ) → IsSome o → turned_or_unlisted sense o ≡ minimised sense (unwrap_or o (pos 0))
+listed_turned sense None s = absurd (search rules)
+listed_turned sense (Some c) s = refl
+
+total_from : (sense : Sense) (rows : List Listing) (xs : List ℕ) (own : List ℤ) (a : ℤ) → length own ≡ length rows → AreListed rows xs →
+    ((i : ℕ) → i < length rows → get_or own i (pos 0) ≡ turned_or_unlisted sense (listed_in (get_or rows i []) (get_or xs i 0))) →
+    fold ◌+ℤ◌ a own ≡ a +ℤ minimised sense (total rows xs)
+total_from sense [] [] [] a long listed h = let z = turned_zero sense in omega (arith, ints)
+total_from sense [] [] (c ∷ own) a long listed h = absurd (omega (arith, long))
+total_from sense [] (x ∷ xs) own a long listed h = absurd listed
+total_from sense (row ∷ rows) [] own a long listed h = absurd listed
+total_from sense (row ∷ rows) (x ∷ xs) [] a long listed h = absurd (omega (arith, long))
+total_from sense (row ∷ rows) (x ∷ xs) (c ∷ own) a long listed h =
+    let i = total_from sense rows xs own (a +ℤ c) (omega (arith, long)) listed.1 (λ k lt. h (suc k) (omega arith)) in
+    let first : c ≡ minimised sense (listed_or_zero row x) = h 0 (omega arith) ∙ listed_turned sense (listed_in row x) listed.0 in
+    let whole = turned_sum sense (listed_or_zero row x) (total rows xs) in
+    omega (arith, ints)
+
+by_places : (sense : Sense) (rows : List Listing) (xs : List ℕ) (own : List ℤ) → AreOwnCosts sense rows xs own →
+    (i : ℕ) → i < length rows → get_or own i (pos 0) ≡ turned_or_unlisted sense (listed_in (get_or rows i []) (get_or xs i 0))
+by_places sense rows xs own are i lt = are.each (suc i) (record { first = omega arith; last = omega arith })
+
+pub total_turned : (sense : Sense) (rows : List Listing) (xs : List ℕ) (own : List ℤ) → AreOwnCosts sense rows xs own → AreListed rows xs →
+    sum_of_costs own ≡ minimised sense (total rows xs)
+total_turned sense rows xs own are listed =
+    let t = total_from sense rows xs own (pos 0) are.long listed (by_places sense rows xs own are) in
+    omega (arith, ints)
+
+-- the own costs of listed objects are in range
+pub own_range : (sense : Sense) (rows : List Listing) (xs : List ℕ) (own : List ℤ) → AreOwnCosts sense rows xs own → AreListed rows xs → All HasCosts rows → All IsCost own
+own_range sense rows xs own are listed costs i d lt =
+    let long = are.long in
+    let below : i < length rows = omega arith in
+    let s = zip_at (λ (row : Listing) (j : ℕ). IsSome (listed_in row j)) rows xs i [] 0 listed below in
+    let at = by_places sense rows xs own are i below ∙ listed_turned sense (listed_in (get_or rows i []) (get_or xs i 0)) s in
+    let range = turned_range sense (listed_or_zero (get_or rows i []) (get_or xs i 0)) (IsCost-listed (get_or rows i []) (get_or xs i 0) (costs i [] below)) in
+    subst IsCost (sym at ∙ get_or_default own i (pos 0) d lt) range

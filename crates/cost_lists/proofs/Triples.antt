@@ -1,7 +1,6 @@
 -- Three lists as triples, by place.
 use Rattle.std.proofs.Common.{◌≡◌, ℕ, ℤ, pos, ◌<◌, zero, suc, List, [], ◌∷◌, length, get_or, refl, arith, ap, sym, ◌∙◌}
 use Rattle.std.specs.List.{All, Contains}
-use Rattle.std.proofs.lemmas.List.{get_or_default}
 use Rattle.assign_core.specs.Numbered.{IsNumber}
 use Rattle.assign_core.specs.Rows.{IsCost}
 use Rattle.assign_core.specs.Sparse.{Triple, IsTripleAmong}

@@ -1,10 +1,10 @@
 -- Exact prices: complementary slackness 0, in the unit of the costs.
-use Rattle.std.specs.Prelude.{◌≡◌, ℕ, ℤ, pos, ◌+ℤ◌, ◌-ℤ◌, ◌≤ℤ◌, ◌⊎◌, List, length, All, Contains}
+use Rattle.std.specs.Prelude.{◌≡◌, ℕ, ℤ, pos, ◌+ℤ◌, ◌-ℤ◌, ◌≤ℤ◌, ◌⊎◌, List, Some, length, All, Contains}
 use Rattle.std.specs.List.{AllZip}
 use Rattle.assign_core.specs.declared.sense.Sense.{Sense}
 use Rattle.assign_core.specs.declared.sense.Sense.TheVariants.{Min, Max}
 use Rattle.assign_core.specs.Numbered.{IsNumber}
-use Rattle.assign_core.specs.Rows.{Listing, listed_or_zero}
+use Rattle.assign_core.specs.Rows.{Listing, listed_in, listed_or_zero}
 use Rattle.assign_core.specs.Assignment.{IsAssignment, IsNoWorse}
 use Rattle.assign_core.specs.Prices.{price_of}
 use Rattle.cost_lists.specs.declared.numbers.TheConstants.{GREATEST_PRICE}
@@ -20,11 +20,12 @@ abbrev pub with_price : Sense → List ℤ → ℕ → ℤ → ℤ
 with_price Min prices j cost = cost +ℤ price_of prices j
 with_price Max prices j cost = cost -ℤ price_of prices j
 
--- with prices, object j of a row is no worse than any entry of it: a cheapest by cost plus price
+-- with prices, no object of a row is better than object j: it is a cheapest by cost plus price
 -- under Min, a dearest by cost less price under Max
 abbrev pub IsChoice : Sense → List ℤ → Listing → ℕ → Type 0
 IsChoice sense prices row j =
-    All (λ e. IsNoWorse sense (with_price sense prices j (listed_or_zero row j)) (with_price sense prices e.0 e.1)) row
+    (k : ℕ) (c : ℤ) → listed_in row k ≡ Some c →
+    IsNoWorse sense (with_price sense prices j (listed_or_zero row j)) (with_price sense prices k c)
 
 -- each person's own object is a choice of its row
 abbrev pub AreChoices : Sense → List ℤ → List Listing → List ℕ → Type 0

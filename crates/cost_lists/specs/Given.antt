@@ -1,5 +1,5 @@
 -- Rows of listed pairs, in which a pair may be given more than once.
-use Rattle.std.specs.Prelude.{◌≡◌, ℕ, zero, suc, ◌+◌, ℤ, List, [], ◌∷◌, Option, None, Some, ◌==◌, ◌&&◌, if◌then◌else◌, Contains}
+use Rattle.std.specs.Prelude.{ℕ, zero, suc, ◌+◌, ℤ, List, [], ◌∷◌, Option, None, Some, ◌==◌, ◌&&◌, if◌then◌else◌, Contains}
 use Rattle.std.specs.Int.{int_min, int_max}
 use Rattle.assign_core.specs.declared.sense.Sense.{Sense}
 use Rattle.assign_core.specs.declared.sense.Sense.TheVariants.{Min, Max}

@@ -8,7 +8,7 @@ use Rattle.assign_core.specs.Sparse.{Triple}
 use Rattle.cost_lists.specs.declared.source.Pairs.{Pairs}
 use Rattle.cost_lists.specs.declared.source.Source.{Source}
 use Rattle.cost_lists.specs.declared.source.Source.TheVariants.{Dense, Listed}
-use Rattle.cost_lists.specs.ListedCosts.{ListedCosts, IsCount}
+use Rattle.cost_lists.specs.ListedCosts.{IsCount}
 use Rattle.cost_lists.specs.Given.{rows_given, triples_of}
 
 -- three lists of one length: persons from 1 to n, objects from 1 to m, and costs in range

@@ -10,7 +10,7 @@ ghost use Rattle.cost_lists.specs.Own.{AreOwnCosts, minimised, turned_or_unliste
 ghost use Rattle.cost_lists.specs.Source.{part_of};
 
 use super::lists::CostLists;
-use super::numbers::{Object, Person, UNLISTED};
+use super::numbers::{Object, UNLISTED};
 use super::source::{Pairs, Source};
 use assign_core::{Cost, Sense};
 use std::alloc::{AllocError, Global};
@@ -89,26 +89,17 @@ fn set_of_pairs(own: &mut [Cost], sense: Sense, pairs: Pairs<'_>, objects: &[Obj
     }
 }
 
-// Each person's own cost.
-fn own_from(
-    alloc: Global,
-    sense: Sense,
-    n: Person,
-    m: Object,
-    source: Source<'_>,
-    objects: &[Object],
-) -> Result<Vec<Cost>, AllocError>
-    requires given { IsGiven n m source }
-    requires long { length objects.now ≡ n }
-    ensures { IfOk result
-        (λ own. AreOwnCosts sense (rows_in sense n m source.entry) objects.now own.items) }
+// Sets each person's own cost. The costs are marks at first.
+fn set_own(own: &mut [Cost], sense: Sense, m: Object, source: Source<'_>, objects: &[Object])
+    requires mark { own.old ≡ replicate (length own.old) UNLISTED }
+    requires given { IsGiven (length own.old) m source }
+    requires long { length objects.now ≡ length own.old }
+    ensures { AreOwnCosts sense (rows_in sense (length own.old) m source.entry) objects.now own.new }
 {
-    let mut own: Vec<Cost> = vec![in alloc; UNLISTED; n as usize]?;
     match source {
-        Source::Dense(costs) => set_of_rows(own.as_mut_slice(), sense, m as usize, costs, objects),
-        Source::Listed(pairs) => set_of_pairs(own.as_mut_slice(), sense, pairs, objects),
+        Source::Dense(costs) => set_of_rows(own, sense, m as usize, costs, objects),
+        Source::Listed(pairs) => set_of_pairs(own, sense, pairs, objects),
     }
-    Ok(own)
 }
 
 impl<'a> CostLists<'a> {
@@ -124,7 +115,9 @@ impl<'a> CostLists<'a> {
         ensures { IfOk result
             (λ own. AreOwnCosts self.now.sense self.now.rows objects.now own.items) }
     {
-        let (n, m) = (self.persons(), self.objects());
-        own_from(alloc, self.sense(), n, m, self.source(), objects)
+        let (n, m) = (self.persons() as usize, self.objects());
+        let mut own: Vec<Cost> = vec![in alloc; UNLISTED; n]?;
+        set_own(own.as_mut_slice(), self.sense(), m, self.source(), objects);
+        Ok(own)
     }
 }
