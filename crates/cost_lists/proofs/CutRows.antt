@@ -35,7 +35,7 @@ cut_listed n m i j costs long h k =
     ∙ ap (λ c. Some c) (get_or-take m (drop (i * m) costs) j (pos 0) k ∙ get_or-drop (i * m) costs j (pos 0))
 
 -- an object that a row of costs lists is the number of one of them
-listed_number : (costs : List ℤ) (j : ℕ) → IsSome (listed_in (row_from 1 costs) j) → IsNumber (length costs) j
+pub listed_number : (costs : List ℤ) (j : ℕ) → IsSome (listed_in (row_from 1 costs) j) → IsNumber (length costs) j
 listed_number costs j s =
     let p = place_of (row_from 1 costs) j s in
     let below = p.below in

@@ -80,7 +80,8 @@ all_at_most f m (x ∷ xs) p h =
     let s = cleared_sum f x xs p in
     omega (arith, ints)
 
-some_cost : (o : Option ℤ) → IsSome o → o ≡ Some (unwrap_or o (pos 0))
+-- what stands where something stands
+pub some_cost : (o : Option ℤ) → IsSome o → o ≡ Some (unwrap_or o (pos 0))
 some_cost None s = absurd (search rules)
 some_cost (Some c) s = refl
 

@@ -13,7 +13,7 @@ use Rattle.assign_core.specs.Assignment.{AreListed, IsNoWorse, total}
 use Rattle.assign_core.proofs.NumberedLemmas.{low_or_same}
 use Rattle.assign_core.proofs.Orders.{le_antisymmetric}
 use Rattle.assign_core.proofs.RowLemmas.{IsCost-listed}
-use Rattle.assign_core.proofs.Zips.{zip_at}
+use Rattle.assign_core.proofs.Zips.{pair_number, zip_at}
 use Rattle.cost_lists.specs.declared.numbers.TheConstants.{UNLISTED}
 use Rattle.cost_lists.specs.Given.{IsBestGiven, best_given, triples_of}
 use Rattle.cost_lists.specs.Own.{AreOwnCosts, minimised, turned_or_unlisted}
@@ -223,3 +223,10 @@ own_range sense rows xs own are listed costs i d lt =
     let at = by_places sense rows xs own are i below ∙ listed_turned sense (listed_in (get_or rows i []) (get_or xs i 0)) s in
     let range = turned_range sense (listed_or_zero (get_or rows i []) (get_or xs i 0)) (IsCost-listed (get_or rows i []) (get_or xs i 0) (costs i [] below)) in
     subst IsCost (sym at ∙ get_or_default own i (pos 0) d lt) range
+
+-- the own cost of a person whose object is listed
+pub own_numbered_is : (sense : Sense) (rows : List Listing) (xs : List ℕ) (own : List ℤ) → AreOwnCosts sense rows xs own → AreListed rows xs →
+    (i : ℕ) → IsNumber (length rows) i → numbered own i (pos 0) ≡ minimised sense (listed_or_zero (row_of rows i) (numbered xs i 0))
+own_numbered_is sense rows xs own are listed i number =
+    are.each i number
+    ∙ listed_turned sense (listed_in (row_of rows i) (numbered xs i 0)) (pair_number (λ (row : Listing) (j : ℕ). IsSome (listed_in row j)) rows xs i [] 0 listed number.first number.last)

@@ -55,8 +55,8 @@ module _ (persons objects : List ℕ) (Bad : ℕ → Type 0) where
           | inr same ↦ subst (λ s. IsUpTo s (pair_at persons objects q)) here (inr (at_place q same))
         ],
       ) where
-    at_place : (q : ℕ) → q ≡ k → (i ≡ get_or persons q 0) × (j ≤ get_or objects q 0)
-    at_place q same = (subst (λ s. i ≡ get_or persons s 0) (sym same) at, subst (λ s. j ≤ get_or objects s 0) (sym same) (omega arith))
+        at_place : (q : ℕ) → q ≡ k → (i ≡ get_or persons q 0) × (j ≤ get_or objects q 0)
+        at_place q same = (subst (λ s. i ≡ get_or persons s 0) (sym same) at, subst (λ s. j ≤ get_or objects s 0) (sym same) (omega arith))
   first_take k (Some p) i j r bad at to e h = (
     elim e.0 [
       | inl s ↦ subst (IsMet persons objects Bad (k + 1)) (sym s) (met_later k p h.0)

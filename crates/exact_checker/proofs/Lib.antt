@@ -6,3 +6,7 @@ mod Unowned
 mod Differences
 mod HallDifferences
 mod HallPairs
+mod Ranks
+mod OwnMarks
+mod Rising
+mod Marks

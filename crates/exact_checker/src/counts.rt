@@ -1,5 +1,5 @@
 // How often each object is given.
-ghost use Rattle.std.specs.Prelude.{◌≡◌, ◌<◌, ◌≤◌, ℕ, List, length, All, MatchOption, nat_eq, replicate};
+ghost use Rattle.std.specs.Prelude.{◌≡◌, ◌≢◌, ◌↔◌, ◌<◌, ◌≤◌, ℕ, pos, IsTrue, List, length, All, MatchOption, nat_eq, replicate};
 ghost use Rattle.std.specs.List.{IsDistinct};
 ghost use Rattle.assign_core.specs.Numbered.{IsNumber, numbered};
 ghost use Rattle.assign_core.specs.Prices.{price_of};
@@ -51,6 +51,13 @@ pub fn first_given_twice(counts: &mut [u32], objects: &[Object]) -> Option<Objec
     first_over_one(counts)
 }
 
+// Whether an object isn't counted and its price isn't 0.
+fn is_priced_unowned(count: u32, price: Price) -> bool
+    ensures { IsTrue result ↔ ((count ≡ 0) × (price ≢ pos 0)) }
+{
+    count == 0 && price != 0
+}
+
 // The lowest object that isn't counted and whose price isn't 0.
 pub fn first_priced_unowned(counts: &[u32], prices: &[Price]) -> Option<Object>
     requires long { length counts.now ≡ length prices.now }
@@ -60,7 +67,7 @@ pub fn first_priced_unowned(counts: &[u32], prices: &[Price]) -> Option<Object>
         (λ j. IsFirst (IsPricedUnowned xs prices.now) (length prices.now) j) }
 {
     for (i, count) in counts.iter().enumerate() {
-        if *count == 0 && prices[i] != 0 {
+        if is_priced_unowned(*count, prices[i]) {
             return Some(i as u32 + 1);
         }
     }

@@ -9,10 +9,9 @@ ghost use Rattle.dual_checker.specs.HallVerdicts.{HasNeighbours, Lacks, ListsUnn
 ghost use Rattle.exact_checker.specs.HallVerdicts.{AreRisingNumbers, IsHallVerdict};
 ghost use Rattle.exact_checker.specs.inside.Marked.{AreRisingPersons, MarksJust};
 
+use super::hall_full::{first_of_full, mark_of_full};
 use super::hall_lists::{are_in_range, are_rising};
-use super::hall_marks::{
-    first_missing, first_unmarked, lowest_unmarked, mark_each, mark_listed, mark_numbers,
-};
+use super::hall_marks::{first_missing, first_unmarked, mark_listed, mark_numbers};
 use super::hall_verdict::HallVerdict;
 use cost_lists::{CostLists, Object, Person, Source};
 use std::alloc::{AllocError, Global};
@@ -36,10 +35,7 @@ fn first_lacking(
     // These calls show the prover that persons and objects are few enough.
     let (_persons, _objects) = (lists.persons(), lists.objects());
     match lists.source() {
-        Source::Dense(_) => match (persons.first(), lowest_unmarked(named)) {
-            (Some(person), Some(object)) => Some((*person, object)),
-            _ => None,
-        },
+        Source::Dense(_) => first_of_full(persons, named),
         Source::Listed(pairs) => first_missing(pairs, chosen, named),
     }
 }
@@ -52,11 +48,7 @@ fn mark_neighbours(listed: &mut [bool], lists: &CostLists<'_>, persons: &[Person
     ensures { AddsMarks listed.old (IsNeighbour lists.now.rows persons.now) listed.new }
 {
     match lists.source() {
-        Source::Dense(_) => {
-            if !persons.is_empty() {
-                mark_each(listed);
-            }
-        }
+        Source::Dense(_) => mark_of_full(listed, persons),
         Source::Listed(pairs) => mark_listed(listed, pairs, chosen),
     }
 }
@@ -114,13 +106,13 @@ pub fn check_hall(
     ensures none { IfOk result (λ v.
         v ≡ HallVerdict.Yes → (xs : List ℕ) → IsAssignment lists.now.rows xs → ⊥) }
 {
+    let (n, m) = (lists.persons() as usize, lists.objects() as usize);
     if !are_in_range(lists, persons, objects) {
         return Ok(HallVerdict::Range);
     }
     if !are_rising(persons, objects) {
         return Ok(HallVerdict::Order);
     }
-    let (n, m) = (lists.persons() as usize, lists.objects() as usize);
     let mut chosen = vec![in alloc; false; n]?;
     let mut named = vec![in alloc; false; m]?;
     let mut listed = vec![in alloc; false; m]?;

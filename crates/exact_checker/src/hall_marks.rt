@@ -1,5 +1,5 @@
 // Marks for persons and objects, and the first numbers without one.
-ghost use Rattle.std.specs.Prelude.{◌↔◌, ◌≤◌, ℕ, length, All, Contains, MatchOption};
+ghost use Rattle.std.specs.Prelude.{◌↔◌, ◌≤◌, ℕ, IsTrue, length, All, Contains, MatchOption};
 ghost use Rattle.std.specs.List.Sorted.{IsStrictlyIncreasing};
 ghost use Rattle.assign_core.specs.Numbered.{IsNumber, IsMarked};
 ghost use Rattle.dual_checker.specs.Faults.{IsFirst};
@@ -70,6 +70,13 @@ pub fn mark_listed(listed: &mut [bool], pairs: Pairs<'_>, chosen: &[bool])
     }
 }
 
+// Whether a marked person lists an object without a mark, by their marks.
+fn is_missing(chosen: bool, named: bool) -> bool
+    ensures { IsTrue result ↔ (IsTrue chosen × ¬ IsTrue named) }
+{
+    chosen && !named
+}
+
 // The lowest marked person that lists an object without a mark, and the lowest object of this kind,
 // of listed pairs.
 pub fn first_missing(pairs: Pairs<'_>, chosen: &[bool], named: &[bool]) -> Option<(Person, Object)>
@@ -82,7 +89,7 @@ pub fn first_missing(pairs: Pairs<'_>, chosen: &[bool], named: &[bool]) -> Optio
     let mut first = None;
     for k in 0..pairs.persons.len() {
         let (person, object) = (pairs.persons[k], pairs.objects[k]);
-        if chosen[person as usize - 1] && !named[object as usize - 1] {
+        if is_missing(chosen[person as usize - 1], named[object as usize - 1]) {
             first = Some(earlier(first, person, object));
         }
     }

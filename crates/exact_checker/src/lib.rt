@@ -6,6 +6,7 @@ mod checker;
 mod confirm;
 mod counts;
 mod hall;
+mod hall_full;
 mod hall_lists;
 mod hall_marks;
 mod hall_verdict;

@@ -11,6 +11,20 @@ use super::values::sum_of;
 use assign_core::{Cost, Sense};
 use cost_lists::{GREATEST_NUMBER, Object, Person, Price, part};
 
+// A value that no sum of cost and price in a row is below.
+fn least_sum(costs: &[Cost], prices: &[Price], sense: Sense) -> Cost
+    requires long { length costs.now ≡ length prices.now }
+    requires costs { All IsCost costs.now }
+    requires in_range { All IsPriceInLimits prices.now }
+    ensures { (j : ℕ) → j < length costs.now → result ≤ℤ sum_at sense costs.now prices.now j }
+{
+    let mut least = i64::MAX;
+    for j in 0..costs.len() {
+        least = least.min(sum_of(sense, costs[j], prices[j]));
+    }
+    least
+}
+
 // The lowest place of a row at which the sum of cost and price is below a value.
 fn first_under(costs: &[Cost], prices: &[Price], sense: Sense, value: Cost) -> Option<usize>
     requires long { length costs.now ≡ length prices.now }
@@ -21,6 +35,9 @@ fn first_under(costs: &[Cost], prices: &[Price], sense: Sense, value: Cost) -> O
         (λ k. (k < length costs.now) × (sum_at sense costs.now prices.now k <ℤ value)
         × ((j : ℕ) → j < k → value ≤ℤ sum_at sense costs.now prices.now j)) }
 {
+    if least_sum(costs, prices, sense) >= value {
+        return None;
+    }
     for j in 0..costs.len() {
         if sum_of(sense, costs[j], prices[j]) < value {
             return Some(j);

@@ -1,5 +1,5 @@
 // Whether each person lists its object.
-ghost use Rattle.std.specs.Prelude.{◌≡◌, ◌≤◌, ℕ, List, length, MatchOption};
+ghost use Rattle.std.specs.Prelude.{◌≡◌, ◌↔◌, ◌≤◌, ℕ, IsTrue, List, length, MatchOption};
 ghost use Rattle.assign_core.specs.declared.sense.Sense.{Sense};
 ghost use Rattle.assign_core.specs.Assignment.{AreListed};
 ghost use Rattle.assign_core.specs.Rows.{Listing, HasCosts};
@@ -10,6 +10,13 @@ ghost use Rattle.cost_lists.specs.Own.{AreOwnCosts};
 use assign_core::Cost;
 use cost_lists::{GREATEST_NUMBER, Person, UNLISTED};
 
+// Whether a cost is the mark of an unlisted object.
+fn is_unlisted(cost: Cost) -> bool
+    ensures { IsTrue result ↔ (cost ≡ UNLISTED) }
+{
+    cost == UNLISTED
+}
+
 // The lowest of the persons that doesn't list its object.
 pub fn first_unlisted(own: &[Cost]) -> Option<Person>
     requires { length own.now ≤ GREATEST_NUMBER }
@@ -18,7 +25,7 @@ pub fn first_unlisted(own: &[Cost]) -> Option<Person>
         (λ i. IsFirst (IsUnlisted l.rows xs) (length l.rows) i) }
 {
     for (i, cost) in own.iter().enumerate() {
-        if *cost == UNLISTED {
+        if is_unlisted(*cost) {
             return Some(i as u32 + 1);
         }
     }

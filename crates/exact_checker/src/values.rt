@@ -21,6 +21,15 @@ pub fn sum_of(sense: Sense, cost: Cost, price: Price) -> Cost
     }
 }
 
+// The sum of a cost and a price.
+fn plus(cost: Cost, price: Price) -> Cost
+    requires cost { IsCost cost }
+    requires price { IsPriceInLimits price }
+    ensures { result ≡ (cost +ℤ price) }
+{
+    cost + price
+}
+
 // Adds the price of each person's own object to its own cost.
 pub fn add_prices(own: &mut [Cost], objects: &[Object], prices: &[Price])
     requires long { length objects.now ≡ length own.old }
@@ -31,6 +40,6 @@ pub fn add_prices(own: &mut [Cost], objects: &[Object], prices: &[Price])
         ≡ (slice_index_or own.old i (pos 0) +ℤ price_of prices.now (slice_index objects.now i)) }
 {
     for i in 0..own.len() {
-        own[i] += prices[objects[i] as usize - 1];
+        own[i] = plus(own[i], prices[objects[i] as usize - 1]);
     }
 }

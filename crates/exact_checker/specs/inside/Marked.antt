@@ -32,3 +32,7 @@ pub record AreRisingPersons (l : ListedCosts) (persons : List ℕ) : Type 0 wher
 pub record MarksJust (marks : List Bool) (n : ℕ) (numbers : List ℕ) : Type 0 where
   pub long : length marks ≡ n
   pub just : (j : ℕ) → IsMarked marks j ↔ Contains numbers j
+
+-- each person of the rows lists each of m objects
+abbrev pub ListAll : List Listing → ℕ → Type 0
+ListAll rows m = (i j : ℕ) → IsListed rows i j ↔ (IsNumber (length rows) i × IsNumber m j)
