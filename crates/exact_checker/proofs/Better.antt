@@ -1,12 +1,11 @@
 -- An object whose sum with its price is below a person's value is better for the person.
-use Rattle.std.proofs.Common.{◌≡◌, ℕ, ℤ, pos, neg_ℤ, ◌+ℤ◌, ◌-ℤ◌, ◌≤ℤ◌, ◌<ℤ◌, ◌<◌, ◌-◌, List, [], Option, None, Some, MatchOption, IsSome, unwrap_or, length, get_or, refl, rules, arith, ap, sym, subst, ◌∙◌, inl, inr}
-use Rattle.std.specs.List.{All}
+use Rattle.std.proofs.Common.{◌≡◌, ℕ, ℤ, pos, neg_ℤ, ◌+ℤ◌, ◌-ℤ◌, ◌≤ℤ◌, ◌<ℤ◌, ◌<◌, ◌-◌, List, [], Option, Some, MatchOption, IsSome, unwrap_or, length, get_or, refl, arith, ap, sym, subst}
 use Rattle.std.proofs.lemmas.Int.{ints, by_lt_z}
 use Rattle.assign_core.specs.declared.sense.Sense.{Sense}
 use Rattle.assign_core.specs.declared.sense.Sense.TheVariants.{Min, Max}
 use Rattle.assign_core.specs.Numbered.{IsNumber, numbered}
 use Rattle.assign_core.specs.Prices.{price_of}
-use Rattle.assign_core.specs.Rows.{Listing, IsListed, IsWithin, listed_in, listed_or_zero, row_of}
+use Rattle.assign_core.specs.Rows.{Listing, IsListed, listed_in, listed_or_zero, row_of}
 use Rattle.assign_core.specs.Assignment.{AreListed, IsNoWorse}
 use Rattle.assign_core.proofs.Listed.{listing_within}
 use Rattle.assign_core.proofs.NumberedLemmas.{numbered-index}

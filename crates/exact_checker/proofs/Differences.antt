@@ -10,11 +10,11 @@ use Rattle.dual_checker.specs.Faults.{IsFirst, AreLong, IsUnlisted, IsGivenTwice
 use Rattle.dual_checker.proofs.Firsts.{firsts_agree}
 use Rattle.dual_checker.proofs.Givings.{once_at_most}
 use Rattle.cost_lists.specs.ListedCosts.{ListedCosts}
-use Rattle.cost_lists.specs.Exact.{AreChoices, AreFree, IsOptimum, IsPriceInLimits}
+use Rattle.cost_lists.specs.Exact.{AreChoices, AreFree, IsPriceInLimits}
 use Rattle.exact_checker.specs.declared.verdict.Verdict.{Verdict}
 use Rattle.exact_checker.specs.declared.verdict.Verdict.TheVariants.{Length, Unlisted, Twice, PriceRange, Slack, Overpriced, Yes}
-use Rattle.exact_checker.specs.Faults.{IsBetterFor, IsOutOfLimits, IsPricedUnowned, IsShort}
-use Rattle.exact_checker.specs.Verdicts.{IsPriced, IsVerdict, VerdictsDiffer}
+use Rattle.exact_checker.specs.Faults.{IsBetterFor, IsOutOfLimits, IsPricedUnowned}
+use Rattle.exact_checker.specs.Verdicts.{IsVerdict, VerdictsDiffer}
 use Rattle.exact_checker.proofs.Better.{choice_unbeaten}
 use Rattle.exact_checker.proofs.Ranks.{Passes, same_rank}
 

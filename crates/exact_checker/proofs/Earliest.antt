@@ -1,6 +1,5 @@
 -- The first of the listed pairs with a fault, by person and then by object.
-use Rattle.std.proofs.Common.{◌≡◌, ℕ, ◌<◌, ◌≤◌, ◌+◌, List, Option, None, Some, MatchOption, length, get_or, arith, sym, subst, inl, inr, ◌⊎◌}
-use Rattle.std.proofs.lemmas.Bool.{cases_order}
+use Rattle.std.proofs.Common.{◌≡◌, ℕ, ◌<◌, ◌≤◌, ◌+◌, List, Option, None, Some, MatchOption, get_or, arith, sym, subst, inl, inr}
 use Rattle.assign_core.specs.Numbered.{IsNumber}
 use Rattle.assign_core.proofs.NumberedLemmas.{low_or_same}
 use Rattle.dual_checker.specs.Faults.{IsFirst}

@@ -9,12 +9,12 @@ use Rattle.assign_core.proofs.Listed.{object_within}
 use Rattle.assign_core.proofs.NumberedLemmas.{All-numbered}
 use Rattle.dual_checker.specs.Faults.{IsFirst}
 use Rattle.dual_checker.specs.HallSets.{AreInRangeAmong}
-use Rattle.dual_checker.specs.HallVerdicts.{AreNeighbours, AreRising, HasNeighbours, IsExtra, Lacks, ListsUnnamed}
+use Rattle.dual_checker.specs.HallVerdicts.{AreNeighbours, AreRising, HasNeighbours, ListsUnnamed}
 use Rattle.dual_checker.proofs.Firsts.{firsts_agree}
 use Rattle.cost_lists.specs.ListedCosts.{ListedCosts, AreInLimits}
 use Rattle.exact_checker.specs.declared.hall_verdict.HallVerdict.{HallVerdict}
 use Rattle.exact_checker.specs.declared.hall_verdict.HallVerdict.TheVariants.{Range, Order, Missing, Extra, Count, Yes}
-use Rattle.exact_checker.specs.HallVerdicts.{AreRisingNumbers, HallVerdictsDiffer, IsHallVerdict}
+use Rattle.exact_checker.specs.HallVerdicts.{HallVerdictsDiffer, IsHallVerdict}
 use Rattle.exact_checker.proofs.Ranks.{Passes, same_rank}
 
 -- the facts that the checker tests, in their order

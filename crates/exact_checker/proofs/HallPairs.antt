@@ -1,5 +1,5 @@
 -- Listed pairs and marks, as rows and lists of numbers.
-use Rattle.std.proofs.Common.{◌≡◌, ℕ, ℤ, pos, ◌<◌, ◌≤◌, ◌↔◌, ◌+◌, ◌-◌, List, [], Option, None, Some, IsSome, Bool, true, false, MatchOption, length, replicate, get_or, refl, rules, arith, ap, sym, subst, ◌∙◌, inl, inr}
+use Rattle.std.proofs.Common.{◌≡◌, ℕ, ℤ, pos, ◌<◌, ◌↔◌, ◌+◌, ◌-◌, List, Option, None, Some, IsSome, Bool, true, false, MatchOption, length, replicate, get_or, refl, rules, arith, ap, sym, subst, ◌∙◌, inl, inr}
 use Rattle.std.specs.List.{All, Contains}
 use Rattle.std.specs.List.Sorted.{IsStrictlyIncreasing}
 use Rattle.std.proofs.lemmas.Bool.{false≢true}

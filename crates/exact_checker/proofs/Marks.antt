@@ -1,8 +1,8 @@
 -- Marks that are set by listed pairs, one after another, and marks of all numbers.
-use Rattle.std.proofs.Common.{◌≡◌, ℕ, zero, suc, ◌<◌, ◌≤◌, ◌+◌, ◌-◌, ◌↔◌, List, Bool, true, false, length, get_or, set, refl, arith, ap, sym, subst, ◌∙◌, inl, inr, ◌⊎◌}
+use Rattle.std.proofs.Common.{◌≡◌, ℕ, zero, suc, ◌<◌, ◌+◌, ◌-◌, ◌↔◌, List, Bool, true, false, length, get_or, set, arith, ap, sym, subst, ◌∙◌, inl, inr}
 use Rattle.std.proofs.lemmas.Bool.{cases_lt, false≢true}
 use Rattle.std.proofs.lemmas.List.{get_or_past}
-use Rattle.assign_core.specs.Numbered.{IsNumber, IsMarked, numbered, renumbered}
+use Rattle.assign_core.specs.Numbered.{IsNumber, IsMarked, numbered}
 use Rattle.assign_core.proofs.NumberedLemmas.{low_or_same, numbered-index, renumber-set}
 use Rattle.dual_checker.specs.HallMarks.{AddsMarks}
 use Rattle.dual_checker.proofs.HallMarking.{adds_one, adds_same}

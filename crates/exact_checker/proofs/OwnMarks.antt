@@ -1,10 +1,9 @@
 -- Unlisted objects, by their marks among own costs.
-use Rattle.std.proofs.Common.{◌≡◌, ◌≢◌, ℕ, ℤ, pos, ◌<◌, ◌≤◌, ◌+◌, List, [], Option, None, Some, IsSome, length, refl, rules, arith, sym, ◌∙◌, subst}
-use Rattle.std.specs.List.{All}
+use Rattle.std.proofs.Common.{◌≡◌, ◌≢◌, ℕ, ℤ, pos, ◌<◌, ◌≤◌, ◌+◌, List, [], Option, None, Some, IsSome, length, refl, rules, arith, sym, ◌∙◌}
 use Rattle.std.proofs.lemmas.Int.{ints}
 use Rattle.assign_core.specs.declared.sense.Sense.{Sense}
 use Rattle.assign_core.specs.Numbered.{IsNumber, numbered}
-use Rattle.assign_core.specs.Rows.{Listing, HasCosts, IsCost, IsListed, listed_in, row_of}
+use Rattle.assign_core.specs.Rows.{HasCosts, IsCost, IsListed, listed_in, row_of}
 use Rattle.assign_core.specs.Assignment.{AreListed}
 use Rattle.assign_core.proofs.Listed.{entry_found}
 use Rattle.assign_core.proofs.NumberedLemmas.{All-numbered}
@@ -13,7 +12,7 @@ use Rattle.dual_checker.specs.Faults.{IsFirst, IsUnlisted, own_object}
 use Rattle.dual_checker.proofs.Firsts.{first_at}
 use Rattle.cost_lists.specs.declared.numbers.TheConstants.{UNLISTED}
 use Rattle.cost_lists.specs.ListedCosts.{ListedCosts, AreInLimits}
-use Rattle.cost_lists.specs.Own.{AreOwnCosts, minimised, turned_or_unlisted}
+use Rattle.cost_lists.specs.Own.{AreOwnCosts, turned_or_unlisted}
 use Rattle.cost_lists.proofs.Owns.{turned_range}
 
 unmarked : (sense : Sense) (o : Option ℤ) → turned_or_unlisted sense o ≢ UNLISTED → IsSome o

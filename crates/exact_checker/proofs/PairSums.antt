@@ -1,11 +1,10 @@
 -- Sums of costs and prices in listed pairs.
-use Rattle.std.proofs.Common.{◌≡◌, ℕ, ℤ, pos, ◌+ℤ◌, ◌≤ℤ◌, ◌<ℤ◌, ◌<◌, ◌-◌, List, Option, None, Some, length, get_or, refl, arith, ap, sym, subst, ◌∙◌}
+use Rattle.std.proofs.Common.{◌≡◌, ℕ, ℤ, pos, ◌+ℤ◌, ◌<ℤ◌, ◌<◌, ◌-◌, List, Option, None, Some, length, get_or, refl, arith, ap, sym, subst, ◌∙◌}
 use Rattle.std.specs.List.{All, Contains}
 use Rattle.std.proofs.lemmas.Int.{ints}
 use Rattle.assign_core.specs.declared.sense.Sense.{Sense}
 use Rattle.assign_core.specs.Numbered.{IsNumber, numbered}
 use Rattle.assign_core.specs.Prices.{price_of}
-use Rattle.assign_core.specs.Rows.{IsCost}
 use Rattle.assign_core.specs.Sparse.{IsTripleAmong}
 use Rattle.assign_core.proofs.NumberedLemmas.{numbered-index}
 use Rattle.cost_lists.specs.declared.source.Pairs.{Pairs}

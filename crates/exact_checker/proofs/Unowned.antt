@@ -1,5 +1,5 @@
 -- Unowned objects, by their counts.
-use Rattle.std.proofs.Common.{◌≡◌, ◌≢◌, ℕ, ℤ, pos, ◌<◌, ◌+◌, ◌≤ℤ◌, ◌<ℤ◌, List, [], ◌∷◌, length, get_or, ◌⊎◌, inl, inr, arith, sym, ◌∙◌, subst}
+use Rattle.std.proofs.Common.{◌≡◌, ◌≢◌, ℕ, ℤ, pos, ◌<◌, ◌+◌, List, [], ◌∷◌, length, ◌⊎◌, inl, inr, arith, sym, subst}
 use Rattle.std.specs.List.{Contains}
 use Rattle.std.proofs.lemmas.Int.{ints, by_lt_z}
 use Rattle.std.proofs.lemmas.Bool.{cases_lt}
@@ -7,7 +7,6 @@ use Rattle.std.proofs.lemmas.Bool.Decides.{eqb_tells}
 use Rattle.assign_core.specs.Numbered.{IsNumber, numbered}
 use Rattle.assign_core.specs.Prices.{price_of}
 use Rattle.assign_core.proofs.Members.{contains_first, contains_later, first_or_later}
-use Rattle.assign_core.proofs.NumberedLemmas.{number_within, numbered-next}
 use Rattle.dual_checker.specs.Counts.{AreCounts}
 use Rattle.dual_checker.specs.Faults.{IsFirst}
 use Rattle.dual_checker.proofs.Givings.{count_of, count-more, count-same}

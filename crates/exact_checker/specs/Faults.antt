@@ -1,5 +1,5 @@
 -- The faults of two lists, one of objects and one of prices.
-use Rattle.std.specs.Prelude.{◌≡◌, ◌≢◌, ℕ, ℤ, pos, ◌<ℤ◌, List, Contains}
+use Rattle.std.specs.Prelude.{◌≢◌, ℕ, ℤ, pos, ◌<ℤ◌, List, Contains}
 use Rattle.assign_core.specs.declared.sense.Sense.{Sense}
 use Rattle.assign_core.specs.declared.sense.Sense.TheVariants.{Min, Max}
 use Rattle.assign_core.specs.Rows.{IsListed, listed_or_zero, row_of}

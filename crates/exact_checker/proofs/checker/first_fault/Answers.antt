@@ -1,4 +1,4 @@
-use Rattle.std.proofs.Common.{ℕ, length, ap, sym, subst, ◌∙◌}
+use Rattle.std.proofs.Common.{length, ap, sym, subst, ◌∙◌}
 use Rattle.std.specs.List.{All}
 use Rattle.std.proofs.lemmas.List.{length-replicate}
 use Rattle.std.proofs.lemmas.List.Elements.{All-from_recursion}
@@ -8,7 +8,6 @@ use Rattle.dual_checker.specs.Faults.{IsFirst}
 use Rattle.cost_lists.specs.Exact.{AreFree}
 use Rattle.cost_lists.proofs.Owns.{own_range}
 use Rattle.exact_checker.specs.Faults.{IsPricedUnowned}
-use Rattle.exact_checker.specs.Verdicts.{IsPriced}
 use Rattle.exact_checker.proofs.Better.{better_first, choices_from, short_first, values_are}
 use Rattle.exact_checker.proofs.checker.first_fault.Goals as goal
 

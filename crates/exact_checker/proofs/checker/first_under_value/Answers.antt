@@ -1,4 +1,4 @@
-use Rattle.std.proofs.Common.{length, ap, sym, ◌∙◌}
+use Rattle.std.proofs.Common.{length, ap, ◌∙◌}
 use Rattle.assign_core.specs.Dense.{rows_cut}
 use Rattle.cost_lists.specs.Given.{rows_given}
 use Rattle.cost_lists.specs.Source.{triples_in}

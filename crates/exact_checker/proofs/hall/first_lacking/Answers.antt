@@ -1,4 +1,4 @@
-use Rattle.std.proofs.Common.{◌≡◌, ℕ, length, sym, subst}
+use Rattle.std.proofs.Common.{ℕ, length, sym, subst}
 use Rattle.exact_checker.specs.inside.Marked.{ListAll, ListJust}
 use Rattle.exact_checker.proofs.HallPairs.{IsFirstLacking, IsFirstMissing, lacking_found, list_all, list_just}
 use Rattle.exact_checker.proofs.hall.first_lacking.Goals as goal

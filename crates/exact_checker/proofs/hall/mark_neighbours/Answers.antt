@@ -1,4 +1,4 @@
-use Rattle.std.proofs.Common.{◌≡◌, ℕ, false, length, replicate, ap, sym, subst, ◌∙◌}
+use Rattle.std.proofs.Common.{ℕ, false, length, ap, sym, subst, ◌∙◌}
 use Rattle.std.proofs.lemmas.List.{length-replicate}
 use Rattle.exact_checker.specs.inside.Marked.{ListAll, ListJust}
 use Rattle.exact_checker.proofs.HallPairs.{list_all, list_just, neighbours_added, no_marks}

@@ -1,5 +1,5 @@
-use Rattle.std.proofs.Common.{arith, rules}
-use Rattle.exact_checker.proofs.Rising.{fallen, risen}
+use Rattle.std.proofs.Common.{arith}
+use Rattle.exact_checker.proofs.Rising.{risen}
 use Rattle.exact_checker.proofs.hall_lists.rise.Goals as goal
 
 pub loop-i-preserved : goal.loop-i-preserved

@@ -1,4 +1,4 @@
-use Rattle.std.proofs.Common.{◌≡◌, ℕ, ◌+◌, false, length, get_or, refl, arith, sym, subst, ◌∙◌}
+use Rattle.std.proofs.Common.{◌≡◌, ℕ, ◌+◌, length, get_or, refl, arith, sym, subst, ◌∙◌}
 use Rattle.assign_core.specs.Numbered.{IsMarked}
 use Rattle.exact_checker.specs.inside.Marked.{IsMissing}
 use Rattle.exact_checker.proofs.Earliest.{IsFirstSoFar, first_found, first_skip, first_take}

@@ -1,4 +1,4 @@
-use Rattle.std.proofs.Common.{ℕ, ◌-◌, false, length, get_or, arith, ◌∙◌, subst, below_more}
+use Rattle.std.proofs.Common.{ℕ, length, get_or, arith, ◌∙◌, subst, below_more}
 use Rattle.std.proofs.lemmas.List.{get_or_default}
 use Rattle.assign_core.specs.Numbered.{IsMarked}
 use Rattle.dual_checker.proofs.HallFirsts.{first_named}

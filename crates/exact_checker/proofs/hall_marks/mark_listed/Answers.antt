@@ -1,4 +1,4 @@
-use Rattle.std.proofs.Common.{◌≡◌, ℕ, ◌-◌, ◌+◌, false, length, get_or, refl, arith, sym, subst, ◌∙◌, inl, inr}
+use Rattle.std.proofs.Common.{ℕ, ◌+◌, length, get_or, refl, arith, sym, subst, ◌∙◌, inl, inr}
 use Rattle.std.proofs.lemmas.Bool.{false≢true}
 use Rattle.assign_core.specs.Numbered.{IsNumber, IsMarked}
 use Rattle.dual_checker.specs.HallMarks.{AddsMarks}

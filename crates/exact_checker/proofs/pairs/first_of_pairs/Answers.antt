@@ -1,4 +1,4 @@
-use Rattle.std.proofs.Common.{◌≡◌, ℕ, ℤ, pos, ◌-◌, ◌+◌, ◌<ℤ◌, ◌≤ℤ◌, length, get_or, refl, arith, rules, sym, subst, SFits, w64}
+use Rattle.std.proofs.Common.{◌≡◌, ℕ, pos, ◌-◌, ◌+◌, ◌<ℤ◌, ◌≤ℤ◌, length, get_or, refl, arith, rules, sym, subst, SFits, w64}
 use Rattle.std.proofs.lemmas.Int.{ints, to_z-of_z}
 use Rattle.cost_lists.specs.Given.{rows_given}
 use Rattle.cost_lists.specs.Source.{triples_in}

@@ -1,4 +1,4 @@
-use Rattle.std.proofs.Common.{ℤ, pos, ◌≤ℤ◌, ◌<ℤ◌, get_or, arith, rules, below_more, SFits, w64}
+use Rattle.std.proofs.Common.{pos, ◌≤ℤ◌, ◌<ℤ◌, get_or, arith, rules, below_more, SFits, w64}
 use Rattle.std.proofs.lemmas.Int.{ints, to_z-of_z}
 use Rattle.exact_checker.specs.inside.Sums.{sum_at}
 use Rattle.exact_checker.proofs.rows.first_under.Goals as goal

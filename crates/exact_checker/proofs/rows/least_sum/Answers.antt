@@ -1,4 +1,4 @@
-use Rattle.std.proofs.Common.{ℤ, ◌≤ℤ◌, pos, arith, ap, get_or, rules, SFits, w64, below_more}
+use Rattle.std.proofs.Common.{◌≤ℤ◌, pos, arith, get_or, rules, SFits, w64, below_more}
 use Rattle.std.proofs.lemmas.Int.{ints, to_z-of_z}
 use Rattle.exact_checker.specs.inside.Sums.{sum_at}
 use Rattle.exact_checker.proofs.rows.least_sum.Goals as goal

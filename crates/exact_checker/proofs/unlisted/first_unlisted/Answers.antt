@@ -1,4 +1,4 @@
-use Rattle.std.proofs.Common.{◌≡◌, ◌≢◌, pos, get_or, length, arith, rules, SFits, w64}
+use Rattle.std.proofs.Common.{◌≢◌, pos, get_or, arith, rules, SFits, w64}
 use Rattle.std.proofs.lemmas.Int.{to_z-of_z}
 use Rattle.assign_core.specs.Numbered.{numbered}
 use Rattle.assign_core.proofs.NumberedLemmas.{numbered-next}

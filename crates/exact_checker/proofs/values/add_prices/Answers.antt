@@ -1,4 +1,4 @@
-use Rattle.std.proofs.Common.{◌≡◌, ◌≢◌, ℕ, ℤ, pos, ◌-◌, ◌+ℤ◌, ◌<◌, length, get_or, arith, rules, sym, below_more, SFits, w64}
+use Rattle.std.proofs.Common.{◌≡◌, ◌≢◌, ℕ, pos, ◌-◌, ◌+ℤ◌, ◌<◌, length, get_or, arith, rules, below_more, SFits, w64}
 use Rattle.std.proofs.lemmas.Int.{ints, to_z-of_z}
 use Rattle.std.proofs.lemmas.List.{get_or-set_other, get_or-set_same}
 use Rattle.assign_core.specs.Prices.{price_of}
