@@ -19,7 +19,7 @@ use cost_lists::{CostLists, Object, Person, Price, Source};
 use std::alloc::{AllocError, Global};
 
 // The lowest person that lists an object whose sum of cost and price is below the person's value,
-// and the lowest such object.
+// and its lowest object of this kind.
 fn first_under_value(
     lists: &CostLists<'_>,
     values: &[Cost],

@@ -29,7 +29,7 @@ pub fn earlier(first: Option<(Person, Object)>, person: Person, object: Object) 
 }
 
 // The lowest person that lists an object whose sum of cost and price is below the person's value,
-// and the lowest such object, of listed pairs.
+// and its lowest object of this kind, of listed pairs.
 pub fn first_of_pairs(
     sense: Sense,
     pairs: Pairs<'_>,

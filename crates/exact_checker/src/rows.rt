@@ -47,7 +47,7 @@ fn first_under(costs: &[Cost], prices: &[Price], sense: Sense, value: Cost) -> O
 }
 
 // The lowest person that lists an object whose sum of cost and price is below the person's value,
-// and the lowest such object, of all costs of the persons and the objects.
+// and its lowest object of this kind, of all costs of the persons and the objects.
 pub fn first_of_rows(
     sense: Sense,
     costs: &[Cost],

@@ -16,7 +16,7 @@ pub enum Verdict {
     /// The lowest object whose price isn't from 0 to `GREATEST_PRICE`.
     PriceRange(Object),
     /// The lowest person for which a listed object is better, with its price, than its own, and the
-    /// lowest such object.
+    /// lowest object of this kind.
     Slack(Person, Object),
     /// The lowest object that nobody owns and whose price isn't 0.
     Overpriced(Object),

@@ -1,5 +1,5 @@
 //! Tests of costs over lists, and of the checker of exact prices and Hall sets: worked values, and
-//! drawn problems beside slow searches.
+//! drawn problems compared with slow searches.
 #![tactic(auto)]
 
 #[cfg(test)]

@@ -72,7 +72,7 @@ fn rise(numbers: &[u32]) -> bool {
     true
 }
 
-// The lowest person that lists an unnamed object, with the lowest such object.
+// The lowest person that lists an unnamed object, with its lowest object of this kind.
 fn missing_of(
     problem: &Problem,
     table: &[Option<Cost>],

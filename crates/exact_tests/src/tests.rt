@@ -1,4 +1,4 @@
-// Drawn problems beside the slow searches and checkers.
+// Drawn problems compared with the slow searches and checkers.
 use crate::drawn::{change_one, change_price, draw, drawn_numbers, drawn_problem};
 use crate::given::lent;
 use crate::problem::{Problem, table_of};
