@@ -5,7 +5,8 @@ bench/peers.py [PROGRAM] at the top of the repository, after `rt run` built the 
 others it takes those that it finds, and says which: SciPy where python3 has it, LEMON and dlib where c++ finds their headers
 (in Debian python3-scipy, liblemon-dev, libdlib-dev). It writes its inputs below bench/out. Solvers take turns, and of each
 the least of three times counts; all find the same cost, or it stops. It prints two tables of seconds, of processor time and
-by the clock: of a whole run, reading and printing included, and in brackets of solving alone, when the costs lie in memory.
+by the clock: of a whole run, reading and printing included, and in brackets of solving alone, when the costs lie in memory. It
+also draws the first table, as bench/out/peers.svg; bench/peers.svg is a copy of one.
 
 A third table has rectangles, costs 1..10^6, from Python, next to SciPy: processor time of solving alone, and by how much the
 first call in a process raises its peak of memory. bench/peers.py rectangles prints this table alone.
@@ -17,6 +18,7 @@ import sys
 import time
 
 from measure import HERE, OUT, PROGRAM, problem
+from picture import picture
 
 sys.path.insert(0, os.path.join(HERE, "..", "python"))
 import nushbaret
@@ -238,6 +240,16 @@ def table(measured, measure):
         yield f"| {name} | " + " | ".join(shown) + " |"
 
 
+def draw(measured, foot):
+    """The picture of processor times."""
+    problems = [(what, {name: tuple(times.least.get(kind) for kind in ("whole_processor", "alone_processor")) for name, times in rows.items()})
+                for what, rows in measured.items()]
+    heading = ("Seconds of processor time, the least of three, on a scale of powers of ten. In outline: whole runs, with reading and printing; "
+               "filled: solving alone")
+    with open(os.path.join(OUT, "peers.svg"), "w") as file:
+        file.write(picture(heading, problems, foot))
+
+
 def main():
     if sys.argv[1:] == ["rectangles"]:
         print(*rectangles(), sep="\n")
@@ -249,13 +261,15 @@ def main():
     lemon, dlib = built("lemon", "-llemon"), built("dlib")
     there = [f"SciPy {scipy.__version__}"] if scipy else []
     there += [name for name, program in (("LEMON", lemon), ("dlib", dlib)) if program]
-    print("found:", ", ".join(there) or "no peer", f"; load {os.getloadavg()[0]:.1f} on {os.cpu_count()} processors")
+    found = f"{', '.join(there) or 'no peer'}; load {os.getloadavg()[0]:.1f} on {os.cpu_count()} processors"
+    print("found:", found)
     measured = {}
     for what, (maker, *words), is_sparse in PROBLEMS:
         path = problem("_".join(["peers", *words]) + ".txt", *words, maker=maker)
         measured[what] = measure(what, path, is_sparse, lemon, dlib)
     for kind in "processor", "clock":
         print("", *table(measured, kind), sep="\n")
+    draw(measured, found)
     if scipy:
         print("", *rectangles(), sep="\n")
 

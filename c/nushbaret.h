@@ -47,8 +47,7 @@
    are numbered; then, in nushbaret_check, those from NUSHBARET_ANSWER_LENGTH to NUSHBARET_SLACK and
    NUSHBARET_OVERPRICED, and in nushbaret_check_hall those from NUSHBARET_HALL_RANGE to NUSHBARET_HALL_COUNT.
    info->place is the first place with this fault. NUSHBARET_MEMORY comes only where nothing is wrong with the problem:
-   memory was refused that the call can't do without. nushbaret_check_hall may return a fault of the persons and objects
-   before it asks for that memory.
+   memory was refused that the call can't do without. The checking calls ask for it before they judge an answer.
 
    A WORKED EXAMPLE
 
@@ -72,7 +71,7 @@
 extern "C" {
 #endif
 
-#define NUSHBARET_VERSION "3.0.0"
+#define NUSHBARET_VERSION "3.1.0"
 
 /* The sense: the least sum of costs, or the greatest. */
 #define NUSHBARET_MIN 0u
@@ -196,7 +195,7 @@ int32_t nushbaret_check_hall(size_t n, size_t m,
     const uint16_t *objects, size_t objects_count,
     struct nushbaret_info *info);
 
-/* Writes the version of the library and a 0 into a room of 6 bytes or more, leaves a smaller one as it is, and
+/* Writes the version of the library and a 0 into the room if they fit, leaves a smaller room as it is, and
    returns the length of the version without the 0. */
 size_t nushbaret_version(uint8_t *room, size_t room_count);
 

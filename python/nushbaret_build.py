@@ -1,5 +1,5 @@
-"""The build backend of the package: packs it, the shared library that c/build.sh made, and the manual's page into a wheel. It needs nothing
-but Python, so that installing needs no network."""
+"""The build backend of the package: packs it, the shared library that c/build.sh made, the guide to rosters and the manual's page into a
+wheel. It needs nothing but Python, so that installing needs no network."""
 import base64
 import hashlib
 import io
@@ -18,8 +18,11 @@ LIBRARIES = {"x86_64": (TOP.parent / "c" / "out" / NAME, ""), "aarch64": (TOP.pa
 DAY = (2020, 1, 1, 0, 0, 0)
 # What the wheel's tag says of the machine; release/make.sh sets it to what its library is looked at for.
 PLATFORM = sysconfig.get_platform()
-# The page that describes the package: where the archive of sources has it, and in a checkout.
+# The page that describes the package, the one of rosters, and the folder of examples: where the archive of sources has each, and in a
+# checkout.
 DESCRIPTIONS = (TOP / "PYTHON.md", TOP.parent / "docs" / "PYTHON.md")
+GUIDES = (TOP / "ROSTERS.md", TOP.parent / "docs" / "ROSTERS.md")
+EXAMPLES = (TOP / "examples", TOP.parent / "examples")
 
 
 def _text(word):
@@ -73,10 +76,32 @@ def _description():
     return _text("description") + "\n"
 
 
-def _manual():
-    """The manual's page of the command, by its name in the folder of a prefix."""
+def _modules_here():
+    """Lets modules next to this one be imported."""
     if str(TOP) not in sys.path:
         sys.path.insert(0, str(TOP))
+
+
+def _examples():
+    """The examples of rosters."""
+    return next((sorted(folder.glob("*.csv")) for folder in EXAMPLES if folder.exists()), [])
+
+
+def _guide():
+    """The guide to rosters and its examples, by their names in the package."""
+    _modules_here()
+    import nushbaret_guide
+
+    page = next((file for file in GUIDES if file.exists()), None)
+    if page is None:
+        return {}
+    files = nushbaret_guide.guide_files(page.read_text(encoding="utf-8"), {file.name: file.read_bytes() for file in _examples()})
+    return {f"nushbaret/guide/{name}": content for name, content in files.items()}
+
+
+def _manual():
+    """The manual's page of the command, by its name in the folder of a prefix."""
+    _modules_here()
     import nushbaret_manual
 
     return {"share/man/man1/nushbaret.1": nushbaret_manual.command_page().encode()}
@@ -139,6 +164,7 @@ prepare_metadata_for_build_editable = prepare_metadata_for_build_wheel
 def build_wheel(wheel_directory, config_settings=None, metadata_directory=None):
     held = {f"nushbaret/{file.relative_to(PACKAGE).as_posix()}": file.read_bytes() for file in _sources()}
     held[f"nushbaret/{NAME}"] = _library().read_bytes()
+    held.update(_guide())
     held.update({f"{DATA}/{name}": text for name, text in _manual().items()})
     licenses = {f"{INFO}/licenses/{file.name}": file.read_bytes() for file in _licenses()}
     return _write_wheel(wheel_directory, {**held, **_info(), **licenses})
@@ -153,8 +179,9 @@ def build_editable(wheel_directory, config_settings=None, metadata_directory=Non
 def build_sdist(sdist_directory, config_settings=None):
     """The sources with the library next to them, so that a wheel can be made of them alone."""
     front = f"nushbaret-{VERSION}"
-    files = {name: TOP / name for name in ("pyproject.toml", "nushbaret_build.py", "nushbaret_manual.py")}
-    files.update({"PYTHON.md": file for file in DESCRIPTIONS if file.exists()})
+    files = {name: TOP / name for name in ("pyproject.toml", "nushbaret_build.py", "nushbaret_guide.py", "nushbaret_manual.py")}
+    files.update({file.name: file for file in (*DESCRIPTIONS, *GUIDES) if file.exists()})
+    files.update({f"examples/{file.name}": file for file in _examples()})
     files.update({file.name: file for file in _licenses()})
     files.update({f"nushbaret/{file.relative_to(PACKAGE).as_posix()}": file for file in _sources()})
     files[f"nushbaret/{NAME}"] = _library()

@@ -36,9 +36,9 @@ class Entry(NamedTuple):
 
 
 ARGUMENT = Entry("", "ROSTER", "", words.ROSTER, is_file=True)
-# The two options that every parser has.
+# The options that need no roster.
 GENERAL = [Entry("-h", "--help", "", "show this help message and exit"),
-           Entry("", "--version", "", "show program's version number and exit")]
+           *(Entry(short, word, "", text) for short, word, text in words.GENERAL)]
 
 
 def option_entries(section: str) -> List[Entry]:
@@ -48,9 +48,9 @@ def option_entries(section: str) -> List[Entry]:
 
 def _entry(option: words.Option) -> Entry:
     if option.value is None:
-        return Entry("", option.word, "", option.help)
+        return Entry(option.short, option.word, "", option.help)
     value = option.value
-    return Entry("", option.word, value.name, option.help, value.choices, value.is_file, option.repeats)
+    return Entry(option.short, option.word, value.name, option.help, value.choices, value.is_file, option.repeats)
 
 
 def escaped(text: str) -> str:

@@ -37,7 +37,7 @@ stop() {
 # The sum of what the release is made of: the contents of the files that git knows, or of all where there is no git.
 sources() {
     local paths=(crates c python crates.txt VERSION LICENSE-APACHE LICENSE-CRATES LICENSE-MIT release/make.sh release/parts
-        docs/PYTHON.md)
+        docs/PYTHON.md docs/ROSTERS.md examples)
     cd "$top"
     if [ "$(git rev-parse --show-prefix 2> /dev/null)" = '' ] && git ls-files --error-unmatch VERSION > /dev/null 2>&1; then
         git ls-files -z -- "${paths[@]}"
@@ -131,6 +131,7 @@ stage() {
     python3 "$parts/manual.py" "$top/c/nushbaret.h" "$version" "$share/man" ${program:+"$program"}
     python3 "$parts/completions.py" "$share" ${program:+"$program"}
     cp "$top/c/example.c" "$share/doc/nushbaret/examples/"
+    ln -s "$(realpath -m --relative-to="$share/doc/nushbaret" "$root/$4/nushbaret/guide")" "$share/doc/nushbaret/guide"
     cp "$top"/LICENSE-* "$share/doc/nushbaret/"
     find "$root" -type f -exec chmod 644 {} +
     chmod 755 "$root"/bin/*

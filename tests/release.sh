@@ -24,7 +24,7 @@ fail() {
 # What is there is what the sums name, and each sum is right.
 sums() {
     local there named
-    there=$(cd "$folder" && find . -type f -not -path './parts/*' -not -name make.sh -not -name SHA256SUMS | sed 's|^\./||' | LC_ALL=C sort)
+    there=$(cd "$folder" && find . -type f -not -path './parts/*' -not -name '*.sh' -not -name SHA256SUMS | sed 's|^\./||' | LC_ALL=C sort)
     named=$(sed 's/^[0-9a-f]*  //' "$folder/SHA256SUMS")
     [ "$there" = "$named" ] || fail "SHA256SUMS doesn't name what is there: $(diff <(echo "$named") <(echo "$there"))"
     (cd "$folder" && sha256sum --quiet -c SHA256SUMS 2>&1) > "$work/log" || fail "sums: $(cat "$work/log")"

@@ -142,7 +142,7 @@ hint=$'\n\nFor more information, try \'--help\'.\n\nTo read the problem from a f
 expect '1 7' 2 '' $'error: unexpected argument \'costs.txt\' found\n\nUsage: auction_cli solve [OPTIONS]'"$hint" solve costs.txt
 expect '1 7' 2 '' $'error: unexpected argument \'costs.txt\' found\n\nUsage: auction_cli verify [OPTIONS] <REPORT>'"$hint" verify "$work/report" costs.txt
 firsts 0 'Solve assignment problems and check reports; the problem comes on standard input' '' --help
-expect '' 0 'auction_cli 3.0.0\n' '' --version
+expect '' 0 "auction_cli $(cat "$top/VERSION")\n" '' --version
 firsts 2 '' "error: unexpected argument '-V' found" -V
 for word in solve verify; do
     firsts 2 '' "error: unexpected argument '--version' found" $word --version

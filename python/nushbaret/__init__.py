@@ -16,24 +16,25 @@ from typing import TYPE_CHECKING, Any, List
 if TYPE_CHECKING:
     from ._bottleneck import bottleneck
     from ._checking import Comparison, Verdict, check, compare
-    from ._counts import CountsResult, Shortage, assign_counts
-    from ._infeasible import Infeasible
+    from ._counts import CountsInfeasible, CountsResult, assign_counts
+    from ._infeasible import Infeasible, Shortage
     from ._library import GREATEST_COST, MOST_PERSONS, VERSION as __version__, LibraryNotFound
     from ._plans import k_best
     from ._result import Plan, Result
     from ._solving import linear_sum_assignment, solve, solve_sparse
 
 __all__ = [
-    "GREATEST_COST", "MOST_PERSONS", "Comparison", "CountsResult", "Infeasible", "LibraryNotFound", "Plan", "Result", "Shortage",
-    "Verdict", "assign_counts", "bottleneck", "check", "compare", "k_best", "linear_sum_assignment", "solve", "solve_sparse",
+    "GREATEST_COST", "MOST_PERSONS", "Comparison", "CountsInfeasible", "CountsResult", "Infeasible", "LibraryNotFound", "Plan", "Result",
+    "Shortage", "Verdict", "__version__", "assign_counts", "bottleneck", "check", "compare", "k_best", "linear_sum_assignment", "solve",
+    "solve_sparse",
 ]
 
 # The module of each name. It is loaded when the name is first used, so that the command can set what Ctrl-C does before that.
 _MODULES = {
     "_bottleneck": ("bottleneck",),
     "_checking": ("Comparison", "Verdict", "check", "compare"),
-    "_counts": ("CountsResult", "Shortage", "assign_counts"),
-    "_infeasible": ("Infeasible",),
+    "_counts": ("CountsInfeasible", "CountsResult", "assign_counts"),
+    "_infeasible": ("Infeasible", "Shortage"),
     "_library": ("GREATEST_COST", "MOST_PERSONS", "VERSION", "LibraryNotFound"),
     "_plans": ("k_best",),
     "_result": ("Plan", "Result"),
@@ -51,4 +52,4 @@ def __getattr__(name: str) -> Any:
 
 
 def __dir__() -> List[str]:
-    return sorted({*globals(), *__all__, "__version__"})
+    return sorted({*globals(), *__all__})

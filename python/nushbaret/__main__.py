@@ -8,8 +8,13 @@ def main() -> int:
     # Ctrl-C ends the process at once, also where the library solves, and without a traceback. Only while files are written it raises.
     if signal.getsignal(signal.SIGINT) is signal.default_int_handler:
         signal.signal(signal.SIGINT, signal.SIG_DFL)
-    from ._command import main as run
-    return run()
+    from ._command import DEVICE, main as run
+    try:
+        return run()
+    except Exception:
+        import traceback
+        traceback.print_exc()
+        return DEVICE
 
 
 if __name__ == "__main__":

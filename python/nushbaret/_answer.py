@@ -6,6 +6,7 @@ from typing import Any, Dict, List, NamedTuple, Optional, Sequence, Set, Tuple
 from ._groups import missing_of
 from ._infeasible import Infeasible
 from ._library import Numbers
+from ._names import Shown, joined, numbered
 from ._nodes import Edges, Nodes, Swap, changed, face_of, fewest_changes, is_only_one, least_costs, nodes_without, solved, swaps_of
 from ._plans import best_plans
 from ._roster import PlanLine, Roster
@@ -61,8 +62,8 @@ class Answer(NamedTuple):
 
 class Wish(NamedTuple):
     """What is asked of a roster: pairs that stand, whatever they cost; the greatest cost, not the least; where there is no plan for all
-    the fullest one; pairs to be kept where that costs nothing, or where it costs no more than `change` for each pair; the best other
-    plan, if it isn't as good; and so many plans in all, in order."""
+    the fullest one; the pairs of an earlier plan, from which as little is to change as can be at no cost, or where each pair that comes
+    and each that goes costs half of `change`; the best other plan, if it isn't as good; and so many plans in all, in order."""
 
     fixed: Sequence[PlanLine] = ()
     maximize: bool = False
@@ -81,7 +82,7 @@ def nodes_around(roster: Roster, fixed: Sequence[PlanLine]) -> Nodes:
 
 
 def answer_of(roster: Roster, wish: Wish) -> Answer:
-    """The answer to a roster in which each name counts once; ValueError where it is too large for the library."""
+    """The answer to a roster in which each name counts once; TooLarge where it is so for the library."""
     nodes = nodes_around(roster, wish.fixed)
     costs = least_costs(nodes, wish.maximize)
     if wish.kept is not None and wish.change:
@@ -191,23 +192,8 @@ def plural(word: str) -> str:
 
 def listed(names: List[str], numbers: List[int]) -> str:
     """Names in a row, the first twenty of many."""
-    shown = [names[number] for number in numbers[:MOST_NAMES_SHOWN]]
-    more = len(numbers) - len(shown)
-    return ", ".join(shown) + (f" and {more} more" if more else "")
-
-
-def sentence(roster: Roster, short: Short, some_fixed: bool) -> str:
-    """What a manager reads of a group that is short."""
-    person, object_ = roster.titles[0], roster.titles[1]
-    if short.text:
-        return short.text
-    if short.of_objects:
-        said = (f"{named(short.objects, object_, roster.objects)} can go to {_only(short.persons, person, roster.persons)}: "
-                + _advice_on_objects(short))
-    else:
-        said = (f"{named(short.persons, person, roster.persons)} can take {_only(short.objects, object_, roster.objects)}: "
-                + _advice_on_persons(roster, short))
-    return "around the fixed pairs, " + said if some_fixed else said
+    more = len(numbers) - MOST_NAMES_SHOWN
+    return joined([names[number] for number in numbers[:MOST_NAMES_SHOWN]]) + (f" and {more} more" if more > 0 else "")
 
 
 def named(numbers: List[int], word: str, names: List[str]) -> str:
@@ -215,10 +201,24 @@ def named(numbers: List[int], word: str, names: List[str]) -> str:
     return f"{counted(len(numbers), word)} ({listed(names, numbers)})"
 
 
-def _only(numbers: List[int], word: str, names: List[str]) -> str:
-    if not numbers:
-        return f"no {word}"
-    return f"only {counted(len(numbers), word)} between them ({listed(names, numbers)})"
+def sentence(roster: Roster, short: Short, some_fixed: bool) -> str:
+    """What a manager reads of a group that is short, with marks around names."""
+    if short.text:
+        return short.text
+    shown = Shown(len(short.persons), len(short.objects))
+    persons, objects = numbered(roster.persons, short.persons), numbered(roster.objects, short.objects)
+    person, object_ = roster.titles[0], roster.titles[1]
+    if short.of_objects:
+        many = counted(len(objects), object_) + shown.bracketed(1, objects)
+        said = f"{many} can go to {_only(persons, person, shown, 0)}: {_advice_on_objects(short)}"
+    else:
+        many = counted(len(persons), person) + shown.bracketed(0, persons)
+        said = f"{many} can take {_only(objects, object_, shown, 1)}: {_advice_on_persons(person, short)}"
+    return "around the fixed pairs, " + said if some_fixed else said
+
+
+def _only(names: List[str], word: str, shown: Shown, side: int) -> str:
+    return f"only {counted(len(names), word)} between them{shown.bracketed(side, names)}" if names else f"no {word}"
 
 
 def _few(short: Short) -> str:
@@ -226,11 +226,11 @@ def _few(short: Short) -> str:
     return "one" if lack == 1 else str(lack)
 
 
-def _advice_on_persons(roster: Roster, short: Short) -> str:
+def _advice_on_persons(word: str, short: Short) -> str:
     if short.objects:
         return f"allow {_few(short)} of them another, or leave {_few(short)} out"
     if len(short.persons) == 1:
-        return f"allow {roster.persons[short.persons[0]]} one, or leave {roster.persons[short.persons[0]]} out"
+        return f"allow one, or leave this {word} out"
     return "allow each one, or leave them out"
 
 

@@ -6,24 +6,25 @@ from typing import List, Sequence, Tuple
 from ._answer import Answer, Pair, Plan, Short, Wish, plural, with_following
 from ._counts import planned
 from ._exchanges import exchanges_of, free_pairs
-from ._gadgets import Bounds, Counted, TooLarge
+from ._gadgets import Bounds, Counted, TooManyNodes
 from ._groups import order_of
 from ._lack import Lack
 from ._nodes import Swap
+from ._problem import TooLarge
 from ._ranked import plans_after
 from ._roster import PlanLine, Roster
 from ._sentences import sentence_of
 
 
 def answer_by_counts(roster: Roster, wish: Wish) -> Answer:
-    """The answer to a roster with counts or groups; ValueError where it is too large for the library."""
+    """The answer to a roster with counts or groups; TooLarge where it is so for the library."""
     counted = counted_of(roster, wish)
     try:
         lacks, pairs = planned(counted, wish.fullest, wish.kept if wish.change is None else None)
-    except TooLarge as fault:
+    except TooManyNodes as fault:
         persons, objects = map(plural, roster.titles[:2])
-        raise ValueError(fault.said(f"{objects} that {persons} may take", f"places at {objects}")) from fault
-    groups = [_short(roster, counted, lack, bool(wish.fixed)) for lack in lacks]
+        raise TooLarge(fault.said(f"{objects} that {persons} may take", f"places at {objects}")) from fault
+    groups = [_short(roster, counted, lack, _around(roster, wish.fixed)) for lack in lacks]
     if pairs is None:
         return Answer(None, groups)
     plan = _plan(roster, wish.fixed, pairs)
@@ -38,20 +39,22 @@ def answer_by_counts(roster: Roster, wish: Wish) -> Answer:
 
 
 def counted_of(roster: Roster, wish: Wish) -> Counted:
-    """What is left to plan around the fixed pairs, with costs that are to be least."""
+    """What is left to plan around the fixed pairs, with costs that are to be least. Where changes cost, these are doubled: half of what a
+    change costs is that of a pair that comes, and of one that goes."""
     group_of, n_groups = _groups(roster)
     taken = {(pair.person, group_of[pair.object]) for pair in wish.fixed}
-    sign, change = -1 if wish.maximize else 1, wish.change or 0
-    kept = wish.kept if wish.kept is not None and change else None
+    sign = -1 if wish.maximize else 1
     rows: List[int] = []
     columns: List[int] = []
     costs: List[int] = []
     for person, object_, cost in zip(roster.of_persons, roster.of_objects, roster.costs):
-        if not taken or (person, group_of[object_]) not in taken:
+        if object_ not in roster.past and (not taken or (person, group_of[object_]) not in taken):
             rows.append(person)
             columns.append(object_)
-            costs.append(sign * cost + (change if kept is not None and (person, object_) not in kept else 0))
-    return Counted(*_bounds(roster, wish.fixed), group_of, n_groups, rows, columns, costs)
+            costs.append(sign * cost)
+    if wish.kept is not None and wish.change:
+        costs = [2 * cost + (-wish.change if pair in wish.kept else wish.change) for cost, pair in zip(costs, zip(rows, columns))]
+    return Counted(*bounds_around(roster, wish.fixed), group_of, n_groups, rows, columns, costs)
 
 
 def _groups(roster: Roster) -> Tuple[List[int], int]:
@@ -63,11 +66,12 @@ def _groups(roster: Roster) -> Tuple[List[int], int]:
     return [groups.of_objects.get(object_, count + object_) for object_ in range(len(roster.objects))], count
 
 
-def _bounds(roster: Roster, fixed: Sequence[PlanLine]) -> Tuple[List[Bounds], List[Bounds]]:
-    """How many each person and each object takes in addition to fixed pairs. With single numbers the smaller side takes all."""
+def bounds_around(roster: Roster, fixed: Sequence[PlanLine]) -> Tuple[List[Bounds], List[Bounds]]:
+    """How many each person and each object takes in addition to fixed pairs, in the past none. With single numbers the smaller side takes
+    all."""
     had, used = Counter(pair.person for pair in fixed), Counter(pair.object for pair in fixed)
     tasks = [roster.tasks_of(person) - had[person] for person in range(len(roster.persons))]
-    places = [roster.places_of(object_) - used[object_] for object_ in range(len(roster.objects))]
+    places = [0 if object_ in roster.past else roster.places_of(object_) - used[object_] for object_ in range(len(roster.objects))]
     if roster.least is None:
         all_served = sum(tasks) <= sum(places)
         return ([Bounds(most if all_served else 0, most) for most in tasks], [Bounds(0 if all_served else most, most) for most in places])
@@ -76,16 +80,21 @@ def _bounds(roster: Roster, fixed: Sequence[PlanLine]) -> Tuple[List[Bounds], Li
             [Bounds(max(0, of_objects.get(object_, 0) - used[object_]), most) for object_, most in enumerate(places)])
 
 
-def _short(roster: Roster, counted: Counted, lack: Lack, some_fixed: bool) -> Short:
+def _around(roster: Roster, fixed: Sequence[PlanLine]) -> str:
+    """What stands, and is planned around, in words."""
+    is_past = {pair.object in roster.past for pair in fixed}
+    names = ["the past"] * (True in is_past) + ["the fixed pairs"] * (False in is_past)
+    return f"around {' and '.join(names)}, " if names else ""
+
+
+def _short(roster: Roster, counted: Counted, lack: Lack, around: str) -> Short:
     """Who is short, and the sentence that says so."""
     persons = sorted({*lack.rows, *(row for row, _ in lack.once)})
     once = {unit for unit in lack.once}
     objects = set(lack.columns)
     if not lack.of_columns:
         objects.update(column for unit, column in zip(counted.units(), counted.columns) if unit in once)
-    sentence = sentence_of(roster, counted, lack)
-    return Short(persons, sorted(objects), lack.of_columns, lack.wanted, lack.had,
-                 "around the fixed pairs, " + sentence if some_fixed else sentence)
+    return Short(persons, sorted(objects), lack.of_columns, lack.wanted, lack.had, around + sentence_of(roster, counted, lack))
 
 
 def _plan(roster: Roster, fixed: Sequence[PlanLine], chosen: Sequence[Tuple[int, int]]) -> Plan:
@@ -98,8 +107,8 @@ def _plan(roster: Roster, fixed: Sequence[PlanLine], chosen: Sequence[Tuple[int,
     least_tasks, least_places = roster.least or ({}, {})
     without = [person for person in range(len(roster.persons))
                if had[person] < _wanted(roster, roster.tasks_of(person), least_tasks.get(person, 0))]
-    unused = [object_ for object_ in range(len(roster.objects))
-              if used[object_] < _wanted(roster, roster.places_of(object_), least_places.get(object_, 0))]
+    unused = [object_ for object_ in range(len(roster.objects)) if object_ not in roster.past
+              and used[object_] < _wanted(roster, roster.places_of(object_), least_places.get(object_, 0))]
     return Plan(pairs, sum(pair.cost for pair in pairs), without, unused, {})
 
 

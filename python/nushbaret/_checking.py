@@ -1,14 +1,16 @@
 """Plans from elsewhere, checked against a problem."""
 import math
 from array import array
+from collections.abc import Mapping, Set
 from fractions import Fraction
 from typing import Any, List, NamedTuple, Optional, Sequence, Tuple
 
-from . import _array_levels as arrays, _exact as exact, _library as library, _proved as proved, _source as sources
+from . import _array_levels as arrays, _exact as exact, _library as library, _naming as naming, _proved as proved, _source as sources
+from ._infeasible import most_served
 from ._numbers import Unit, exactly_less, in_unit, unit_of
 from ._problem import Problem, costs_of_pairs, in_whole_numbers, lists_of
 from ._result import Result, numbered
-from ._solving import solve_problem
+from ._solving import prove_most, solve_problem
 from ._source import Source
 
 
@@ -18,7 +20,7 @@ class Verdict:
     Attributes
     ----------
     proved : bool
-        Whether the prices prove that no plan of as many pairs is better.
+        Whether the plan has as many pairs as can be made, and the prices prove that no plan of as many is better.
     why : str
         What is wrong with the first row or column that speaks against it, by the labels of a DataFrame; empty if nothing is.
     row, column : int or None
@@ -58,9 +60,13 @@ class Comparison(NamedTuple):
 
 def _pairs_of(problem: Problem, columns: Any, rows: Any) -> List[Tuple[int, int]]:
     """The pairs of a plan. Each number must be one of the problem, and no row may come twice."""
-    labels = problem.labels or (None, None)
-    columns = [None if column is None else numbered(column, labels[1]) for column in columns]
-    rows = range(len(columns)) if rows is None else [numbered(row, labels[0]) for row in rows]
+    of_rows, of_columns = problem.labels or (None, None)
+    if rows is None and isinstance(columns, Mapping):
+        columns = naming.listed(columns, "columns", "row", problem.n_rows, of_rows)
+    columns = [None if column is None else numbered(column, of_columns, f"columns[{place}]")
+               for place, column in enumerate(_listed(columns, "columns"))]
+    rows = range(len(columns)) if rows is None else [numbered(row, of_rows, f"rows[{place}]")
+                                                     for place, row in enumerate(_listed(rows, "rows"))]
     if len(rows) != len(columns):
         raise ValueError(f"there are {len(rows)} rows and {len(columns)} columns: a plan pairs them one by one")
     pairs = [(row, column) for row, column in zip(rows, columns) if column is not None]
@@ -76,8 +82,28 @@ def _pairs_of(problem: Problem, columns: Any, rows: Any) -> List[Tuple[int, int]
     return pairs
 
 
-def check_problem(problem: Problem, rows: Sequence[int], columns: Sequence[int], prices: List[Fraction]) -> Verdict:
+def _listed(values: Any, what: str) -> List[Any]:
+    """Rows or columns of a plan, in their order."""
+    if isinstance(values, (Mapping, Set, str, bytes)) or not hasattr(values, "__iter__"):
+        raise TypeError(f"{what} is {values!r}: it must be a list of the plan's {what}, one for each pair")
+    return list(values)
+
+
+def check_wholly(problem: Problem, rows: Sequence[int], columns: Sequence[int], prices: List[Fraction]) -> Verdict:
     """The verdict on a plan whose rows and columns are numbers of the problem, no row twice."""
+    verdict, count = check_problem(problem, rows, columns, prices), len(rows)
+    if not verdict or count == min(problem.n_rows, problem.n_columns):
+        return verdict
+    most = most_served(problem)
+    if most > count:
+        return Verdict(f"{_counted(count, 'row')} of {problem.n_rows} {_has(count)} a column, and {most} can")
+    if count:
+        prove_most(problem, count)
+    return verdict
+
+
+def check_problem(problem: Problem, rows: Sequence[int], columns: Sequence[int], prices: List[Fraction]) -> Verdict:
+    """As `check_wholly`, among plans of as many pairs."""
     pairs = list(zip(rows, columns))
     if not pairs:
         return _verdict_on_none(problem)
@@ -269,11 +295,11 @@ def check(costs: Any, columns: Any, prices: Any, rows: Any = None, maximize: boo
     ----------
     costs : matrix
         As in `solve`.
-    columns : list of int
+    columns : list of int, or dict
         The column of each row, from 0; None for a row that stays out. With a DataFrame labels will do too, except whole numbers.
-    prices : list of numbers
-        One for each column, in the unit of the costs, as `Result.prices`. A price is added to its column's costs, and subtracted under
-        maximize. So a solver's column duals are prices with reversed signs, and under maximize as they are.
+    prices : list of numbers, dict or Series
+        One for each column, or by its name, in the unit of the costs, as `Result.prices`. A price is added to its column's costs, and
+        subtracted under maximize. So a solver's column duals are prices with reversed signs, and under maximize as they are.
     rows : list of int, optional
         The row of each of `columns`, if they aren't 0, 1, 2 ...
     maximize, decimals, missing
@@ -282,8 +308,8 @@ def check(costs: Any, columns: Any, prices: Any, rows: Any = None, maximize: boo
     Returns
     -------
     Verdict
-        True as a condition exactly if they prove that no plan of as many pairs is better. A plan may be best though these
-        prices don't prove it: see `compare`.
+        True as a condition exactly if the plan has as many pairs as can be made, and the prices prove that no plan of as many is
+        better. A plan may be best though these prices don't prove it: see `compare`.
 
     Raises
     ------
@@ -302,7 +328,7 @@ def check(costs: Any, columns: Any, prices: Any, rows: Any = None, maximize: boo
     """
     problem = sources.problem_of(sources.lasting(costs), None, None, None, exact.manner(maximize, decimals, missing))
     pairs = _pairs_of(problem, columns, rows)
-    return check_problem(problem, [row for row, _ in pairs], [column for _, column in pairs], proved.exact_prices(problem, prices))
+    return check_wholly(problem, [row for row, _ in pairs], [column for _, column in pairs], proved.exact_prices(problem, prices))
 
 
 def compare(costs: Any, columns: Any, rows: Any = None, maximize: bool = False,

@@ -8,16 +8,21 @@ import io
 import os
 import re
 import sys
-from typing import List, Optional, Sequence, Tuple
+from typing import TYPE_CHECKING, List, Optional, Sequence, Tuple
 
-from ._answer import Answer, Plan, Wish, answer_of, listed
+from ._answer import Answer, Wish, answer_of
 from ._exact import MOST_PLACES
-from ._files import STANDARD_OUTPUT, Output, OutputFault, print_content, refuse_existing, write_files
-from ._groups import missing_of, read_counts, read_groups, refuse_two_of_a_group, with_rules
-from ._roster import OldPlan, PlanLine, Roster, read_old_plan, read_plan, read_roster
-from ._sheets import RosterFault, quoted
-from ._texts import Fair, Report, as_csv, first_lines, gone_line, printed, read_lines
+from ._files import STANDARD_OUTPUT, Output, OutputFault, is_device, make_folder, print_content, refuse_existing, write_files
+from ._groups import read_counts, read_groups, refuse_two_of_a_group, with_rules
+from ._names import without_marks
+from ._problem import TooLarge
+from ._roster import OldPlan, PlanLine, Roster, read_hand_plan, read_old_plan, read_plan, read_roster
+from ._sheets import Reading, RosterFault, heading_of, quoted
+from ._texts import Fair, Hand, Report, as_csv, first_lines, forgotten_line, gone_line, in_encoding_of, printed, read_lines
 from ._words import Options, read_words
+
+if TYPE_CHECKING:
+    from ._past import Past
 
 PLANNED, NONE, WORDS, REFUSED, DEVICE = range(5)
 INTERRUPTED = 130
@@ -34,12 +39,13 @@ def main(words: Optional[Sequence[str]] = None) -> int:
     Returns
     -------
     int
-        The status, 0 to 4, or 130 after Ctrl-C. Words that are refused, and `--help`, end by `SystemExit` with status 2 and 0.
+        The status, 0 to 4, or 130 after Ctrl-C. Words that are refused, and `--help`, end by `SystemExit` with status 2 and 0. A fault of
+        nushbaret itself is raised where NUSHBARET_DEBUG is set.
     """
-    options = read_words(words)
     for stream in (sys.stdout, sys.stderr):
         if isinstance(stream, io.TextIOWrapper):
-            stream.reconfigure(errors="backslashreplace")
+            stream.reconfigure(encoding=None if stream.isatty() else "utf-8", errors="backslashreplace")
+    options = read_words(words)
     try:
         return _run(options)
     except RosterFault as fault:
@@ -51,9 +57,16 @@ def main(words: Optional[Sequence[str]] = None) -> int:
     except KeyboardInterrupt:
         return INTERRUPTED
     except Exception as fault:
-        if os.environ.get("NUSHBARET_DEBUG"):
-            raise
-        return _refused(f"a fault of nushbaret itself: {type(fault).__name__}: {fault} (NUSHBARET_DEBUG=1 shows where)", DEVICE)
+        return _own_fault(fault)
+
+
+def _own_fault(fault: Exception) -> int:
+    """Says in one line that nushbaret failed, and raises the fault again where its trace is asked for."""
+    text = " ".join(str(fault).split())
+    _say(f"a fault of nushbaret itself: {type(fault).__name__}: {text} (NUSHBARET_DEBUG=1 shows where)")
+    if os.environ.get("NUSHBARET_DEBUG"):
+        raise fault
+    return DEVICE
 
 
 def _refused(fault: object, status: int) -> int:
@@ -74,33 +87,59 @@ def _run(options: Options) -> int:
         if output.kind == "xlsx":
             from ._workbook import need_openpyxl
             need_openpyxl(output.path)
-    report = _report(options, _read(options))
+    roster = _read(options)
+    _refuse_existing_of_each(options, roster)
+    report = _report(options, roster)
     answer = report.answer
-    for plan in (report.kept, report.hand):
+    for plan in (report.kept, report.hand.plan if report.hand else None):
         if plan is not None and plan.gone:
             _say(gone_line(plan, report.roster))
-    lines = first_lines(report)
+    lines = list(map(without_marks, first_lines(report)))
     is_content = _write(report, lines)
-    skipped = [f"{output.path} isn't written: there is no plan" for output in options.outputs if not _is_written(output, answer)]
-    _print_lines(lines + printed(report) + skipped, is_content)
+    skipped = [f"{output.path} isn't written: there is no plan" for output in options.outputs if not _is_written(output, answer, options)]
+    skipped += _lines_on_each(report)
+    _print_lines(lines + ([] if options.quiet else printed(report)) + skipped, is_content)
     return PLANNED if not answer.groups else NONE
 
 
 def _report(options: Options, roster: Roster) -> Report:
     """The answer, and what was read to compare it with."""
-    fixed = _read_fixed(options.fixed, roster) if options.fixed else []
-    hand = read_hand(options.compare, roster, fixed) if options.compare else None
     # Counts may have changed since an earlier plan: what of it can't be any more is changed.
     kept = read_old_plan(options.keep, roster, not roster.ruled) if options.keep else None
+    roster, kept, past = _read_past(options, roster, kept)
+    fixed = _read_fixed(options.fixed, roster) if options.fixed else []
+    if past is not None:
+        from ._past import with_fixed
+        fixed = with_fixed(roster, past, fixed, options.fixed or "")
+    hand = _read_hand(options.compare, roster, fixed) if options.compare else None
     pairs = None if kept is None else {(pair.person, pair.object) for pair in kept.known}
     wish = Wish(fixed, options.max, options.as_many_as_can, pairs, change_cost(options, roster), options.others, options.plans)
     try:
         answer, fair = _answered(roster, wish, options.fair)
-    except ValueError as fault:
+    except TooLarge as fault:
         raise RosterFault(options.roster, str(fault)) from fault
     if hand is not None and answer.plan is not None:
-        judge_hand(roster, hand, answer.plan)
+        from ._rules import lack_of
+        hand = hand._replace(best_lack=lack_of(roster, answer.plan.pairs, fixed))
     return Report(options, roster, answer, kept, hand, fair)
+
+
+def _read_hand(path: str, roster: Roster, fixed: List[PlanLine]) -> Hand:
+    """The plan that is to be compared, and the rules that it breaks."""
+    from ._rules import broken_rules, lack_of
+    plan, repeated = read_hand_plan(path, roster)
+    return Hand(plan, broken_rules(roster, plan, repeated, fixed), lack_of(roster, plan.known, fixed))
+
+
+def _read_past(options: Options, roster: Roster, kept: Optional[OldPlan]) -> Tuple[Roster, Optional[OldPlan], Optional["Past"]]:
+    """The roster and the kept plan with what is past, if any is."""
+    if options.past is None or kept is None or roster.groups is None:
+        return roster, kept, None
+    from ._past import with_past
+    roster, kept, past = with_past(roster, roster.groups, kept, options.past, options.round)
+    for line in past.lines:
+        _say(line)
+    return roster, kept, past
 
 
 def _answered(roster: Roster, wish: Wish, is_fair: bool) -> Tuple[Answer, Optional[Fair]]:
@@ -116,14 +155,19 @@ def _answered(roster: Roster, wish: Wish, is_fair: bool) -> Tuple[Answer, Option
 
 
 def _read(options: Options) -> Roster:
-    """The roster, with how many each name takes."""
+    """The roster, with how many each name takes. What is said of it is also said where its counts or groups are refused."""
     roster = read_roster(options.roster, options.form, options.decimals, options.decimal_comma, options.round, options.sheet,
-                         options.skip_rows)
-    for line in read_lines(options.roster, roster, sys.stderr is not None and sys.stderr.isatty()):
-        _say(line)
-    tasks = read_counts(options.tasks, roster, False) if options.tasks else None
-    places = read_counts(options.places, roster, True) if options.places else None
-    return with_rules(roster, tasks, places, read_groups(options.groups, roster) if options.groups else None)
+                         options.skip_rows, Reading(options.encoding, _say))
+    forgotten: List[Optional[str]] = []
+    try:
+        tasks = read_counts(options.tasks, roster, False) if options.tasks else None
+        places = read_counts(options.places, roster, True) if options.places else None
+        roster = with_rules(roster, tasks, places, read_groups(options.groups, roster) if options.groups else None)
+        forgotten = [forgotten_line(roster, counts, side) for side, counts in ((1, places), (0, tasks)) if counts is not None]
+    finally:
+        for line in [*read_lines(options.roster, roster, sys.stderr is not None and sys.stderr.isatty()), *filter(None, forgotten)]:
+            _say(line)
+    return roster
 
 
 def _say(line: str) -> None:
@@ -137,43 +181,6 @@ def _read_fixed(path: str, roster: Roster) -> List[PlanLine]:
     fixed = read_plan(path, roster)
     refuse_two_of_a_group(path, roster, fixed)
     return fixed
-
-
-def read_hand(path: str, roster: Roster, fixed: List[PlanLine]) -> OldPlan:
-    """A plan made by hand, refused where it leaves out a fixed pair or has one that is forbidden."""
-    hand = read_old_plan(path, roster)
-    for person, object_, line in hand.forbidden:
-        raise RosterFault(path, f"{roster.persons[person]}, {roster.objects[object_]} is a forbidden pair", line)
-    refuse_two_of_a_group(path, roster, hand.known)
-    pairs = {(pair.person, pair.object) for pair in hand.known}
-    for pair in fixed:
-        if (pair.person, pair.object) not in pairs:
-            raise RosterFault(path, f"the fixed pair {roster.persons[pair.person]}, {roster.objects[pair.object]} is missing")
-    return hand
-
-
-def judge_hand(roster: Roster, hand: OldPlan, plan: Plan) -> None:
-    """Refuses a plan made by hand that has fewer pairs than possible, or with bounds misses more, unless names are gone: its cost can't be
-    compared with that of a whole plan."""
-    if hand.gone or roster.least is None and len(hand.known) == len(plan.pairs):
-        return
-    if roster.least is not None:
-        _judge_bounds(roster, hand, plan)
-        return
-    missing = ""
-    if not roster.counts:
-        names, side = (roster.persons, 0) if len(roster.persons) <= len(roster.objects) else (roster.objects, 1)
-        had = {pair[side] for pair in hand.known}
-        missing = ": none has " + listed(names, [number for number in range(len(names)) if number not in had])
-    raise RosterFault(hand.path, f"{len(hand.known)} pairs, where {len(plan.pairs)} can be{missing}")
-
-
-def _judge_bounds(roster: Roster, hand: OldPlan, plan: Plan) -> None:
-    own = missing_of(roster, hand.known)
-    lack = [sum(missing.least - missing.had for missing in those) for those in (own, missing_of(roster, plan.pairs))]
-    if lack[0] > lack[1]:
-        names = [f"{missing.name}: {missing.had} of {missing.least}" for missing in own]
-        raise RosterFault(hand.path, f"{lack[0]} too few, where {lack[1] or 'none'} must be: {listed(names, list(range(len(names))))}")
 
 
 def change_cost(options: Options, roster: Roster) -> Optional[int]:
@@ -193,38 +200,72 @@ def change_cost(options: Options, roster: Roster) -> Optional[int]:
     return int(found[1] + part.ljust(roster.decimals, "0"))
 
 
-def _is_written(output: Output, answer: Answer) -> bool:
-    """Whether an output is written: as a table only a plan is."""
-    return answer.plan is not None or output.kind in ("json", "html")
+def _is_written(output: Output, answer: Answer, options: Options) -> bool:
+    """Whether an output is written: without a plan as JSON, or as a page that isn't of the plan alone."""
+    return answer.plan is not None or output.kind == "json" or output.kind == "html" and not options.plan_only
 
 
 def _write(report: Report, lines: List[str]) -> bool:
     """Writes the outputs, the files first. Whether standard output got one."""
     options = report.options
     outputs = [*options.outputs, *([Output(STANDARD_OUTPUT[0], options.print)] if options.print else [])]
-    contents = [(output, content_of(report, lines, output.kind)) for output in outputs if _is_written(output, report.answer)]
-    write_files([(output.path, content) for output, content in contents if not output.is_standard], options.force)
+    contents = [(output, content_of(report, lines, output)) for output in outputs if _is_written(output, report.answer, options)]
+    files = [(output.path, content) for output, content in contents if not output.is_standard]
+    if options.each and report.answer.plan is not None:
+        from ._each import files_of
+        files += files_of(report.roster, report.answer.plan, report.kept, options.each)
+        make_folder(options.each)
+    write_files(files, options.force)
     for output, content in contents:
         if output.is_standard:
             print_content(content)
     return any(output.is_standard for output in outputs)
 
 
-def content_of(report: Report, lines: List[str], kind: str) -> bytes:
-    """What is written of a kind."""
+def _refuse_existing_of_each(options: Options, roster: Roster) -> None:
+    """Refuses to write for each person what exists, unless it may be overwritten, or is another output."""
+    if options.each is None:
+        return
+    from ._each import paths_of
+    others = {os.path.realpath(output.path) for output in options.outputs}
+    for path in paths_of(roster, options.each):
+        if os.path.realpath(path) in others:
+            raise OutputFault(f"{path} is another output too")
+        if not options.force:
+            refuse_existing(path)
+
+
+def _lines_on_each(report: Report) -> List[str]:
+    """What is said of the files for each person that aren't written."""
+    folder, plan = report.options.each, report.answer.plan
+    if folder is None:
+        return []
+    from ._each import lines_on_calendars
+    return [f"{folder}: nothing is written: there is no plan"] if plan is None else lines_on_calendars(report.roster, plan, folder)
+
+
+def title_of(options: Options, output: Output) -> str:
+    """The title of a page: its file's name without its end; of a page on a device or a pipe that of the roster."""
+    return heading_of(options.roster) if output.is_standard or is_device(output.path) else os.path.splitext(os.path.basename(output.path))[0]
+
+
+def content_of(report: Report, lines: List[str], output: Output) -> bytes:
+    """What is written to an output. Standard output is UTF-8."""
+    kind = output.kind
     if kind == "json":
         from ._json import as_json
         return as_json(report, lines).encode()
     if kind == "html":
         from ._page import page
-        return page(report, os.path.splitext(os.path.basename(report.options.roster))[0], lines).encode()
+        return page(report, title_of(report.options, output)).encode()
     plan = report.answer.plan
     if plan is None:
         raise ValueError("there is no plan")
     if kind == "xlsx":
         from ._workbook import as_xlsx
         return as_xlsx(report, plan)
-    return as_csv(report.roster, plan).encode()
+    text = as_csv(report.roster, plan, report.kept)
+    return text.encode() if output.is_standard else in_encoding_of(report.roster, text)
 
 
 def _print_lines(lines: List[str], is_content: bool) -> None:

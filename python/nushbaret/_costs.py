@@ -4,20 +4,27 @@ from array import array
 from decimal import Decimal
 from itertools import repeat
 from operator import floordiv, mod, mul
-from typing import Iterable, List, NoReturn, Optional, Sequence, Tuple
+from typing import Iterable, List, NoReturn, Optional, Protocol, Sequence, Tuple
 
 from ._exact import MOST_PLACES
 from ._library import GREATEST_COST, Numbers
-from ._sheets import Sheet, quoted
+from ._sheets import quoted
 
 MILLION = 10**MOST_PLACES
 ZEROS = "0" * MOST_PLACES
 NUMBERS = b"0123456789+-"
 
+
+class Refuses(Protocol):
+    """What refuses a cell of a file."""
+
+    def refuse(self, text: str, line: Optional[int] = None, column: Optional[int] = None) -> NoReturn: ...
+
+
 class Costs:
     """Costs as they are read, exactly, with as many places as they have until it is known how many are used."""
 
-    def __init__(self, sheet: Sheet, decimals: Optional[int], comma: bool, rounds: Optional[int] = None) -> None:
+    def __init__(self, sheet: Refuses, decimals: Optional[int], comma: bool, rounds: Optional[int] = None) -> None:
         self._sheet, self._comma, self._rounds = sheet, comma, rounds
         self._given = decimals if rounds is None else rounds
         self._most = MOST_PLACES if decimals is None else decimals
@@ -122,7 +129,8 @@ class Costs:
 
     def _more_places(self, cell: str, places: int, line: int, column: int) -> None:
         if places > self._most:
-            self._sheet.refuse(f"{quoted(cell)} has more than {self._most} decimal places", line, column)
+            hint = f": --decimals {places} allows it" if places <= MOST_PLACES else ""
+            self._sheet.refuse(f"{quoted(cell)} has more than {self._most} decimal places{hint}", line, column)
         self._places = places
 
     def scaled(self) -> Tuple[int, Numbers]:

@@ -2,51 +2,35 @@
 import operator
 from collections import Counter
 from functools import cached_property
-from typing import Any, Collection, Dict, List, NamedTuple, Optional, Tuple
+from typing import Any, Collection, Dict, List, Optional, Tuple
 
-from . import _library as library
+from . import _library as library, _naming as naming
 from ._exact import manner
 from ._gadgets import Bounds, Counted, Pair, best_pairs, trimmed
-from ._infeasible import Infeasible, Labels, numbered
+from ._infeasible import Infeasible, Shortage, numbered
 from ._lack import Lack, lacks_of
 from ._numbers import Number
-from ._problem import Problem, in_whole_numbers, lists_of
+from ._problem import Labels, Problem, in_whole_numbers, lists_of
 from ._result import Lasting, in_frames
 from ._source import lasting, problem_of
 
 ONE_AT_MOST = Bounds(0, 1)
 
 
-class Shortage(NamedTuple):
-    """Least counts that can't be met. If `of_columns` is false, these rows must have `wanted` columns and can have no more than `had`: as
-    many as `columns` take at most, and for each of `once`, a row and some columns, one of these. If it is true, these columns must have
-    `wanted` rows and can have no more than `had`: as many as `rows` take at most, and for each of `once` one.
+class CountsInfeasible(Infeasible):
+    """No plan meets all least counts, and each of `shortages` proves it. No two of them share rows and columns that they need.
+
+    Attributes
+    ----------
+    groups, rows, columns
+        The rows and columns of each shortage, and those of the first one.
 
     >>> import nushbaret
     >>> try:
     ...     nushbaret.assign_counts([[4, 1], [2, 3]], (0, 1), (2, 2))
-    ... except nushbaret.Infeasible as short:
-    ...     print(short.shortages[0].columns, short.shortages[0].wanted, short.shortages[0].had)
-    [0, 1] 4 2
-    """
-
-    of_columns: bool
-    rows: List[int]
-    columns: List[int]
-    once: List[Tuple[int, List[int]]]
-    wanted: int
-    had: int
-
-
-class CountsInfeasible(Infeasible):
-    """No plan meets all least counts, and each shortage proves it.
-
-    Attributes
-    ----------
-    shortages : list of Shortage
-        No two share rows and columns that they need.
-    groups, rows, columns
-        The rows and columns of each shortage, and those of the first one.
+    ... except nushbaret.CountsInfeasible as short:
+    ...     print(short)
+    counts can't be met: columns 0, 1 must have 4 rows, and can have 2: 2 by the most of rows 0, 1
     """
 
     def __init__(self, shortages: List[Shortage], labels: Labels = None):
@@ -219,27 +203,35 @@ def _bound(value: Any, where: str) -> Bounds:
     return bound
 
 
-def bounds_of(counts: Any, number: int, what: str) -> List[Bounds]:
-    """The counts of all rows, or of all columns."""
+def bounds_of(counts: Any, kind: str, number: int, labels: Optional[List[Any]]) -> List[Bounds]:
+    """The counts of all rows, or of all columns, as `kind` says."""
+    what = f"{kind}_counts"
     if counts is None:
         return [ONE_AT_MOST] * number
     if _is_whole(counts) or isinstance(counts, tuple) and _is_range(counts):
         return [_bound(counts, what)] * number
-    try:
-        values = counts.tolist() if hasattr(counts, "tolist") else list(counts)
-    except TypeError:
-        raise TypeError(f"{what} is {counts!r}: a count is a whole number, or the least and the most") from None
+    if not hasattr(counts, "__iter__"):
+        raise TypeError(f"{what} is {counts!r}: a count is a whole number, or the least and the most")
+    values = naming.listed(counts, what, kind, number, labels)
     if len(values) != number:
         raise ValueError(f"{what} has {len(values)} counts, where {number} are needed (one for all is a number, or a tuple of least and "
                          "most)")
     return [_bound(value, f"{what}[{place}]") for place, value in enumerate(values)]
 
 
-def groups_of(column_groups: Any, n_columns: int) -> Tuple[List[int], int]:
+def _is_list(value: Any) -> bool:
+    return hasattr(value, "__iter__") and not isinstance(value, (str, bytes))
+
+
+def groups_of(column_groups: Any, n_columns: int, labels: Optional[List[Any]]) -> Tuple[List[int], int]:
     """The group of each column, and how many groups were given; columns in none come after these."""
     given: List[Optional[int]] = [None] * n_columns
-    values = [] if column_groups is None else list(column_groups)
-    are_lists = [hasattr(value, "__iter__") and not isinstance(value, (str, bytes)) for value in values]
+    # Groups need no order, and labels do.
+    if column_groups is None or isinstance(column_groups, (set, frozenset)) and all(map(_is_list, column_groups)):
+        values = list(column_groups or ())
+    else:
+        values = naming.listed(column_groups, "column_groups", "column", n_columns, labels)
+    are_lists = list(map(_is_list, values))
     if all(are_lists):
         count = _of_lists(values, given)
     elif any(are_lists):
@@ -297,10 +289,10 @@ def assign_counts(costs: Any, row_counts: Any = None, column_counts: Any = None,
     ----------
     costs : matrix
         As in `solve`.
-    row_counts, column_counts : int, tuple or list, optional
+    row_counts, column_counts : int, tuple, list, dict or Series, optional
         How many columns a row takes, and how many rows a column: a number, exactly so many, or a tuple (least, most). One for all, or a
-        list with one for each. None is (0, 1); not both may be None.
-    column_groups : list, optional
+        list with one for each, or a dict or a Series by the labels of a DataFrame, else by numbers. None is (0, 1); not both may be None.
+    column_groups : list, dict or Series, optional
         Groups of columns, no two of which share any: a list of lists of column numbers, or a label for each column, None for no group.
     maximize, decimals, missing, timeout
         As in `solve`.
@@ -333,8 +325,9 @@ def assign_counts(costs: Any, row_counts: Any = None, column_counts: Any = None,
     if row_counts is None and column_counts is None:
         raise TypeError("row_counts and column_counts are both missing: give one, or call solve")
     problem = in_whole_numbers(problem_of(lasting(costs), None, None, None, manner(maximize, decimals, missing)))
-    rows, columns = bounds_of(row_counts, problem.n_rows, "row_counts"), bounds_of(column_counts, problem.n_columns, "column_counts")
-    counted = _counted(problem, rows, columns, groups_of(column_groups, problem.n_columns))
+    of_rows, of_columns = problem.labels or (None, None)
+    rows, columns = bounds_of(row_counts, "row", problem.n_rows, of_rows), bounds_of(column_counts, "column", problem.n_columns, of_columns)
+    counted = _counted(problem, rows, columns, groups_of(column_groups, problem.n_columns, of_columns))
     with library.limited(timeout):
         lacks, pairs = planned(counted, partial)
     if pairs is None:

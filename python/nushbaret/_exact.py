@@ -11,17 +11,21 @@ from fractions import Fraction
 from itertools import chain
 from typing import Any, Callable, List, NamedTuple, NoReturn, Optional, Tuple
 
-from . import _parts as parts
+from . import _parts as parts, _printing as printing
 from ._library import FEW, GREATEST_COST, Numbers
 from ._numbers import ONE, Ratio, Unit, in_unit, of_places, ratio_of, unit_of
 
 # With so many places at most, costs are made whole before they are solved.
 MOST_PLACES = 6
+# Costs may be rounded to so many places at most. A double prints with at most 340.
+MOST_DECIMALS = 1000
 FORBID = "forbid"
 _PLAIN = frozenset((int, float, bool, type(None)))
 # Doubles that are whole stay so below this; a greater one may print as another whole number.
 _MOST_WHOLE = 2.0**53
 _SAMPLE = 32
+# The greatest whole number of 64 bits with a sign.
+_MOST_64 = 2**63 - 1
 
 # What a place in a list of costs is called, for messages.
 Where = Callable[[int], str]
@@ -77,10 +81,20 @@ def manner(maximize: Any, decimals: Any = None, missing: Any = "refuse", doubles
     if decimals is not None:
         if isinstance(decimals, str):
             raise ValueError(f"decimals is {decimals!r}: it must be a whole number from 0, or None for the costs as they are")
-        decimals = operator.index(decimals)
+        decimals = whole_number(decimals, "decimals")
         if decimals < 0:
             raise ValueError(f"decimals is {decimals}: it must be 0 or more")
+        if decimals > MOST_DECIMALS:
+            raise ValueError(f"decimals is above {MOST_DECIMALS}: costs can be rounded to at most so many places")
     return Manner(bool(maximize), decimals, missing == FORBID, doubles)
+
+
+def whole_number(value: Any, name: str) -> int:
+    """A whole number that the caller gave by this name."""
+    try:
+        return operator.index(value)
+    except TypeError:
+        raise TypeError(f"{name} is {value!r}: it must be a whole number") from None
 
 
 def refuse_invalid(where: str, value: Any) -> NoReturn:
@@ -119,9 +133,10 @@ class _Reader:
         if isinstance(value, numbers.Rational):
             fraction = Fraction(int(value.numerator), int(value.denominator))
             return fraction if fraction.denominator > 1 else int(fraction)
-        if getattr(getattr(value, "dtype", None), "kind", "") == "f":
-            return self._of_numpy(place, value)
-        return self._of_any(place, value)
+        kind = getattr(getattr(value, "dtype", None), "kind", "")
+        if kind == "b":
+            return int(value)
+        return self._of_numpy(place, value) if kind == "f" else self._of_any(place, value)
 
     def _whole(self, value: int) -> int:
         if self.manner.doubles and abs(value) > _MOST_WHOLE:
@@ -134,9 +149,9 @@ class _Reader:
 
     def _of_numpy(self, place: int, value: Any) -> Any:
         """A float of NumPy's of another size than Python's."""
-        if self.manner.doubles or not math.isfinite(value):
+        if self.manner.doubles or not -math.inf < value < math.inf:
             return self.number(place, float(value))
-        return decimal.Decimal(str(value))
+        return printing.of_scalar(value)
 
     def _of_any(self, place: int, value: Any) -> Any:
         """What a call of SciPy's makes a double of; elsewhere only what stands for a whole number."""
@@ -306,7 +321,8 @@ def of_array(numpy: Any, values: Any, manner: Manner, where: Where) -> Costs:
         return _of_whole_array(numpy, parts.in_order(numpy, numpy.asarray(values)), manner, where)
     with numpy.errstate(all="ignore"):
         values = numpy.asarray(values)
-        if mask is None or manner.doubles or not mask.any():
+        # SciPy's call sees no mask.
+        if mask is None or manner.doubles and not manner.forbid_nan or not mask.any():
             return _of_values(numpy, parts.in_order(numpy, values), manner, where)
         masked = numpy.flatnonzero(mask)
         if not manner.forbid_nan:
@@ -315,6 +331,50 @@ def of_array(numpy: Any, values: Any, manner: Manner, where: Where) -> Costs:
         values[mask] = 0
         read = _of_values(numpy, values.ravel(), manner, where)
         return read._replace(forbidden=numpy.union1d(numpy.array(read.forbidden, numpy.intp), masked))
+
+
+def array_of_frame(numpy: Any, frame: Any, manner: Manner) -> Any:
+    """The costs of a frame of pandas. Columns of several kinds are read one by one: an array of one kind may not hold all of them."""
+    costs = frame.to_numpy()
+    # Mostly one array holds all columns, and two calls show the same memory: that is faster to see than the kinds of columns.
+    if costs.dtype.kind != "O" and numpy.may_share_memory(costs, frame.to_numpy()):
+        return costs
+    kinds = set(frame.dtypes)
+    if len(kinds) < 2 and (manner.doubles or not any(map(_small_kind, kinds))):
+        return costs
+    columns = [_column(numpy, frame.iloc[:, place], manner) for place in range(frame.shape[1])]
+    kind = numpy.float64 if all(map(_fits_doubles, columns)) else object
+    joined = numpy.empty(frame.shape, kind)
+    for place, column in enumerate(columns):
+        joined[:, place] = column if kind is not object or column.dtype.kind == "O" else column.tolist()
+    return joined
+
+
+def _small_kind(kind: Any) -> Any:
+    """The kind of NumPy's that one of pandas' own is made of, if its floats have less than 64 bits."""
+    own: Any = getattr(kind, "numpy_dtype", None)
+    return own if getattr(own, "kind", "") == "f" and own.itemsize < 8 else None
+
+
+def _column(numpy: Any, column: Any, manner: Manner) -> Any:
+    """The costs of a column; floats of fewer bits as doubles."""
+    small = None if manner.doubles else _small_kind(column.dtype)
+    values = column.to_numpy() if small is None else column.to_numpy(dtype=small, na_value=math.nan)
+    if values.dtype.kind != "f":
+        return values
+    if values.dtype.itemsize > 8:
+        return numpy.array([*values, None], object)[:-1]
+    if values.dtype.itemsize == 8 or manner.doubles:
+        return values.astype(numpy.float64)
+    with numpy.errstate(all="ignore"):
+        return printing.of_array(numpy, values)
+
+
+def _fits_doubles(column: Any) -> bool:
+    """Whether a column's costs are doubles: floats are, and whole numbers that aren't too great."""
+    if column.dtype.kind not in "biu":
+        return bool(column.dtype.kind == "f")
+    return not column.size or -_MOST_WHOLE <= int(column.min()) and int(column.max()) <= _MOST_WHOLE
 
 
 def _of_values(numpy: Any, flat: Any, manner: Manner, where: Where) -> Costs:
@@ -331,21 +391,22 @@ def _of_values(numpy: Any, flat: Any, manner: Manner, where: Where) -> Costs:
 
 def _of_whole_array(numpy: Any, flat: Any, manner: Manner, where: Where) -> Costs:
     places = manner.decimals or 0
-    great = flat.dtype.kind == "u" and flat.dtype.itemsize == 8 and flat.size and flat.max() > 2**63 - 1
-    most = GREATEST_COST // 10**places
-    if great or places and flat.size and not (int(flat.min()) >= -most and int(flat.max()) <= most):
-        return _of_numbers([int(value) for value in flat], [], manner)
+    if flat.size and (places or flat.dtype.kind == "u"):
+        # As Python's numbers, since NumPy compares whole numbers of two kinds as doubles.
+        most = GREATEST_COST // 10**places if places else _MOST_64
+        if not (int(flat.min()) >= -most and int(flat.max()) <= most):
+            return _of_numbers(flat.tolist(), [], manner)
     numbers_ = flat.astype(numpy.int64, copy=not flat.flags.aligned)
     return Costs(numbers_ * 10**places if places else numbers_, (), of_places(places), False, numpy)
 
 
 def _of_float_array(numpy: Any, flat: Any, manner: Manner, where: Where) -> Costs:
+    if flat.dtype.itemsize < 8 and not manner.doubles:
+        flat = printing.of_array(numpy, flat)
     wide = flat.astype(numpy.float64, copy=not flat.flags.aligned)
-    whole = None if manner.decimals else whole_numbers(numpy, wide)
-    if whole is not None:
-        return Costs(whole, (), ONE, False, numpy)
-    if flat.dtype.itemsize < 8 and not manner.doubles and not (numpy.rint(flat) == flat).all():
-        wide = flat.astype("U32").astype(numpy.float64)
+    found = None if manner.decimals else whole_numbers(numpy, wide)
+    if found is not None:
+        return Costs(found, (), ONE, False, numpy)
     wide, forbidden, most = _finite(numpy, wide, manner, where)
     if manner.decimals is not None:
         return _rounded_array(numpy, wide, forbidden, manner)

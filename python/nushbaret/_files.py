@@ -29,13 +29,21 @@ class OutputFault(Exception):
 
 def refuse_existing(path: str) -> None:
     """Refuses a file that exists."""
-    if os.path.lexists(path) and not _is_device(path):
+    if os.path.lexists(path) and not is_device(path):
         raise OutputFault(f"{path} exists: --force overwrites it")
 
 
-def _is_device(path: str) -> bool:
+def is_device(path: str) -> bool:
     """Whether a path is that of a device, or of a pipe that the shell made."""
     return path.startswith("/dev/") and os.path.exists(path) and not (os.path.isfile(path) or os.path.isdir(path))
+
+
+def make_folder(path: str) -> None:
+    """Makes a folder, with those above it, if it isn't there."""
+    try:
+        os.makedirs(path, exist_ok=True)
+    except OSError as fault:
+        raise OutputFault(f"{path}: {'no folder' if isinstance(fault, (FileExistsError, NotADirectoryError)) else fault.strerror or fault}") from fault
 
 
 def write_files(contents: Sequence[Tuple[str, bytes]], force: bool) -> None:
@@ -61,7 +69,7 @@ def _interrupts_raise() -> Iterator[None]:
 def write_file(path: str, content: bytes, force: bool) -> None:
     """Writes a whole file or none. What exists is replaced under `force`, in one step, and refused otherwise."""
     try:
-        if _is_device(path):
+        if is_device(path):
             with open(path, "wb") as device:
                 device.write(content)
         elif force:

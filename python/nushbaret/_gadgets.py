@@ -11,6 +11,7 @@ from typing import Any, Collection, Dict, Iterable, Iterator, List, NamedTuple, 
 
 from ._infeasible import Infeasible
 from ._library import MOST_PERSONS
+from ._problem import TooLarge
 from ._solving import solve_sparse
 
 Pair = Tuple[int, int]
@@ -62,7 +63,7 @@ class Trimmed(NamedTuple):
     places: Dict[Unit, int]
 
 
-class TooLarge(ValueError):
+class TooManyNodes(TooLarge):
     """Counts need more nodes than the library takes: how many columns rows may take, how many rows columns may take, how many rules of at
     most one there are, and the nodes of all that."""
 
@@ -80,7 +81,7 @@ class TooLarge(ValueError):
 
 
 def trimmed(counted: Counted) -> Trimmed:
-    """The counts without what can't be used; TooLarge if the rest alone needs too many nodes."""
+    """The counts without what can't be used; TooManyNodes if the rest alone needs too many."""
     columns = _cut(counted.column_bounds, Counter(counted.columns))
     of_rows, held = Counter(counted.rows), _places_of_units(counted, columns)
     if held:
@@ -89,7 +90,7 @@ def trimmed(counted: Counted) -> Trimmed:
     rows = _cut(counted.row_bounds, of_rows)
     copies, places = (sum(bound.most for bound in bounds) for bounds in (rows, columns))
     if max(copies, places) > MOST_PERSONS:
-        raise TooLarge(copies, places, 0, max(copies, places))
+        raise TooManyNodes(copies, places, 0, max(copies, places))
     return Trimmed(rows, columns, held)
 
 
@@ -246,12 +247,12 @@ class _Builder:
                     yield unit
 
     def add(self, units: Iterable[Unit]) -> None:
-        """Makes gadgets; TooLarge if these are too many."""
+        """Makes gadgets; TooManyNodes if these are too many."""
         for unit in units:
             self.gadgets.setdefault(unit, len(self.gadgets))
         nodes = self.most(len(self.gadgets))
         if nodes > MOST_PERSONS:
-            raise TooLarge(len(self.rows.owners), len(self.columns.owners), len(self.gadgets), nodes)
+            raise TooManyNodes(len(self.rows.owners), len(self.columns.owners), len(self.gadgets), nodes)
 
     def nodes(self) -> Nodes:
         """The nodes with the gadgets made so far."""
@@ -336,11 +337,11 @@ def best_pairs(counted: Counted, served: Optional[Served] = None, kept: Optional
     served : Served, optional
         How much of the least counts is to be met, as much as can be; all, if it isn't given.
     kept : collection of pairs, optional
-        Of all best plans take one that has as few other pairs as can be.
+        Of all best plans take one with the fewest changes: pairs that aren't kept, and kept ones that it doesn't have.
 
     Raises
     ------
-    TooLarge
+    TooManyNodes
         If the problem has too many nodes for the library.
     """
     builder = _Builder(counted, served, kept is not None)
@@ -374,11 +375,11 @@ def _fewest_changes(counted: Counted, nodes: Nodes, result: Any, kept: Collectio
     cost is 0."""
     lists, of_rows, of_columns = nodes.lists, result.row_duals, result.column_duals
     costs = [*counted.costs, 0]
-    changes = [*(pair not in kept for pair in zip(counted.rows, counted.columns)), False]
+    changes = [*(-1 if pair in kept else 1 for pair in zip(counted.rows, counted.columns)), 0]
     tight = [edge for edge, (row, column, place) in enumerate(zip(lists.rows, lists.columns, lists.places))
              if of_rows[row] + of_columns[column] == costs[place]]
     best = _Lists()
     for own, left in ((lists.rows, best.rows), (lists.columns, best.columns), (lists.places, best.places)):
         left.extend(array("q", [own[edge] for edge in tight]))
-    found = _solved(nodes._replace(lists=best), [int(changes[place]) for place in best.places])
+    found = _solved(nodes._replace(lists=best), [changes[place] for place in best.places])
     return nodes.pairs(found.rows, found.columns)

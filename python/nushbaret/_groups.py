@@ -3,27 +3,30 @@ import re
 from collections import Counter
 from typing import Dict, Iterator, List, NamedTuple, Optional, Protocol, Sequence, Tuple
 
+from ._dates import spellings
 from ._gadgets import Bounds
 from ._library import MOST_PERSONS
 from ._roster import Groups, PlanLine, Roster, known, looks_like_number
 from ._sheets import RosterFault, Sheet, quoted, unit_of
+from ._times import columns_of, times_of
 
 
 class Counts(NamedTuple):
-    """How many names take, by their numbers; and whether any line has two numbers."""
+    """How many names take, by their numbers; whether any line has two numbers; and the file."""
 
     bounds: Dict[int, Bounds]
     are_ranges: bool
+    path: str
 
 
 def read_counts(path: str, roster: Roster, of_objects: bool) -> Counts:
     """Reads how many each object, or each person, takes: a title line, and lines of a name and one whole number, or two: at least and at
-    most.
+    most. Of two, where both have a title, either may be left empty: then there is no least or no greatest number.
 
     Raises `RosterFault` for the first name that the roster doesn't have or that stands twice, number that is none from 0 to 8192, or least
     number that is greater than the most.
     """
-    sheet = Sheet(path)
+    sheet = Sheet(path, reading=roster.reading)
     line, title = sheet.title()
     if len(title) < 2:
         sheet.refuse("each line must have a name and how many it takes", line)
@@ -31,27 +34,38 @@ def read_counts(path: str, roster: Roster, of_objects: bool) -> Counts:
         sheet.refuse(f"a title line must come first, and {quoted(title[1])} is a number", line, 2)
     bounds: Dict[int, Bounds] = {}
     are_ranges = False
+    limit = len(roster.persons if of_objects else roster.objects)
     for line, cells in _lines(sheet, len(title)):
         number = known(sheet, roster, cells[0], line, 2 if of_objects else 1, 1)
         if number in bounds:
             sheet.refuse(f"the name {quoted(cells[0])} a second time", line, 1)
-        least = _count(sheet, cells[1], line, 2)
-        most = _count(sheet, cells[2], line, 3) if cells[2] else least
-        if least > most:
-            sheet.refuse(f"at least {least} and at most {most}: the second number can't be less", line, 3)
-        bounds[number] = Bounds(least, most)
-        are_ranges = are_ranges or bool(cells[2])
-    return Counts(bounds, are_ranges)
+        bounds[number] = _bounds(sheet, cells[1:], limit, line)
+        are_ranges = are_ranges or len(cells) == 3
+    return Counts(bounds, are_ranges, path)
 
 
 def _lines(sheet: Sheet, width: int) -> Iterator[Tuple[int, List[str]]]:
-    """The lines after the title, each with a name and room for two numbers."""
+    """The lines after the title, each with a name and one number or two. An empty cell below a third title is an empty number."""
     records = sheet.records()
     next(records)
     for line, cells in records:
         if any(cells[max(width, 3):]):
             sheet.refuse(f"{len(cells)} cells, where a name and one or two numbers are needed", line)
-        yield line, (cells + ["", ""])[:3]
+        has_two = len(cells) > 2 and (width > 2 or cells[2] != "")
+        yield line, cells[:3] if has_two else (cells + [""])[:2]
+
+
+def _bounds(sheet: Sheet, cells: Sequence[str], limit: int, line: int) -> Bounds:
+    """At least and at most so many: one number is both, and an empty one of two is 0 or the limit."""
+    if not any(cells):
+        sheet.refuse("no number: how many are needed", line, 2)
+    least = _count(sheet, cells[0], line, 2) if cells[0] else 0
+    if len(cells) == 1:
+        return Bounds(least, least)
+    most = _count(sheet, cells[1], line, 3) if cells[1] else max(limit, least)
+    if least > most:
+        sheet.refuse(f"at least {least} and at most {most}: the second number can't be less", line, 3)
+    return Bounds(least, most)
 
 
 def _count(sheet: Sheet, cell: str, line: int, column: int) -> int:
@@ -61,18 +75,18 @@ def _count(sheet: Sheet, cell: str, line: int, column: int) -> int:
 
 
 def read_groups(path: str, roster: Roster) -> Groups:
-    """Reads groups of objects of which nobody takes two: a title line, and lines of an object and its group.
+    """Reads groups of objects of which nobody takes two: a title line, and lines of an object and its group; maybe with columns of times.
 
-    Raises `RosterFault` for the first object that the roster doesn't have or that stands twice.
+    Raises `RosterFault` for the first object that the roster doesn't have or that stands twice, or time that is none.
     """
-    sheet = Sheet(path)
+    sheet = Sheet(path, reading=roster.reading)
     line, title = sheet.title()
     if len(title) < 2:
         sheet.refuse("each line must have an object and its group", line)
     if title[0] in roster.object_numbers:
         sheet.refuse(f"a title line must come first, and {quoted(title[0])} is an object", line, 1)
     numbers: Dict[str, int] = {}
-    groups = Groups(title[1], [], {})
+    groups, columns = Groups(title[1], [], {}, {}), columns_of(sheet, title, line)
     lines: Dict[int, int] = {}
     for line, cells in sheet.body(len(title)):
         object_ = known(sheet, roster, cells[0], line, 2, 1)
@@ -81,22 +95,35 @@ def read_groups(path: str, roster: Roster) -> Groups:
             where = f"in {groups.names[groups.of_objects[object_]]}, since line {lines[object_]}"
             sheet.refuse(f"{quoted(cells[0])} a second time: it is {where}", line, 1)
         lines[object_] = line
-        groups.of_objects[object_] = numbers.setdefault(name, len(numbers))
-        groups.names.extend(list(numbers)[len(groups.names):])
+        number = numbers.setdefault(spellings(name)[0], len(groups.names))
+        groups.of_objects[object_] = number
+        groups.names.extend([name] if number == len(groups.names) else [])
+        times = times_of(sheet, cells, columns, line) if columns else None
+        groups.times.update({object_: times} if times else {})
     if not lines:
         sheet.refuse("no line after the title", line)
     return groups
 
 
 def with_rules(roster: Roster, tasks: Optional[Counts], places: Optional[Counts], groups: Optional[Groups]) -> Roster:
-    """The roster with counts and groups. Where any line has two numbers bounds alone decide."""
+    """The roster with counts and groups. Where any line has two numbers bounds alone decide: then an object without a line takes exactly
+    one, and a person at most one."""
     most = [None if counts is None else {number: bound.most for number, bound in counts.bounds.items()} for counts in (tasks, places)]
     least = None
     if any(counts is not None and counts.are_ranges for counts in (tasks, places)):
         of_persons, of_objects = ({number: bound.least for number, bound in counts.bounds.items()} if counts else {}
                                   for counts in (tasks, places))
-        least = of_persons, of_objects
+        least = of_persons, {**dict.fromkeys(range(len(roster.objects)), 1), **of_objects}
     return roster._replace(tasks=most[0], places=most[1], least=least, groups=groups)
+
+
+class Broken(NamedTuple):
+    """A rule that a plan breaks, the persons and objects that it is about, and the line that says so."""
+
+    rule: str
+    persons: List[str]
+    objects: List[str]
+    sentence: str
 
 
 def refuse_two_of_a_group(path: str, roster: Roster, pairs: Sequence[PlanLine]) -> None:

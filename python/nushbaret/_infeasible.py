@@ -5,10 +5,7 @@ from collections import deque
 from typing import Any, Dict, List, NamedTuple, Optional, Sequence, Set, Tuple, Union
 
 from . import _library as library
-from ._problem import Problem
-
-
-Labels = Optional[Tuple[List[Any], List[Any]]]
+from ._problem import Labels, Problem
 
 
 def numbered(kind: str, numbers: Any, labels: Optional[List[Any]] = None) -> str:
@@ -18,6 +15,27 @@ def numbered(kind: str, numbers: Any, labels: Optional[List[Any]] = None) -> str
     shown = ", ".join(str(labels[number] if labels else number) for number in list(numbers)[:10])
     more = f", .. ({len(numbers)} in all)" if len(numbers) > 10 else ""
     return f"{kind}{'s' if len(numbers) > 1 else ''} {shown}{more}"
+
+
+class Shortage(NamedTuple):
+    """Least counts that can't be met. If `of_columns` is false, these rows must have `wanted` columns and can have no more than `had`: as
+    many as `columns` take at most, and for each of `once`, a row and some columns, one of these. If it is true, these columns must have
+    `wanted` rows and can have no more than `had`: as many as `rows` take at most, and for each of `once` one.
+
+    >>> import nushbaret
+    >>> try:
+    ...     nushbaret.assign_counts([[4, 1], [2, 3]], (0, 1), (2, 2))
+    ... except nushbaret.Infeasible as short:
+    ...     print(short.shortages[0].columns, short.shortages[0].wanted, short.shortages[0].had)
+    [0, 1] 4 2
+    """
+
+    of_columns: bool
+    rows: List[int]
+    columns: List[int]
+    once: List[Tuple[int, List[int]]]
+    wanted: int
+    had: int
 
 
 class Infeasible(ValueError):
@@ -32,6 +50,8 @@ class Infeasible(ValueError):
         Rows and columns of each group that is short, in the order of their first rows (or columns). No two groups share any.
     rows, columns : list of int, or NumPy arrays if the costs are one
         Those of the first group: numbers from 0, rising. The text names them by the labels of a DataFrame.
+    shortages : list of Shortage
+        What `assign_counts` is short of; empty for any other call.
 
     >>> import nushbaret
     >>> try:
@@ -51,6 +71,7 @@ class Infeasible(ValueError):
         self.groups = groups
         self.rows = rows
         self.columns = columns
+        self.shortages: List[Shortage] = []
         self._labels = labels
 
     def __reduce__(self) -> Tuple[Any, ...]:

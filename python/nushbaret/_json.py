@@ -4,9 +4,10 @@ from collections import Counter
 from typing import Callable, Dict, List, Sequence
 
 from ._answer import Pair, Plan, Short
+from ._changes import by_person, changes_of
 from ._groups import missing_of
 from ._roster import FORMAT, OldPlan, Roster, decimal_text
-from ._texts import Report, changes_of, is_comparable, only_there, worse_by
+from ._texts import Hand, Report, only_there, worse_by
 
 Content = Dict[str, object]
 
@@ -23,8 +24,10 @@ def _short(roster: Roster, short: Short, line: str) -> Content:
 
 
 def _pair(roster: Roster, pair: Pair, cost: str) -> Content:
-    """A pair, and the group of its object, where it is in one."""
+    """A pair, the group of its object, where it is in one, and whether it is in the past, where there is one."""
     found: Content = {"person": roster.persons[pair.person], "object": roster.objects[pair.object], "cost": cost, "fixed": pair.fixed}
+    if roster.past:
+        found["past"] = pair.object in roster.past
     if roster.groups is not None and pair.object in roster.groups.of_objects:
         found["group"] = roster.groups.names[roster.groups.of_objects[pair.object]]
     return found
@@ -38,6 +41,8 @@ def as_json(report: Report, lines: Sequence[str]) -> str:
         content["short"] = [_short(roster, short, line) for short, line in zip(answer.groups, lines)]
     if answer.plan is not None:
         content.update(_plan(report, answer.plan))
+    elif report.hand:
+        content["compare"] = _broken(report.hand)
     return json.dumps(content, ensure_ascii=False, indent=1) + "\n"
 
 
@@ -85,18 +90,23 @@ def _outside(roster: Roster, plan: Plan) -> Content:
 
 
 def _changes(roster: Roster, plan: Plan, kept: OldPlan) -> Content:
-    """What changed from an earlier plan."""
-    changed = [{"person": roster.persons[change.pair.person], "object": roster.objects[change.pair.object], "before": change.before}
-               for change in changes_of(roster, plan, kept)]
-    return {"plan": kept.path, "gone": kept.gone, "changed": changed}
+    """What goes and what comes from an earlier plan, by person; and what can't be any more."""
+    found = changes_of(roster, plan, kept)
+    return {"plan": kept.path, "gone": kept.gone, "changes": [own._asdict() for own in by_person(roster, found)],
+            "not_possible": [lost._asdict() for lost in found.lost]}
 
 
-def _comparison(report: Report, plan: Plan, hand: OldPlan, text: Callable[[int], str]) -> Content:
-    """How a plan made by hand compares; `worse` where it is as full."""
+def _broken(hand: Hand) -> Content:
+    """A plan from elsewhere, and which rules it breaks."""
+    return {"plan": hand.plan.path, "gone": hand.plan.gone, "broken": [broken._asdict() for broken in hand.broken]}
+
+
+def _comparison(report: Report, plan: Plan, hand: Hand, text: Callable[[int], str]) -> Content:
+    """How a plan from elsewhere compares; `worse` where it breaks no rules that the best plan keeps."""
     roster = report.roster
-    content: Content = {"plan": hand.path, "gone": hand.gone, "cost": text(sum(pair.cost for pair in hand.known))}
-    if is_comparable(roster, plan, hand):
-        content["worse"] = text(worse_by(report, plan, hand))
+    content: Content = {**_broken(hand), "cost": text(sum(pair.cost for pair in hand.plan.known))}
+    if hand.is_comparable:
+        content["worse"] = text(worse_by(report, plan, hand.plan))
     content["only_there"] = [{"person": roster.persons[pair.person], "object": roster.objects[pair.object], "cost": text(pair.cost)}
-                             for pair in only_there(plan, hand)]
+                             for pair in only_there(plan, hand.plan)]
     return content

@@ -6,6 +6,7 @@ augmenting paths (Ford and Fulkerson 1956). What the searches that fail have rea
 from array import array
 from bisect import bisect_left
 from collections import deque
+from itertools import islice
 from typing import Any, Dict, Iterator, List, NamedTuple, Optional, Set, Tuple, Type
 
 from ._gadgets import Bounds, Counted, Pair, Served, Unit
@@ -289,9 +290,9 @@ def _prove(counted: Counted, lack: Lack) -> None:
         nodes[unit] = range(begin, begin + 1)
         begin += 1
     lists = _listed(counted, lack, nodes)
-    copies = [lists[vertex] for vertex in (lack.columns if lack.of_columns else lack.rows) for _ in range(own[vertex].least)]
     if lack.had < MOST_PERSONS:
-        copies = copies[:lack.had + 1]
+        many = (lists[vertex] for vertex in (lack.columns if lack.of_columns else lack.rows) for _ in range(own[vertex].least))
+        copies = list(islice(many, lack.had + 1))
         prove_short(Group(list(range(len(copies))), sorted({node for own_nodes in copies for node in own_nodes})), copies)
 
 

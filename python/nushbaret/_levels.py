@@ -19,15 +19,14 @@ from fractions import Fraction
 from itertools import repeat
 from typing import Any, Dict, List, NamedTuple, Optional, Sequence, Tuple, Union
 
-from . import _array_levels as arrays, _library as library, _pricing as pricing, _problem as reading, _proved as proved
+from . import _array_levels as arrays, _library as library, _pricing as pricing, _problem as reading, _proved as proved, _ties as ties
 from ._exact import loaded_numpy
 from ._numbers import ONE, Ratio, Unit, bits_above, in_unit, rounded, unit_of
 from ._problem import Problem
 
 # Rounded costs have so many bits.
 BITS = 39
-# What is taken of a float for the decimal that it prints as may be off by this part of a unit, for each of 8192 pairs.
-MORE = 2
+MORE = ties.MORE
 # From so many pairs on an array is worth making.
 FEW_PAIRS = 64
 
@@ -64,18 +63,32 @@ def quiet(problem: Problem) -> Any:
 
 
 def _solved(problem: Problem, served: Optional[int], prices: Any) -> Union[proved.Answer, proved.Short]:
-    priced = None if served is not None or prices is not None else pricing.first_level(problem, BITS, _most_left(problem))
-    if priced is not None:
-        level, pairs = priced
-    else:
-        found = first_level(problem, served, prices)
-        if isinstance(found, proved.Short):
-            return found
-        level, pairs = found, kept(found, found.asked.n + MORE)
-    objects = level.objects
-    if not is_only_plan(level, pairs):
-        objects = finer(problem, level, pairs)
-    return proved.Answer(level.asked.n, level.asked.m, None, objects, None)
+    tied = ties.of_problem(problem) if served is None else None
+    objects = None if tied is None else ties.best(tied)
+    if objects is not None:
+        n, m = sorted((problem.n_rows, problem.n_columns))
+        return proved.Answer(n, m, None, objects, None)
+    priced = None if served is not None or tied or prices is not None else pricing.first_level(problem, BITS, _most_left(problem))
+    found = priced.level if priced else first_level(problem, served, prices)
+    if isinstance(found, proved.Short):
+        return found
+    objects = None if tied is None else ties.after_level(tied, found)
+    if objects is None:
+        pairs = priced.pairs if priced else kept(found, found.asked.n + MORE)
+        objects = found.objects if is_only_plan(found, pairs) else finer(problem, found, pairs)
+    return proved.Answer(found.asked.n, found.asked.m, None, objects, None)
+
+
+def after_first(problem: Problem, level: Level) -> Any:
+    """The objects of a best plan of a matrix, or of listed pairs, from its first level."""
+    tied = ties.of_problem(problem)
+    objects = None if tied is None else ties.best(tied)
+    if objects is None and tied is not None:
+        objects = ties.after_level(tied, level)
+    if objects is not None:
+        return objects
+    pairs = kept(level, level.asked.n + MORE)
+    return level.objects if is_only_plan(level, pairs) else finer(problem, level, pairs)
 
 
 def _most_left(problem: Problem) -> int:

@@ -1,11 +1,12 @@
 """The shared library, by ctypes: where it is, its calls, codes and limits. The codes are those of c/nushbaret.h."""
 import contextlib
 import ctypes
+import math
 import pathlib
 import threading
 import time
 from array import array
-from typing import TYPE_CHECKING, Any, Callable, Dict, Iterator, List, Optional, Tuple, Union
+from typing import TYPE_CHECKING, Any, Callable, Dict, List, Optional, Tuple, Union
 
 # An array of whole numbers; before Python 3.12 `array` takes no type while a program runs.
 if TYPE_CHECKING:
@@ -13,7 +14,7 @@ if TYPE_CHECKING:
 else:
     Numbers = array
 
-VERSION = "3.0.0"
+VERSION = "3.1.0"
 MOST_PERSONS = 8192
 GREATEST_COST = 10**12
 GREATEST_FIRST_PRICE = 10**21
@@ -82,7 +83,7 @@ def _load() -> None:
     with contextlib.suppress(MemoryError):
         bytes(_KEPT)
     # Without types, so that prepared arguments aren't converted again.
-    _calls["dense, made ready"] = library["nushbaret_dense"]
+    _calls["dense, made ready"], _calls["sparse, made ready"] = library["nushbaret_dense"], library["nushbaret_sparse"]
 
 
 class Lent:
@@ -153,8 +154,7 @@ def call(name: str, sense: Optional[bool], n: int, m: int, *lists: Any) -> Tuple
     """The name of the code, and its record. `sense` is None for `check_hall`; MemoryError where memory is refused, and TimeoutError
     where the time of `limited` is over."""
     info = Info()
-    end = getattr(_limits, "end", None)
-    in_thread = end is not None or n * max(map(len, lists)) >= LONG and threading.current_thread() is threading.main_thread()
+    in_thread = _end() is not None or n * max(map(len, lists)) >= LONG and threading.current_thread() is threading.main_thread()
     if in_thread:
         lists = tuple(map(_owned, lists))
     words: List[Any] = [n, m] if sense is None else [1 if sense else 0, n, m]
@@ -162,41 +162,125 @@ def call(name: str, sense: Optional[bool], n: int, m: int, *lists: Any) -> Tuple
         words += _lend(values)
     function = _loaded()[name]
     words.append(ctypes.addressof(info))
-    code = CODES[_waited_for(lambda: int(function(*words)), end, lists, info) if in_thread else function(*words)]
+    code = CODES[waited_for(lambda: int(function(*words)), lists, info) if in_thread else function(*words)]
     if code == "MEMORY":
         raise MemoryError("the library was refused memory")
     return code, info
 
 
-# The time at which a thread's calls have to end.
+# The alarm of a thread's call.
 _limits = threading.local()
 # A call whose persons times pairs are so many may take long. It gets a thread of its own, so that Ctrl-C ends the wait for it.
 LONG = 2**27
 _SLICE = 0.2
 _AT_ONCE = 2**22
+_LONGEST_WAIT = 10.0**5
+_TIME_IS_OVER = "the time is over; nothing of the caller's was changed"
 
 
-@contextlib.contextmanager
-def limited(timeout: Optional[float]) -> Iterator[None]:
-    """Within, calls raise TimeoutError after so many seconds."""
-    if timeout is None:
-        yield
-        return
-    if not timeout >= 0:
-        raise ValueError(f"timeout is {timeout!r}: it must be a number of seconds, 0 or more")
-    before, end = getattr(_limits, "end", None), time.monotonic() + timeout
-    _limits.end = end if before is None else min(before, end)
+class TimeIsOver(TimeoutError):
+    """What an alarm lets Python raise in a thread, between any two of its steps."""
+
+    def __init__(self) -> None:
+        super().__init__(_TIME_IS_OVER)
+
+
+def _raise_in(thread: int, fault: Optional[type]) -> None:
+    """Lets a thread raise this in its next step, or nothing of what it hasn't yet raised so."""
+    python = getattr(ctypes, "pythonapi", None)
+    if python is not None:
+        python.PyThreadState_SetAsyncExc(ctypes.c_ulong(thread), None if fault is None else ctypes.py_object(fault))
+
+
+class _Alarm:
+    """Ends the steps of the thread that makes it, as Ctrl-C would, once its time is over, unless it is stopped before. An alarm that has
+    rung limits nothing any more."""
+
+    def __init__(self, end: float):
+        self.end, self.thread, self.rang = end, threading.get_ident(), False
+        self.lock, self.stopped = threading.Lock(), threading.Event()
+        if end < math.inf:
+            started(threading.Thread(target=self._wait, daemon=True))
+
+    def _wait(self) -> None:
+        while not self.stopped.wait(min(max(self.end - time.monotonic(), 0), _LONGEST_WAIT)):
+            if time.monotonic() >= self.end:
+                return self._ring()
+
+    def _ring(self) -> None:
+        with self.lock:
+            if not self.stopped.is_set():
+                self.rang = True
+                _raise_in(self.thread, TimeIsOver)
+
+    def stop(self) -> None:
+        """After this it raises nothing."""
+        with self.lock:
+            self.stopped.set()
+        if self.rang:
+            _raise_in(self.thread, None)
+
+
+def started(thread: threading.Thread) -> None:
+    """Starts a thread; MemoryError where the system has none left."""
     try:
-        yield
-    finally:
-        _limits.end = before
+        thread.start()
+    except RuntimeError as fault:
+        raise MemoryError(f"no thread could be started: {fault}") from None
+
+
+class limited:
+    """Within, calls and the steps of Python raise TimeoutError after so many seconds; never where that is None."""
+
+    def __init__(self, timeout: Optional[float]):
+        if timeout is not None and not hasattr(timeout, "__float__"):
+            raise TypeError(f"timeout is {timeout!r}: it must be a number of seconds")
+        if timeout is not None and not timeout >= 0:
+            raise ValueError(f"timeout is {timeout!r}: it must be a number of seconds, 0 or more")
+        self.timeout = timeout
+
+    def __enter__(self) -> None:
+        self.before: Optional[_Alarm] = getattr(_limits, "alarm", None)
+        self.alarm: Optional[_Alarm] = None
+        if self.timeout is None:
+            return
+        end = time.monotonic() + self.timeout
+        if self.timeout == 0:
+            raise TimeoutError(_TIME_IS_OVER)
+        before = _end()
+        if before is None or end < before:
+            try:
+                self.alarm = _limits.alarm = _Alarm(end)
+            except TimeIsOver:
+                raise TimeoutError(_TIME_IS_OVER) from None
+
+    def __exit__(self, kind: Any, fault: Any, trace: Any) -> None:
+        try:
+            self._leave()
+        except TimeIsOver:
+            # It rang while it was to be stopped.
+            self._leave()
+            kind = kind or TimeIsOver
+        if kind is TimeIsOver and (self.before is None or not self.before.rang):
+            raise TimeoutError(_TIME_IS_OVER) from None
+
+    def _leave(self) -> None:
+        _limits.alarm = self.before
+        if self.alarm is not None:
+            self.alarm.stop()
+
+
+def _end() -> Optional[float]:
+    """When this thread's call has to end."""
+    alarm = getattr(_limits, "alarm", None)
+    return None if alarm is None or alarm.rang else alarm.end
 
 
 def look_at_time() -> None:
     """Raises TimeoutError where the time of `limited` is over."""
-    end = getattr(_limits, "end", None)
+    end = _end()
     if end is not None and time.monotonic() >= end:
-        raise TimeoutError("the time is over; nothing of the caller's was changed")
+        raise TimeoutError(_TIME_IS_OVER)
 
 
 def _owned(values: Any) -> Any:
@@ -212,34 +296,62 @@ def _owned(values: Any) -> Any:
     return own
 
 
-def _waited_for(work: Callable[[], int], end: Optional[float], *lists: Any) -> int:
+def waited_for(work: Callable[[], Any], *lists: Any) -> Any:
     """What some work returns that a thread does. Where the wait ends early, the thread goes on, and keeps its lists until it ends."""
     look_at_time()
-    found: List[int] = []
+    found: List[Any] = []
+    faults: List[BaseException] = []
     done = threading.Event()
 
     def run(*kept: Any) -> None:
-        found.append(work())
-        done.set()
+        try:
+            found.append(work())
+        except BaseException as fault:
+            faults.append(fault)
+        finally:
+            done.set()
 
-    threading.Thread(target=run, args=lists, daemon=True).start()
+    started(threading.Thread(target=run, args=lists, daemon=True))
+    end = _end()
     while not done.wait(_SLICE if end is None else min(_SLICE, max(end - time.monotonic(), 0))):
         look_at_time()
+    if faults:
+        raise faults[0]
     return found[0]
 
 
-class Room:
+class Whole:
+    """Memory for costs that are to become whole numbers: `doubles`, `numbers` and `flat` are one memory, and `calls` has the arguments for
+    these under minimize and maximize."""
+
+    doubles: Any = None
+    numbers: Any = None
+    flat: Any = None
+    calls: Any = None
+
+    def words(self, sense: Any, costs: Any) -> Tuple[Any, ...]:
+        """The arguments of a call with these costs."""
+        raise NotImplementedError
+
+    def _hold(self, numpy: Any, shape: Tuple[int, ...], senses: Tuple[Any, Any]) -> None:
+        self.doubles = numpy.empty(shape)
+        self.numbers = self.doubles.view(numpy.int64)
+        self.flat = memoryview(self.numbers).cast("B").cast("q")
+        own = address_of(self.numbers)
+        self.calls = tuple(self.words(sense, own) for sense in senses)
+
+
+class Room(Whole):
     """What a dense call on an array of NumPy's fills, with its arguments made ready, since to convert them takes as long as a small
     problem: a sense, sizes, costs, and the rest. The call answers 0 where it found a best assignment, whose objects stand here
-    then. `doubles`, `numbers` and `flat` are one memory, for costs that are to become whole numbers, and
-    `calls` has the arguments for these under minimize and maximize. `home` is the
-    list that the room goes back to after a call, if it is kept. `is_rounded` says whether costs were rounded, `is_turned` whether columns
-    are the persons."""
+    then. `home` is the list that the room goes back to after a call, if it is kept. `is_rounded` says whether costs were rounded, `places`
+    of how many decimal places they are whole numbers otherwise, `is_turned` whether columns are the persons, and `listed` has the pairs
+    where some are forbidden."""
 
     def __init__(self, numpy: Any, n: int, m: int, home: Optional[List["Room"]]):
-        self.words, self.shape, self.home = array("Q", bytes(_INFO + 16 * m + 4 * n + 8 - 4 * n % 8)), (n, m), home
-        self.rows, self.objects = numpy.arange(n), numpy.frombuffer(self.words, numpy.uint16, n, _INFO + 16 * m)
-        info = self.words.buffer_info()[0]
+        self.memory, self.shape, self.home = array("Q", bytes(_INFO + 16 * m + 4 * n + 8 - 4 * n % 8)), (n, m), home
+        self.rows, self.objects = numpy.arange(n), numpy.frombuffer(self.memory, numpy.uint16, n, _INFO + 16 * m)
+        info = self.memory.buffer_info()[0]
         prices, objects, persons = info + _INFO, info + _INFO + 16 * m, info + _INFO + 16 * m + 2 * n
         sense, count, address = ctypes.c_uint32.from_param, ctypes.c_size_t.from_param, ctypes.c_void_p.from_param
         many, few = count(m), count(n)
@@ -249,31 +361,65 @@ class Room:
         # Where the costs of each row begin, less 1.
         self.before = range(-1, n * m - 1, m)
         self.halves = Halves()
-        self.halves.words = numpy.frombuffer(self.words, numpy.uint64, 2 * m, _INFO)
-        self.total = ctypes.c_int64.from_buffer(self.words)
-        self.doubles: Any = None
-        self.numbers: Any = None
-        self.flat: Any = None
-        self.calls: Any = None
-        self.is_rounded = self.is_turned = False
+        self.halves.words = numpy.frombuffer(self.memory, numpy.uint64, 2 * m, _INFO)
+        self.total = ctypes.c_int64.from_buffer(self.memory)
+        self.is_rounded = self.is_turned = self.of_list = False
+        self.places = 0
+        self.listed: Optional["Listed"] = None
+        self.every: Any = None
 
     def give_back(self) -> None:
         """Lets another call have the room."""
+        self.listed = None
         if self.home is not None:
             self.home.append(self)
 
-    def hold_doubles(self, numpy: Any, shape: Tuple[int, int]) -> None:
+    def words(self, sense: Any, costs: Any) -> Tuple[Any, ...]:
+        return (sense, *self.sizes, costs, *self.rest)
+
+    def hold_doubles(self, numpy: Any, shape: Tuple[int, ...]) -> None:
         """Makes memory for costs that are to become whole numbers."""
-        self.doubles = numpy.empty(shape)
-        self.numbers = self.doubles.view(numpy.int64)
-        self.flat = memoryview(self.numbers).cast("B").cast("q")
-        own = address_of(self.numbers)
-        self.calls = tuple((sense, *self.sizes, own, *self.rest) for sense in (self.minimized, self.maximized))
+        self._hold(numpy, shape, (self.minimized, self.maximized))
+
+    def every_pair(self, numpy: Any) -> Tuple[Any, Any]:
+        """The persons and the objects of all pairs."""
+        if self.every is None:
+            n, m = self.shape
+            kind = numpy.uint16
+            self.every = numpy.repeat(numpy.arange(1, n + 1, dtype=kind), m), numpy.tile(numpy.arange(1, m + 1, dtype=kind), n)
+        persons, objects = self.every
+        return persons, objects
+
+
+class Listed(Whole):
+    """The pairs of a room's problem, where some are forbidden, and the arguments of a sparse call that fills the room. `places` are those
+    of the pairs among all."""
+
+    def __init__(self, numpy: Any, room: Room, places: Any):
+        self.senses = room.minimized, room.maximized
+        persons, objects = room.every_pair(numpy)
+        self.persons, self.objects = persons.take(places), objects.take(places)
+        self.call = _calls["sparse, made ready"]
+        count = ctypes.c_size_t.from_param(len(places))
+        self.before = *room.sizes, lent(self.persons), count, lent(self.objects), count
+        self.rest = count, *room.rest[1:]
+
+    def words(self, sense: Any, costs: Any) -> Tuple[Any, ...]:
+        return (sense, *self.before, costs, *self.rest)
+
+    def hold_doubles(self, numpy: Any, shape: Tuple[int, ...]) -> None:
+        """As in `Room`."""
+        self._hold(numpy, shape, self.senses)
 
 
 def address_of(numbers: Any) -> Any:
     """The address of an array, which must live until the call ends."""
     return ctypes.c_void_p.from_param(numbers.__array_interface__["data"][0])
+
+
+def lent(numbers: Any) -> Any:
+    """An array as an argument that was made ready: bytes where it has few numbers, else its address."""
+    return numbers.tobytes() if numbers.size <= FEW else address_of(numbers)
 
 
 # Rooms of calls that have ended, by their sizes; at most so many sizes.

@@ -13,7 +13,7 @@ from typing import Any, Collection, Dict, Iterator, List, NamedTuple, Optional, 
 
 from ._graphs import strong_parts
 from ._library import GREATEST_COST, Numbers
-from ._problem import Problem
+from ._problem import Problem, TooLarge
 from ._solving import solve_problem, solve_sparse
 
 Pair = Tuple[int, int]
@@ -76,7 +76,7 @@ def changed(costs: Sequence[int], edges: Sequence[Pair], kept: Collection[Pair],
     """Costs with `change` more for each pair that isn't kept."""
     more = array("q", (cost if edge in kept else cost + change for cost, edge in zip(costs, edges)))
     if max(more, default=0) > GREATEST_COST:
-        raise ValueError(f"with the cost of a change a cost is beyond {GREATEST_COST}")
+        raise TooLarge(f"with the cost of a change a cost is beyond {GREATEST_COST}")
     return more
 
 

@@ -4,17 +4,17 @@ from html import escape
 from itertools import product
 from typing import Dict, Iterator, List, NamedTuple, Optional, Sequence, Set, Tuple
 
-from ._answer import Answer, Plan, counted, left_out
+from ._answer import Answer, Plan, Short, counted, left_out
 from ._days import STYLE as DAYS_STYLE, by_days
 from ._groups import order_of
+from ._html import LIGHT_SHADES, classes, document, name, scrolling, words
+from ._names import MOST_NAMES, joined
 from ._roster import Roster
-from ._texts import Note, Report, notes_of, persons_at
+from ._texts import Note, Report, first_lines, notes_of, persons_at, with_marks
 
 MOST_CELLS = 250_000
 # Up to so many cells persons and objects that are in no pair and in no short group are drawn as well.
 MOST_WHOLE_CELLS = 20_000
-SHADES = ("#f7fbff", "#e3eef9", "#cfe1f2", "#b5d4e9", "#93c3df", "#6daed5", "#4b97c9", "#2f7ebc", "#1864aa")
-FIRST_DARK = 6
 # A sheet of paper, in pixels of CSS at the size of print: its width, a letter's and a line's; the most for a person's name and an object's.
 SHEET_WIDTH = 960
 LETTER, LINE, MARGIN = 6, 13, 10
@@ -22,37 +22,28 @@ MOST_NAME_WIDTH = 180
 MOST_HEADING_HEIGHT = 120
 
 STYLE = """
-body { font: 15px/1.4 sans-serif; margin: 2em; color: #1b1b1b; background: #fff }
-table { border-collapse: collapse; margin: 1em 0 }
-th, td { border: 1px solid #d0d0d0; padding: .15em .45em; white-space: nowrap }
 .matrix { overflow: auto; max-height: 85vh; white-space: nowrap }
-.matrix table { display: inline-table; vertical-align: top; margin: 0; border-collapse: separate; border-spacing: 0 }
-.matrix th, .matrix td { border-width: 0 1px 1px 0 }
-.matrix thead th { border-top-width: 1px }
-.matrix th:first-child { border-left-width: 1px }
+.matrix table { display: inline-table; vertical-align: top; margin: 0 }
 .matrix td { text-align: right; font-variant-numeric: tabular-nums }
-.matrix th { position: sticky; background: #fff }
+.matrix th { position: sticky }
 .matrix thead th { top: 0; z-index: 2; padding: .5em .15em; vertical-align: bottom }
 .matrix thead th span { writing-mode: vertical-rl }
 .matrix tbody th { left: 0; z-index: 1; text-align: left }
 .matrix thead th:first-child { left: 0; z-index: 3 }
-.plan td { vertical-align: top; white-space: pre-line }
-.plan td:nth-child(3) { text-align: right; font-variant-numeric: tabular-nums }
+.plan td { vertical-align: top; overflow-wrap: anywhere }
+.plan td:nth-child(3) { text-align: right; white-space: nowrap; font-variant-numeric: tabular-nums }
 .matrix tr.part, p.paper { display: none }
 details { margin: .5em 0 }
 summary { cursor: pointer }
-td.none { background: repeating-linear-gradient(45deg, #fff, #fff 4px, #eee 4px, #eee 6px) }
-td.own { outline: 3px solid #d35400; outline-offset: -3px; font-weight: bold }
-td.fixed { outline-style: double }
-.matrix th.short { color: #b00020; background: #fdecee }
-.matrix td.top { border-top: 3px solid #b00020 }
-.matrix td.bottom { border-bottom: 3px solid #b00020 }
-.matrix td.left { border-left: 3px solid #b00020 }
-.matrix td.right { border-right: 3px solid #b00020 }
-p.short { color: #b00020; font-weight: bold }
-@page { size: landscape; margin: 1cm }
+td.own { outline: 3px solid var(--own); outline-offset: -3px; font-weight: bold }
+td.own.fixed { outline-style: double }
+.matrix th.short { color: var(--alarm); background: var(--alarm-paper) }
+.matrix td.top { border-top: 3px solid var(--alarm) }
+.matrix td.bottom { border-bottom: 3px solid var(--alarm) }
+.matrix td.left { border-left: 3px solid var(--alarm) }
+.matrix td.right { border-right: 3px solid var(--alarm) }
+p.short { color: var(--alarm); font-weight: bold }
 @media print {
-body { margin: 0; print-color-adjust: exact; -webkit-print-color-adjust: exact }
 .matrix { overflow: visible; max-height: none; font-size: 9px }
 .matrix table { display: table; margin-bottom: 1em; break-inside: avoid }
 .matrix th { position: static }
@@ -61,10 +52,8 @@ body { margin: 0; print-color-adjust: exact; -webkit-print-color-adjust: exact }
 .matrix thead th span { max-height: 120px; white-space: normal; overflow-wrap: anywhere }
 .matrix tr.part { display: table-row }
 .matrix tr.part th { text-align: left; font-size: 11px }
-.plan td { white-space: pre-wrap; overflow-wrap: anywhere }
 details { display: none }
 p.paper { display: block }
-tr { break-inside: avoid }
 }
 """
 
@@ -124,46 +113,59 @@ def _others(roster: Roster, answer: Answer, persons: Set[int], objects: Set[int]
     return sorted(drawn_persons - persons), sorted(drawn_objects - objects)
 
 
-def natural(name: str) -> List[Tuple[int, int, str]]:
+def natural(text: str) -> List[Tuple[int, int, str]]:
     """What names are ordered by, so that S2 comes before S10."""
-    return [(0, int(part), "") if part.isdecimal() else (1, 0, part.casefold()) for part in re.findall("[0-9]{1,30}|[^0-9]+", name)]
+    return [(0, int(part), "") if part.isdecimal() else (1, 0, part.casefold()) for part in re.findall("[0-9]{1,30}|[^0-9]+", text)]
 
 
-def page(report: Report, heading: str, lines: List[str]) -> str:
-    """The page of an answer: the lines, the plan as a list, who stays out, and the matrix with the chosen cells and the short groups
-    framed.
+def page(report: Report, title: str) -> str:
+    """The page of an answer: its sentences, the plan, who stays out, and the matrix with the chosen cells and the short groups framed; or
+    the plan alone.
 
     Of a matrix of more than 20000 cells only the persons and objects of the plan and of the short groups are drawn; where even these
     have more than 250000 cells none is, and the page says so.
     """
-    return "".join(_pieces(report, heading, lines))
+    content = _plan_alone(report) if report.options.plan_only else _whole(report)
+    return "".join(document(title, STYLE + DAYS_STYLE + SHADES_STYLE, content))
 
 
-def _pieces(report: Report, heading: str, lines: List[str]) -> Iterator[str]:
-    roster, answer = report.roster, report.answer
-    yield (
-        '<!DOCTYPE html>\n<html lang="en">\n<head>\n<meta charset="utf-8">\n'
-        "<meta http-equiv=\"Content-Security-Policy\" content=\"default-src 'none'; style-src 'unsafe-inline'\">\n"
-        f"<title>{escape(heading)}</title>\n<style>{STYLE}{DAYS_STYLE}{_shades()}</style>\n</head>\n<body>\n<h1>{escape(heading)}</h1>\n")
-    for place, line in enumerate(lines):
-        kind = ' class="short"' if place < len(answer.groups) else ""
-        yield f"<p{kind}>{escape(line)}</p>\n"
+def _whole(report: Report) -> Iterator[str]:
+    """All that there is to say."""
+    roster, answer, marked = report.roster, report.answer, with_marks(report)
+    for place, line in enumerate(first_lines(marked)):
+        yield f"<p{classes('short' if place < len(answer.groups) else '')}>{words(line)}</p>\n"
+        if place < len(answer.groups):
+            yield from _all_names(marked.roster, answer.groups[place])
     if answer.plan is not None:
-        yield from by_days(roster, answer.plan) if roster.groups is not None else _list(roster, answer.plan)
-        yield from _folded(roster, answer.plan)
-        yield from _notes(notes_of(report, answer.plan))
+        yield from _plan(report, answer.plan)
+        yield from _folded(marked.roster, answer.plan)
+        yield from _notes(notes_of(marked, answer.plan))
     frame = frame_of(roster, answer)
     if len(frame.persons) * len(frame.objects) > MOST_CELLS:
         yield f"<p>The matrix has more than {MOST_CELLS} cells and isn't drawn.</p>\n"
     elif frame.persons and frame.objects:
         yield from _matrix(roster, answer, frame)
-    yield "</body>\n</html>\n"
 
 
-def _shades() -> str:
-    return "".join(
-        f"td.s{level} {{ background: {colour}; color: {'#fff' if level >= FIRST_DARK else '#1b1b1b'} }}\n"
-        for level, colour in enumerate(SHADES))
+def _plan_alone(report: Report) -> Iterator[str]:
+    """The plan for the wall: without wishes, costs, hints and other plans."""
+    plan = report.answer.plan
+    if plan is None:
+        raise ValueError("there is no plan")
+    yield from _plan(report, plan)
+    yield from _folded(with_marks(report).roster, plan)
+
+
+def _plan(report: Report, plan: Plan) -> Iterator[str]:
+    """The plan by days, or as a list where there are no groups or too many cells."""
+    groups = report.roster.groups
+    if groups is not None and len(report.roster.persons) * len(groups.names) <= MOST_CELLS:
+        yield from by_days(report.roster, plan, report.kept, report.options.plan_only)
+    else:
+        yield from _list(report.roster, plan, report.options.plan_only)
+
+
+SHADES_STYLE = "".join(f"td.s{level} {{ background: var(--s{level}); color: var(--i{level}) }}\n" for level in range(len(LIGHT_SHADES)))
 
 
 def _matrix(roster: Roster, answer: Answer, frame: Frame) -> Iterator[str]:
@@ -171,9 +173,9 @@ def _matrix(roster: Roster, answer: Answer, frame: Frame) -> Iterator[str]:
     costs = costs_by_person(roster)
     span = (min(roster.costs, default=0), max(roster.costs, default=0))
     edges = _edges(frame)
-    yield '<div class="matrix">'
-    for columns, name in named_parts(roster, frame):
-        yield f"<table>\n<thead>{name}<tr><th></th>"
+    yield '<div class="matrix" lang="" tabindex="0">'
+    for columns, part in named_parts(roster, frame):
+        yield f"<table>\n<thead>{part}<tr><th></th>"
         for column in columns:
             yield _heading("col", f"<span>{escape(roster.objects[frame.objects[column]])}</span>", column < frame.short_objects)
         yield "</tr></thead>\n<tbody>\n"
@@ -184,7 +186,7 @@ def _matrix(roster: Roster, answer: Answer, frame: Frame) -> Iterator[str]:
             yield "</tr>\n"
         yield "</tbody>\n</table>"
     yield "</div>\n"
-    yield "<p>Darker cells cost more, hatched ones are forbidden; the plan's are outlined, the fixed ones twice.</p>\n"
+    yield "<p>Stronger colours cost more, hatched cells are forbidden; the plan's are outlined, the fixed ones twice.</p>\n"
     if len(frame.persons) < len(roster.persons) or len(frame.objects) < len(roster.objects):
         yield "<p>Who and what is in no pair isn't drawn.</p>\n"
 
@@ -195,7 +197,7 @@ def named_parts(roster: Roster, frame: Frame) -> List[Tuple[range, str]]:
     if len(parts) < 2:
         return [(part, "") for part in parts]
     names = [(roster.objects[frame.objects[part[0]]], roster.objects[frame.objects[part[-1]]]) for part in parts]
-    return [(part, f'<tr class="part"><th colspan="{len(part) + 1}">{escape(f"{first} to {last} (part {number} of {len(parts)})")}</th></tr>')
+    return [(part, f'<tr class="part"><th colspan="{len(part) + 1}" lang="en">{name(first)} to {name(last)} (part {number} of {len(parts)})</th></tr>')
             for number, (part, (first, last)) in enumerate(zip(parts, names), 1)]
 
 
@@ -249,7 +251,7 @@ def _edges(frame: Frame) -> Dict[Tuple[int, int], List[str]]:
 def _cell(roster: Roster, cost: Optional[int], fixed: Optional[bool], span: Tuple[int, int], edges: Sequence[str]) -> str:
     if cost is None:
         return f'<td class="{" ".join(["none", *edges])}"></td>'
-    level = (cost - span[0]) * len(SHADES) // (span[1] - span[0] + 1)
+    level = (cost - span[0]) * len(LIGHT_SHADES) // (span[1] - span[0] + 1)
     kinds = [*edges, f"s{level}"]
     if fixed is not None:
         kinds.append("own")
@@ -258,40 +260,52 @@ def _cell(roster: Roster, cost: Optional[int], fixed: Optional[bool], span: Tupl
     return f'<td class="{" ".join(kinds)}">{roster.shown(cost)}</td>'
 
 
-def _list(roster: Roster, plan: Plan) -> Iterator[str]:
+def _list(roster: Roster, plan: Plan, plan_only: bool) -> Iterator[str]:
     """The plan: a row for each person with all of its own, and then, if any object may have several, for each object."""
+    width = 2 if plan_only else 3
     own: Dict[int, List[Tuple[str, str]]] = {}
     for pair in plan.pairs:
         own.setdefault(pair.person, []).append((roster.objects[pair.object], roster.shown(pair.cost)))
-    yield from _table(list(roster.titles), [
-        [roster.persons[person]] + ["\n".join(texts) for texts in zip(*pairs)] for person, pairs in own.items()])
+    yield from scrolling(_table(roster.titles[:width], [
+        [[roster.persons[person]], *zip(*pairs)][:width] for person, pairs in own.items()]))
     at = persons_at(roster, plan)
     if at:
-        yield from _table([roster.titles[1], roster.titles[0]], [[roster.objects[object_], ", ".join(who)] for object_, who in at])
+        yield from scrolling(_table([roster.titles[1], roster.titles[0]], [[[roster.objects[object_]], who] for object_, who in at]))
 
 
-def _table(titles: List[str], rows: List[List[str]]) -> Iterator[str]:
-    """A table; what stands in several lines of a cell stands so in the page."""
+def _table(titles: Sequence[str], rows: List[List[Sequence[str]]]) -> Iterator[str]:
+    """A table of names, several in a cell one below the other."""
     heads = "".join(f'<th scope="col">{escape(title)}</th>' for title in titles)
-    yield f'<table class="plan">\n<thead><tr>{heads}</tr></thead>\n<tbody>\n'
+    yield f'<table class="plan" lang="">\n<thead><tr>{heads}</tr></thead>\n<tbody>\n'
     for row in rows:
-        yield "<tr>" + "".join(f"<td>{escape(cell)}</td>" for cell in row) + "</tr>\n"
+        yield "<tr>" + "".join(f"<td>{'<br>'.join([escape(text) for text in cell])}</td>" for cell in row) + "</tr>\n"
     yield "</tbody>\n</table>\n"
 
 
 def _notes(notes: List[Note]) -> Iterator[str]:
-    """What there is to say of the plan."""
+    """What there is to say of the plan, with marks around names."""
     for note in notes:
-        yield f"<p>{escape(note.line)}</p>\n"
+        yield f"<p>{words(note.line)}</p>\n"
         if note.details:
-            yield "<ul>\n" + "".join(f"<li>{escape(detail)}</li>\n" for detail in note.details) + "</ul>\n"
+            yield "<ul>\n" + "".join(f"<li>{words(detail)}</li>\n" for detail in note.details) + "</ul>\n"
 
 
 def _folded(roster: Roster, plan: Plan) -> Iterator[str]:
-    """Who gets less than it should, and what has places left, under their count."""
+    """Who gets less than it should, and what has places left, under their count; names have marks."""
     for out in left_out(roster, plan):
-        title = f"{out.how}: {counted(len(out.names), roster.titles[out.side])}"
-        names = escape(", ".join(out.names))
-        # On paper nothing can be unfolded.
-        yield f"<details><summary>{escape(title)}</summary><p>{names}</p></details>\n"
-        yield f'<p class="paper">{escape(title)}: {names}</p>\n'
+        yield from _fold(f"{out.how}: {counted(len(out.names), roster.titles[out.side])}", joined(out.names))
+
+
+def _all_names(roster: Roster, short: Short) -> Iterator[str]:
+    """All names of a group that is short, where its sentence may leave any out; names have marks."""
+    if len(short.persons) + len(short.objects) <= MOST_NAMES:
+        return
+    for side, names, numbers in ((0, roster.persons, short.persons), (1, roster.objects, short.objects)):
+        if numbers:
+            yield from _fold(counted(len(numbers), roster.titles[side]), joined([names[number] for number in numbers]))
+
+
+def _fold(title: str, names: str) -> Iterator[str]:
+    """Names that unfold; on paper, where nothing can, they stand below."""
+    yield f"<details><summary>{words(title)}</summary><p>{words(names)}</p></details>\n"
+    yield f'<p class="paper">{words(title)}: {words(names)}</p>\n'

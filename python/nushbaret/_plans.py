@@ -7,7 +7,6 @@ part. Rows and columns that stay out are held by one dummy column and one dummy 
 The library checks each plan before it is handed out: the duals of its part prove that it is a best plan of the part. That the parts
 hold all plans, and that no part that waits has a better one, is computed here."""
 import heapq
-import operator
 from array import array
 from bisect import insort
 from fractions import Fraction
@@ -16,7 +15,7 @@ from typing import Any, Dict, FrozenSet, Iterable, Iterator, List, NamedTuple, O
 
 from . import _library as library, _source as sources
 from ._checking import check_problem
-from ._exact import manner
+from ._exact import manner, whole_number
 from ._infeasible import Group, prove_short
 from ._numbers import Unit, in_unit, unit_of
 from ._problem import Problem, in_whole_numbers, lists_of, owned
@@ -394,7 +393,7 @@ def k_best(costs: Any, k: int, maximize: bool = False, decimals: Optional[int] =
     >>> [(plan.columns, plan.cost) for plan in nushbaret.k_best([[4, 1], [2, 3]], 2)]
     [([1, 0], 3), ([0, 1], 7)]
     """
-    k = operator.index(k)
+    k = whole_number(k, "k")
     if k < 0:
         raise ValueError(f"k is {k}: it must be 0 or more")
     source = Source(sources.lasting(costs), None, None, None, manner(maximize, decimals, missing))

@@ -5,11 +5,18 @@ import sys
 from array import array
 from fractions import Fraction
 from itertools import compress
-from typing import Any, Dict, List, NamedTuple, Optional, Sequence, Tuple
+from typing import Any, Dict, Iterable, List, NamedTuple, Optional, Sequence, Tuple
 
-from . import _exact as exact
+from . import _exact as exact, _naming as naming, _parts as parts, _printing as printing
 from ._library import MOST_PERSONS, Lent
 from ._numbers import ONE, Ratio, Unit, in_unit, ratio_of, unit_of
+
+
+Labels = Optional[Tuple[List[Any], List[Any]]]
+
+
+class TooLarge(ValueError):
+    """A problem that is too large for the library: it has too many rows, columns or nodes, or too great costs."""
 
 
 class Problem(NamedTuple):
@@ -33,7 +40,7 @@ class Problem(NamedTuple):
     numpy: Any = None
     arrays: Any = None
     fractions: bool = False
-    labels: Optional[Tuple[List[Any], List[Any]]] = None
+    labels: Labels = None
     most: Optional[float] = None
 
     def place(self, place: int) -> Tuple[int, int]:
@@ -61,15 +68,19 @@ class Problem(NamedTuple):
         return self.labels[1][column] if self.labels else column
 
 
-def _place_in(n_columns: int) -> exact.Where:
-    return lambda place: "row {}, column {}".format(*divmod(place, n_columns))
+def _place_in(n_columns: int, labels: Labels) -> exact.Where:
+    """What a place in a matrix is called, by the labels of a frame."""
+    def where(place: int) -> str:
+        row, column = divmod(place, n_columns)
+        return f"row {labels[0][row]}, column {labels[1][column]}" if labels else f"row {row}, column {column}"
+    return where
 
 
 def _judge_size(n_rows: int, n_columns: int) -> None:
     if n_rows < 0 or n_columns < 0:
         raise ValueError(f"{n_rows} rows and {n_columns} columns: neither can be below 0")
     if max(n_rows, n_columns) > MOST_PERSONS:
-        raise ValueError(f"{n_rows} rows and {n_columns} columns: at most {MOST_PERSONS} of each are possible")
+        raise TooLarge(f"{n_rows} rows and {n_columns} columns: at most {MOST_PERSONS} of each are possible")
 
 
 def _rows_of_any(costs: Any, manner: exact.Manner) -> List[Any]:
@@ -78,6 +89,8 @@ def _rows_of_any(costs: Any, manner: exact.Manner) -> List[Any]:
         if costs is not None and not (hasattr(costs, "tocsr") and hasattr(costs, "__getitem__")):
             float(costs)
         raise ValueError("expected a matrix (2-D array), got a 0 array")
+    if isinstance(costs, (dict, set, frozenset)) or isinstance(costs, str) and not costs:
+        raise ValueError(f"expected a matrix (2-D array), got a {type(costs).__name__}")
     try:
         rows = [row if hasattr(row, "__len__") else list(row) for row in costs]
     except TypeError:
@@ -87,7 +100,7 @@ def _rows_of_any(costs: Any, manner: exact.Manner) -> List[Any]:
             raise (ValueError if manner.doubles else TypeError)(f"Cannot cast array data: row {place} is the text {row!r}")
         if isinstance(row, (dict, set, frozenset)):
             raise TypeError(f"Cannot cast array data: row {place} is a {type(row).__name__}, which has no order")
-    return rows
+    return rows if manner.doubles else list(map(printing.of_buffer, rows))
 
 
 def _rows_of(costs: Any, manner: exact.Manner) -> Tuple[List[Any], int]:
@@ -127,16 +140,20 @@ def _of_view(view: memoryview, manner: exact.Manner) -> Problem:
     own = kind in ("q", "l") and view.itemsize == 8 and view.c_contiguous and not view.readonly
     if own and not manner.decimals and view.nbytes:
         return Problem(n_rows, n_columns, manner.maximize, Lent(view))
-    return _dense(n_rows, n_columns, manner, exact.of_rows(view.tolist(), n_columns, manner, _place_in(n_columns)))
+    rows: Any = view.tolist()
+    if kind in ("e", "f") and not manner.doubles:
+        rows = [[printing.shortest(cost, kind) for cost in row] for row in rows]
+    return _dense(n_rows, n_columns, manner, exact.of_rows(rows, n_columns, manner, _place_in(n_columns, None)))
 
 
-def _of_array(numpy: Any, costs: Any, manner: exact.Manner) -> Problem:
+def _of_array(numpy: Any, costs: Any, manner: exact.Manner, labels: Labels) -> Problem:
     costs = numpy.asanyarray(costs)
     if costs.ndim != 2:
         raise ValueError(f"expected a matrix (2-D array), got a {costs.ndim} array")
     n_rows, n_columns = costs.shape
     _judge_size(n_rows, n_columns)
-    return _dense(n_rows, n_columns, manner, exact.of_array(numpy, costs, manner, _place_in(n_columns)))._replace(arrays=numpy)
+    read = exact.of_array(numpy, costs, manner, _place_in(n_columns, labels))
+    return _dense(n_rows, n_columns, manner, read)._replace(arrays=numpy, labels=labels)
 
 
 def _dense(n_rows: int, n_columns: int, manner: exact.Manner, read: exact.Costs) -> Problem:
@@ -152,7 +169,7 @@ def _dense(n_rows: int, n_columns: int, manner: exact.Manner, read: exact.Costs)
 def _read_matrix(costs: Any, manner: exact.Manner) -> Problem:
     numpy = exact.numpy_of(costs)
     if numpy:
-        return _of_array(numpy, costs, manner)
+        return _of_array(numpy, costs, manner, None)
     if not isinstance(costs, (list, tuple, str)):
         try:
             view = memoryview(costs)
@@ -162,22 +179,17 @@ def _read_matrix(costs: Any, manner: exact.Manner) -> Problem:
             return _of_view(view, manner)
     rows, n_columns = _rows_of(costs, manner)
     _judge_size(len(rows), n_columns)
-    return _dense(len(rows), n_columns, manner, exact.of_rows(rows, n_columns, manner, _place_in(n_columns)))
+    return _dense(len(rows), n_columns, manner, exact.of_rows(rows, n_columns, manner, _place_in(n_columns, None)))
 
 
 def of_matrix(costs: Any, manner: exact.Manner) -> Problem:
     """The problem of a matrix. ValueError and TypeError name what is wrong, with row and column from 0."""
     if hasattr(costs, "tocsr") and not manner.doubles:
         return of_sparse_matrix(costs, manner)
-    if not is_frame(costs):
+    if not naming.is_frame(costs):
         return _read_matrix(costs, manner)
-    return _read_matrix(costs.to_numpy(), manner)._replace(labels=(list(costs.index), list(costs.columns)))
-
-
-def is_frame(costs: Any) -> bool:
-    """Whether this is a DataFrame of pandas."""
-    pandas = sys.modules.get("pandas")
-    return pandas is not None and isinstance(costs, pandas.DataFrame)
+    numpy = sys.modules["numpy"]
+    return _of_array(numpy, exact.array_of_frame(numpy, costs, manner), manner, (list(costs.index), list(costs.columns)))
 
 
 def plain(values: Any) -> Any:
@@ -195,15 +207,26 @@ def costs_of_pairs(problem: Problem, rows: Any, columns: Any) -> List[Any]:
             places = problem.numpy.asarray(rows, problem.numpy.intp) * problem.n_columns + columns
             return list(costs[places.astype(problem.numpy.intp)].tolist())
         return [costs[row * problem.n_columns + column] for row, column in zip(rows, columns)]
-    own = [0] * (problem.n_rows + 1)
-    for row, column in zip(rows, columns):
-        own[row + 1] = column + 1
-    persons = problem.persons.tolist()
-    wanted = map(operator.eq, map(own.__getitem__, persons), problem.objects.tolist())
     least: Dict[int, Any] = {}
-    for person, cost in compress(zip(persons, listed_costs(problem)), wanted):
+    for person, cost in _listed_of_pairs(problem, rows, columns):
         least[person] = min(cost, least.get(person, cost))
     return [least.get(row + 1) for row in map(int, rows)]
+
+
+def _listed_of_pairs(problem: Problem, rows: Any, columns: Any) -> Iterable[Tuple[int, Any]]:
+    """The persons and costs of listed pairs that are among some pairs, no two of one row."""
+    if problem.numpy:
+        own = problem.numpy.zeros(problem.n_rows + 1, problem.numpy.uint16)
+        own[problem.numpy.asarray(rows, problem.numpy.intp) + 1] = problem.numpy.asarray(columns, problem.numpy.intp) + 1
+        persons, objects = problem.persons, problem.objects
+        places = parts.places_where(problem.numpy, len(persons), lambda part: own[persons[part]] == objects[part])
+        return zip(persons[places].tolist(), plain(problem.costs)[places].tolist())
+    numbers = [0] * (problem.n_rows + 1)
+    for row, column in zip(rows, columns):
+        numbers[row + 1] = column + 1
+    listed_persons = problem.persons.tolist()
+    wanted = map(operator.eq, map(numbers.__getitem__, listed_persons), problem.objects.tolist())
+    return compress(zip(listed_persons, listed_costs(problem)), wanted)
 
 
 def listed_costs(problem: Problem) -> List[Any]:
@@ -240,7 +263,7 @@ def lists_of(problem: Problem) -> List[Tuple[Sequence[int], Any]]:
     if problem.persons is None:
         costs = plain(problem.costs)
         if problem.maximize:
-            costs = -costs if problem.numpy else list(map(operator.neg, costs))
+            costs = _negated(costs)
         view, columns = costs if isinstance(costs, list) else memoryview(costs), range(n_columns)
         return [(columns, view[row * n_columns:(row + 1) * n_columns]) for row in range(n_rows)]
     held: List[Dict[int, int]] = [{} for _ in range(n_rows)]
@@ -248,6 +271,13 @@ def lists_of(problem: Problem) -> List[Tuple[Sequence[int], Any]]:
         row = held[person - 1]
         row[item - 1] = min(cost, row.get(item - 1, cost))
     return [(sorted(row), [sign * row[column] for column in sorted(row)]) for row in held]
+
+
+def _negated(costs: Any) -> Any:
+    """Whole costs with their signs reversed. The least number of 64 bits has no other sign there."""
+    if hasattr(costs, "dtype") and costs.size and int(costs.min()) > -2**63:
+        return -costs
+    return [-cost for cost in costs.tolist()] if hasattr(costs, "tolist") else list(map(operator.neg, costs))
 
 
 def listed(problem: Problem) -> Problem:
@@ -286,6 +316,11 @@ def within(problem: Problem, worst: Ratio) -> Problem:
     problem = listed(problem)
     # The nearest double is the one that prints as this decimal.
     most: Any = float(bound) if problem.raw else (math.ceil if problem.maximize else math.floor)(bound * problem.unit.denominator)
+    if problem.numpy and not problem.raw:
+        # Of 64 bits, since NumPy would compare others as doubles.
+        least, greatest = -2**63, 2**63 - 1
+        if not least <= most <= greatest:
+            return problem if (most < least) == problem.maximize else kept(problem, problem.numpy.arange(0))
     if problem.numpy:
         return kept(problem, problem.costs >= most if problem.maximize else problem.costs <= most)
     return kept(problem, [place for place, cost in enumerate(problem.costs) if (cost >= most if problem.maximize else cost <= most)])
@@ -320,21 +355,37 @@ def _numbered(values: Any, most: int, what: str) -> Any:
     """Row or column numbers, from 1 on."""
     numpy = exact.numpy_of(values)
     if numpy:
-        values = numpy.asarray(values)
+        values = numpy.asanyarray(values)
         if values.ndim != 1:
             raise ValueError(f"{what} must be a list of numbers, not an array of {values.ndim} dimensions")
-        if values.size and values.dtype.kind not in "iu":
+        if values.size and values.dtype.kind not in "iuO":
             raise TypeError(f"{what} must be whole numbers, not {values.dtype}")
-        wrong = (values < 0) | (values >= most)
-        if wrong.any():
-            place = int(wrong.argmax())
-            raise ValueError(f"{what}[{place}] is {values[place]}: it must be from 0 to {most - 1}")
-        return (values + 1).astype(numpy.uint16)
-    numbers = [operator.index(value) for value in values]
+        if values.dtype.kind != "O" and not getattr(values, "mask", numpy.False_).any():
+            if values.size and not (0 <= int(values.min()) and int(values.max()) < most):
+                _all_below(values.tolist(), most, what)
+            # All have room for one more as numbers of 16 bits.
+            return numpy.asarray(values).astype(numpy.uint16) + numpy.uint16(1)
+        values = values.tolist()
+    values = _listed(values, what)
+    try:
+        numbers = [operator.index(value) for value in values]
+    except TypeError:
+        numbers = [exact.whole_number(value, f"{what}[{place}]") for place, value in enumerate(values)]
+    _all_below(numbers, most, what)
+    return array("H", [number + 1 for number in numbers])
+
+
+def _listed(values: Any, what: str) -> List[Any]:
+    try:
+        return list(values)
+    except TypeError:
+        raise TypeError(f"{what} is {values!r}: it must be a list") from None
+
+
+def _all_below(numbers: List[int], most: int, what: str) -> None:
     for place, number in enumerate(numbers):
         if not 0 <= number < most:
             raise ValueError(f"{what}[{place}] is {number}: it must be from 0 to {most - 1}")
-    return array("H", [number + 1 for number in numbers])
 
 
 def _pair_costs(costs: Any, manner: exact.Manner, where: exact.Where) -> exact.Costs:
@@ -344,13 +395,13 @@ def _pair_costs(costs: Any, manner: exact.Manner, where: exact.Where) -> exact.C
         if costs.ndim != 1:
             raise ValueError(f"costs must be a list of numbers, not an array of {costs.ndim} dimensions")
         return exact.of_array(numpy, costs, manner, where)
-    costs = list(costs)
+    costs = _listed(costs if manner.doubles else printing.of_buffer(costs), "costs")
     return exact.of_rows([costs], len(costs), manner, where)
 
 
 def of_pairs(n_rows: Any, n_columns: Any, rows: Any, columns: Any, costs: Any, manner: exact.Manner) -> Problem:
     """The problem of listed pairs, whose costs may be infinite or None to forbid a pair after all."""
-    n_rows, n_columns = operator.index(n_rows), operator.index(n_columns)
+    n_rows, n_columns = exact.whole_number(n_rows, "n_rows"), exact.whole_number(n_columns, "n_columns")
     _judge_size(n_rows, n_columns)
     arrays = next(filter(None, map(exact.numpy_of, (costs, rows, columns))), None)
     persons, objects = _numbered(rows, n_rows, "rows"), _numbered(columns, n_columns, "columns")
@@ -378,6 +429,9 @@ def of_pairs(n_rows: Any, n_columns: Any, rows: Any, columns: Any, costs: Any, m
 
 def once(problem: Problem) -> Problem:
     """The problem in which a pair that is given several times has its least cost alone."""
+    if problem.numpy:
+        places = _places_once(problem)
+        return problem if places is None else kept(problem, places)
     keys = [MOST_PERSONS * int(person) + int(item) for person, item in zip(problem.persons, problem.objects)]
     if len(set(keys)) == len(keys):
         return problem
@@ -387,6 +441,27 @@ def once(problem: Problem) -> Problem:
         if before != place and _is_less(problem, place, before):
             least[key] = place
     return kept(problem, sorted(least.values()))
+
+
+def _places_once(problem: Problem) -> Any:
+    """The places of the first of the least costs of each pair, rising; None where no pair is given twice. Doubles are in the order of the
+    decimals that they print as."""
+    numpy = problem.numpy
+    keys = (problem.persons.astype(numpy.int64) - 1) * problem.n_columns + problem.objects - 1
+    if (keys[1:] > keys[:-1]).all() or _are_different(numpy, keys, problem.n_rows * problem.n_columns):
+        return None
+    order = parts.whole(len(keys), lambda: numpy.lexsort((problem.costs, keys)))
+    return numpy.sort(order[numpy.diff(keys[order], prepend=-1) > 0])
+
+
+def _are_different(numpy: Any, keys: Any, most: int) -> bool:
+    """Whether no two of some numbers from 0 below a bound are the same."""
+    if most > 64 * len(keys):
+        ordered = parts.whole(len(keys), lambda: numpy.sort(keys))
+        return bool((ordered[1:] > ordered[:-1]).all())
+    seen = numpy.zeros(most, bool)
+    seen[keys] = True
+    return bool(numpy.count_nonzero(seen) == len(keys))
 
 
 def _is_less(problem: Problem, place: int, other: int) -> bool:

@@ -8,10 +8,10 @@ from array import array
 from fractions import Fraction
 from typing import Any, List, NamedTuple, NoReturn, Optional, Sequence, Tuple, Union
 
-from . import _library as library
+from . import _library as library, _naming as naming, _printing as printing
 from ._library import GREATEST_FIRST_PRICE, MOST_PERSONS, Halves
 from ._numbers import ratio_of
-from ._problem import Problem, listed, lists_of, plain
+from ._problem import Problem, TooLarge, listed, lists_of, plain
 
 
 class Given(NamedTuple):
@@ -56,7 +56,7 @@ def sizes_of(problem: Problem, served: Optional[int]) -> Tuple[int, int, int]:
     n, most = sorted((problem.n_rows, problem.n_columns))
     dummies = 0 if served is None else n - served
     if most + dummies > MOST_PERSONS:
-        raise ValueError(f"{problem.n_rows} rows and {problem.n_columns} columns, of which {served} can be paired, make {most + dummies} "
+        raise TooLarge(f"{problem.n_rows} rows and {problem.n_columns} columns, of which {served} can be paired, make {most + dummies} "
                          f"with dummies: at most {MOST_PERSONS} are possible")
     return n, most + dummies, dummies
 
@@ -227,6 +227,8 @@ def exact_price(price: Any, name: Any) -> Fraction:
     if isinstance(price, str) or type(price) is bytes:
         raise TypeError(f"the price of column {name} is {price!r}: it must be a number")
     try:
+        if hasattr(price, "dtype") and price.dtype.kind == "f":
+            price = printing.of_scalar(price)
         if hasattr(price, "as_integer_ratio") and not hasattr(price, "dtype"):
             return Fraction(*ratio_of(price, False))
         return Fraction(operator.index(price)) if hasattr(price, "__index__") else Fraction(*ratio_of(float(price), False))
@@ -236,9 +238,9 @@ def exact_price(price: Any, name: Any) -> Fraction:
         raise TypeError(f"the price of column {name} is {price!r}: it must be a number") from None
 
 
-def exact_prices(problem: Problem, prices: Any) -> List[Fraction]:
-    """The caller's prices, one for each column."""
-    prices = prices.tolist() if hasattr(prices, "tolist") and getattr(prices, "ndim", 1) == 1 else list(prices)
+def exact_prices(problem: Problem, prices: Any, what: str = "prices") -> List[Fraction]:
+    """The caller's prices, one for each column; `what` is the argument's name."""
+    prices = naming.listed(prices, what, "column", problem.n_columns, problem.labels and problem.labels[1])
     if len(prices) != problem.n_columns:
         raise ValueError(f"there are {len(prices)} prices, and {problem.n_columns} columns")
     return [exact_price(price, problem.column_name(column)) for column, price in enumerate(prices)]

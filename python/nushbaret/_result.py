@@ -1,12 +1,11 @@
 """A best assignment as the caller sees it."""
 import decimal
-import operator
 from fractions import Fraction
 from functools import cached_property
 from typing import TYPE_CHECKING, Any, Dict, Iterable, List, NamedTuple, Optional, Sequence, Tuple, Union
 
 from . import _duals as exact_duals, _proved as proved
-from ._exact import loaded_numpy, manner
+from ._exact import loaded_numpy, manner, whole_number
 from ._numbers import Number, Ratio, Unit, all_shown, total
 from ._problem import Problem, costs_of_pairs
 from ._source import Held, Source, problem_of
@@ -232,9 +231,9 @@ class Result(Lasting):
 
     def _checked(self) -> Problem:
         """The problem of the call; ValueError unless the duals prove that the plan is best for its costs as they are now."""
-        from ._checking import check_problem
+        from ._checking import check_wholly
         problem = self._read_again()
-        if not check_problem(problem, self._pairs[0], self._pairs[1], self._exact_rents):
+        if not check_wholly(problem, self._pairs[0], self._pairs[1], self._exact_rents):
             raise ValueError(CHANGED)
         return problem
 
@@ -298,14 +297,14 @@ class Result(Lasting):
         Returns
         -------
         Verdict
-            True as a condition exactly if the duals prove that no plan of as many pairs is better. `check` says what checks it.
+            True as a condition exactly if the duals prove the plan best, as `check` says.
 
         >>> import nushbaret
         >>> result = nushbaret.solve([[1, 2], [3, 5]])
         >>> result.verify(), bool(result.verify([[1, 2], [3, 3]]))
         (<nushbaret.Verdict: proved>, False)
         """
-        from ._checking import Verdict, check_problem
+        from ._checking import Verdict, check_wholly
         if costs is None:
             problem = self._source.read()
         else:
@@ -315,7 +314,7 @@ class Result(Lasting):
             prices = self._exact_rents
         except ValueError as fault:
             return Verdict(str(fault))
-        return check_problem(problem, self._pairs[0], self._pairs[1], prices)
+        return check_wholly(problem, self._pairs[0], self._pairs[1], prices)
 
     @property
     def _decimals(self) -> Optional[int]:
@@ -364,11 +363,11 @@ def _prints_so(cost: decimal.Decimal) -> bool:
     return decimal.Decimal(repr(float(cost))) == cost
 
 
-def numbered(value: Any, labels: Optional[List[Any]]) -> int:
-    """The number of a row or column: a whole number is one, anything else is a label."""
+def numbered(value: Any, labels: Optional[List[Any]], name: str) -> int:
+    """The number of a row or column that the caller gave by a name: a whole number is one, anything else is a label."""
     if labels is None or hasattr(value, "__index__"):
-        return operator.index(value)
+        return whole_number(value, name)
     try:
         return labels.index(value)
     except ValueError:
-        raise IndexError(f"the frame has no label {value!r}") from None
+        raise IndexError(f"{name}: the frame has no label {value!r}") from None

@@ -10,16 +10,22 @@ from array import array
 from bisect import bisect_left, bisect_right
 from itertools import compress, islice, repeat
 from operator import add, le, mul
-from typing import Any, Dict, List, NamedTuple, Optional, Sequence, Set, Tuple, cast
+from typing import Any, Dict, FrozenSet, List, NamedTuple, Optional, Sequence, Set, Tuple, cast
 
 from ._costs import Costs
+from ._dates import spellings
 from ._library import MOST_PERSONS, Numbers
-from ._sheets import MOST_BYTES, RosterFault, Sheet, is_json, quoted, unit_of
+from ._sheets import MOST_BYTES, Reading, RosterFault, Sheet, is_json, quoted, unit_of
+from ._times import Times
 
 LINES, MATRIX = "lines", "matrix"
 TITLES = ("person", "object", "cost")
 # Of plans in JSON; those before are read too.
-FORMAT = 2
+FORMAT = 3
+# Where a workbook has its plan.
+PLAN_SHEET = "Plan"
+# The column of a plan that says what changed from an earlier one, and its words: for a new pair, and for two that are no pairs of the plan.
+CHANGE, COMES, GOES, NOT_POSSIBLE = "change", "comes", "goes", "not possible"
 
 
 def is_plain(name: str) -> bool:
@@ -72,7 +78,8 @@ class Names:
         if len(self.list) == MOST_PERSONS:
             self._sheet.refuse(f"more than {MOST_PERSONS} {self._kind}", line, column)
         self.list.append(name)
-        self.numbers[name] = len(self.list) - 1
+        for spelling in spellings(name):
+            self.numbers[spelling] = len(self.list) - 1
         return len(self.list) - 1
 
 
@@ -81,12 +88,13 @@ Read = Tuple[Tuple[str, str, str], Names, Names, Numbers, Numbers]
 
 
 class Groups(NamedTuple):
-    """Groups of objects of which nobody takes two: their title, their names in the order of the file, and the group of each object that is
-    in one."""
+    """Groups of objects of which nobody takes two: their title, their names in the order of the file, the group of each object that is in
+    one, and when objects begin and end, where the file says it."""
 
     title: str
     names: List[str]
     of_objects: Dict[int, int]
+    times: Dict[int, Times] = {}
 
 
 class Roster(NamedTuple):
@@ -95,7 +103,8 @@ class Roster(NamedTuple):
     objects how many they take at most, where it isn't one; None where nothing was said. Where bounds alone decide, `least` says of persons
     and of objects how many they take at least, where it isn't 0. `rounded` says whether any cost was changed by
     rounding, `has_bom` whether the file began with a BOM, `is_matrix` whether it is a matrix, and `by_persons`
-    whether the pairs stand person by person. `sheets` are those of a workbook, first the one that was read."""
+    whether the pairs stand person by person. `encoding` is that of the file, and `reading` how other files are read. Of the objects in
+    `past` nothing is planned."""
 
     persons: List[str]
     objects: List[str]
@@ -116,7 +125,9 @@ class Roster(NamedTuple):
     by_persons: bool = False
     least: Optional[Tuple[Dict[int, int], Dict[int, int]]] = None
     groups: Optional[Groups] = None
-    sheets: Sequence[str] = ()
+    encoding: str = "utf-8"
+    reading: Reading = Reading()
+    past: FrozenSet[int] = frozenset()
 
     @property
     def ruled(self) -> bool:
@@ -228,13 +239,13 @@ def are_lines(numbers: bool, words: bool, twice: bool) -> bool:
 
 
 def read_roster(path: str, form: Optional[str], decimals: Optional[int], comma: bool, rounds: Optional[int] = None,
-                sheet_name: Optional[str] = None, skipped: int = 0) -> Roster:
+                sheet_name: Optional[str] = None, skipped: int = 0, reading: Reading = Reading()) -> Roster:
     """Reads a roster.
 
     Parameters
     ----------
     path : str
-        A CSV file with a title line, or a workbook, `.xlsx`.
+        A CSV file with a title line, a workbook, `.xlsx`, or one with the name of a sheet, `FILE.xlsx#SHEET`.
     form : 'lines', 'matrix' or None
         None takes the form from the file.
     decimals : int or None
@@ -247,6 +258,8 @@ def read_roster(path: str, form: Optional[str], decimals: Optional[int], comma: 
         Which sheet of a workbook is read; None: the first.
     skipped : int
         How many rows above the titles aren't read.
+    reading : Reading
+        In which encoding text is read, here and in the files about this roster, and where it is said what was read.
 
     Raises
     ------
@@ -255,7 +268,7 @@ def read_roster(path: str, form: Optional[str], decimals: Optional[int], comma: 
     OSError
         Where the file can't be read.
     """
-    sheet = Sheet(path, comma, sheet_name, skipped)
+    sheet = Sheet(path, comma, sheet_name, skipped, reading)
     costs = Costs(sheet, decimals, comma, rounds)
     is_matrix = form == MATRIX or form is None and not _may_be_lines(sheet)
     read = _read_matrix if is_matrix else _read_lines if form else _read_sure_lines
@@ -263,7 +276,7 @@ def read_roster(path: str, form: Optional[str], decimals: Optional[int], comma: 
     used, scaled = costs.scaled()
     return Roster(persons.list, objects.list, persons.numbers, objects.numbers, of_persons, of_objects, scaled,
                   used, titles, sheet.separator, comma, rounded=costs.rounded, has_bom=sheet.has_bom, is_matrix=is_matrix,
-                  sheets=sheet.sheets, by_persons=is_matrix or all(map(le, of_persons, islice(of_persons, 1, None))))
+                  by_persons=is_matrix or all(map(le, of_persons, islice(of_persons, 1, None))), encoding=sheet.encoding, reading=reading)
 
 
 def _may_be_lines(sheet: Sheet) -> bool:
@@ -392,7 +405,7 @@ def read_plan(path: str, roster: Roster) -> List[PlanLine]:
     then for the first pair that the roster forbids; and `OSError` where the file can't be read.
     """
     places = [(_known(path, roster, person, line, 1, 1), _known(path, roster, object_, line, 2, 2), line)
-              for person, object_, line in _named_pairs(path, roster)]
+              for person, object_, line, _ in _named_pairs(path, roster)]
     _refuse_twice(path, roster, places)
     costs = roster.costs_of({(person, object_) for person, object_, _ in places})
     for person, object_, line in places:
@@ -401,15 +414,29 @@ def read_plan(path: str, roster: Roster) -> List[PlanLine]:
     return [PlanLine(person, object_, line, costs[person, object_]) for person, object_, line in places]
 
 
+class NamedPair(NamedTuple):
+    """A pair of a plan by names, the line where it stands, or in JSON its number, and its cost as it is written there, if any is."""
+
+    person: str
+    object: str
+    line: int
+    cost: str
+
+
 class OldPlan(NamedTuple):
     """An earlier plan, by the file's name: its pairs by names, those that the roster allows, the names that the roster doesn't have, and
     the pairs of known names that it forbids, each with its line."""
 
     path: str
-    pairs: List[Tuple[str, str]]
+    named: List[NamedPair]
     known: List[PlanLine]
     gone: List[str]
     forbidden: List[Tuple[int, int, int]]
+
+    @property
+    def pairs(self) -> List[Tuple[str, str]]:
+        """All pairs by names."""
+        return [pair[:2] for pair in self.named]
 
 
 def read_old_plan(path: str, roster: Roster, by_counts: bool = True) -> OldPlan:
@@ -417,10 +444,22 @@ def read_old_plan(path: str, roster: Roster, by_counts: bool = True) -> OldPlan:
 
     Raises `RosterFault` for the first name that stands more often than it may, if counts are to be kept, and for a pair that stands twice.
     """
+    return old_plan_of(path, roster, _named_pairs(path, roster), by_counts)
+
+
+def read_hand_plan(path: str, roster: Roster) -> Tuple[OldPlan, List[NamedPair]]:
+    """Reads a plan from elsewhere, whatever rules it breaks: each pair once, and those that stand again."""
+    first: Dict[Tuple[str, str], NamedPair] = {}
     named = _named_pairs(path, roster)
+    repeated = [pair for pair in named if first.setdefault(pair[:2], pair) is not pair]
+    return old_plan_of(path, roster, list(first.values()), False), repeated
+
+
+def old_plan_of(path: str, roster: Roster, named: List[NamedPair], by_counts: bool) -> OldPlan:
+    """An earlier plan as a roster has it now."""
     gone: Dict[str, None] = {}
     places = []
-    for person, object_, line in named:
+    for person, object_, line, _ in named:
         gone.update({} if person in roster.person_numbers else {person: None})
         gone.update({} if object_ in roster.object_numbers else {object_: None})
         if person in roster.person_numbers and object_ in roster.object_numbers:
@@ -428,27 +467,36 @@ def read_old_plan(path: str, roster: Roster, by_counts: bool = True) -> OldPlan:
     _refuse_twice(path, roster, places, by_counts)
     costs = roster.costs_of({(person, object_) for person, object_, _ in places})
     known = [PlanLine(person, object_, line, costs[person, object_]) for person, object_, line in places if (person, object_) in costs]
-    return OldPlan(path, [(person, object_) for person, object_, _ in named], known, list(gone),
-                   [place for place in places if place[:2] not in costs])
+    return OldPlan(path, named, known, list(gone), [place for place in places if place[:2] not in costs])
 
 
-NamedPairs = List[Tuple[str, str, int]]
+def _as_written(names: List[str], numbers: Dict[str, int], name: str) -> str:
+    """A name as the roster writes it, if it has it: dates have several spellings."""
+    return names[numbers[name]] if name in numbers else name
 
 
-def _named_pairs(path: str, roster: Roster) -> NamedPairs:
-    """The pairs of a plan by names, each with its line, or in JSON with its number."""
-    if is_json(path):
-        return _plan_of_json(path)
-    sheet = Sheet(path)
+def _named_pairs(path: str, roster: Roster) -> List[NamedPair]:
+    """The pairs of a plan by names."""
+    pairs = _plan_of_json(path) if is_json(path) else _plan_of_sheet(path, roster)
+    return [NamedPair(_as_written(roster.persons, roster.person_numbers, pair.person),
+                      _as_written(roster.objects, roster.object_numbers, pair.object), pair.line, pair.cost) for pair in pairs]
+
+
+def _plan_of_sheet(path: str, roster: Roster) -> List[NamedPair]:
+    """The pairs of a plan in lines. A third column has costs, unless it is that of groups."""
+    sheet = Sheet(path, roster.comma, reading=roster.reading, preferred=PLAN_SHEET)
     line, title = sheet.title()
     if len(title) < 2:
         sheet.refuse("each line must have a person and an object", line)
     if title[0] in roster.person_numbers and title[1] in roster.object_numbers:
         sheet.refuse(f"a title line must come first, and {title[0]}, {title[1]} is a pair", line)
-    return [(sheet.name(cells[0], line, 1), sheet.name(cells[1], line, 2), line) for line, cells in sheet.body(len(title))]
+    change = title.index(CHANGE, len(TITLES)) if CHANGE in title[len(TITLES):] else None
+    has_costs = len(title) > 2 and (roster.groups is None or title[2] != roster.groups.title)
+    return [NamedPair(sheet.name(cells[0], line, 1), sheet.name(cells[1], line, 2), line, cells[2] if has_costs else "")
+            for line, cells in sheet.body(len(title)) if change is None or cells[change] not in (GOES, NOT_POSSIBLE)]
 
 
-def _plan_of_json(path: str) -> NamedPairs:
+def _plan_of_json(path: str) -> List[NamedPair]:
     with open(path, "rb") as file:
         data = file.read(MOST_BYTES)
     try:
@@ -458,28 +506,30 @@ def _plan_of_json(path: str) -> NamedPairs:
         raise RosterFault(path, f"no plan with pairs in JSON: {fault}") from fault
     if form not in range(1, FORMAT + 1):
         raise RosterFault(path, f"format {form} of a plan in JSON, where 1 to {FORMAT} can be read")
-    return [(*_pair_of_json(path, pair, number), number) for number, pair in enumerate(pairs, 1)]
+    return [_pair_of_json(path, pair, number) for number, pair in enumerate(pairs, 1)]
 
 
-def _pair_of_json(path: str, pair: Any, number: int) -> Tuple[str, str]:
+def _pair_of_json(path: str, pair: Any, number: int) -> NamedPair:
     person, object_ = (pair.get(key) if isinstance(pair, dict) else None for key in ("person", "object"))
     if not isinstance(person, str) or not isinstance(object_, str) or not (person and object_):
         raise RosterFault(path, "a person and an object are needed, each a text", number)
-    return unicodedata.normalize("NFC", person), unicodedata.normalize("NFC", object_)
+    cost = pair.get("cost", "")
+    is_number = isinstance(cost, (str, int, float)) and not isinstance(cost, bool)
+    return NamedPair(unicodedata.normalize("NFC", person), unicodedata.normalize("NFC", object_), number, str(cost) if is_number else "")
 
 
 def known(sheet: Sheet, roster: Roster, cell: str, line: int, side: int, column: int) -> int:
     """The number of a person (side 1) or an object that the roster must have, by a cell."""
-    return _known(sheet.path, roster, sheet.name(cell, line, column), line, side, column)
+    return _known(sheet.path, roster, sheet.name(cell, line, column), line, side, column, sheet.others)
 
 
-def _known(path: str, roster: Roster, name: str, line: int, side: int, column: int) -> int:
+def _known(path: str, roster: Roster, name: str, line: int, side: int, column: int, others: str = "") -> int:
     """The number of a person (side 1) or an object that the roster must have, by name."""
     numbers = roster.person_numbers if side == 1 else roster.object_numbers
     if name not in numbers:
         near = like(name, list(numbers))
         hint = f": did you mean {' or '.join(map(quoted, near))}?" if near else ""
-        raise RosterFault(path, f"the roster has no {'person' if side == 1 else 'object'} {quoted(name)}{hint}", line, column)
+        raise RosterFault(path, f"the roster has no {'person' if side == 1 else 'object'} {quoted(name)}{hint}{others}", line, column)
     return numbers[name]
 
 

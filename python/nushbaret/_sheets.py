@@ -1,24 +1,23 @@
 """The cells of CSV files and workbooks, and what is wrong in a file. Lines and columns are counted from 1, and a column is a cell of its
 line."""
 import csv
-import datetime
 import os
 import re
 import sys
 import unicodedata
 from itertools import accumulate, islice
-from typing import Any, Generator, Iterable, Iterator, List, NamedTuple, NoReturn, Optional, Sequence, Tuple
+from typing import Callable, Generator, Iterable, Iterator, List, NamedTuple, NoReturn, Optional, Sequence, Set, Tuple
+
+from ._encodings import Undecodable, decoded
 
 MOST_BYTES = 2**30
 SEPARATORS = ";\t,"
-WIDE_BOMS = (b"\xff\xfe", b"\xfe\xff")
-BOMS = (b"\xef\xbb\xbf", *WIDE_BOMS)
-SAVE = "save the sheet as 'CSV UTF-8'"
 # Lines, and cells column by column.
 Block = Tuple[Sequence[int], List[Sequence[str]]]
 # So many records, and letters of a text, are looked at in one go.
 BLOCK = 1024
 PIECE = 2**20
+LINE_BREAKS = re.compile(r"\s*[\r\n]\s*")
 # str.splitlines ends a line here too.
 OTHER_ENDS = "\v\f\x1c\x1d\x1e\x85\u2028\u2029"
 
@@ -37,9 +36,28 @@ class RosterFault(ValueError):
         super().__init__(f"{place}: {text}")
 
 
+class Reading(NamedTuple):
+    """How text is read: in which encoding, if one was named; and where it is said what was read in place of what was named."""
+
+    encoding: Optional[str] = None
+    say: Callable[[str], object] = str
+
+
+def file_and_sheet(path: str) -> Tuple[str, Optional[str]]:
+    """The file that a path names, and where it is FILE.xlsx#SHEET the sheet. A file of the whole name goes first."""
+    found = re.fullmatch(r"(.*?\.xlsx)#(.+)", path, re.IGNORECASE)
+    return (path, None) if found is None or os.path.lexists(path) else (found[1], found[2])
+
+
+def heading_of(path: str) -> str:
+    """The title of what is made of a file: its name without its end, and that of its sheet."""
+    file, sheet = file_and_sheet(path)
+    return ", ".join(filter(None, (os.path.splitext(os.path.basename(file))[0], sheet)))
+
+
 def is_json(path: str) -> bool:
     """Whether a file is a plan in JSON, by its name."""
-    return os.path.splitext(path)[1].lower() == ".json"
+    return os.path.splitext(file_and_sheet(path)[0])[1].lower() == ".json"
 
 
 def unit_of(path: str) -> str:
@@ -69,102 +87,59 @@ def _standard_input() -> bytes:
         raise OSError(fault.errno, fault.strerror, "standard input") from fault
 
 
-# The first sheet of an Excel workbook, where openpyxl is installed.
-
-
-class WorkbookFault(Exception):
-    """Why a workbook can't be read."""
-
-
-class Taken(NamedTuple):
-    """The rows of a sheet, all of one length, as a CSV file would have them; and what the workbook's sheets are called, this one first."""
-
-    rows: List[List[str]]
-    names: List[str]
-
-
-def _workbook_rows(path: str, comma: bool, name: Optional[str]) -> Taken:
-    """What is in a sheet of a workbook, the first if none is named; with `comma` numbers have a decimal comma."""
-    try:
-        import openpyxl
-    except ImportError:
-        raise WorkbookFault(f"an Excel workbook is read where openpyxl is installed; elsewhere {SAVE}") from None
-    try:
-        book = openpyxl.load_workbook(path, read_only=True, data_only=True)
-        names = [sheet.title for sheet in book.worksheets]
-        if name is not None and name not in names:
-            raise WorkbookFault(f"no sheet {quoted(name)}: it has {', '.join(map(quoted, names))}")
-        place = 0 if name is None else names.index(name)
-        rows = [[_cell_text(value, comma) for value in row] for row in book.worksheets[place].iter_rows(values_only=True)]
-        book.close()
-    except (OSError, WorkbookFault):
-        raise
-    except Exception as fault:
-        # openpyxl lets pass whatever the parsers beneath it raise.
-        raise WorkbookFault(f"no workbook that openpyxl reads ({fault}): {SAVE}") from fault
-    width = max(map(len, rows), default=0)
-    return Taken([row + [""] * (width - len(row)) for row in rows], [names[place], *names[:place], *names[place + 1:]])
-
-
-def _cell_text(value: Any, comma: bool) -> str:
-    """A cell as a spreadsheet shows it: numbers with up to 15 digits."""
-    if value is None:
-        return ""
-    if isinstance(value, float):
-        shown = format(value, ".15g")
-        return shown.replace(".", ",") if comma else shown
-    if isinstance(value, datetime.datetime) and value.time() == datetime.time():
-        return value.date().isoformat()
-    return str(value)
-
-
 class Sheet:
-    """The records of a CSV file: UTF-8 or UTF-16, with `;`, TAB or `,` between cells, the one that its first line has most of. Or those of
-    a workbook, `.xlsx`. Rows above the titles may be skipped.
+    """The records of a CSV file: with `;`, TAB or `,` between cells, the one that its first line has most of. Or those of a workbook's
+    sheet: the one that FILE.xlsx#SHEET or `name` names; else the preferred one, if there is one of that name; else the first. Rows above
+    the titles may be skipped.
 
     Raises `OSError` where the file can't be read, and `RosterFault` where it is no text or is too long.
     """
 
-    def __init__(self, path: str, comma: bool = False, name: Optional[str] = None, skipped: int = 0) -> None:
+    def __init__(self, path: str, comma: bool = False, name: Optional[str] = None, skipped: int = 0, reading: Reading = Reading(),
+                 preferred: Optional[str] = None) -> None:
         self.path, self.skipped = "standard input" if path == "-" else path, skipped
         self.rows: Optional[List[List[str]]] = None
-        self.sheets: List[str] = []
-        if os.path.splitext(path)[1].lower() == ".xlsx":
-            self._take_workbook(path, comma, name)
+        # What a refusal says of other sheets, and the lines that are one merged cell.
+        self.others = ""
+        self.merged: Set[int] = set()
+        file, own_name = file_and_sheet(path)
+        if os.path.splitext(file)[1].lower() == ".xlsx":
+            self._take_workbook(file, comma, own_name or name, preferred, reading)
         elif name is not None:
             self.refuse("only a workbook, .xlsx, has sheets: not with --sheet")
         else:
-            self._take_text(_held(path))
+            self._take_text(_held(path), reading)
 
-    def _take_workbook(self, path: str, comma: bool, name: Optional[str]) -> None:
-        self.has_bom, self.has_hint, self.separator = False, False, ";" if comma else ","
+    def _take_workbook(self, path: str, comma: bool, name: Optional[str], preferred: Optional[str], reading: Reading) -> None:
+        from ._read_workbook import WorkbookFault, listed_sheets, read_workbook
+        self.has_bom, self.has_hint, self.separator, self.encoding = False, False, ";" if comma else ",", "utf-8"
         try:
-            rows, self.sheets = _workbook_rows(path, comma, name)
-            self.rows = rows[self.skipped:]
+            self.rows, read, names, self.merged = read_workbook(path, comma, name, preferred, self.skipped)
         except WorkbookFault as fault:
-            self.refuse(str(fault))
+            self.refuse(str(fault), fault.line, fault.column)
+        if len(names) > 1 and name is None and read != preferred:
+            self.others = f" (in the sheet {quoted(read)} of {listed_sheets(names)}: {path}#SHEET reads another)"
+            reading.say(f"{path}: the sheet {quoted(read)} was read, of {len(names)}: {path}#SHEET reads another")
 
-    def _take_text(self, data: bytes) -> None:
+    def _take_text(self, data: bytes, reading: Reading) -> None:
         if len(data) > MOST_BYTES:
             self.refuse(f"longer than {MOST_BYTES} bytes")
-        self.has_bom = data.startswith(BOMS)
-        self.text = _after_lines(self._decoded(data), self.skipped)
+        try:
+            text, self.encoding, self.has_bom, is_guess = decoded(data, reading.encoding)
+        except Undecodable as fault:
+            self.refuse(str(fault), None if fault.place is None else data.count(b"\n", 0, fault.place) + 1)
+        if is_guess:
+            reading.say(f"{self.path}: read as {self.encoding}, since it is no UTF-8; --encoding names another")
+        self.text = _after_lines(text, self.skipped)
         first = re.split("[\r\n]", self.text.lstrip("\r\n"), maxsplit=1)[0]
         # Spreadsheets write this line ahead of the title to name the separator.
         self.has_hint = re.fullmatch('"?sep=.?"?', first, re.IGNORECASE) is not None
         hinted = first.strip('"')[4:]
         self.separator = hinted if self.has_hint and hinted in SEPARATORS and hinted else separator_of(first)
 
-    def _decoded(self, data: bytes) -> str:
-        wide = data.startswith(WIDE_BOMS)
-        try:
-            return data.decode("utf-16" if wide else "utf-8-sig")
-        except UnicodeDecodeError as error:
-            self.refuse("bytes that are no UTF-8: save the file as 'CSV UTF-8'", data.count(b"\n", 0, error.start) + 1)
-
     def refuse(self, text: str, line: Optional[int] = None, column: Optional[int] = None) -> NoReturn:
         """Raises the fault of this file."""
-        raise RosterFault(self.path, text, line, column)
+        raise RosterFault(self.path, text + self.others, line, column)
 
     def records(self) -> Iterator[Tuple[int, List[str]]]:
         """The records that aren't empty, each with the number of its first line; cells without the white space around them."""
@@ -191,6 +166,8 @@ class Sheet:
         for line, cells in self.records():
             while not cells[-1]:
                 cells.pop()
+            if line in self.merged:
+                self.refuse(f"{quoted(cells[0])} in one merged cell, where titles are needed; --skip-rows K skips rows above them", line)
             return line, cells
         self.refuse("an empty file")
 
@@ -275,11 +252,13 @@ class Sheet:
         self.refuse(f"no CSV: {fault}", lines[-1])
 
     def name(self, cell: str, line: int, column: int) -> str:
-        """A cell as a name; letters with accents are one name however they are written."""
+        """A cell as a name, with a blank for each line break; letters with accents are one name however they are written."""
+        if not cell.isprintable():
+            cell = LINE_BREAKS.sub(" ", cell)
         if not cell:
             self.refuse("an empty name", line, column)
         if not cell.isprintable() and any(unicodedata.category(letter) == "Cc" for letter in cell):
-            self.refuse(f"a line break or another control character in the name {quoted(cell)}", line, column)
+            self.refuse(f"a control character in the name {quoted(cell)}", line, column)
         return unicodedata.normalize("NFC", cell)
 
 

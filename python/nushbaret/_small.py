@@ -5,8 +5,10 @@ from array import array
 from collections import deque
 from typing import Any, Dict, List, Optional, Tuple
 
-from . import _array_levels as arrays, _exact as exact, _levels as levels, _library as library, _proved as proved
-from ._library import FEW, MOST_PERSONS
+from . import _array_levels as arrays, _exact as exact, _levels as levels, _library as library, _printing as printing, _proved as proved
+from ._library import GREATEST_COST, MOST_PERSONS
+from ._naming import is_frame
+from ._numbers import of_places
 from ._problem import Problem
 from ._result import Found
 
@@ -27,17 +29,20 @@ class SmallArrays:
     def __init__(self, numpy: Any):
         self.numpy, self.array = numpy, numpy.ndarray
         self.int64, self.float64 = numpy.dtype(numpy.int64), numpy.dtype(numpy.float64)
+        # Which of the two has all numbers of an array of another kind. An equal dtype may be another object.
+        whole = [numpy.dtype(f"{sign}{size}") for sign in "iu" for size in (1, 2, 4)]
+        self.kinds = dict.fromkeys([self.int64, numpy.dtype(bool), *whole], self.int64)
+        self.kinds.update(dict.fromkeys([self.float64, numpy.dtype("f4"), numpy.dtype("f2")], self.float64))
         self.add, self.subtract, self.of_bytes = numpy.add, numpy.subtract, numpy.frombuffer
         # Numbers from 0 on come out of an array that has -1, 0, 1 ..
         self.from_zero = numpy.arange(-1, MOST_PERSONS).take
         self.adders: Dict[int, Tuple[Any, Any]] = {}
 
     def assignment(self, costs: Any, maximize: bool) -> Optional[Tuple[Any, Any]]:
-        """Rows and columns of a best assignment. None if the costs aren't a small array of 64-bit integers or floats, all finite, or if
-        this way finds no answer to them: then the longer way finds one, or says what is wrong."""
-        if type(costs) is not self.array or costs.ndim != 2:
-            return None
-        room = self._solved(costs, maximize, False)
+        """Rows and columns of a best assignment. None if the costs aren't a small array, or a frame of one, or if this way finds no answer
+        to them: then the longer way finds one, or says what is wrong."""
+        matrix = self._plain(costs, False)
+        room = None if matrix is None else self._solved(matrix, maximize, False)
         if room is None:
             return None
         found = self._pairs_of(room)
@@ -55,14 +60,15 @@ class SmallArrays:
         return found
 
     def found(self, costs: Any, maximize: bool) -> Optional[Found]:
-        """What a result is made of, for a small array or a list of lists, where floats are the decimals that they print as. None as in
-        `assignment`, and where costs may have few decimal places, which the longer way makes whole."""
-        matrix, flat = (costs, None) if type(costs) is self.array and costs.ndim == 2 else self._read(costs)
-        room = None if matrix is None else self._solved(matrix, maximize, True)
+        """What a result is made of, for a small array, a frame or a list of lists, where floats are the decimals that they print as. None as
+        in `assignment`."""
+        matrix, flat = self._read(costs) if type(costs) is list else (self._plain(costs, True), None)
+        room = None if matrix is None else self._solved(matrix, maximize, True, flat is not None)
         if room is None:
             return None
         n_rows, n_columns = matrix.shape
-        shape = Problem(n_rows, n_columns, maximize, None, raw=room.is_rounded)
+        labels = None if flat is not None or type(costs) is self.array else (list(costs.index), list(costs.columns))
+        shape = Problem(n_rows, n_columns, maximize, None, unit=of_places(room.places), raw=room.is_rounded, labels=labels)
         answer = _answer_of(room)
         if flat is None:
             rows, columns = self._pairs_of(room)
@@ -70,8 +76,34 @@ class SmallArrays:
         else:
             rows, columns = _listed_pairs_of(room)
             own = [flat[n_columns * row + column] for row, column in zip(rows, columns)]
+        if room.places:
+            own = [round(cost * 10**room.places) for cost in own]
         room.give_back()
         return Found(shape, answer, rows, columns, own, flat is None)
+
+    def _plain(self, costs: Any, printed: bool) -> Any:
+        """An array of 64-bit integers or floats with all numbers of a small array or frame; None where there is none, or it isn't small.
+        Short floats are the decimals that they print as where `printed`."""
+        if type(costs) is not self.array:
+            costs = self._of_frame(costs)
+        if costs is None or costs.ndim != 2 or not _is_small(*costs.shape):
+            return None
+        kind = costs.dtype
+        if kind is self.float64 or kind is self.int64:
+            return costs
+        own = self.kinds.get(kind)
+        if own is self.float64 and printed and kind.itemsize < 8:
+            return printing.of_array(self.numpy, costs.ravel()).reshape(costs.shape)
+        return own and costs.astype(own, copy=False)
+
+    def _of_frame(self, costs: Any) -> Any:
+        """The array that holds all costs of a frame of pandas; None where these stand in several, maybe of several kinds."""
+        if not is_frame(costs):
+            return None
+        values = costs.values
+        if type(values) is not self.array or values.base is None or values.base is not costs.values.base:
+            return None
+        return values
 
     def _pairs_of(self, room: library.Room) -> Tuple[Any, Any]:
         """Rows and columns of the plan in a room."""
@@ -98,68 +130,121 @@ class SmallArrays:
         except struct.error:
             return None
 
-    def _solved(self, costs: Any, maximize: bool, printed: bool) -> Optional[library.Room]:
+    def _solved(self, costs: Any, maximize: bool, printed: bool, of_list: bool = False) -> Optional[library.Room]:
         """A room with a best plan, whose persons are the fewer of rows and columns; floats are the decimals that they print as where
-        `printed`."""
+        `printed`. Of a list those with at most 12 digits are left to the longer way, which may find a unit for them."""
         n, m = costs.shape
         is_turned = n > m
         if is_turned:
             n, m, costs = m, n, costs.T
-        if not n or n * n * m >= library.LONG or m > MOST_PERSONS or not costs.flags.aligned:
+        if not costs.flags.aligned:
             return None
         room = library.room_for(self.numpy, n, m)
-        room.is_turned = is_turned
-        if costs.dtype is self.int64:
+        room.is_turned, room.places, room.listed, room.of_list = is_turned, 0, None, of_list and printed
+        if costs.dtype.kind == "i":
             return room if self._of_whole(costs.ravel(), room, maximize) else None
-        return room if costs.dtype is self.float64 and self._of_doubles(costs, room, maximize, printed) else None
+        return room if self._of_doubles(costs, room, maximize, printed) else None
 
     def _of_whole(self, costs: Any, room: library.Room, maximize: bool) -> bool:
         """Whether the room has a best plan for whole numbers."""
-        lent, room.is_rounded = costs.tobytes() if costs.size <= FEW else library.address_of(costs), False
-        return not room.call(room.maximized if maximize else room.minimized, *room.sizes, lent, *room.rest)
+        room.is_rounded, sense = False, room.maximized if maximize else room.minimized
+        lent = library.lent(costs)
+        if room.listed:
+            return not room.listed.call(*room.listed.words(sense, lent))
+        return not room.call(sense, *room.sizes, lent, *room.rest)
 
     def _of_doubles(self, costs: Any, room: library.Room, maximize: bool, printed: bool) -> bool:
         """Whether the room has a plan that is best for doubles."""
-        # Reading them in their order in memory is faster.
-        seen = costs if costs.flags.c_contiguous else costs.T
-        item = seen.item
-        # Where the first isn't whole, no look at the others is needed.
-        if item(0).is_integer():
-            whole = exact.whole_numbers(self.numpy, costs.ravel())
-            if whole is not None:
-                return self._of_whole(whole, room, maximize)
-        most = max(item(seen.argmax()), -item(seen.argmin()))
-        if not 0 < most < math.inf or printed and not (_is_long(item(0)) or _is_long(most)):
+        allowed, values = None, costs
+        whole, most = self._whole(costs), 0.0
+        if whole is None:
+            most = _greatest(costs)
+            if most == math.inf:
+                allowed = costs.ravel() != (-most if maximize else most)
+                values = costs.ravel().take(allowed.nonzero()[0])
+                if not values.size:
+                    return False
+                whole, most = self._whole(values), _greatest(values)
+            if whole is None and printed:
+                whole = self._with_places(values.ravel(), room, most)
+        if whole is not None:
+            self._list(allowed, room)
+            return self._of_whole(whole, room, maximize)
+        if not 0 < most < math.inf or room.of_list and not (_is_long(values.item(0)) and _is_long(most)):
             return False
-        shift = levels.BITS - math.frexp(most)[1]
-        if not self._scaled(costs, room, shift) or room.call(*room.calls[maximize]):
+        shift, dearer = levels.BITS - math.frexp(most)[1], 2 if printed else 1
+        if costs.size <= SMALL and self._scaled(costs, room, shift) and self._is_alone(allowed, room, maximize, dearer):
+            return True
+        self._list(allowed, room)
+        if not self._scaled(values, room, shift) or _call(room, maximize):
             return False
-        if costs.size > SMALL or not _is_alone(room, maximize, 2 if printed else 1):
-            self._by_levels(costs, room, shift, maximize, printed)
+        self._by_levels(values, room, shift, maximize, printed)
         return True
+
+    def _is_alone(self, allowed: Any, room: library.Room, maximize: bool, dearer: int) -> bool:
+        """Whether the plan of a room's whole numbers stays the best where its pairs are dearer. What isn't allowed is dear: if a best plan
+        has none of it, it is best among those that have none."""
+        if allowed is not None:
+            room.numbers[~allowed.reshape(room.shape)] = -GREATEST_COST if maximize else GREATEST_COST
+        if _call(room, maximize):
+            return False
+        objects, more, flat = room.objects.tolist(), -dearer if maximize else dearer, room.flat
+        places = [before + item for before, item in zip(room.before, objects)]
+        if allowed is not None and not allowed[places].all():
+            return False
+        for place in places:
+            flat[place] += more
+        return not _call(room, maximize) and room.objects.tolist() == objects
+
+    def _whole(self, costs: Any) -> Any:
+        """Doubles as whole numbers; None where they aren't. Where the first isn't whole, no look at the others is needed."""
+        return exact.whole_numbers(self.numpy, costs.ravel()) if costs.item(0).is_integer() else None
+
+    def _list(self, allowed: Any, room: library.Room) -> None:
+        """Gives the room the lists of the pairs that are allowed, if not all are."""
+        if allowed is not None:
+            room.listed = library.Listed(self.numpy, room, allowed.nonzero()[0])
+
+    def _with_places(self, flat: Any, room: library.Room, most: float) -> Any:
+        """Doubles as whole numbers of a decimal unit, whose places the room gets; None where they have more places, or are too great.
+        What `_least_places` says holds here too."""
+        rint, first = self.numpy.rint, flat.item(0)
+        if not most <= GREATEST_COST:
+            return None
+        for places in range(exact.MOST_PLACES + 1):
+            power = 10.0**places
+            if most * power > GREATEST_COST:
+                return None
+            if round(first * power) / power == first:
+                whole = rint(flat * power)
+                if (whole / power == flat).all():
+                    room.places = places
+                    return whole.astype(self.int64)
+        return None
 
     def _by_levels(self, costs: Any, room: library.Room, shift: int, maximize: bool, printed: bool) -> None:
         """Gives the room a best plan, from the one of the first level that it has."""
-        n, m = costs.shape
-        asked = proved.Given(n, m, proved.NONE, proved.NONE, room.numbers.ravel())
+        (n, m), held = room.shape, room.listed
+        lists = (held.persons, held.objects) if held else (proved.NONE, proved.NONE)
+        asked = proved.Given(n, m, *lists, (held or room).numbers.ravel())
         sign = -1 if maximize else 1
         duals = arrays.duals_of(asked, proved.Answer(n, m, None, room.objects, room.halves), sign)
         level = levels.Level(asked, room.objects, *duals, shift, sign)
-        pairs = levels.kept(level, n + levels.MORE)
-        if not levels.is_only_plan(level, pairs):
-            problem = Problem(n, m, maximize, costs.ravel(), raw=True, doubles=not printed, numpy=self.numpy)
-            with levels.quiet(problem):
-                room.objects[:] = levels.finer(problem, level, pairs)
+        persons, objects = lists if held else (None, None)
+        problem = Problem(n, m, maximize, costs.ravel(), persons, objects, raw=True, doubles=not printed, numpy=self.numpy)
+        with levels.quiet(problem):
+            room.objects[:] = levels.after_first(problem, level)
 
     def _scaled(self, costs: Any, room: library.Room, shift: int) -> bool:
         """Gives the room the costs times 2**shift, rounded to the nearest whole numbers; false where doubles don't suffice for it."""
         adder = self.adders.get(shift) or self._adder(shift)
         if adder is None:
             return False
-        if room.doubles is None:
-            room.hold_doubles(self.numpy, costs.shape)
-        self.add(costs, adder[0], room.doubles)
-        self.subtract(room.numbers, adder[1], room.numbers)
+        held = room.listed or room
+        if held.doubles is None:
+            held.hold_doubles(self.numpy, costs.shape)
+        self.add(costs, adder[0], held.doubles)
+        self.subtract(held.numbers, adder[1], held.numbers)
         room.is_rounded = True
         return True
 
@@ -173,12 +258,24 @@ class SmallArrays:
         return self.adders[shift]
 
 
+def _is_small(n: int, m: int) -> bool:
+    """Whether a matrix isn't empty, and so small that a call needs no thread."""
+    return 0 < n * m * min(n, m) < library.LONG and max(n, m) <= MOST_PERSONS
+
+
+def _greatest(costs: Any) -> float:
+    """The greatest size of doubles; NaN where one is. Reading them in their order in memory is faster."""
+    seen = costs if costs.flags.c_contiguous else costs.T
+    greatest: float = max(seen.item(seen.argmax()), -seen.item(seen.argmin()))
+    return greatest
+
+
 def _may_be_shorter(rows: Any) -> bool:
     """Whether the first row of a list says that this way may serve, and is the faster one: many ints are read faster row by row."""
     if type(rows) is not list or not rows or type(rows[0]) is not list or not rows[0]:
         return False
-    n, m = sorted((len(rows), len(rows[0])))
-    return n * n * m < library.LONG and (n * m <= SMALL or type(rows[0][0]) is float)
+    n, m = len(rows), len(rows[0])
+    return _is_small(n, m) and (n * m <= SMALL or type(rows[0][0]) is float)
 
 
 def _flat(rows: Any) -> Optional[List[Any]]:
@@ -210,22 +307,15 @@ def _answer_of(room: library.Room) -> proved.Answer:
     return proved.Answer(n, m, room.total.value, objects, halves)
 
 
-def _is_alone(room: library.Room, maximize: bool, dearer: int) -> bool:
-    """Whether a room's plan stays the best where its pairs are dearer. The room has it afterwards."""
-    flat, objects, call, more = room.flat, room.objects.tolist(), room.calls[maximize], -dearer if maximize else dearer
-    for before, item in zip(room.before, objects):
-        flat[before + item] += more
-    if not room.call(*call) and room.objects.tolist() == objects:
-        return True
-    for before, item in zip(room.before, objects):
-        flat[before + item] -= more
-    room.call(*call)
-    return False
-
-
 def _is_long(cost: float) -> bool:
     """Whether a cost has decimal places and more than 12 digits, so that no unit makes it whole within the library's range."""
     return float("%.12g" % cost) != cost and not cost.is_integer()
+
+
+def _call(room: library.Room, maximize: bool) -> int:
+    """Solves the whole numbers that a room holds."""
+    held = room.listed or room
+    return int(held.call(*held.calls[maximize]))
 
 
 _small: Optional[SmallArrays] = None

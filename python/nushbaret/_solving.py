@@ -1,6 +1,6 @@
 """The solving calls."""
 from fractions import Fraction
-from typing import Any, List, Optional, Sequence, Tuple, Union
+from typing import Any, List, Optional, Sequence, Tuple, Union, overload
 
 from . import _exact as exact, _levels as levels, _library as library, _problem as reading, _proved as proved, _source as sources
 from ._infeasible import infeasible, most_served
@@ -61,7 +61,9 @@ def _answer(problem: Problem, start: Start, partial: bool) -> proved.Answer:
 def start_prices(problem: Problem, start: Start) -> Prices:
     """Prices of columns to start from, from a result or from the caller. None where those of a result need costs that were changed since."""
     if not isinstance(start, Result):
-        return proved.exact_prices(problem, start)
+        if not hasattr(start, "__iter__"):
+            raise TypeError(f"start is {start!r}: it must be a result, or a list of prices")
+        return proved.exact_prices(problem, start, "start")
     try:
         prices = start._exact_rents
     except ValueError:
@@ -91,12 +93,12 @@ def solve(costs: Any, maximize: bool = False, decimals: Optional[int] = None, st
     ----------
     costs : matrix
         A list of rows, a NumPy array, a DataFrame of pandas, a sparse matrix of SciPy's, or a buffer of two dimensions. Whole numbers,
-        floats, Decimals or Fractions; a float is the decimal that it prints as. None or infinity (under maximize -infinity) forbids
+        floats, Decimals or Fractions; a float of any size is the decimal that it prints as. None or infinity (under maximize -infinity) forbids
         a pair. At most 8192 rows and columns.
     maximize : bool, optional
         Whether to find the greatest sum, not the least.
     decimals : int, optional
-        Rounds each cost to so many decimal places first, halves to even. If it isn't given, nothing is rounded.
+        Rounds each cost to so many decimal places first, 0 to 1000, halves to even. If it isn't given, nothing is rounded.
     start : Result or list of numbers, optional
         The result of a similar problem, or prices to start from: one for each column, in the unit of the costs, as those of `check`.
         The cost is the same whatever they are.
@@ -105,8 +107,8 @@ def solve(costs: Any, maximize: bool = False, decimals: Optional[int] = None, st
     missing : {"refuse", "forbid"}, optional
         Whether NaN, and what the mask of an array covers, is refused, or forbids its pair.
     timeout : float, optional
-        After so many seconds TimeoutError is raised. The library's work goes on in a thread of its own until it ends, and
-        nothing of the caller's is changed.
+        After so many seconds TimeoutError is raised, in reading too. The library's work goes on in a thread of its own until it ends,
+        and nothing of the caller's is changed.
 
     Returns
     -------
@@ -185,6 +187,16 @@ def solve_sparse(n_rows: Any, n_columns: Optional[int] = None, rows: Any = None,
     return solve_source(source, start, partial, timeout)
 
 
+@overload
+def linear_sum_assignment(cost_matrix: Sequence[Sequence[Any]], maximize: bool = ..., *, missing: str = ...,
+                          timeout: Optional[float] = ...) -> Tuple[List[int], List[int]]: ...
+
+
+@overload
+def linear_sum_assignment(cost_matrix: Any, maximize: bool = ..., *, missing: str = ...,
+                          timeout: Optional[float] = ...) -> Tuple[Any, Any]: ...
+
+
 def linear_sum_assignment(cost_matrix: Any, maximize: bool = False, *, missing: str = "refuse",
                           timeout: Optional[float] = None) -> Tuple[Any, Any]:
     """The call of scipy.optimize, with its results and errors. The plan is best for exactly these costs; a float is its double.
@@ -196,7 +208,7 @@ def linear_sum_assignment(cost_matrix: Any, maximize: bool = False, *, missing: 
     maximize : bool, optional
         Whether to find the greatest sum.
     missing, timeout
-        As in `solve`.
+        As in `solve`; but without "forbid" a mask isn't seen, as in SciPy.
 
     Returns
     -------
@@ -227,7 +239,7 @@ def solve_without(result: Result, row: Any, column: Any, timeout: Optional[float
     """Solves the problem of a result again with one pair forbidden."""
     shape = result._shape
     rows, columns = shape.labels or (None, None)
-    row, column = numbered(row, rows), numbered(column, columns)
+    row, column = numbered(row, rows, "row"), numbered(column, columns, "column")
     if not (0 <= row < shape.n_rows and 0 <= column < shape.n_columns):
         raise IndexError(f"row {row}, column {column}: there are {shape.n_rows} rows and {shape.n_columns} columns")
     with library.limited(timeout):

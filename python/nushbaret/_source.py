@@ -18,7 +18,7 @@ def lasting(costs: Any) -> Any:
 
 def listed(values: Any) -> Any:
     """A list of pairs that can be read twice."""
-    return values if values is None or hasattr(values, "__len__") else list(values)
+    return values if hasattr(values, "__len__") or not hasattr(values, "__iter__") else list(values)
 
 
 class Source(NamedTuple):

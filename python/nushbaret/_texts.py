@@ -1,11 +1,13 @@
 """What the command says: lines for people, and the plan as CSV."""
 import csv
 import io
-from typing import Dict, List, NamedTuple, Optional, Sequence, Tuple
+from typing import Dict, Iterator, List, NamedTuple, Optional, Sequence, Tuple
 
-from ._answer import MOST_NAMES_SHOWN, Answer, Pair, Plan, counted, left_out, named, sentence
-from ._groups import order_of
-from ._roster import OldPlan, PlanLine, Roster, alike, like
+from ._answer import MOST_NAMES_SHOWN, PLURALS, Answer, Pair, Plan, counted, left_out, named, sentence
+from ._changes import Lost, OfPerson, by_person, changes_of
+from ._groups import Broken, Counts, order_of
+from ._names import joined, marked, with_names_marked
+from ._roster import CHANGE, COMES, GOES, NOT_POSSIBLE, TITLES, OldPlan, PlanLine, Roster, alike, like
 from ._sheets import SEPARATORS, quoted
 from ._words import Options
 
@@ -18,6 +20,20 @@ class Fair(NamedTuple):
     best_pair: Pair
 
 
+class Hand(NamedTuple):
+    """A plan from elsewhere, the rules that it breaks, and by how much it and the best plan miss least counts."""
+
+    plan: OldPlan
+    broken: Sequence[Broken]
+    lack: int
+    best_lack: int = 0
+
+    @property
+    def is_comparable(self) -> bool:
+        """Whether it keeps all rules, or misses as much as the best plan and keeps all others."""
+        return self.lack == self.best_lack and all(broken.rule == "least" for broken in self.broken)
+
+
 class Report(NamedTuple):
     """All that is said of a run: what was asked for, the answer, the plans that were read, and what fairness costs."""
 
@@ -25,7 +41,7 @@ class Report(NamedTuple):
     roster: Roster
     answer: Answer
     kept: Optional[OldPlan] = None
-    hand: Optional[OldPlan] = None
+    hand: Optional[Hand] = None
     fair: Optional[Fair] = None
 
 
@@ -37,13 +53,11 @@ class Note(NamedTuple):
 
 
 def read_lines(path: str, roster: Roster, on_terminal: bool) -> List[str]:
-    """What standard error says of a roster: on a terminal how much was read, and always which names are hardly two."""
+    """What standard error says of a roster: on a terminal how much was read and how names count, and always which names are hardly two."""
     lines = []
     if on_terminal:
         persons, objects = counted(len(roster.persons), roster.titles[0]), counted(len(roster.objects), roster.titles[1])
-        lines.append(f"{persons}, {objects}, {counted(len(roster.costs), 'pair')}")
-    if len(roster.sheets) > 1:
-        lines.append(f"{path}: the sheet {quoted(roster.sheets[0])} was read, of {len(roster.sheets)}: --sheet reads another")
+        lines.append(f"{persons}, {objects}, {counted(len(roster.costs), 'pair')}{_rule(roster)}")
     groups = alike(roster.persons) + alike(roster.objects)
     lines += [f"{path}: {', '.join(map(quoted, group))} differ in case or spaces alone" for group in groups[:MOST_NAMES_SHOWN]]
     if len(groups) > MOST_NAMES_SHOWN:
@@ -51,16 +65,61 @@ def read_lines(path: str, roster: Roster, on_terminal: bool) -> List[str]:
     return lines
 
 
+def with_marks(report: Report) -> Report:
+    """A report whose texts have marks around names."""
+    groups, kept, hand = report.roster.groups, report.kept, report.hand
+    if groups is not None:
+        groups = groups._replace(title=_title(groups.title), names=list(map(marked, groups.names)))
+    if kept is not None:
+        kept = kept._replace(named=[pair._replace(person=marked(pair.person), object=marked(pair.object)) for pair in kept.named],
+                             gone=list(map(marked, kept.gone)))
+    if hand is not None:
+        hand = hand._replace(broken=[broken._replace(sentence=with_names_marked(broken.sentence, (*broken.persons, *broken.objects)))
+                                     for broken in hand.broken])
+    persons, objects = list(map(marked, report.roster.persons)), list(map(marked, report.roster.objects))
+    person, object_, cost = map(_title, report.roster.titles)
+    roster = report.roster._replace(persons=persons, objects=objects, groups=groups, person_numbers=_numbers_of(persons),
+                                    object_numbers=_numbers_of(objects), titles=(person, object_, cost))
+    return report._replace(roster=roster, kept=kept, hand=hand)
+
+
+def _title(title: str) -> str:
+    """A title with marks, unless it is a word of ours."""
+    return title if title in PLURALS or title in TITLES else marked(title)
+
+
+def _numbers_of(names: List[str]) -> Dict[str, int]:
+    return {name: number for number, name in enumerate(names)}
+
+
+def _rule(roster: Roster) -> str:
+    """Which rule decides, where names may count several times."""
+    if not roster.ruled:
+        return ""
+    return "; single counts: the side with the smaller sum takes all" if roster.least is None else "; bounds: each name's counts are kept"
+
+
+def forgotten_line(roster: Roster, counts: Counts, side: int) -> Optional[str]:
+    """What standard error says of the persons (side 0) or the objects that have no line in a file of counts; None where all have one."""
+    names = roster.objects if side else roster.persons
+    numbers = [number for number in range(len(names)) if number not in counts.bounds]
+    if not numbers:
+        return None
+    bound = "" if roster.least is None else "exactly " if side else "at most "
+    takes = "takes" if len(numbers) == 1 else "each takes"
+    return f"{counts.path}: no line for {named(numbers, roster.titles[side], names)}: {takes} {bound}one"
+
+
 def gone_line(plan: OldPlan, roster: Roster) -> str:
     """What an earlier plan has and the roster has no more, or under another name."""
-    names = roster.persons + roster.objects
+    names = [name for name in roster.persons + roster.objects if name not in plan.gone]
     near = [like(name, names) if len(plan.gone) <= MOST_NAMES_SHOWN else [] for name in plan.gone]
     shown = [name + (f" (did you mean {' or '.join(those)}?)" if those else "") for name, those in zip(plan.gone, near)]
     return f"{plan.path}: the roster has no {', '.join(shown)}"
 
 
 def first_lines(report: Report) -> List[str]:
-    """A sentence for each group that is short, and the cost of the plan."""
+    """A sentence for each group that is short, with marks around names, and the cost of the plan."""
     roster, answer, fair = report.roster, report.answer, report.fair
     lines = [sentence(roster, short, bool(report.options.fixed)) for short in answer.groups]
     if answer.plan is not None:
@@ -83,11 +142,12 @@ def _bound(report: Report, fair: Fair) -> str:
 
 def printed(report: Report) -> List[str]:
     """The plan by names, who and what stays out, and what there is to say of it."""
-    plan = report.answer.plan
-    if plan is None:
-        return []
-    lines = rows_of(report.roster, plan) + [f"{out.how}: {', '.join(out.names)}" for out in left_out(report.roster, plan)]
-    for note in notes_of(report, plan):
+    plan, notes = report.answer.plan, broken_rules(report.hand)
+    lines: List[str] = []
+    if plan is not None:
+        lines = rows_of(report.roster, plan) + [f"{out.how}: {joined(out.names)}" for out in left_out(report.roster, plan)]
+        notes = notes_of(report, plan)
+    for note in notes:
         lines += [note.line, *("  " + detail for detail in note.details)]
     return lines
 
@@ -102,17 +162,21 @@ def notes_of(report: Report, plan: Plan) -> List[Note]:
     if options.rents:
         notes += [Note(f"rent of {roster.objects[number]}: {roster.shown(rent)}") for number, rent in plan.rents.items()]
     notes += [changes(roster, plan, report.kept)] if report.kept else []
-    return notes + ([compared(report, plan, report.hand)] if report.hand else [])
+    return notes + broken_rules(report.hand) + ([compared(report, plan, report.hand)] if report.hand else [])
 
 
 def rows_of(roster: Roster, plan: Plan) -> List[str]:
     """Each person with all of its own, then, if any object may have several, each object with all of its own."""
     own: Dict[int, List[str]] = {}
     for pair in plan.pairs:
-        text = f"{roster.objects[pair.object]}, {roster.shown(pair.cost)}" + (" (fixed)" if pair.fixed else "")
+        text = f"{roster.objects[pair.object]}, {roster.shown(pair.cost)}{_why_fixed(roster, pair)}"
         own.setdefault(pair.person, []).append(text)
     lines = [f"{roster.persons[person]}{_times(roster, len(texts))}: {'; '.join(texts)}" for person, texts in own.items()]
-    return lines + [f"at {roster.objects[object_]}{_times(roster, len(who))}: {', '.join(who)}" for object_, who in persons_at(roster, plan)]
+    return lines + [f"at {roster.objects[object_]}{_times(roster, len(who))}: {joined(who)}" for object_, who in persons_at(roster, plan)]
+
+
+def _why_fixed(roster: Roster, pair: Pair) -> str:
+    return "" if not pair.fixed else " (past)" if pair.object in roster.past else " (fixed)"
 
 
 def persons_at(roster: Roster, plan: Plan) -> List[Tuple[int, List[str]]]:
@@ -186,73 +250,105 @@ def _there(roster: Roster, plan: Plan, pairs: Sequence[Pair]) -> List[str]:
     return [f"there {roster.persons[person]}: {text}" for person in sorted(lines) for text in lines[person]]
 
 
-class Change(NamedTuple):
-    """A pair that the kept plan doesn't have, and what its person has there and no more."""
-
-    pair: Pair
-    before: List[str]
-
-
-def changes_of(roster: Roster, plan: Plan, kept: OldPlan) -> List[Change]:
-    """The pairs that the kept plan doesn't have."""
-    before = set(kept.pairs)
-    now = {(roster.persons[pair.person], roster.objects[pair.object]) for pair in plan.pairs}
-    new = [pair for pair in plan.pairs if (roster.persons[pair.person], roster.objects[pair.object]) not in before]
-    left: Dict[str, List[str]] = {}
-    for person, object_ in kept.pairs:
-        if (person, object_) not in now:
-            left.setdefault(person, []).append(object_)
-    return [Change(pair, left.get(roster.persons[pair.person], [])) for pair in new]
-
-
 def changes(roster: Roster, plan: Plan, kept: OldPlan) -> Note:
-    """How many pairs the kept plan didn't have, and what these persons had there."""
-    new = changes_of(roster, plan, kept)
-    return Note(f"{kept.path}: {len(new)} of {len(plan.pairs)} pairs changed", [
-        f"{roster.persons[change.pair.person]}: {roster.objects[change.pair.object]}"
-        + (f", before {', '.join(change.before)}" if change.before else "") for change in new])
+    """How many pairs come and go from an earlier plan, and whose; and what can't be any more."""
+    found = changes_of(roster, plan, kept)
+    counts = [counted(len(found.comes), "pair") + _comes(found.comes)] if found.comes else []
+    counts += [(str(len(found.goes)) if counts else counted(len(found.goes), "pair")) + _goes(found.goes)] if found.goes else []
+    details = [f"{own.person}: {'; '.join(_words_of(own))}" for own in by_person(roster, found)]
+    return Note(f"{kept.path}: {', '.join(counts) or 'no pair changes'}", details + _lost_lines(found.lost))
+
+
+def _comes(those: Sequence[object]) -> str:
+    return " comes" if len(those) == 1 else " come"
+
+
+def _goes(those: Sequence[object]) -> str:
+    return " goes" if len(those) == 1 else " go"
+
+
+def _words_of(own: OfPerson) -> List[str]:
+    """What goes and what comes."""
+    goes, comes = joined(own.goes) + _goes(own.goes), joined(own.comes) + _comes(own.comes)
+    return [goes] * bool(own.goes) + [comes] * bool(own.comes)
+
+
+def _lost_lines(lost: Sequence[Lost]) -> List[str]:
+    """What of an earlier plan can't be any more, by person and reason."""
+    names: Dict[Tuple[str, str], List[str]] = {}
+    for pair in lost:
+        names.setdefault((pair.person, pair.why), []).append(pair.object)
+    return [f"{person}: {joined(own)} {NOT_POSSIBLE} now ({why})" for (person, why), own in names.items()]
+
+
+def broken_rules(hand: Optional[Hand]) -> List[Note]:
+    """Which rules a plan from elsewhere breaks."""
+    if hand is None or not hand.broken:
+        return []
+    count = len(hand.broken)
+    return [Note(f"{hand.plan.path}: breaks {count} rule{'' if count == 1 else 's'}", [broken.sentence for broken in hand.broken])]
 
 
 def worse_by(report: Report, plan: Plan, hand: OldPlan) -> int:
-    """By how much a plan made by hand is worse than the best."""
+    """By how much a plan from elsewhere is worse than the best."""
     cost = sum(pair.cost for pair in hand.known)
     return plan.cost - cost if report.options.max else cost - plan.cost
 
 
-def is_comparable(roster: Roster, plan: Plan, hand: OldPlan) -> bool:
-    """Whether a plan made by hand is as full as the best."""
-    return len(hand.known) == len(plan.pairs) or not hand.gone and roster.least is not None
-
-
 def only_there(plan: Plan, hand: OldPlan) -> List[PlanLine]:
-    """The pairs of a plan made by hand that the best doesn't have."""
+    """The pairs of a plan from elsewhere that the best doesn't have."""
     own = {(pair.person, pair.object) for pair in plan.pairs}
     return [pair for pair in sorted(hand.known) if (pair.person, pair.object) not in own]
 
 
-def compared(report: Report, plan: Plan, hand: OldPlan) -> Note:
-    """By how much a plan made by hand is worse than the best, and where the two differ."""
-    roster, more, cost = report.roster, worse_by(report, plan, hand), sum(pair.cost for pair in hand.known)
-    if not is_comparable(roster, plan, hand):
-        line = f"{roster.shown(cost)} for {len(hand.known)} pairs that the roster allows, where {len(plan.pairs)} can be"
-    elif more == 0:
-        line = f"{roster.shown(cost)}, as good as the best"
-    else:
-        line = f"{roster.shown(cost)}, {roster.shown(more)} {'less' if report.options.max else 'more'} than the best"
-    return Note(f"{hand.path}: {line}", [
-        f"there {roster.persons[pair.person]}: {roster.objects[pair.object]}, {roster.shown(pair.cost)}" for pair in only_there(plan, hand)])
+def compared(report: Report, plan: Plan, hand: Hand) -> Note:
+    """By how much a plan from elsewhere is worse than the best, or better as far as it breaks rules, and where the two differ."""
+    roster, own = report.roster, hand.plan
+    cost = sum(pair.cost for pair in own.known)
+    more = cost - plan.cost
+    size = f"{roster.shown(abs(more))} {'more' if more > 0 else 'less'} than" if more else "as good as"
+    of_pairs = f" for {counted(len(own.known), 'pair')} that the roster allows" if len(own.known) < len(own.named) else ""
+    rest = "" if hand.is_comparable or hand.best_lack else ", which breaks none"
+    rest = ", which misses less" if hand.lack > hand.best_lack > 0 else rest
+    return Note(f"{own.path}: {roster.shown(cost)}{of_pairs}, {size} the best{rest}", [
+        f"there {roster.persons[pair.person]}: {roster.objects[pair.object]}, {roster.shown(pair.cost)}" for pair in only_there(plan, own)])
 
 
-def as_csv(roster: Roster, plan: Plan) -> str:
-    """The pairs as a roster of lines, with the titles, the separator and the decimal mark of the roster that was read."""
+def as_csv(roster: Roster, plan: Plan, kept: Optional[OldPlan] = None) -> str:
+    """The pairs as a roster of lines, with the titles, the separator and the decimal mark of the roster that was read. With an earlier plan
+    one more column says which pairs come, and which go or aren't possible now: these stand in lines without a cost."""
     text = io.StringIO()
     text.write("\ufeff" if roster.has_bom else "")
     writer = csv.writer(text, delimiter=roster.separator, lineterminator="\n")
+    titles = (*roster.titles, *([CHANGE] if kept else ()))
     # Readers take the separator from the title line, so no other may seem to be there.
-    csv.writer(text, delimiter=roster.separator, lineterminator="\n", quoting=_title_quoting(roster)).writerow(roster.titles)
-    for pair in plan.pairs:
-        writer.writerow((roster.persons[pair.person], roster.objects[pair.object], roster.shown(pair.cost)))
+    csv.writer(text, delimiter=roster.separator, lineterminator="\n", quoting=_title_quoting(roster)).writerow(titles)
+    writer.writerows(_lines_of(roster, plan) if kept is None else _lines_with_changes(roster, plan, kept))
     return text.getvalue()
+
+
+def _lines_of(roster: Roster, plan: Plan) -> Iterator[Tuple[str, ...]]:
+    for pair in plan.pairs:
+        yield roster.persons[pair.person], roster.objects[pair.object], roster.shown(pair.cost)
+
+
+def _lines_with_changes(roster: Roster, plan: Plan, kept: OldPlan) -> List[Tuple[str, ...]]:
+    """The lines of a plan and of the pairs that go, person by person, and those of pairs that aren't possible now."""
+    found = changes_of(roster, plan, kept)
+    new = set(found.comes)
+    lines: List[Tuple[int, Tuple[str, ...]]] = [(pair.person, (*line, COMES if pair in new else ""))
+                                                for pair, line in zip(plan.pairs, _lines_of(roster, plan))]
+    lines += [(pair.person, (roster.persons[pair.person], roster.objects[pair.object], "", GOES)) for pair in found.goes]
+    lost = ((pair.person, pair.object, "", NOT_POSSIBLE) for pair in found.lost)
+    return [*(line for _, line in sorted(lines, key=lambda those: those[0])), *lost]
+
+
+def in_encoding_of(roster: Roster, text: str) -> bytes:
+    """A text in the encoding of the roster's file, or in UTF-8 with a BOM where that lacks a letter."""
+    try:
+        return text.encode(roster.encoding)
+    except UnicodeEncodeError:
+        return text.encode("utf-8-sig")
 
 
 def _title_quoting(roster: Roster) -> int:

@@ -91,11 +91,12 @@ def _words(options):
 
 def _bash_value(name, entry):
     """The line of a case that completes the value of an option."""
+    words = "|".join(word for word in (entry.name, entry.short) if word)
     if entry.is_file:
-        return f"        {entry.name}) _{name}_files; return ;;"
+        return f"        {words}) _{name}_files; return ;;"
     if entry.choices:
-        return f'        {entry.name}) COMPREPLY=($(compgen -W "{" ".join(entry.choices)}" -- "$cur")); return ;;'
-    return f"        {entry.name}) return ;;"
+        return f'        {words}) COMPREPLY=($(compgen -W "{" ".join(entry.choices)}" -- "$cur")); return ;;'
+    return f"        {words}) return ;;"
 
 
 def _bash_words(name, described):
@@ -127,9 +128,11 @@ def _zsh_option(entry):
     """The specification of an option for zsh's _arguments."""
     action = "_files" if entry.is_file else f"({' '.join(entry.choices)})" if entry.choices else ""
     value = f":{_bare(entry.value)}:{action}" if entry.value else ""
+    mark = "=" if entry.value else ""
     if entry.short:
-        return f"'({entry.short} {entry.name})'{{{entry.short},{entry.name}}}'[{_zsh_text(entry.text)}]{value}'"
-    return f"'{'*' if entry.repeats else ''}{entry.name}{'=' if entry.value else ''}[{_zsh_text(entry.text)}]{value}'"
+        front = "*" if entry.repeats else f"({entry.short} {entry.name})"
+        return f"'{front}'{{{entry.short},{entry.name}{mark}}}'[{_zsh_text(entry.text)}]{value}'"
+    return f"'{'*' if entry.repeats else ''}{entry.name}{mark}[{_zsh_text(entry.text)}]{value}'"
 
 
 def _bare(name):

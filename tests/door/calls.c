@@ -369,7 +369,8 @@ static void lengths(void) {
 }
 
 static void faults(void) {
-    uint8_t text[8];
+    uint8_t text[32];
+    size_t length = strlen(NUSHBARET_VERSION);
     struct call c = two(NUSHBARET_MIN, 1, 2, 3, 5);
     c.costs[2] = INT64_C(1000000000001), c.costs[3] = INT64_MIN;
     c.is_from = 1, c.first[0].high = -1;
@@ -397,8 +398,8 @@ static void faults(void) {
     c.of_objects[3] = UINT16_MAX, c.m = 8192;
     WANT(spoilt(c) == NUSHBARET_OBJECT * 100 + 3);
     memset(text, 9, sizeof text);
-    WANT(nushbaret_version(text, 5) == 5 && text[0] == 9);
-    WANT(nushbaret_version(text, 6) == 5 && strcmp((const char *)text, NUSHBARET_VERSION) == 0);
+    WANT(nushbaret_version(text, length) == length && text[0] == 9);
+    WANT(nushbaret_version(text, length + 1) == length && strcmp((const char *)text, NUSHBARET_VERSION) == 0);
 }
 
 static void verdicts(void) {

@@ -50,13 +50,13 @@ class Frames(unittest.TestCase):
         for costs, wanted in (([[4.5, 1.25, 9], [2, 3, 9]], "3.25"), ([[4, None, 9], [2, 3, 1]], "5"), ([["4", 1, 9], [2, 3, 9]], None)):
             frame = self.frame(costs)
             if wanted is None:
-                with self.assertRaisesRegex(TypeError, "row 0, column 0 is '4', which is no number"):
+                with self.assertRaisesRegex(TypeError, "row Ada, column early is '4', which is no number"):
                     nushbaret.solve(frame)
             else:
                 self.assertEqual(nushbaret.solve(frame, missing="forbid").cost, Decimal(wanted))
         self.assertEqual(nushbaret.solve(self.frame([[4, 1, 9], [2, 3, 9]]).astype("Int64")).cost, 3)
         holed = self.frame([[4, None, 9], [2, 3, 9]]).astype("Int64")
-        with self.assertRaisesRegex(ValueError, 'nan at row 0, column 1.*missing="forbid"'):
+        with self.assertRaisesRegex(ValueError, 'nan at row Ada, column late.*missing="forbid"'):
             nushbaret.solve(holed)
         self.assertEqual(nushbaret.solve(holed, missing="forbid").cost, 7)
         self.assertEqual(nushbaret.bottleneck(holed, missing="forbid").pairs, [("Ada", "early"), ("Ben", "late")])

@@ -7,6 +7,7 @@ import importlib.util
 import os
 import pathlib
 import re
+import shutil
 import subprocess
 import sys
 import tempfile
@@ -50,7 +51,8 @@ class Package(unittest.TestCase):
                 wanted = base64.urlsafe_b64encode(hashlib.sha256(text).digest()).rstrip(b"=").decode()
                 self.assertEqual((digest, int(size)), (f"sha256={wanted}", len(text)))
         self.assertEqual({row[0] for row in rows}, names)
-        self.assertLessEqual({"nushbaret/py.typed", "nushbaret/__main__.py", f"nushbaret/{build.NAME}", f"{build.DATA}/share/man/man1/nushbaret.1"}, names)
+        self.assertLessEqual({"nushbaret/py.typed", "nushbaret/__main__.py", f"nushbaret/{build.NAME}", f"{build.DATA}/share/man/man1/nushbaret.1",
+                              "nushbaret/guide/rosters.html", "nushbaret/guide/examples/week.csv"}, names)
         self.solves(str(self.folder / "out"))
         self.describes((self.folder / "out" / build.INFO / "METADATA").read_text(encoding="utf-8"))
 
@@ -73,12 +75,25 @@ class Package(unittest.TestCase):
 
     def test_no_library_to_pack(self):
         build = backend()
+        # The checkout's own may have one.
+        build.PACKAGE = self.folder
         for machine, words in (("x86_64", "c/build.sh at"), ("aarch64", "c/build.sh --target aarch64 at")):
             build.PLATFORM = f"linux-{machine}"
             build.LIBRARIES[machine] = self.folder / build.NAME, build.LIBRARIES[machine][1]
             with self.assertRaisesRegex(SystemExit, f"run {words}"):
                 build.build_wheel(self.folder)
         self.assertEqual(list(self.folder.iterdir()), [])
+
+    def test_library_in_the_package(self):
+        """A library that was copied into the package is packed, and no file of sources."""
+        build = backend()
+        shutil.copytree(build.PACKAGE, self.folder / "nushbaret", ignore=shutil.ignore_patterns("__pycache__", build.NAME))
+        sources = sorted(file.name for file in (self.folder / "nushbaret").iterdir())
+        build.PACKAGE = self.folder / "nushbaret"
+        (build.PACKAGE / build.NAME).write_bytes(b"a library")
+        with zipfile.ZipFile(self.folder / build.build_wheel(self.folder)) as wheel:
+            self.assertEqual(wheel.read(f"nushbaret/{build.NAME}"), b"a library")
+        self.assertEqual(sorted(file.name for file in build._sources()), sources)
 
     def test_other_machines(self):
         build = backend()
@@ -101,6 +116,58 @@ class Package(unittest.TestCase):
             self.skipTest("this pip copies a folder before it builds it, so that the library of the checkout is out of sight")
         self.assertEqual(ran.returncode, 0, ran.stderr)
         self.solves(str(self.folder / "out"))
+
+
+@unittest.skipUnless(shutil.which("git") and (PYTHON.parent / ".git").exists(), "this is no checkout of git's")
+class Bump(unittest.TestCase):
+    """One script writes a new version, in a copy of the checkout."""
+
+    def setUp(self):
+        held = tempfile.TemporaryDirectory()
+        self.addCleanup(held.cleanup)
+        self.top = pathlib.Path(held.name)
+        names = subprocess.run(["git", "ls-files"], cwd=PYTHON.parent, capture_output=True, text=True, check=True).stdout.splitlines()
+        for name in names:
+            if (PYTHON.parent / name).is_file() and (not name.startswith("release/") or name.endswith(".sh")):
+                (self.top / name).parent.mkdir(parents=True, exist_ok=True)
+                shutil.copy(PYTHON.parent / name, self.top / name)
+        for words in (["init", "-q"], ["add", "-A"]):
+            subprocess.run(["git", *words], cwd=self.top, check=True)
+
+    def bump(self, *words):
+        ran = subprocess.run([str(self.top / "release/bump.sh"), *words], capture_output=True, text=True)
+        return ran.returncode, ran.stdout + ran.stderr
+
+    def texts(self):
+        return {file: file.read_bytes() for file in self.top.rglob("*") if file.is_file() and ".git" not in file.parts}
+
+    def test_longer_version(self):
+        old = library.VERSION
+        first, second, _ = old.split(".")
+        new, before = f"{first}.{int(second) + 10}.0", self.texts()
+        self.assertEqual(self.bump(new), (0, f"{old} is now {new}; CHANGELOG.md, the builds and release/make.sh follow\n"))
+        changed = {file.relative_to(self.top).as_posix(): held for file, held in self.texts().items() if held != before[file]}
+        self.assertEqual(sorted(changed), ["VERSION", "c/nushbaret.h", "crates/program_tests/src/command.rt",
+                                           "crates/release_version/must-fail/another_version.edit", "crates/release_version/src/lib.rt",
+                                           "docs/SCRIPTS.md", "python/nushbaret/_library.py", "python/pyproject.toml"])
+        for name, held in changed.items():
+            self.assertEqual(held.decode(), before[self.top / name].decode().replace(old, new))
+        self.assertEqual(self.bump(old)[0], 0)
+        self.assertEqual(self.texts(), before)
+
+    def test_refusals(self):
+        old, before = library.VERSION, self.texts()
+        for words, why in (((), f"it takes one word, the new version; this is {old}"), ((old,), f"this is {old} already"),
+                           (("3.1",), "'3.1' isn't a version of three numbers, as 1.20.3"), (("3.01.0",), "'3.01.0' isn't a version")):
+            status, said = self.bump(*words)
+            self.assertEqual((status, said[:len(why) + 17]), (1, f"release/bump.sh: {why}"))
+        self.assertEqual(self.texts(), before)
+        for name, text in (("README.md", f"Of {old}.\n"), ("docs/SCRIPTS.md", "No version.\n")):
+            (self.top / name).write_text(text)
+            planted = self.texts()
+            self.assertIn(f"{old} doesn't stand where it should", self.bump("9.9.9")[1])
+            self.assertEqual(self.texts(), planted)
+            (self.top / name).write_bytes(before[self.top / name])
 
 
 if __name__ == "__main__":

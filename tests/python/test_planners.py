@@ -147,6 +147,9 @@ class Kept(unittest.TestCase):
             with self.subTest(case=case):
                 self.assertEqual(len(pairs), most)
                 self.assertEqual(judged(pairs), min(judged(those) for those in every if len(those) == most))
+                if change is None:
+                    best = [set(those) for those in every if len(those) == most and value(those, costs, maximize) == value(pairs, costs, maximize)]
+                    self.assertEqual(len(pairs ^ kept), min(len(those ^ kept) for those in best))
 
 
 class Groups(unittest.TestCase):

@@ -14,10 +14,11 @@ sys.path.insert(0, str(pathlib.Path(__file__).resolve().parents[2] / "python"))
 from nushbaret import _sentences
 from nushbaret._answer import Wish, sentence
 from nushbaret._by_counts import answer_by_counts
+from nushbaret._names import without_marks
 from nushbaret._roster import Groups, Roster
 
 import drawn
-from test_command import Runs
+from test_command import Runs, without_names
 
 CASES = 300
 
@@ -123,20 +124,20 @@ class Commands(Runs):
 class Plans(unittest.TestCase):
     def test_kept_beside_all_best_plans(self):
         draw, changed = random.Random(2), 0
-        for number, case in enumerate(drawings(2, CASES, 2)):
+        for number, case in enumerate(drawings(2, 500, 2)):
             kept = {pair for pair in case.pairs() if draw.random() < 0.4}
             change = draw.choice((None, None, 0, 1, 3))
             plan = answer_by_counts(case.roster(), Wish((), case.maximize, True, kept, change)).plan
 
             def judged(missed, cost, pairs):
-                new = len(set(pairs) - kept)
-                return (missed, cost, new) if change is None else (missed, cost + change * new, 0)
+                changes = len(set(pairs) ^ kept)
+                return (missed, cost, changes) if change is None else (missed, 2 * cost + change * changes, 0)
 
             plans = case.plans()
             own = next(those for those in plans if those[2] == pairs_of(plan))
             with self.subTest(case=number):
                 self.assertEqual(judged(*own), min(judged(*those) for those in plans))
-            changed += len(set(own[2]) - kept) > 0
+            changed += len(set(own[2]) ^ kept) > len(set(own[2]) - kept) > 0
         self.assertGreater(changed, 50)
 
     def test_others_beside_all_plans(self):
@@ -157,6 +158,49 @@ class Plans(unittest.TestCase):
         self.assertGreater(min(swapped, shown), 50)
 
 
+class ManyNames(Runs):
+    """Sentences on many persons and objects name eight, each once, and the page and JSON have all."""
+
+    def test_a_month(self):
+        persons, days = [f"Nurse {number:02}" for number in range(28)], [f"2027-03-{day:02}" for day in range(1, 29)]
+        shifts = [f"{shift} {day}" for day in days for shift in ("early", "late", "night")]
+        self.file("r.csv", "nurse,shift,cost\n" + "".join(f"{person},{shift},1\n" for person in persons for shift in shifts))
+        self.file("p.csv", "shift,least,most\n" + "".join(f"{shift},7,9\n" for shift in shifts))
+        self.file("t.csv", "nurse,least,most\n" + "".join(f"{person},10,{20 + number % 2}\n" for number, person in enumerate(persons)))
+        self.file("g.csv", "shift,day\n" + "".join(f"{shift},{shift.split()[1]}\n" for shift in shifts))
+        words = ("r.csv", "--places", "p.csv", "--tasks", "t.csv", "--groups", "g.csv")
+        self.expect(1, "28 nurses can take at most 574 of the 588 places that must be filled at all 84 shifts of 28 days (2027-03-01, "
+                    "2027-03-02, 2027-03-03, 2027-03-04, 2027-03-05, 2027-03-06, 2027-03-07, 2027-03-08 and 20 more): 14 at most 21 each "
+                    "(Nurse 01, Nurse 03, Nurse 05, Nurse 07, Nurse 09, Nurse 11, Nurse 13, Nurse 15 and 6 others); 14 at most 20 each: "
+                    "allow others there, or fill 14 fewer\n", "", *words, "--html", "p.html", "--output", "p.json")
+        short, = json.loads(self.read("p.json"))["short"]
+        self.assertEqual((short["persons"], short["objects"]), (persons, shifts))
+        page = without_names(self.read("p.html"))
+        self.assertIn(f"<details><summary>28 nurses</summary><p>{', '.join(persons)}</p></details>", page)
+        self.assertIn(f"<details><summary>84 shifts</summary><p>{', '.join(shifts)}</p></details>", page)
+
+    def test_one_each(self):
+        self.file("r.csv", ",x\n" + "".join(f"p{number},1\n" for number in range(20)))
+        self.file("c.csv", "a,b,c\n" + "".join(f"p{number},1,1\n" for number in range(20)))
+        self.expect(1, "20 people (p0, p1, p2, p3, p4, p5, p6 and 13 others) must take 20 objects between them, and can take at most 1: "
+                    "x at most 1: allow others, or let them take 19 fewer\n", "", "r.csv", "--tasks", "c.csv")
+        self.file("s.csv", "," + ",".join(f"o{number}" for number in range(9)) + ",z\n"
+                  + "".join(f"p{number}" + ",1" * 9 + ",\n" for number in range(10)))
+        self.expect(1, "10 people (p0, p1, p2, p3 and 6 others) can take only 9 objects between them (o0, o1, o2, o3 and 5 others): "
+                    "allow one of them another, or leave one out\n", "", "s.csv")
+
+    def test_names_with_commas(self):
+        self.file("r.csv", 'nurse,shift,cost\n"Kurz, Ida",x,1\n"Lang, Eva",x,1\n"Lang, Eva",y,1\nUwe,y,1\nMax,v,1\nMax,w,2\n')
+        self.expect(1, "3 nurses (Kurz, Ida; Lang, Eva; Uwe) can take only 2 shifts between them (x, y): allow one of them another, "
+                    "or leave one out\n", "", "r.csv")
+        self.file("r.csv", self.read("r.csv") + '"Kurz, Ida",y,1\n')
+        self.file("p.csv", "shift,least,most\nx,3,3\ny,1,2\nv,0,1\nw,0,1\n")
+        self.file("t.csv", "nurse,least,most\n\"Kurz, Ida\",0,1\n\"Lang, Eva\",0,1\nUwe,0,0\n")
+        self.assertEqual(self.run_words("r.csv", "--places", "p.csv", "--tasks", "t.csv")[1], (
+            "3 nurses can take at most 2 of the 4 places that must be filled at 2 shifts (x (3), y): 2 at most 1 each (Kurz, Ida; Lang, Eva); "
+            "Uwe none: allow others there, or fill 2 fewer\n"))
+
+
 class Sentences(unittest.TestCase):
     """What a sentence names is read from it, and a search of just that finds no plan."""
 
@@ -168,40 +212,61 @@ class Sentences(unittest.TestCase):
                 answer = answer_by_counts(roster, Wish((), case.maximize))
             found += bool(answer.groups)
             for short in answer.groups:
-                text = sentence(roster, short, False)
+                text = without_marks(sentence(roster, short, False))
                 with self.subTest(case=number, text=text):
                     self.judge(case, text)
         self.assertGreater(found, 500)
 
     def judge(self, case, text):
-        allowed = case.pairs()
-        about_objects = re.match(r"(?:nobody can take the|\d+ (?:person|people) \(.*?\) can take at most (\d+) of the) (\d+) places? that must "
+        """Compares the numbers of a sentence with a search; they add up to what can be had."""
+        names = re.findall(r"\b[po]\d+\b", text)
+        self.assertEqual(len(names), len(set(names)))
+        about_objects = re.match(r"(?:nobody can take the|(\d+) (?:person|people) can take at most (\d+) of the) (\d+) places? that must "
                                  r"be filled at (?:\d+ objects? \(((?:o\d+(?: \(\d+\))?(?:, )?)+)\)|all \d+ objects?)"
                                  r"(?: of day (g\d)| of \d+ days \((.*?)\))?: (.*)", text)
         if about_objects:
-            most, wanted, names, *days, rest = about_objects.groups()
-            least = self.counts(names) if names else self.of_days(case, "".join(filter(None, days)))
-            self.assertEqual(sum(least.values()), int(wanted))
-            rules = self.rules(rest.rpartition(": ")[0])
-            pairs = [(person, object_) for person, object_ in allowed if object_ in least]
-            caps = {person: rules["p"].get(person) for person, _ in pairs}
+            self.judge_objects(case, *about_objects.groups())
         else:
             about_persons = re.match(r"(?:(p\d+)|\d+ people \(((?:p\d+(?: \(\d+\))?(?:, )?)+)\)) must take (\d+) objects?(?: between them)?, and "
                                      r"(?:may take none|can take at most (\d+)): (.*)", text)
             self.assertIsNotNone(about_persons)
-            alone, names, wanted, most, rest = about_persons.groups()
-            caps = {int(alone[1:]): int(wanted)} if alone else self.counts(names)
-            self.assertEqual(sum(caps.values()), int(wanted))
-            rules = self.rules(rest.rpartition(": ")[0])
-            pairs = [(person, object_) for person, object_ in allowed if person in caps]
-            least = {object_: rules["o"].get(object_) for _, object_ in pairs}
-        once = rules["once"]
-        for person, object_ in pairs:
-            own = next((number for number, group in enumerate(case.groups) if object_ in group), None)
-            is_named = (person, "o", object_) in once or (person, "g", own) in once
-            self.assertTrue(is_named or (caps[person] if about_objects else least[object_]) is not None, f"p{person} may have o{object_}")
-        self.assertEqual(self.most(case, pairs, caps, least, once), int(most or 0))
+            self.judge_persons(case, *about_persons.groups())
+
+    def judge_objects(self, case, count, most, wanted, names, day, days, rest):
+        least = self.counts(names) if names else self.of_days(case, f"{day or ''}{days or ''}")
+        self.assertEqual(sum(least.values()), int(wanted))
+        pairs = [(person, object_) for person, object_ in case.pairs() if object_ in least]
+        caps = {}
+        for names_, number, rule in self.reasons(rest):
+            for person in map(int, re.findall(r"p(\d+)", names_)):
+                self.assertNotIn(person, caps)
+                caps[person] = number
+                if rule:
+                    self.assertEqual(number, len({self.unit(case, *pair) for pair in pairs if pair[0] == person}))
+        self.assertLessEqual({person for person, _ in pairs}, set(caps))
+        self.assertEqual((len(caps), sum(caps.values())), (int(count or 0), int(most or 0)))
+        self.assertEqual(self.most(case, pairs, caps, least), int(most or 0))
         self.assertLess(int(most or 0), int(wanted))
+
+    def judge_persons(self, case, alone, names, wanted, most, rest):
+        least = {int(alone[1:]): int(wanted)} if alone else self.counts(names)
+        self.assertEqual(sum(least.values()), int(wanted))
+        pairs = [(person, object_) for person, object_ in case.pairs() if person in least]
+        caps, elsewhere = {}, 0
+        for names_, number, rule in self.reasons(rest):
+            if rule:
+                elsewhere = int(number if number is not None else most)
+                units = {self.unit(case, *pair)[1] for pair in case.pairs() if pair[0] in least}
+                self.assertLessEqual(set(re.findall(r"g\d", rule)), units)
+            caps.update((int(object_), number) for object_ in re.findall(r"o(\d+)", names_))
+        self.assertEqual(elsewhere, len({self.unit(case, *pair) for pair in pairs if pair[1] not in caps}))
+        self.assertEqual(sum(caps.values()) + elsewhere, int(most or 0))
+        self.assertEqual(self.most(case, pairs, least, caps), int(most or 0))
+        self.assertLess(int(most or 0), int(wanted))
+
+    def unit(self, case, person, object_):
+        """The group of an object, or the object itself: a person takes one of it."""
+        return person, next((f"g{number}" for number, group in enumerate(case.groups) if object_ in group), object_)
 
     def of_days(self, case, days):
         """The least counts of all objects of some days."""
@@ -211,39 +276,34 @@ class Sentences(unittest.TestCase):
     def counts(self, names):
         return {int(number): int(count or 1) for number, count in re.findall(r"[po](\d+)(?: \((\d+)\))?", names)}
 
-    def rules(self, text):
-        """The greatest counts of persons and objects, and what persons have at most once."""
-        found = {"p": {}, "o": {}, "once": set()}
-        for part in filter(None, text.split("; ")):
-            count = re.fullmatch(r"((?:[po]\d+(?:, )?)+) (?:none|at most (\d+)(?: each)?)", part)
-            if count:
-                for letter, number in re.findall(r"([po])(\d+)", count[1]):
-                    found[letter][int(number)] = int(count[2] or 0)
-                continue
-            once = re.fullmatch(r"((?:p\d+(?:, )?)+) (?:once|at most one)(?: each)? (?:at|of day|of every day|at each of) \(?((?:[og]\d+(?:, )?)+)\)?",
-                                part)
-            self.assertIsNotNone(once, part)
-            ends = re.findall(r"([og])(\d+)", once[2])
-            found["once"].update((int(person), letter, int(end)) for person in re.findall(r"p(\d+)", once[1]) for letter, end in ends)
-        return found
+    def reasons(self, rest):
+        """The names, the number and the rule of each reason; the advice comes after these."""
+        day, single = r"one of each day(?: \([^)]*\))?", r"once at each object(?: \([^)]*\))?"
+        rule = f"{day}, {single}|{day}|{single}"
+        for part in rest.rpartition(": ")[0].split("; ") if ": " in rest else ():
+            plain = re.fullmatch(r"(?:\d+ |([po]\d+) )(?:(one of each day, once at each object|one of each day|once at each object), so )?"
+                                 r"(?:at most (\d+)(?: each)?|none)(?: \((.*)\))?", part)
+            other = re.fullmatch(rf"(?:(\d+) elsewhere, )?({rule})", part)
+            self.assertIsNotNone(plain or other, part)
+            if other:
+                yield "", int(other[1]) if other[1] else None, other[2]
+            else:
+                yield plain[1] or plain[4] or "", int(plain[3] or 0), plain[2]
 
-    def most(self, case, pairs, caps, least, once):
-        """How many pairs there can be, by a search: a pair or a group counts once where that is named."""
-        group_of = {object_: number for number, group in enumerate(case.groups) for object_ in group}
+    def most(self, case, pairs, of_persons, of_objects):
+        """How many pairs there can be, by a search: a person takes one of a group, and no pair twice."""
         choices = []
         for person in sorted({person for person, _ in pairs}):
             held = [object_ for those, object_ in pairs if those == person]
-            size = 9 if caps.get(person) is None else caps[person]
             options = []
-            for those in itertools.chain.from_iterable(itertools.combinations(held, count) for count in range(min(size, len(held)) + 1)):
-                days = [group_of[object_] for object_ in those if (person, "g", group_of.get(object_)) in once]
-                if len(days) == len(set(days)):
+            for those in itertools.chain.from_iterable(itertools.combinations(held, count) for count in range(len(held) + 1)):
+                if len(those) <= of_persons.get(person, len(held)) and len({self.unit(case, person, one) for one in those}) == len(those):
                     options.append(those)
             choices.append(options)
         best = 0
         for picked in itertools.product(*choices):
             used = [object_ for those in picked for object_ in those]
-            if all(least[object_] is None or used.count(object_) <= least[object_] for object_ in set(used)):
+            if all(used.count(object_) <= of_objects.get(object_, len(used)) for object_ in set(used)):
                 best = max(best, len(used))
         return best
 

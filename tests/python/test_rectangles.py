@@ -129,7 +129,8 @@ class Prices(unittest.TestCase):
 
 class Checked(unittest.TestCase):
     def test_beside_the_definition(self):
-        """Plans of any number of pairs, with prices of any kind: the verdict is that of the definition, and a proved plan is best."""
+        """Plans with all pairs that can be made or with fewer, and prices of any kind: the verdict is that of the definition, and a proved
+        plan is best."""
         draw, yes, out = drawing(42), 0, 0
         for _ in range(3000):
             n_rows, n_columns, maximize = draw.randint(1, 4), draw.randint(1, 4), draw.random() < 0.5
@@ -148,14 +149,14 @@ class Checked(unittest.TestCase):
                 columns[row] = column
             verdict = nushbaret.check(costs, columns, prices, maximize=maximize)
             fewer = len(pairs) < min(n_rows, n_columns)
-            wanted = proved(costs, pairs, prices, maximize) and not (fewer and all(None not in row for row in costs))
+            wanted = proved(costs, pairs, prices, maximize) and best(costs, maximize, len(pairs) + 1) is None
             self.assertEqual(bool(verdict), wanted, (costs, columns, prices, maximize, verdict))
             if verdict:
                 self.assertEqual(sum(costs[row][column] for row, column in pairs), best(costs, maximize, len(pairs)))
                 yes += 1
                 out += fewer
         self.assertGreater(yes, 500)
-        self.assertGreater(out, 100)
+        self.assertGreater(out, 50)
 
     def test_words(self):
         check = nushbaret.check

@@ -67,6 +67,9 @@ class Refused(unittest.TestCase):
         self.assertEqual(type(solve([[2]], decimals=2).cost), Decimal)
         self.assertEqual(str(solve([[Fraction(2, 3)]], decimals=30).cost), "0." + 29 * "6" + "7")
         self.refused(ValueError, "decimals is -1: it must be 0 or more", solve, [[1]], decimals=-1)
+        for wrong in 1001, 10**5, 10**9, 10**5000:
+            self.refused(ValueError, "decimals is above 1000: costs can be rounded to at most so many places", solve, [[1]], decimals=wrong)
+        self.assertEqual(solve([[Fraction(1, 3)]], decimals=1000).cost, Decimal("0." + 1000 * "3"))
         self.refused(ValueError, "decimals is 'fit': it must be a whole number from 0, or None", solve, [[1]], decimals="fit")
         self.refused(TypeError, "", solve, [[1]], decimals=0.5)
 

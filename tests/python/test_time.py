@@ -10,7 +10,7 @@ from array import array
 from unittest import mock
 
 import nushbaret
-from nushbaret import _library as library
+from nushbaret import _levels, _library as library
 
 TOP = os.path.dirname(os.path.dirname(nushbaret.__file__))
 
@@ -75,7 +75,7 @@ class Interrupts(unittest.TestCase):
             self.assertLess(time.monotonic() - begun, 4)
 
     def test_small_calls_have_no_thread(self):
-        with mock.patch.object(library, "_waited_for", side_effect=AssertionError):
+        with mock.patch.object(library, "waited_for", side_effect=AssertionError):
             self.assertEqual(nushbaret.solve([[i * j for j in range(30)] for i in range(30)]).cost, sum(i * (29 - i) for i in range(30)))
 
     def test_lists_of_the_thread_are_its_own(self):
@@ -114,13 +114,94 @@ class Timeouts(unittest.TestCase):
     def test_in_other_threads(self):
         """A limit is that of its own thread."""
         found = []
-        with library.limited(0):
-            thread = threading.Thread(target=lambda: found.append(nushbaret.solve(self.COSTS).cost))
+
+        def limits():
+            found.append(library._end())
+            with self.assertRaises(TimeoutError):
+                nushbaret.solve(self.COSTS, timeout=0)
+
+        with library.limited(1000):
+            thread = threading.Thread(target=limits)
             thread.start()
             thread.join()
+            self.assertGreater(library._end(), time.monotonic())
+            self.assertEqual(nushbaret.solve(self.COSTS).cost, nushbaret.solve(self.COSTS, timeout=999).cost)
+        self.assertEqual((found, library._end()), ([None], None))
+
+    def test_while_python_works(self):
+        """Steps of Python's that would never end, in reading and between two calls of the library, end as by Ctrl-C, in any thread."""
+        class Endless:
+            def __len__(self):
+                return 2
+
+            def __getitem__(self, places):
+                return [0][places]
+
+            def __iter__(self):
+                while True:
+                    pass
+
+        def never(*words):
+            while True:
+                pass
+
+        def ends():
+            for call in nushbaret.solve, nushbaret.linear_sum_assignment, nushbaret.bottleneck:
+                with self.assertRaisesRegex(TimeoutError, "^the time is over; nothing of the caller's was changed$") as raised:
+                    call([Endless(), Endless()], timeout=0.05)
+                self.assertIs(type(raised.exception), TimeoutError)
+            with mock.patch.object(_levels, "finer", never), self.assertRaises(TimeoutError):
+                nushbaret.solve([[0.1 + 0.2, 0.1], [1 / 3, 1 / 3 - 0.2]] * 40, partial=True, timeout=0.05)
+            ended.append(nushbaret.solve([[4, 1], [2, 3]]).cost)
+
+        ended = []
+        ends()
+        thread = threading.Thread(target=ends)
+        thread.start()
+        thread.join()
+        self.assertEqual((ended, library._end()), ([3, 3], None))
+
+    def test_nothing_comes_later(self):
+        """What an alarm raises, it raises within its block, however near to the end of the block it rings."""
+        ended = 0
+        for turn in range(400):
+            is_over = False
+            try:
+                with library.limited(0.0002 + turn % 20 * 0.00002):
+                    begun = time.monotonic()
+                    while time.monotonic() < begun + 0.0004:
+                        pass
+                is_over = True
+            except TimeoutError:
+                self.assertFalse(is_over)
+                ended += 1
+            for _ in range(200):
+                self.assertIsNone(library._end())
+        self.assertGreater(ended, 0)
+
+    def test_within_another_limit(self):
+        """The earlier end holds, and the later one stays."""
+        with library.limited(1000):
             with self.assertRaises(TimeoutError):
-                nushbaret.solve(self.COSTS)
-        self.assertEqual(found, [nushbaret.solve(self.COSTS).cost])
+                with library.limited(0.01):
+                    while True:
+                        pass
+            self.assertGreater(library._end(), time.monotonic() + 100)
+        with self.assertRaises(TimeoutError):
+            with library.limited(0.01):
+                with library.limited(1000):
+                    while True:
+                        pass
+        self.assertIsNone(library._end())
+
+    def test_no_thread_left(self):
+        """Where the system has no more threads, it has no memory for one."""
+        with mock.patch.object(threading.Thread, "start", side_effect=RuntimeError("can't start new thread")):
+            with self.assertRaisesRegex(MemoryError, "no thread could be started: can't start new thread"):
+                nushbaret.solve(self.COSTS, timeout=100)
+            with mock.patch.object(library, "LONG", 1), self.assertRaisesRegex(MemoryError, "no thread"):
+                nushbaret.solve([[1, 2], [3, 5]])
+        self.assertEqual(nushbaret.solve(self.COSTS, timeout=100).cost, nushbaret.solve(self.COSTS).cost)
 
     def test_refusals(self):
         for wrong in -1, float("nan"):

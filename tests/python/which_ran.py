@@ -1,9 +1,10 @@
 """Says which parts of the tests could run here."""
 import importlib.util
 import platform
+import shutil
 
-NAMES = ("numpy", "scipy", "pandas", "openpyxl")
-parts = [name for name in NAMES if importlib.util.find_spec(name)]
-missing = [name for name in NAMES if name not in parts]
+NAMES, PROGRAMS = ("numpy", "scipy", "pandas", "openpyxl"), ("chromium", "pdftotext")
+parts = [*filter(importlib.util.find_spec, NAMES), *filter(shutil.which, PROGRAMS)]
+missing = [name for name in (*NAMES, *PROGRAMS) if name not in parts]
 print(f"python package: Python {platform.python_version()}; with {', '.join(['the standard library', *parts])}"
       + (f"; without {', '.join(missing)}" if missing else ""))

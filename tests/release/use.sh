@@ -79,6 +79,7 @@ wheel() {
         expect 'nushbaret --version' "nushbaret $version" "$work/planner/bin/nushbaret" --version
         expect 'nushbaret' "$roster" "$work/planner/bin/nushbaret" "$top/examples/named_roster.csv"
         expect 'import' "$work/planner/.* 5" "$work/planner/bin/python" -I -c 'import nushbaret; print(nushbaret.__file__, nushbaret.solve([[1, 2], [3, 5]]).cost)'
+        guide "$work/planner/bin/nushbaret"
         expect 'pip show' '.*Topic :: Office/Business :: Scheduling.*' "$work/planner/bin/pip" --disable-pip-version-check show --verbose nushbaret
         ran 'the wheel in a venv'
         wheel_for_arm
@@ -200,6 +201,8 @@ tarball() {
     (cd "$work" && HOME=$work/home done_by 'tarball' bash -euc "$line") || return
     prefix=$work/home/.local
     planned tarball "$prefix/bin/nushbaret"
+    guide "$prefix/bin/nushbaret"
+    [ -s "$prefix/share/doc/nushbaret/guide/rosters.html" ] || fail 'the tarball has no guide in share/doc'
     ran 'the tarball'
     used tarball "$prefix" "$prefix/lib" PKG_CONFIG_PATH="$prefix/lib/pkgconfig"
     done_by 'tarball for ARM' tar -xzf "$folder/nushbaret-$version-linux-aarch64.tar.gz" -C "$work/arm_prefix" || return
@@ -233,6 +236,8 @@ package() {
     local root=$work/root arm=$work/arm_root
     unpacked_package x86_64 amd64 '2\.34' "$root" || return
     planned package env "PYTHONPATH=$root/usr/$packages" python3 "$root/usr/bin/nushbaret"
+    guide env "PYTHONPATH=$root/usr/$packages" python3 "$root/usr/bin/nushbaret"
+    [ -s "$root/usr/share/doc/nushbaret/guide/rosters.html" ] || fail 'the package has no guide in share/doc'
     ran 'the package'
     used package "$root/usr" "$root/usr/lib/x86_64-linux-gnu" $(looks_at "$root" x86_64)
     installed
@@ -256,6 +261,24 @@ installed() {
     else
         ran 'installed by dpkg'
     fi
+}
+
+# Removes the tarball's files as the page says.
+removed() {
+    local line
+    line=$(sed -n 's/^    \(tar -tzf release.*\)$/\1/p' "$top/README.md")
+    (cd "$work" && HOME=$work/home done_by 'removing the tarball' bash -euc "$line")
+    [ -z "$(find "$prefix" ! -type d)" ] || fail "left after its removal: $(find "$prefix" ! -type d)"
+}
+
+# guide COMMAND..: whether the command prints the guide, with places of its page and its examples that are there.
+guide() {
+    local place
+    "$@" --guide > "$work/guide" 2> "$work/log" || fail "--guide: status $?, $(cat "$work/log")"
+    [ "$(head -n 1 "$work/guide")" = '# Rosters with names: the command' ] || fail "--guide prints $(head -n 1 "$work/guide")"
+    for place in "$(sed -n 's/^This guide as a page: //p' "$work/guide")" "$(sed -n 's/^The examples in it: //p' "$work/guide")/week.csv"; do
+        [ -s "$place" ] || fail "--guide: there is no $place"
+    done
 }
 
 # The manual's pages without a warning; and they and the completions say what the help and the header do.
@@ -317,4 +340,5 @@ tarball
 package
 manual
 completions
+removed
 exit 0

@@ -97,7 +97,7 @@ def look_at_its_completions():
     compare("bash, --change-cost", answers_of_bash("nushbaret", "--change-cost", ""), [])
     zsh = (SHARE / "zsh/site-functions/_nushbaret").read_text()
     fish = (SHARE / "fish/vendor_completions.d/nushbaret.fish").read_text()
-    in_zsh = {name.strip("{,"): text for name, text in re.findall(r"(--[\w-]+)(?:\})?'?=?\[((?:\\.|[^]\\])*)\]", zsh)}
+    in_zsh = {name.strip("{,"): text for name, text in re.findall(r"(--[\w-]+)=?\}?'?\[((?:\\.|[^]\\])*)\]", zsh)}
     in_fish = dict(re.findall(r"^complete -c nushbaret -l (\S+).* -d '((?:\\'|[^'])*)'$", fish, flags=re.M))
     compare("zsh, nushbaret", {name: re.sub(r"\\([][:])", r"\1", text.replace("'\\''", "'")) for name, text in in_zsh.items()},
             {name: text for name, _, text in options})

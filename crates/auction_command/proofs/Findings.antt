@@ -53,7 +53,7 @@ reports_differ rows (best sense cost pairs (Some prices)) first second problem a
     let v = differ _ rows _ prices a.0 b.0 a.1 b.1 in
     one_follows _ b.0 first second (costs_differ _ rows cost pairs) (subst (λ w. Follows _ w first) v a.2) b.2
 reports_differ rows (hall sense persons objects) first second problem a b =
-    let v = halls_differ rows persons objects a.0 b.0 problem a.1 b.1 in cc
+    let v = halls_differ (length rows) rows persons objects a.0 b.0 problem.each a.1 b.1 in cc
 
 pub findings_differ : HaveOneFinding
 findings_differ wanted rows report first second problem (inl a) (inl b) = a.1 ∙ sym b.1
@@ -87,7 +87,7 @@ found_in_is_so rows (best sense cost pairs (Some prices)) finding problem found 
     (best_by_slack (sense_of sense) rows (objects_of pairs) prices problem certificate.assigned certificate.slack, costs.0, costs.1)
 found_in_is_so rows (hall sense persons objects) finding problem found y =
     let v = hall_yes found.0 (sym (ap verdict_of found.2) ∙ y) in
-    let set = subst (IsHallVerdict rows persons objects) v found.1 in
+    let set = subst (IsHallVerdict (length rows) rows persons objects) v found.1 in
     (set, λ xs a. no_assignment rows persons objects xs set a)
 
 pub found_is_so : (wanted : Option Sense) (rows : List Listing) (report : Report) (finding : Finding) → IsProblem rows → IsFoundUnder wanted rows report finding → verdict_of finding ≡ Yes → IsSo rows report

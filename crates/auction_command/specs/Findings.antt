@@ -76,7 +76,7 @@ IsFoundInBest sense rows cost pairs prices finding =
 -- the finding on a report on a Hall set
 abbrev pub IsFoundInHall : List Listing → List ℕ → List ℕ → Finding → Type 0
 IsFoundInHall rows persons objects finding =
-    (v : HallVerdict) × IsHallVerdict rows persons objects v × (finding ≡ Hall v)
+    (v : HallVerdict) × IsHallVerdict (length rows) rows persons objects v × (finding ≡ Hall v)
 
 -- the finding on a report for a problem
 abbrev pub IsFoundInReport : List Listing → Report → Finding → Type 0

@@ -300,6 +300,7 @@ fn solve_named<T: Threads + Wait + Sync, V: Watch + Sync, F: Files, R: Read, W: 
         (E.contents devices.old.outputs.errors) (E.contents devices.new.outputs.errors) result }
     ensures unread { IsReadWhere (option_map string_bytes input ≡ None)
         (R.remaining devices.old.input) (R.remaining devices.new.input) result }
+    ensures files { devices.new.files ≡ devices.old.files }
 {
     match open_named(&devices.files, input) {
         Ok(None) => solve(
@@ -331,6 +332,7 @@ fn verify_named<F: Files, R: Read, W: Write, E: Write>(
         (E.contents devices.old.outputs.errors) (E.contents devices.new.outputs.errors) result }
     ensures unread { IsReadWhere (option_map string_bytes input ≡ None)
         (R.remaining devices.old.input) (R.remaining devices.new.input) result }
+    ensures files { devices.new.files ≡ devices.old.files }
 {
     match open_named(&devices.files, input) {
         Ok(None) => verify(
@@ -358,6 +360,7 @@ fn run_asked<T: Threads + Wait + Sync, V: Watch + Sync, F: Files, R: Read, W: Wr
         (E.contents devices.old.outputs.errors) (E.contents devices.new.outputs.errors) result }
     ensures unread { IsReadWhere (input_name asked ≡ None)
         (R.remaining devices.old.input) (R.remaining devices.new.input) result }
+    ensures files { devices.new.files ≡ devices.old.files }
 {
     match asked {
         Words::Solve {
@@ -415,6 +418,7 @@ fn run_words<
         (E.contents devices.old.outputs.errors) (E.contents devices.new.outputs.errors) result }
     ensures unread { InputOutcome (Ok (map S.text words.entry.now))
         (R.remaining devices.old.input) (R.remaining devices.new.input) result }
+    ensures files { devices.new.files ≡ devices.old.files }
 {
     match read_words(context.alloc, words) {
         Ok(asked) => run_asked(context, asked, devices),
@@ -467,6 +471,7 @@ pub fn run_program<
         (E.contents devices.old.outputs.errors) (E.contents devices.new.outputs.errors) result }
     ensures unread { InputOutcome (given_by (λ v. map S.text v.items) words)
         (R.remaining devices.old.input) (R.remaining devices.new.input) result }
+    ensures files { devices.new.files ≡ devices.old.files }
 {
     match words {
         Ok(words) => run_words(context, words.as_slice(), devices),

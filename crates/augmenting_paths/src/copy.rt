@@ -1,7 +1,8 @@
 // Copies of costs for a search.
-ghost use Rattle.std.specs.Prelude.{◌≡◌, ◌*◌, ◌≤ℤ◌, length, All, IfOk};
+ghost use Rattle.std.specs.Prelude.{◌≡◌, ◌*◌, length, ℤ, pos, All, Contains, IfOk};
 ghost use Rattle.assign_core.specs.Rows.{IsSize};
-ghost use Rattle.augmenting_paths.specs.Copies.{IsBetween};
+ghost use Rattle.augmenting_paths.specs.Copies.{AreExtremes, IsBetween, IsListedCost};
+ghost use Rattle.augmenting_paths.specs.inside.Spans.{Grows};
 
 use super::matrix::Matrix;
 use super::scale::{Scale, Span};
@@ -38,7 +39,7 @@ impl CostCopy {
     }
 
     // The span of the costs.
-    pub fn span(&self) -> Span {
+    pub(crate) fn span(&self) -> Span {
         Span {
             least: self.least,
             greatest: self.greatest,
@@ -46,7 +47,7 @@ impl CostCopy {
     }
 
     // The copies, and by how many bits they were shifted to the right.
-    pub fn into_parts(self) -> (Matrix<i32>, u32) {
+    pub(crate) fn into_parts(self) -> (Matrix<i32>, u32) {
         (self.matrix, self.shift)
     }
 }
@@ -54,26 +55,11 @@ impl CostCopy {
 // Judges a piece of the costs, and copies it.
 fn copy_piece(costs: &[Cost], scale: Scale, span: Span, to: &mut [i32]) -> Span
     requires { length costs.now ≡ length to.old }
-    ensures between { All (IsBetween result.least result.greatest) costs.now }
-    ensures least { result.least ≤ℤ span.least }
-    ensures greatest { span.greatest ≤ℤ result.greatest }
+    ensures { Grows (Contains costs.now) span result }
 {
     let mut span = span;
     for k in 0..costs.len() {
         to[k] = scale.scaled(costs[k]);
-        span = span.with(costs[k]);
-    }
-    span
-}
-
-// Judges a piece of the costs.
-fn judge_piece(costs: &[Cost], span: Span) -> Span
-    ensures between { All (IsBetween result.least result.greatest) costs.now }
-    ensures least { result.least ≤ℤ span.least }
-    ensures greatest { span.greatest ≤ℤ result.greatest }
-{
-    let mut span = span;
-    for k in 0..costs.len() {
         span = span.with(costs[k]);
     }
     span
@@ -86,12 +72,10 @@ fn add_piece(
     span: Span,
     to: &mut Vec<i32>,
 ) -> Result<Span, AllocError>
-    ensures between { IfOk result (λ s. All (IsBetween s.least s.greatest) costs.now) }
-    ensures least { IfOk result (λ s. s.least ≤ℤ span.least) }
-    ensures greatest { IfOk result (λ s. span.greatest ≤ℤ s.greatest) }
+    ensures { IfOk result (Grows (Contains costs.now) span) }
 {
     if span.shift() > 0 {
-        return Ok(judge_piece(costs, span));
+        return Ok(span.with_costs(costs));
     }
     let from = to.len();
     to.resize(from.saturating_add(costs.len()), 0)?;
@@ -99,13 +83,13 @@ fn add_piece(
     if end.len() == costs.len() {
         Ok(copy_piece(costs, scale, span, end))
     } else {
-        Ok(judge_piece(costs, span))
+        Ok(span.with_costs(costs))
     }
 }
 
 // Judges all costs, and copies them as long as they fit.
 fn judge(costs: &[Cost], scale: Scale, first: Span, to: &mut Vec<i32>) -> Result<Span, AllocError>
-    ensures { IfOk result (λ s. All (IsBetween s.least s.greatest) costs.now) }
+    ensures { IfOk result (Grows (Contains costs.now) first) }
 {
     let mut span = first;
     let mut left = costs;
@@ -144,10 +128,12 @@ pub fn copy_dense(
     requires persons { IsSize n }
     requires objects { IsSize m }
     requires count { length costs.now ≡ n * m }
-    ensures { IfOk result (λ copy. All (IsBetween copy.least copy.greatest) costs.now) }
+    ensures between { IfOk result (λ copy. All (IsBetween copy.least copy.greatest) costs.now) }
+    ensures extremes { IfOk result (λ copy.
+        AreExtremes (Contains costs.now) copy.least copy.greatest) }
 {
     let mut copies = Vec::with_capacity(alloc, costs.len())?;
-    let first = Span::at(costs.first().copied().unwrap_or(0));
+    let first = Span::at(costs[0]);
     let span = judge(costs, Scale::new(first, sense, 0), first, &mut copies)?;
     let shift = span.shift();
     if shift > 0 {
@@ -161,11 +147,17 @@ pub fn copy_dense(
     })
 }
 
-/// Copies the costs of all listed pairs.
+/// Copies the costs of all listed pairs, and finds the least and the greatest of them: 0 if no pair
+/// is listed.
 ///
 /// # Errors
 /// `AllocError` if memory is refused.
-pub fn copy_rows(alloc: Global, rows: &CostRows<'_>, sense: Sense) -> Result<CostCopy, AllocError> {
+pub fn copy_rows(alloc: Global, rows: &CostRows<'_>, sense: Sense) -> Result<CostCopy, AllocError>
+    ensures extremes { IfOk result (λ copy. (c : ℤ) → IsListedCost rows.now.rows c
+        → AreExtremes (IsListedCost rows.now.rows) copy.least copy.greatest) }
+    ensures none { IfOk result (λ copy. ((c : ℤ) → IsListedCost rows.now.rows c → ⊥)
+        → (copy.least ≡ pos 0) × (copy.greatest ≡ pos 0)) }
+{
     let span = Span::of_rows(rows);
     let shift = span.shift();
     Ok(CostCopy {

@@ -1,6 +1,8 @@
 // How costs are copied.
-ghost use Rattle.std.specs.Prelude.{◌≡◌, ◌≤ℤ◌, length};
-ghost use Rattle.augmenting_paths.specs.Copies.{IsBetween};
+ghost use Rattle.std.specs.Prelude.{◌≡◌, ◌⊎◌, ◌≤ℤ◌, ℤ, pos, length, Contains};
+ghost use Rattle.dual_checker.specs.CostRow.{listing_of};
+ghost use Rattle.augmenting_paths.specs.Copies.{AreExtremes, IsCostIn, IsListedCost};
+ghost use Rattle.augmenting_paths.specs.inside.Spans.{Grows, IsCostOfFirst};
 
 use super::matrix::Matrix;
 use super::number::Number;
@@ -12,6 +14,22 @@ use std::alloc::{AllocError, Global};
 // Copies in 32 bits are exact if the greatest cost is less than 2^25 above the least.
 const BITS: u32 = 25;
 
+fn lesser(one: Cost, other: Cost) -> Cost
+    ensures one { result ≤ℤ one }
+    ensures other { result ≤ℤ other }
+    ensures either { (result ≡ one) ⊎ (result ≡ other) }
+{
+    if other < one { other } else { one }
+}
+
+fn greater(one: Cost, other: Cost) -> Cost
+    ensures one { one ≤ℤ result }
+    ensures other { other ≤ℤ result }
+    ensures either { (result ≡ one) ⊎ (result ≡ other) }
+{
+    if other > one { other } else { one }
+}
+
 // The least and the greatest of some costs.
 #[derive(Clone, Copy)]
 pub struct Span {
@@ -21,7 +39,9 @@ pub struct Span {
 
 impl Span {
     // The span of one cost.
-    pub fn at(cost: Cost) -> Span {
+    pub fn at(cost: Cost) -> Span
+        ensures { result ≡ record { least = cost; greatest = cost } }
+    {
         Span {
             least: cost,
             greatest: cost,
@@ -29,32 +49,68 @@ impl Span {
     }
 
     pub fn with(self, cost: Cost) -> Span
-        ensures between { IsBetween result.least result.greatest cost }
-        ensures least { result.least ≤ℤ self.least }
-        ensures greatest { self.greatest ≤ℤ result.greatest }
+        ensures { Grows (λ c. c ≡ cost) self result }
     {
         Span {
-            least: self.least.min(cost),
-            greatest: self.greatest.max(cost),
+            least: lesser(self.least, cost),
+            greatest: greater(self.greatest, cost),
         }
     }
 
-    fn with_row(self, row: CostRow<'_>) -> Span {
+    pub fn with_costs(self, costs: &[Cost]) -> Span
+        ensures { Grows (Contains costs.now) self result }
+    {
+        let mut span = self;
+        for k in 0..costs.len() {
+            span = span.with(costs[k]);
+        }
+        span
+    }
+
+    fn with_pairs(self, pairs: &[(Object, Cost)]) -> Span
+        ensures { Grows (IsCostIn pairs.now) self result }
+    {
+        let mut span = self;
+        for k in 0..pairs.len() {
+            span = span.with(pairs[k].1);
+        }
+        span
+    }
+
+    fn with_row(self, row: CostRow<'_>) -> Span
+        ensures { Grows (IsCostIn (listing_of row.entry)) self result }
+    {
         match row {
-            CostRow::Full(costs) => costs.iter().fold(self, |span, cost| span.with(*cost)),
-            CostRow::Pairs(pairs) => pairs.iter().fold(self, |span, pair| span.with(pair.1)),
+            CostRow::Full(costs) => self.with_costs(costs),
+            CostRow::Pairs(pairs) => self.with_pairs(pairs),
         }
     }
 
-    // The span of all listed costs; that of 0 if there is none.
-    pub fn of_rows(rows: &CostRows<'_>) -> Span {
-        let mut span = Span {
-            least: Cost::MAX,
-            greatest: Cost::MIN,
-        };
+    // The span with all listed costs.
+    fn with_rows(self, rows: &CostRows<'_>) -> Span
+        ensures { Grows (IsListedCost rows.now.rows) self result }
+    {
+        let mut span = self;
         for i in 0..rows.persons() {
             span = span.with_row(rows.row(Person(i + 1)));
         }
+        span
+    }
+
+    // The span of all listed costs; that of 0 if there is none.
+    pub fn of_rows(rows: &CostRows<'_>) -> Span
+        ensures extremes { (c : ℤ) → IsListedCost rows.now.rows c
+            → AreExtremes (IsListedCost rows.now.rows) result.least result.greatest }
+        ensures none { ((c : ℤ) → IsListedCost rows.now.rows c → ⊥)
+            → result ≡ record { least = pos 0; greatest = pos 0 } }
+    {
+        // This call shows the prover that each cost is in range.
+        let _objects = rows.objects();
+        let nothing = Span {
+            least: Cost::MAX,
+            greatest: Cost::MIN,
+        };
+        let span = nothing.with_rows(rows);
         if span.least > span.greatest {
             return Span::at(0);
         }

@@ -10,12 +10,11 @@ use Rattle.assign_core.proofs.RowLemmas.{IsRow-row_of}
 use Rattle.dual_checker.specs.declared.hall_verdict.HallVerdict.{HallVerdict}
 use Rattle.dual_checker.specs.declared.hall_verdict.HallVerdict.TheVariants.{Range, Order, Missing, Extra, Count, Yes}
 use Rattle.dual_checker.specs.Faults.{IsFirst}
-use Rattle.dual_checker.specs.HallVerdicts.{AreNeighbours, AreRising, HasNeighbours, HallVerdictsDiffer, IsExtra, IsHallVerdict, Lacks, ListsUnnamed}
-use Rattle.dual_checker.specs.HallSets.{AreInRangeAmong, IsHallVerdictAmong}
+use Rattle.dual_checker.specs.HallVerdicts.{AreInRange, AreNeighbours, AreRising, HasNeighbours, HallVerdictsDiffer, IsExtra, IsHallVerdict, Lacks, ListsUnnamed}
 use Rattle.dual_checker.proofs.Firsts.{firsts_agree}
 
 -- the persons and the objects of a Hall set have rows and are listed
-hall_in_range : (m : ℕ) (rows : List Listing) (persons objects : List ℕ) → All (IsRow m) rows → IsHallSet rows persons objects → AreInRangeAmong m rows persons objects
+hall_in_range : (m : ℕ) (rows : List Listing) (persons objects : List ℕ) → All (IsRow m) rows → IsHallSet rows persons objects → AreInRange m rows persons objects
 hall_in_range m rows persons objects each h =
     let n : ℕ = length rows in
     let objects_in : All (IsNumber m) objects = λ k d lt.
@@ -34,64 +33,43 @@ not_lacking rows persons objects i h f = let lack = f.here.1 in lack.1.1 (h lack
 not_extra : (m : ℕ) (rows : List Listing) (persons objects : List ℕ) (j : ℕ) → AreNeighbours rows persons objects → IsFirst (IsExtra rows persons objects) m j → ⊥
 not_extra m rows persons objects j h f = f.here.1 ((h j).0 f.here.0)
 
-pub halls_differ_among : (m : ℕ) (rows : List Listing) (persons objects : List ℕ) (v w : HallVerdict) → All (IsRow m) rows →
-    IsHallVerdictAmong m rows persons objects v → IsHallVerdictAmong m rows persons objects w → v ≡ w
-halls_differ_among m r p o Range Range q a b = refl
-halls_differ_among m r p o Range Order q a b = absurd (a b.0)
-halls_differ_among m r p o Range (Missing ix jx) q a b = absurd (a b.0)
-halls_differ_among m r p o Range (Extra jx) q a b = absurd (a b.0)
-halls_differ_among m r p o Range Count q a b = absurd (a b.0)
-halls_differ_among m r p o Range Yes q a b = absurd (a (hall_in_range m r p o q b))
-halls_differ_among m r p o Order Range q a b = absurd (b a.0)
-halls_differ_among m r p o Order Order q a b = refl
-halls_differ_among m r p o Order (Missing ix jx) q a b = absurd (a.1 b.1)
-halls_differ_among m r p o Order (Extra jx) q a b = absurd (a.1 b.1)
-halls_differ_among m r p o Order Count q a b = absurd (a.1 b.1)
-halls_differ_among m r p o Order Yes q a b = absurd (a.1 (hall_rising r p o b))
-halls_differ_among m r p o (Missing i j) Range q a b = absurd (b a.0)
-halls_differ_among m r p o (Missing i j) Order q a b = absurd (b.1 a.1)
-halls_differ_among m r p o (Missing i j) (Missing ix jx) q a b =
+pub halls_differ : HallVerdictsDiffer
+halls_differ m r p o Range Range q a b = refl
+halls_differ m r p o Range Order q a b = absurd (a b.0)
+halls_differ m r p o Range (Missing ix jx) q a b = absurd (a b.0)
+halls_differ m r p o Range (Extra jx) q a b = absurd (a b.0)
+halls_differ m r p o Range Count q a b = absurd (a b.0)
+halls_differ m r p o Range Yes q a b = absurd (a (hall_in_range m r p o q b))
+halls_differ m r p o Order Range q a b = absurd (b a.0)
+halls_differ m r p o Order Order q a b = refl
+halls_differ m r p o Order (Missing ix jx) q a b = absurd (a.1 b.1)
+halls_differ m r p o Order (Extra jx) q a b = absurd (a.1 b.1)
+halls_differ m r p o Order Count q a b = absurd (a.1 b.1)
+halls_differ m r p o Order Yes q a b = absurd (a.1 (hall_rising r p o b))
+halls_differ m r p o (Missing i j) Range q a b = absurd (b a.0)
+halls_differ m r p o (Missing i j) Order q a b = absurd (b.1 a.1)
+halls_differ m r p o (Missing i j) (Missing ix jx) q a b =
     let e = firsts_agree _ _ i ix a.2 b.2 in
     let f = firsts_agree (ListsUnnamed r (Contains o) ix) m j jx (subst (λ k. IsFirst (ListsUnnamed r (Contains o) k) m j) e a.3) b.3 in
     ap (λ m. Missing m j) e ∙ ap (λ m. Missing ix m) f
-halls_differ_among m r p o (Missing i j) (Extra jx) q a b = absurd (not_lacking r p o i b.2 a.2)
-halls_differ_among m r p o (Missing i j) Count q a b = absurd (not_lacking r p o i (λ j. (b.2 j).1) a.2)
-halls_differ_among m r p o (Missing i j) Yes q a b = absurd (not_lacking r p o i (λ j. (b.neighbours j).1) a.2)
-halls_differ_among m r p o (Extra j) Range q a b = absurd (b a.0)
-halls_differ_among m r p o (Extra j) Order q a b = absurd (b.1 a.1)
-halls_differ_among m r p o (Extra j) (Missing ix jx) q a b = absurd (not_lacking r p o ix a.2 b.2)
-halls_differ_among m r p o (Extra j) (Extra jx) q a b = ap Extra (firsts_agree _ _ j jx a.3 b.3)
-halls_differ_among m r p o (Extra j) Count q a b = absurd (not_extra m r p o j b.2 a.3)
-halls_differ_among m r p o (Extra j) Yes q a b = absurd (not_extra m r p o j b.neighbours a.3)
-halls_differ_among m r p o Count Range q a b = absurd (b a.0)
-halls_differ_among m r p o Count Order q a b = absurd (b.1 a.1)
-halls_differ_among m r p o Count (Missing ix jx) q a b = absurd (not_lacking r p o ix (λ j. (a.2 j).1) b.2)
-halls_differ_among m r p o Count (Extra jx) q a b = absurd (not_extra m r p o jx a.2 b.3)
-halls_differ_among m r p o Count Count q a b = refl
-halls_differ_among m r p o Count Yes q a b = absurd (let few = a.3 in let fewer = b.fewer in omega arith)
-halls_differ_among m r p o Yes Range q a b = absurd (b (hall_in_range m r p o q a))
-halls_differ_among m r p o Yes Order q a b = absurd (b.1 (hall_rising r p o a))
-halls_differ_among m r p o Yes (Missing ix jx) q a b = absurd (not_lacking r p o ix (λ j. (a.neighbours j).1) b.2)
-halls_differ_among m r p o Yes (Extra jx) q a b = absurd (not_extra m r p o jx a.neighbours b.3)
-halls_differ_among m r p o Yes Count q a b = absurd (let few = b.3 in let fewer = a.fewer in omega arith)
-halls_differ_among m r p o Yes Yes q a b = refl
-
--- among as many objects as persons
-pub among_of : (rows : List Listing) (persons objects : List ℕ) (v : HallVerdict) → IsHallVerdict rows persons objects v → IsHallVerdictAmong (length rows) rows persons objects v
-among_of r p o Range h = h
-among_of r p o Order h = h
-among_of r p o (Missing i j) h = h
-among_of r p o (Extra j) h = h
-among_of r p o Count h = h
-among_of r p o Yes h = h
-
-pub hall_verdict_of : (rows : List Listing) (persons objects : List ℕ) (v : HallVerdict) → IsHallVerdictAmong (length rows) rows persons objects v → IsHallVerdict rows persons objects v
-hall_verdict_of r p o Range h = h
-hall_verdict_of r p o Order h = h
-hall_verdict_of r p o (Missing i j) h = h
-hall_verdict_of r p o (Extra j) h = h
-hall_verdict_of r p o Count h = h
-hall_verdict_of r p o Yes h = h
-
-pub halls_differ : HallVerdictsDiffer
-halls_differ r p o v w q a b = halls_differ_among (length r) r p o v w q.each (among_of r p o v a) (among_of r p o w b)
+halls_differ m r p o (Missing i j) (Extra jx) q a b = absurd (not_lacking r p o i b.2 a.2)
+halls_differ m r p o (Missing i j) Count q a b = absurd (not_lacking r p o i (λ j. (b.2 j).1) a.2)
+halls_differ m r p o (Missing i j) Yes q a b = absurd (not_lacking r p o i (λ j. (b.neighbours j).1) a.2)
+halls_differ m r p o (Extra j) Range q a b = absurd (b a.0)
+halls_differ m r p o (Extra j) Order q a b = absurd (b.1 a.1)
+halls_differ m r p o (Extra j) (Missing ix jx) q a b = absurd (not_lacking r p o ix a.2 b.2)
+halls_differ m r p o (Extra j) (Extra jx) q a b = ap Extra (firsts_agree _ _ j jx a.3 b.3)
+halls_differ m r p o (Extra j) Count q a b = absurd (not_extra m r p o j b.2 a.3)
+halls_differ m r p o (Extra j) Yes q a b = absurd (not_extra m r p o j b.neighbours a.3)
+halls_differ m r p o Count Range q a b = absurd (b a.0)
+halls_differ m r p o Count Order q a b = absurd (b.1 a.1)
+halls_differ m r p o Count (Missing ix jx) q a b = absurd (not_lacking r p o ix (λ j. (a.2 j).1) b.2)
+halls_differ m r p o Count (Extra jx) q a b = absurd (not_extra m r p o jx a.2 b.3)
+halls_differ m r p o Count Count q a b = refl
+halls_differ m r p o Count Yes q a b = absurd (let few = a.3 in let fewer = b.fewer in omega arith)
+halls_differ m r p o Yes Range q a b = absurd (b (hall_in_range m r p o q a))
+halls_differ m r p o Yes Order q a b = absurd (b.1 (hall_rising r p o a))
+halls_differ m r p o Yes (Missing ix jx) q a b = absurd (not_lacking r p o ix (λ j. (a.neighbours j).1) b.2)
+halls_differ m r p o Yes (Extra jx) q a b = absurd (not_extra m r p o jx a.neighbours b.3)
+halls_differ m r p o Yes Count q a b = absurd (let few = b.3 in let fewer = a.fewer in omega arith)
+halls_differ m r p o Yes Yes q a b = refl

@@ -3,7 +3,6 @@ pub mod Faults
 pub mod Verdicts
 pub mod HallMarks
 pub mod HallVerdicts
-pub mod HallSets
 pub mod Confirmed
 pub mod Listings
 pub mod CostRow

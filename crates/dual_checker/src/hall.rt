@@ -2,7 +2,6 @@
 ghost use Rattle.std.specs.Prelude.{◌≡◌, ℕ, ◌↔◌, List, false, length, replicate, IfOk};
 ghost use Rattle.assign_core.specs.Assignment.{IsAssignment};
 ghost use Rattle.assign_core.specs.Hall.{IsHallSet};
-ghost use Rattle.dual_checker.specs.HallSets.{IsHallVerdictAmong};
 ghost use Rattle.dual_checker.specs.HallVerdicts.{IsHallVerdict};
 
 use super::cost_rows::CostRows;
@@ -22,7 +21,7 @@ fn first_hall_fault(
 ) -> HallVerdict
     requires named { named.old ≡ replicate rows.now.m false }
     requires listed { listed.old ≡ replicate rows.now.m false }
-    ensures { IsHallVerdictAmong rows.now.m rows.now.rows persons.now objects.now result }
+    ensures { IsHallVerdict rows.now.m rows.now.rows persons.now objects.now result }
 {
     if !are_in_range(rows, persons, objects) {
         return HallVerdict::Range;
@@ -56,7 +55,7 @@ pub fn check_hall_among(
     objects: &[Object],
 ) -> Result<HallVerdict, AllocError>
     ensures verdict { IfOk result (λ v.
-        IsHallVerdictAmong rows.now.m rows.now.rows persons.now objects.now v) }
+        IsHallVerdict rows.now.m rows.now.rows persons.now objects.now v) }
     ensures yes { IfOk result (λ v.
         (v ≡ HallVerdict.Yes) ↔ IsHallSet rows.now.rows persons.now objects.now) }
     ensures none { IfOk result (λ v.
@@ -93,7 +92,8 @@ pub fn check_hall(
     persons: &[Person],
     objects: &[Object],
 ) -> Result<HallVerdict, AllocError>
-    ensures verdict { IfOk result (λ v. IsHallVerdict problem.now persons.now objects.now v) }
+    ensures verdict { IfOk result (λ v.
+        IsHallVerdict (length problem.now) problem.now persons.now objects.now v) }
     ensures yes { IfOk result (λ v.
         (v ≡ HallVerdict.Yes) ↔ IsHallSet problem.now persons.now objects.now) }
     ensures none { IfOk result (λ v.

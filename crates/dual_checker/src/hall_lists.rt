@@ -2,7 +2,7 @@
 ghost use Rattle.std.specs.Prelude.{◌↔◌, length, map, All, IsTrue};
 ghost use Rattle.std.specs.List.Sorted.{IsStrictlyIncreasing};
 ghost use Rattle.assign_core.specs.Numbered.{IsNumber};
-ghost use Rattle.dual_checker.specs.HallSets.{AreInRangeAmong};
+ghost use Rattle.dual_checker.specs.HallVerdicts.{AreInRange};
 ghost use Rattle.dual_checker.specs.HallVerdicts.{AreRising};
 
 use super::cost_rows::CostRows;
@@ -32,7 +32,7 @@ fn rise<T: Numbered>(all: &[T]) -> bool
 
 // Whether all numbers are those of persons and objects of these rows.
 pub fn are_in_range(rows: &CostRows<'_>, persons: &[Person], objects: &[Object]) -> bool
-    ensures { IsTrue result ↔ AreInRangeAmong rows.now.m rows.now.rows persons.now objects.now }
+    ensures { IsTrue result ↔ AreInRange rows.now.m rows.now.rows persons.now objects.now }
 {
     are_within(rows.persons(), persons) && are_within(rows.objects(), objects)
 }

@@ -8,8 +8,7 @@ use Rattle.assign_core.specs.Hall.{IsHallSet}
 use Rattle.assign_core.proofs.Listed.{object_within}
 use Rattle.assign_core.proofs.NumberedLemmas.{All-numbered}
 use Rattle.dual_checker.specs.Faults.{IsFirst}
-use Rattle.dual_checker.specs.HallSets.{AreInRangeAmong}
-use Rattle.dual_checker.specs.HallVerdicts.{AreNeighbours, AreRising, HasNeighbours, ListsUnnamed}
+use Rattle.dual_checker.specs.HallVerdicts.{AreInRange, AreNeighbours, AreRising, HasNeighbours, ListsUnnamed}
 use Rattle.dual_checker.proofs.Firsts.{firsts_agree}
 use Rattle.cost_lists.specs.ListedCosts.{ListedCosts, AreInLimits}
 use Rattle.exact_checker.specs.declared.hall_verdict.HallVerdict.{HallVerdict}
@@ -19,7 +18,7 @@ use Rattle.exact_checker.proofs.Ranks.{Passes, same_rank}
 
 -- the facts that the checker tests, in their order
 abbrev Fact : ListedCosts → List ℕ → List ℕ → ℕ → Type 0
-Fact l persons objects zero = AreInRangeAmong l.m l.rows persons objects
+Fact l persons objects zero = AreInRange l.m l.rows persons objects
 Fact l persons objects (suc zero) = AreRising persons objects
 Fact l persons objects (suc (suc zero)) = HasNeighbours l.rows persons (Contains objects)
 Fact l persons objects (suc (suc (suc zero))) = AreNeighbours l.rows persons objects
@@ -37,7 +36,7 @@ rank Yes = 5
 
 module _ (l : ListedCosts) (persons objects : List ℕ) (limits : AreInLimits l) where
   -- the objects of a Hall set are listed, so they are in range
-  hall_in_range : IsHallSet l.rows persons objects → AreInRangeAmong l.m l.rows persons objects
+  hall_in_range : IsHallSet l.rows persons objects → AreInRange l.m l.rows persons objects
   hall_in_range h =
       let objects_in : All (IsNumber l.m) objects = λ k d lt.
       let near = (h.neighbours (get_or objects k d)).0 (Contains-get_or objects k d lt) in

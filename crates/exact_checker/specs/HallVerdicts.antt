@@ -2,22 +2,21 @@
 use Rattle.std.specs.Prelude.{◌≡◌, ℕ, ◌≤◌, List, length, Contains}
 use Rattle.assign_core.specs.Hall.{IsHallSet}
 use Rattle.dual_checker.specs.Faults.{IsFirst}
-use Rattle.dual_checker.specs.HallSets.{AreInRangeAmong}
-use Rattle.dual_checker.specs.HallVerdicts.{AreNeighbours, AreRising, HasNeighbours, IsExtra, Lacks, ListsUnnamed}
+use Rattle.dual_checker.specs.HallVerdicts.{AreInRange, AreNeighbours, AreRising, HasNeighbours, IsExtra, Lacks, ListsUnnamed}
 use Rattle.cost_lists.specs.ListedCosts.{ListedCosts, AreInLimits}
 use Rattle.exact_checker.specs.declared.hall_verdict.HallVerdict.{HallVerdict}
 use Rattle.exact_checker.specs.declared.hall_verdict.HallVerdict.TheVariants.{Range, Order, Missing, Extra, Count, Yes}
 
 -- both lists rise, and their numbers are those of persons and of objects
 pub record AreRisingNumbers (l : ListedCosts) (persons objects : List ℕ) : Type 0 where
-  pub in_range : AreInRangeAmong l.m l.rows persons objects
+  pub in_range : AreInRange l.m l.rows persons objects
   pub rising : AreRising persons objects
 
 -- the first fault in the order of the variants, by the lowest number that has it, or Yes if there is
 -- none
 abbrev pub IsHallVerdict : ListedCosts → List ℕ → List ℕ → HallVerdict → Type 0
-IsHallVerdict l persons objects Range = ¬ AreInRangeAmong l.m l.rows persons objects
-IsHallVerdict l persons objects Order = AreInRangeAmong l.m l.rows persons objects × ¬ AreRising persons objects
+IsHallVerdict l persons objects Range = ¬ AreInRange l.m l.rows persons objects
+IsHallVerdict l persons objects Order = AreInRange l.m l.rows persons objects × ¬ AreRising persons objects
 IsHallVerdict l persons objects (Missing i j) =
     AreRisingNumbers l persons objects
     × IsFirst (Lacks l.rows persons (Contains objects)) (length l.rows) i × IsFirst (ListsUnnamed l.rows (Contains objects) i) l.m j

@@ -2,8 +2,7 @@
 ghost use Rattle.std.specs.Prelude.{◌↔◌, All, IsTrue};
 ghost use Rattle.std.specs.List.Sorted.{IsStrictlyIncreasing};
 ghost use Rattle.assign_core.specs.Numbered.{IsNumber};
-ghost use Rattle.dual_checker.specs.HallSets.{AreInRangeAmong};
-ghost use Rattle.dual_checker.specs.HallVerdicts.{AreRising};
+ghost use Rattle.dual_checker.specs.HallVerdicts.{AreInRange, AreRising};
 
 use cost_lists::{CostLists, Object, Person};
 
@@ -28,7 +27,7 @@ fn rise(numbers: &[u32]) -> bool
 
 // Whether all numbers are those of persons and objects.
 pub fn are_in_range(lists: &CostLists<'_>, persons: &[Person], objects: &[Object]) -> bool
-    ensures { IsTrue result ↔ AreInRangeAmong lists.now.m lists.now.rows persons.now objects.now }
+    ensures { IsTrue result ↔ AreInRange lists.now.m lists.now.rows persons.now objects.now }
 {
     are_within(lists.persons(), persons) && are_within(lists.objects(), objects)
 }

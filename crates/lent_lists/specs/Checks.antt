@@ -11,7 +11,7 @@ use Rattle.lent_lists.specs.declared.info.Info.{Info}
 use Rattle.lent_lists.specs.Given.{GivenLists}
 use Rattle.lent_lists.specs.Faults.{HasFault, IsOfGiven}
 use Rattle.lent_lists.specs.Ends.{fault_code, fault_place}
-use Rattle.dual_checker.specs.HallSets.{IsHallVerdictAmong}
+use Rattle.dual_checker.specs.HallVerdicts.{IsHallVerdict}
 
 -- the code of a verdict on an assignment and prices
 abbrev pub verdict_code : VerdictAmong → ℤ
@@ -70,4 +70,4 @@ pub record IsHallJudged (g : GivenLists) (persons objects : List ℕ) (before af
   pub verdict : HallVerdict
   pub is : code ≡ hall_code verdict
   pub names : after ≡ with_hall_verdict verdict before
-  pub holds : IsOfGiven g (λ sense rows. IsHallVerdictAmong g.m rows persons objects verdict)
+  pub holds : IsOfGiven g (λ sense rows. IsHallVerdict g.m rows persons objects verdict)

@@ -1,6 +1,6 @@
 // Answers of any program, checked against the given problem.
 ghost use Rattle.std.specs.Prelude.{◌≡◌, IfErr, IfOk, map};
-ghost use Rattle.dual_checker.specs.HallSets.{IsHallVerdictAmong};
+ghost use Rattle.dual_checker.specs.HallVerdicts.{IsHallVerdict};
 ghost use Rattle.dual_checker.specs.Verdicts.{IsVerdictAmong};
 ghost use Rattle.lent_lists.specs.Checks.{hall_code, verdict_code, with_hall_verdict, with_verdict};
 ghost use Rattle.lent_lists.specs.Faults.{HasFault, IsOfGiven};
@@ -58,7 +58,7 @@ fn hall_verdict_of(
     persons: &[u16],
     objects: &[u16],
 ) -> Result<HallVerdict, AllocError>
-    ensures { IfOk result (IsHallVerdictAmong rows.now.m rows.now.rows persons.now objects.now) }
+    ensures { IfOk result (IsHallVerdict rows.now.m rows.now.rows persons.now objects.now) }
 {
     let persons: Vec<Person> = numbered(alloc, persons)?;
     let objects: Vec<Object> = numbered(alloc, objects)?;
@@ -73,7 +73,7 @@ pub fn hall_verdict_on(
     objects: &[u16],
 ) -> Result<HallVerdict, Fault>
     ensures verdict { IfOk result (λ v. IsOfGiven given.now
-        (λ sense rows. IsHallVerdictAmong given.now.m rows persons.now objects.now v)) }
+        (λ sense rows. IsHallVerdict given.now.m rows persons.now objects.now v)) }
     ensures fault { IfErr result (HasFault given.now) }
 {
     let shape = judge(given)?;

@@ -1,5 +1,5 @@
 // The version of the library.
-ghost use Rattle.std.specs.Prelude.{◌≡◌, ◌++◌, ◌∷◌, ◌<◌, ◌≤◌, codes, drop, length};
+ghost use Rattle.std.specs.Prelude.{◌≡◌, ◌++◌, ◌∷◌, ◌<◌, ◌≤◌, drop, length, suc};
 
 use release_version::VERSION;
 
@@ -7,14 +7,17 @@ use release_version::VERSION;
 /// if they fit; otherwise the room stays as it was.
 #[unsafe(no_mangle)]
 pub extern "C" fn nushbaret_version(room: &mut [u8]) -> usize
-    ensures long { result ≡ 5 }
-    ensures text { 5 < length room.old → room.new ≡ codes "3.0.0" ++ 0 ∷ drop 6 room.old }
-    ensures short { length room.old ≤ 5 → room.new ≡ room.old }
+    ensures long { result ≡ length VERSION.now }
+    ensures text { let long = length VERSION.now in
+        long < length room.old → room.new ≡ VERSION.now ++ 0 ∷ drop (suc long) room.old }
+    ensures short { length room.old ≤ length VERSION.now → room.new ≡ room.old }
 {
-    if room.len() > 5 {
-        let (text, _) = room.split_at_mut(5);
-        text.copy_from_slice(VERSION.as_bytes());
-        room[5] = 0;
+    let text = VERSION.as_bytes();
+    let length = text.len();
+    if room.len() > length {
+        let (start, _) = room.split_at_mut(length);
+        start.copy_from_slice(text);
+        room[length] = 0;
     }
-    5
+    length
 }

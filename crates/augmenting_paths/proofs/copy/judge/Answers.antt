@@ -1,24 +1,22 @@
 use Rattle.std.proofs.Common.{arith}
-use Rattle.std.specs.Int.Signed.{≤ℤ_refl}
-use Rattle.augmenting_paths.proofs.Spans.{piece, none_left, below}
+use Rattle.augmenting_paths.proofs.Spans.{none_in_none, nothing_grows, piece}
 use Rattle.augmenting_paths.proofs.copy.judge.Goals as goal
 
 pub loop-piece-init : goal.loop-piece-init
 loop-piece-init c = record {
-  covers = λ x y p q h. h;
+  goes_on = λ s h. h;
   long = omega arith;
 }
 
 pub loop-piece-preserved : goal.loop-piece-preserved
 loop-piece-preserved c =
-    let s = c.in_ok-span.ensures in
+    let grown = c.in_ok-span.ensures in
     let i = c.loop-piece.invariant in
     let b = c.split_at.ensures.back_len in
     let m = c.min.ensures in
     let w = i.long in
     record {
-      covers = λ x y p q rest. i.covers x y (below _ _ _ p s.least) (below _ _ _ s.greatest q)
-          (piece _ _ x y _ _ _ _ c.split_at.ensures.front c.split_at.ensures.back p q s.between rest);
+      goes_on = λ s rest. i.goes_on s (piece _ _ _ _ _ _ s c.split_at.ensures.front c.split_at.ensures.back grown rest);
       long = omega arith;
     }
 
@@ -26,4 +24,4 @@ pub returns : goal.returns
 returns c =
     let t = c.loop-piece-test.false in
     let w = c.loop-piece.invariant.long in
-    c.loop-piece.invariant.covers _ _ (≤ℤ_refl _) (≤ℤ_refl _) (none_left _ _ _ (omega arith))
+    c.loop-piece.invariant.goes_on _ (nothing_grows _ _ (λ x h. none_in_none _ x (omega arith) h))

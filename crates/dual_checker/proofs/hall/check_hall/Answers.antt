@@ -1,12 +1,9 @@
 use Rattle.std.proofs.Common.{◌≡◌, ◌↔◌, ℕ, List, IfOk}
-use Rattle.std.proofs.lemmas.Result.{IfOk-weaker}
 use Rattle.assign_core.specs.Assignment.{IsAssignment}
 use Rattle.assign_core.specs.Hall.{IsHallSet}
 use Rattle.dual_checker.specs.declared.hall_verdict.HallVerdict.TheVariants.{Yes}
-use Rattle.dual_checker.specs.HallSets.{IsHallVerdictAmong}
 use Rattle.dual_checker.specs.HallVerdicts.{IsHallVerdict}
 use Rattle.dual_checker.proofs.Fronts.{among_whole, of_whole}
-use Rattle.dual_checker.proofs.HallDifferences.{hall_verdict_of}
 use Rattle.dual_checker.proofs.hall.check_hall.Goals as goal
 
 pub first-requires : goal.first-requires
@@ -14,11 +11,8 @@ first-requires c = among_whole c.args.problem.now c.n-n.result c.n-n.result c.n-
 
 pub returns-clause-verdict : goal.returns-clause-verdict
 returns-clause-verdict c =
-    let rows = c.args.problem.now in
-    let persons = c.args.persons.now in
-    let objects = c.args.objects.now in
-    IfOk-weaker c.check_hall_among.result (IsHallVerdictAmong _ rows persons objects) (IsHallVerdict rows persons objects) (hall_verdict_of rows persons objects)
-    (of_whole (λ m r. IfOk c.check_hall_among.result (IsHallVerdictAmong m r persons objects)) rows c.n-n.result c.first.result c.n-n.ensures.count c.first.ensures c.check_hall_among.ensures.verdict)
+    of_whole (λ m r. IfOk c.check_hall_among.result (IsHallVerdict m r c.args.persons.now c.args.objects.now))
+    c.args.problem.now c.n-n.result c.first.result c.n-n.ensures.count c.first.ensures c.check_hall_among.ensures.verdict
 
 pub returns-clause-yes : goal.returns-clause-yes
 returns-clause-yes c =

@@ -1,20 +1,20 @@
 use Rattle.std.proofs.Common.{subst}
 use Rattle.assign_core.proofs.HallSets.{no_assignment}
 use Rattle.dual_checker.specs.declared.hall_verdict.HallVerdict.TheVariants.{Yes}
-use Rattle.dual_checker.specs.HallSets.{IsHallVerdictAmong}
-use Rattle.dual_checker.proofs.HallDifferences.{halls_differ_among}
+use Rattle.dual_checker.specs.HallVerdicts.{IsHallVerdict}
+use Rattle.dual_checker.proofs.HallDifferences.{halls_differ}
 use Rattle.dual_checker.proofs.hall.check_hall_among.Goals as goal
 
 pub returns-clause-yes : goal.returns-clause-yes
 returns-clause-yes c =
     let m = c.args.rows.now.m in
     let rows = c.args.rows.now.rows in (
-      (λ e. subst (IsHallVerdictAmong m rows c.args.persons.now c.args.objects.now) e c.first_hall_fault.ensures),
-      (λ h. halls_differ_among m rows c.args.persons.now c.args.objects.now c.first_hall_fault.result Yes c.objects-m.ensures.rule.each c.first_hall_fault.ensures h),
+      (λ e. subst (IsHallVerdict m rows c.args.persons.now c.args.objects.now) e c.first_hall_fault.ensures),
+      (λ h. halls_differ m rows c.args.persons.now c.args.objects.now c.first_hall_fault.result Yes c.objects-m.ensures.rule.each c.first_hall_fault.ensures h),
     )
 
 pub returns-clause-none : goal.returns-clause-none
 returns-clause-none c = λ e xs a.
     let m = c.args.rows.now.m in
     let rows = c.args.rows.now.rows in
-    no_assignment rows c.args.persons.now c.args.objects.now xs (subst (IsHallVerdictAmong m rows c.args.persons.now c.args.objects.now) e c.first_hall_fault.ensures) a
+    no_assignment rows c.args.persons.now c.args.objects.now xs (subst (IsHallVerdict m rows c.args.persons.now c.args.objects.now) e c.first_hall_fault.ensures) a

@@ -1,7 +1,7 @@
 use Rattle.std.proofs.Common.{subst}
 use Rattle.assign_core.proofs.HallSets.{no_assignment}
 use Rattle.exact_checker.specs.declared.hall_verdict.HallVerdict.TheVariants.{Range, Yes}
-use Rattle.dual_checker.specs.HallSets.{AreInRangeAmong}
+use Rattle.dual_checker.specs.HallVerdicts.{AreInRange}
 use Rattle.exact_checker.specs.HallVerdicts.{IsHallVerdict}
 use Rattle.exact_checker.proofs.HallDifferences.{hall_verdicts_differ}
 use Rattle.exact_checker.proofs.hall.check_hall.Goals as goal
@@ -11,7 +11,7 @@ returns-then-not-are_in_range-clause-yes c =
     let l = c.args.lists.now in
     let persons = c.args.persons.now in
     let objects = c.args.objects.now in
-    let out : ¬ AreInRangeAmong l.m l.rows persons objects = λ h. let yes = c.are_in_range.ensures.1 h in let not = c.if-not-are_in_range.true in cc in
+    let out : ¬ AreInRange l.m l.rows persons objects = λ h. let yes = c.are_in_range.ensures.1 h in let not = c.if-not-are_in_range.true in cc in
     ((λ e. absurd (cc)), (λ h. hall_verdicts_differ l persons objects Range Yes c.persons.ensures.rule out h))
 
 pub returns-clause-yes : goal.returns-clause-yes
