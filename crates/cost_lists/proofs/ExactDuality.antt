@@ -1,0 +1,137 @@
+-- Weak duality with exact prices: no assignment is better than one whose persons have choices, if
+-- the prices of unowned objects are 0.
+use Rattle.std.proofs.Common.{◌≡◌, ℕ, ℤ, pos, ◌+ℤ◌, ◌-ℤ◌, ◌≤ℤ◌, ◌<◌, zero, suc, List, [], ◌∷◌, Option, None, Some, IsSome, unwrap_or, length, nat_eq, cond, true, false, ◌⊎◌, inl, inr, refl, arith, rules, ap, sym, ◌∙◌}
+use Rattle.std.specs.List.{All, Contains}
+use Rattle.std.proofs.lemmas.Int.{ints}
+use Rattle.std.proofs.lemmas.Bool.{cases_lt, cond-true, cond-false}
+use Rattle.std.proofs.lemmas.Bool.Decides.{eqb_tells}
+use Rattle.std.proofs.lemmas.List.{get_or_past}
+use Rattle.assign_core.specs.declared.sense.Sense.{Sense}
+use Rattle.assign_core.specs.declared.sense.Sense.TheVariants.{Min, Max}
+use Rattle.assign_core.specs.Numbered.{IsNumber}
+use Rattle.assign_core.specs.Rows.{Listing, listed_in, listed_or_zero}
+use Rattle.assign_core.specs.Assignment.{AreListed, IsBest, IsNoWorse, total}
+use Rattle.assign_core.specs.Prices.{price_of}
+use Rattle.assign_core.proofs.Distinct.{at_most_all, sum_z, up_to}
+use Rattle.assign_core.proofs.Listed.{objects_within}
+use Rattle.assign_core.proofs.Members.{first_or_later}
+use Rattle.cost_lists.specs.ListedCosts.{ListedCosts, AreInLimits}
+use Rattle.cost_lists.specs.Exact.{AreChoices, IsOptimum, IsPriceInLimits}
+
+-- f with 0 at x
+abbrev cleared : (ℕ → ℤ) → ℕ → ℕ → ℤ
+cleared f x j = cond (nat_eq j x) (pos 0) (f j)
+
+cleared_here : (f : ℕ → ℤ) (x j : ℕ) → nat_eq j x ≡ true → cleared f x j ≡ pos 0
+cleared_here f x j e = cond-true (nat_eq j x) (pos 0) (f j) e
+
+cleared_other : (f : ℕ → ℤ) (x j : ℕ) → nat_eq j x ≡ false → cleared f x j ≡ f j
+cleared_other f x j e = cond-false (nat_eq j x) (pos 0) (f j) e
+
+cleared_below : (f : ℕ → ℤ) (x m : ℕ) → m < x → up_to f m ≡ up_to (cleared f x) m
+cleared_below f x zero lt = refl
+cleared_below f x (suc m) lt = elim (eqb_tells (suc m) x) [
+  | inl e ↦ let same = e.1 in absurd (omega arith)
+  | inr e ↦ let i = cleared_below f x m (omega arith) in let h = cleared_other f x (suc m) e.0 in omega (arith, ints)
+]
+
+cleared_one : (f : ℕ → ℤ) (x m : ℕ) → pos 0 ≤ℤ f x → up_to f m ≤ℤ (f x +ℤ up_to (cleared f x) m)
+cleared_one f x zero p = omega (arith, ints)
+cleared_one f x (suc m) p = elim (eqb_tells (suc m) x) [
+  | inl e ↦
+      let same = e.1 in
+      let b = cleared_below f x m (omega arith) in
+      let h = cleared_here f x (suc m) e.0 in
+      let there = ap f same in
+      omega (arith, ints)
+  | inr e ↦ let i = cleared_one f x m p in let h = cleared_other f x (suc m) e.0 in omega (arith, ints)
+]
+
+cleared_least : (f : ℕ → ℤ) (x j : ℕ) → pos 0 ≤ℤ f j → (pos 0 ≤ℤ cleared f x j) × (cleared f x j ≤ℤ f j)
+cleared_least f x j p = elim (eqb_tells j x) [
+  | inl e ↦ let h = cleared_here f x j e.0 in (omega (arith, ints), omega (arith, ints))
+  | inr e ↦ let h = cleared_other f x j e.0 in (omega (arith, ints), omega (arith, ints))
+]
+
+cleared_sum : (f : ℕ → ℤ) (x : ℕ) (xs : List ℕ) → ((j : ℕ) → pos 0 ≤ℤ f j) → sum_z (cleared f x) xs ≤ℤ sum_z f xs
+cleared_sum f x [] p = omega (arith, ints)
+cleared_sum f x (y ∷ ys) p = let i = cleared_sum f x ys p in let h = (cleared_least f x y (p y)).1 in omega (arith, ints)
+
+-- if no value is below 0, and it is 0 at each number outside a list, the sum over all numbers is at
+-- most that over the list
+all_at_most : (f : ℕ → ℤ) (m : ℕ) (xs : List ℕ) → ((j : ℕ) → pos 0 ≤ℤ f j) → ((j : ℕ) → IsNumber m j → Contains xs j ⊎ (f j ≡ pos 0)) → up_to f m ≤ℤ sum_z f xs
+all_at_most f m [] p h = none m (λ j n. elim (h j n) [ inl c ↦ absurd (omega (arith, c.1)) | inr e ↦ e ]) where
+  none : (k : ℕ) → ((j : ℕ) → IsNumber k j → f j ≡ pos 0) → up_to f k ≤ℤ pos 0
+  none zero e = omega (arith, ints)
+  none (suc k) e =
+      let i = none k (λ j n. e j (record { first = n.first; last = let a = n.last in omega arith })) in
+      let top = e (suc k) (record { first = omega arith; last = omega arith }) in
+      omega (arith, ints)
+all_at_most f m (x ∷ xs) p h =
+    let i = all_at_most (cleared f x) m xs (λ j. (cleared_least f x j (p j)).0)
+    (λ j n. elim (eqb_tells j x) [
+      | inl e ↦ inr (cleared_here f x j e.0)
+      | inr e ↦ elim (h j n) [
+        | inl c ↦ elim (first_or_later x xs j c) [ inl s ↦ absurd (e.1 (sym s)) | inr l ↦ inl l ]
+        | inr z ↦ inr (cleared_other f x j e.0 ∙ z)
+      ]
+    ]) in
+    let one = cleared_one f x m (p x) in
+    let s = cleared_sum f x xs p in
+    omega (arith, ints)
+
+-- what stands where something stands
+pub some_cost : (o : Option ℤ) → IsSome o → o ≡ Some (unwrap_or o (pos 0))
+some_cost None s = absurd (search rules)
+some_cost (Some c) s = refl
+
+-- the sums over the rows
+weak_min : (prices : List ℤ) (rows : List Listing) (xs ys : List ℕ) → AreChoices Min prices rows xs → AreListed rows ys →
+    (total rows xs +ℤ sum_z (price_of prices) xs) ≤ℤ (total rows ys +ℤ sum_z (price_of prices) ys)
+weak_min prices [] [] [] k g = omega (arith, ints)
+weak_min prices [] [] (y ∷ ys) k g = absurd g
+weak_min prices [] (x ∷ xs) ys k g = absurd k
+weak_min prices (row ∷ rows) [] ys k g = absurd k
+weak_min prices (row ∷ rows) (x ∷ xs) [] k g = absurd g
+weak_min prices (row ∷ rows) (x ∷ xs) (y ∷ ys) k g =
+    let h : (listed_or_zero row x +ℤ price_of prices x) ≤ℤ (listed_or_zero row y +ℤ price_of prices y) =
+    k.0 y (listed_or_zero row y) (some_cost (listed_in row y) g.0) in
+    let i = weak_min prices rows xs ys k.1 g.1 in
+    omega (arith, ints)
+
+weak_max : (prices : List ℤ) (rows : List Listing) (xs ys : List ℕ) → AreChoices Max prices rows xs → AreListed rows ys →
+    (total rows ys +ℤ sum_z (price_of prices) xs) ≤ℤ (total rows xs +ℤ sum_z (price_of prices) ys)
+weak_max prices [] [] [] k g = omega (arith, ints)
+weak_max prices [] [] (y ∷ ys) k g = absurd g
+weak_max prices [] (x ∷ xs) ys k g = absurd k
+weak_max prices (row ∷ rows) [] ys k g = absurd k
+weak_max prices (row ∷ rows) (x ∷ xs) [] k g = absurd g
+weak_max prices (row ∷ rows) (x ∷ xs) (y ∷ ys) k g =
+    let h : (listed_or_zero row y -ℤ price_of prices y) ≤ℤ (listed_or_zero row x -ℤ price_of prices x) =
+    k.0 y (listed_or_zero row y) (some_cost (listed_in row y) g.0) in
+    let i = weak_max prices rows xs ys k.1 g.1 in
+    omega (arith, ints)
+
+-- no price is below 0
+no_price_below : (prices : List ℤ) (j : ℕ) → All IsPriceInLimits prices → pos 0 ≤ℤ price_of prices j
+no_price_below prices zero h = omega (arith, ints)
+no_price_below prices (suc k) h = elim (cases_lt k (length prices)) [
+  | inl lt ↦ let p = h k (pos 0) lt in p.least
+  | inr past ↦ let e = get_or_past prices k (pos 0) past in omega (arith, ints)
+]
+
+ordered : (sense : Sense) (prices : List ℤ) (rows : List Listing) (xs ys : List ℕ) → AreChoices sense prices rows xs → AreListed rows ys →
+    sum_z (price_of prices) ys ≤ℤ sum_z (price_of prices) xs → IsNoWorse sense (total rows xs) (total rows ys)
+ordered Min prices rows xs ys k g s = let w = weak_min prices rows xs ys k g in omega (arith, ints)
+ordered Max prices rows xs ys k g s = let w = weak_max prices rows xs ys k g in omega (arith, ints)
+
+pub best_exact : (l : ListedCosts) (xs : List ℕ) (prices : List ℤ) → AreInLimits l → IsOptimum l xs prices → IsBest l.sense l.rows xs
+best_exact l xs prices limits o = record {
+  assigned = o.assigned;
+  best = λ ys g.
+      let p = λ (j : ℕ). no_price_below prices j o.in_range in
+      let inside = objects_within l.m l.rows ys limits.within g.listed in
+      let most = at_most_all (price_of prices) l.m ys g.apart inside (λ j n. p j) in
+      let least = all_at_most (price_of prices) l.m xs p o.free in
+      ordered l.sense prices l.rows xs ys o.choices g.listed (omega (arith, ints));
+}

@@ -1,0 +1,5 @@
+pub mod ListedCosts
+pub mod Given
+pub mod Source
+pub mod Exact
+pub mod Own

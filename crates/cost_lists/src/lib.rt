@@ -1,0 +1,16 @@
+//! Costs where a caller has them, as rows or as listed pairs: the problems of up to 4,194,304
+//! persons and as many objects, and what proves an answer to one.
+#![tactic(auto)]
+
+mod law;
+mod lists;
+mod numbers;
+mod own;
+mod source;
+mod total;
+
+pub use law::{best_given_counts, costs_are_listed, exact_means_best, wide_limits};
+pub use lists::CostLists;
+pub use numbers::{GREATEST_NUMBER, GREATEST_PRICE, Object, Person, Price, UNLISTED};
+pub use own::{part, to_minimise};
+pub use source::{Pairs, Source};

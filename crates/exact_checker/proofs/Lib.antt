@@ -1,0 +1,12 @@
+mod Earliest
+mod PairSums
+mod RowSums
+mod Better
+mod Unowned
+mod Differences
+mod HallDifferences
+mod HallPairs
+mod Ranks
+mod OwnMarks
+mod Rising
+mod Marks

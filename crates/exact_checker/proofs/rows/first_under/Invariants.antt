@@ -1,0 +1,7 @@
+use Rattle.std.proofs.Common.{ℕ, ◌<◌, ◌≤ℤ◌}
+use Rattle.exact_checker.specs.inside.Sums.{sum_at}
+use Rattle.exact_checker.proofs.rows.first_under.Given as goal
+
+-- no passed sum is below the value
+abbrev pub invariant-loop-j : goal.invariant-loop-j
+invariant-loop-j l = (k : ℕ) → k < l.j → l.value ≤ℤ sum_at l.sense l.costs l.prices k

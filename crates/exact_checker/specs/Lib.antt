@@ -1,0 +1,5 @@
+pub mod Faults
+pub mod Verdicts
+pub mod HallVerdicts
+pub mod Confirmed
+pub mod inside

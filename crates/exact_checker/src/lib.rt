@@ -1,0 +1,24 @@
+//! Checks assignments with exact prices, and Hall sets, wherever they come from, over costs of any
+//! size.
+#![tactic(auto)]
+
+mod checker;
+mod confirm;
+mod counts;
+mod hall;
+mod hall_full;
+mod hall_lists;
+mod hall_marks;
+mod hall_verdict;
+mod pairs;
+mod priced;
+mod rows;
+mod unlisted;
+mod values;
+mod verdict;
+
+pub use checker::check;
+pub use confirm::{HallSet, Optimum, confirm_best, confirm_hall};
+pub use hall::check_hall;
+pub use hall_verdict::{HallVerdict, one_hall_verdict};
+pub use verdict::{Verdict, one_verdict};

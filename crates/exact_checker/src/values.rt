@@ -1,0 +1,45 @@
+// Sums of costs and prices.
+ghost use Rattle.std.specs.Prelude.{◌≡◌, ◌<◌, ◌+ℤ◌, ℕ, pos, length, slice_index, slice_index_or, All};
+ghost use Rattle.assign_core.specs.Numbered.{IsNumber};
+ghost use Rattle.assign_core.specs.Rows.{IsCost};
+ghost use Rattle.assign_core.specs.Prices.{price_of};
+ghost use Rattle.cost_lists.specs.Exact.{IsPriceInLimits};
+ghost use Rattle.cost_lists.specs.Own.{minimised};
+
+use assign_core::{Cost, Sense};
+use cost_lists::{Object, Price};
+
+// The sum of a cost, turned so that less is better, and a price.
+pub fn sum_of(sense: Sense, cost: Cost, price: Price) -> Cost
+    requires cost { IsCost cost }
+    requires price { IsPriceInLimits price }
+    ensures { result ≡ (minimised sense cost +ℤ price) }
+{
+    match sense {
+        Sense::Min => price + cost,
+        Sense::Max => price - cost,
+    }
+}
+
+// The sum of a cost and a price.
+fn plus(cost: Cost, price: Price) -> Cost
+    requires cost { IsCost cost }
+    requires price { IsPriceInLimits price }
+    ensures { result ≡ (cost +ℤ price) }
+{
+    cost + price
+}
+
+// Adds the price of each person's own object to its own cost.
+pub fn add_prices(own: &mut [Cost], objects: &[Object], prices: &[Price])
+    requires long { length objects.now ≡ length own.old }
+    requires costs { All IsCost own.old }
+    requires within { All (IsNumber (length prices.now)) objects.now }
+    requires in_range { All IsPriceInLimits prices.now }
+    ensures { (i : ℕ) → i < length own.new → slice_index_or own.new i (pos 0)
+        ≡ (slice_index_or own.old i (pos 0) +ℤ price_of prices.now (slice_index objects.now i)) }
+{
+    for i in 0..own.len() {
+        own[i] = plus(own[i], prices[objects[i] as usize - 1]);
+    }
+}
