@@ -2,7 +2,7 @@
 // Jonker and Volgenant (1987).
 use super::looks::Looks;
 use super::market::Market;
-use super::place::{NOBODY, at, place_at};
+use super::place::{NOBODY, at, is_unowned, place_at};
 use super::problem::{Pair, Scaled, SparseProblem};
 use super::row::{FAR, Two, two_best};
 
@@ -48,8 +48,7 @@ fn bid(market: &mut Market, two: Two, person: u32) -> Option<u32> {
     let owner = at(market.owners.as_slice(), two.object);
     let gap = two.gap().unwrap_or(0);
     if gap == 0 && owner != NOBODY {
-        let is_other_unowned = at(market.owners.as_slice(), two.other) == NOBODY;
-        if two.second < FAR && is_other_unowned {
+        if is_unowned(market.owners.as_slice(), two.other) {
             market.give(two.other, person);
         }
         return None;
@@ -80,18 +79,18 @@ fn bid_on(
         looks.add(row.len());
         let two = two_best(row, market.prices.as_slice(), scaled.shift);
         match bid(market, two, person) {
-            Some(next) if next != NOBODY => person = next,
+            Some(next) if next != NOBODY && !looks.is_spent() => person = next,
             _ => return made + 1,
         }
     }
     most
 }
 
-/// Lets each person without an object bid, and those who lose their objects.
+/// Lets each person without an object bid, and those who lose their objects, while looks are left.
 pub fn bid_all(scaled: Scaled<'_>, market: &mut Market, most: u64, looks: &mut Looks) {
     let mut left = most;
     for person in 0..place_at(scaled.problem.persons()) {
-        if at(market.objects.as_slice(), person) == NOBODY {
+        if at(market.objects.as_slice(), person) == NOBODY && !looks.is_spent() {
             let made = bid_on(scaled, market, person, left, looks);
             left = left.saturating_sub(made);
         }

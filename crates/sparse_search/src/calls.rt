@@ -9,6 +9,7 @@ use super::stages::{Run, RunEnd, first_without_pairs};
 use std::alloc::{AllocError, Global};
 
 // What a call reads and writes.
+#[derive(Drop)]
 struct Told<'b> {
     prices: &'b mut [i64],
     objects: &'b mut [u32],

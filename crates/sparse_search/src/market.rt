@@ -1,5 +1,5 @@
 // Prices and owners during a search.
-use super::place::{NOBODY, at, place_at, put};
+use super::place::{NOBODY, at, is_unowned, place_at, put};
 use std::alloc::{AllocError, Global};
 
 /// The price and the owner of each object, and the object of each person, by places from 0.
@@ -49,8 +49,7 @@ impl Market {
     pub fn take_plan(&mut self, objects: &[u32]) {
         self.release_all();
         for (person, object) in objects.iter().enumerate() {
-            let is_there = (*object as usize) < self.owners.len();
-            if is_there && at(self.owners.as_slice(), *object) == NOBODY {
+            if is_unowned(self.owners.as_slice(), *object) {
                 self.give(*object, place_at(person));
             }
         }

@@ -1,7 +1,7 @@
 // Matchings of as many persons as possible, costs aside (Hopcroft and Karp 1973), and Hall sets.
 use super::looks::Looks;
 use super::outcome::HallSet;
-use super::place::{NOBODY, at, place_at, put};
+use super::place::{NOBODY, at, is_unowned, place_at, put};
 use super::problem::{Pair, SparseProblem};
 use std::alloc::{AllocError, Global};
 
@@ -34,8 +34,7 @@ pub enum Known {
 
 fn first_unowned(row: &[Pair], owners: &[u32]) -> u32 {
     for pair in row {
-        let is_object = (pair.object as usize) < owners.len();
-        if is_object && at(owners, pair.object) == NOBODY {
+        if is_unowned(owners, pair.object) {
             return pair.object;
         }
     }
@@ -71,8 +70,8 @@ impl Matching {
     fn take_listed(&mut self, problem: SparseProblem<'_>, first: &[u32]) {
         for (k, object) in first.iter().enumerate() {
             let person = place_at(k);
-            let is_unowned = at(self.owners.as_slice(), *object) == NOBODY;
-            if *object != NOBODY && is_unowned && lists(problem.row(person), *object) {
+            let is_free = is_unowned(self.owners.as_slice(), *object);
+            if is_free && lists(problem.row(person), *object) {
                 self.give(*object, person);
             }
         }
@@ -113,12 +112,11 @@ impl Matching {
     // Puts the owners of a person's objects into the next layer, unless one is unowned.
     fn spread_from(&mut self, row: &[Pair], layer: u32) -> Result<(), AllocError> {
         for pair in row {
-            let owner = at(self.owners.as_slice(), pair.object);
-            let is_object = (pair.object as usize) < self.owners.len();
-            if owner == NOBODY && is_object {
+            if is_unowned(self.owners.as_slice(), pair.object) {
                 self.last_layer = layer;
                 return Ok(());
             }
+            let owner = at(self.owners.as_slice(), pair.object);
             if owner != NOBODY && at(self.layers.as_slice(), owner) == NOBODY {
                 put(self.layers.as_mut_slice(), owner, layer.wrapping_add(1));
                 self.order.push(owner)?;
@@ -154,11 +152,10 @@ impl Matching {
         let layer = at(self.layers.as_slice(), person).wrapping_add(1);
         let from = at(self.next.as_slice(), person) as usize;
         for (k, pair) in row.iter().enumerate().skip(from) {
-            let owner = at(self.owners.as_slice(), pair.object);
-            let is_object = (pair.object as usize) < self.owners.len();
-            if owner == NOBODY && is_object {
+            if is_unowned(self.owners.as_slice(), pair.object) {
                 return Step::Unowned(pair.object);
             }
+            let owner = at(self.owners.as_slice(), pair.object);
             if owner != NOBODY
                 && layer <= self.last_layer
                 && at(self.layers.as_slice(), owner) == layer

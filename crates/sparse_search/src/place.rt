@@ -19,3 +19,12 @@ pub fn put(list: &mut [u32], place: u32, value: u32) {
         list[place as usize] = value;
     }
 }
+
+/// Whether a place is that of an object without an owner.
+#[inline(always)]
+pub fn is_unowned(owners: &[u32], object: u32) -> bool {
+    match owners.get(object as usize) {
+        Some(owner) => *owner == NOBODY,
+        None => false,
+    }
+}

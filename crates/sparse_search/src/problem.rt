@@ -2,6 +2,7 @@
 use super::row::FAR;
 
 /// A listed pair of a person: an object, by its place from 0, and its cost.
+#[repr(C)]
 #[derive(Clone, Copy)]
 pub struct Pair {
     pub object: u32,

@@ -1,6 +1,6 @@
 // What a person sees at some prices: the value of a pair is its cost plus the object's price, and less
 // is better.
-use super::place::{NOBODY, at};
+use super::place::{NOBODY, is_unowned};
 use super::problem::Pair;
 
 /// No value of a pair is as great.
@@ -99,9 +99,9 @@ pub fn own_cost(row: &[Pair], object: u32) -> i64 {
 
 impl Look {
     #[inline(always)]
-    fn with(self, pair: Pair, value: i64, is_unowned: bool, own: u32) -> Look {
+    fn with(self, pair: Pair, value: i64, is_free: bool, own: u32) -> Look {
         let is_better = value < self.least;
-        let unowned = if is_unowned && value <= self.least {
+        let unowned = if is_free && value <= self.least {
             pair.object
         } else if is_better {
             NOBODY
@@ -128,8 +128,8 @@ pub fn look_at(row: &[Pair], prices: &[i64], owners: &[u32], shift: u32, own: u3
         unowned: NOBODY,
     };
     for pair in row {
-        let is_unowned = at(owners, pair.object) == NOBODY;
-        look = look.with(*pair, value(*pair, prices, shift), is_unowned, own);
+        let is_free = is_unowned(owners, pair.object);
+        look = look.with(*pair, value(*pair, prices, shift), is_free, own);
     }
     look
 }

@@ -200,7 +200,8 @@ impl<'a> Run<'a> {
         Ok(())
     }
 
-    // Searches for these persons one by one, up to a limit of looks, or while the pace is good.
+    // Searches for these persons one by one, up to a limit of looks, or while the pace is good. At least
+    // one ends, so that calls of any budget get on.
     fn serve_all(
         &mut self,
         persons: &[u32],
@@ -210,9 +211,6 @@ impl<'a> Run<'a> {
         let scaled = self.scaled();
         let mut pace = pace;
         for (k, person) in persons.iter().enumerate() {
-            if self.looks.done >= limit.limit {
-                return Ok(Served::Spent);
-            }
             if let End::Blocked = self
                 .search
                 .serve(scaled, &mut self.market, *person, &mut self.looks)?
@@ -221,6 +219,9 @@ impl<'a> Run<'a> {
                     .search
                     .blocked_persons(self.alloc, &self.market, *person)?;
                 return Ok(Served::Hall(blocked));
+            }
+            if self.looks.done >= limit.limit {
+                return Ok(Served::Spent);
             }
             if is_slow(&mut pace, self.looks, persons.len().saturating_sub(k)) {
                 return Ok(Served::Slow);

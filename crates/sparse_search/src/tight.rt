@@ -1,9 +1,9 @@
 // Tight pairs, those with a person's least value: which persons can have one.
 use super::looks::Looks;
 use super::market::Market;
-use super::place::{NOBODY, at, place_at, put};
+use super::place::{NOBODY, at, is_unowned, place_at, put};
 use super::problem::{Pair, Scaled};
-use super::row::{look_at, value};
+use super::row::{FAR, look_at, value};
 use std::alloc::{AllocError, Global};
 
 // Where a search along tight pairs stands: the least value of each person, the next pairs of each row
@@ -37,7 +37,7 @@ struct Spot {
 fn find_unowned(sight: Sight<'_>, market: &Market) -> Spot {
     let (prices, owners) = (market.prices.as_slice(), market.owners.as_slice());
     for (k, pair) in sight.row.iter().enumerate().skip(sight.from as usize) {
-        if at(owners, pair.object) == NOBODY && value(*pair, prices, sight.shift) == sight.least {
+        if is_unowned(owners, pair.object) && value(*pair, prices, sight.shift) == sight.least {
             return Spot {
                 pair: place_at(k),
                 place: pair.object,
@@ -173,7 +173,7 @@ fn settle(alloc: Global, scaled: Scaled<'_>, market: &mut Market) -> Result<Vec<
             scaled.shift,
             own,
         );
-        if own != NOBODY && look.own > look.least {
+        if own != NOBODY && (look.own > look.least || look.own >= FAR) {
             market.leave(person);
         }
         if at(market.objects.as_slice(), person) == NOBODY && look.unowned != NOBODY {
@@ -194,7 +194,7 @@ pub fn match_tight(
 ) -> Result<Vec<u32>, AllocError> {
     let leasts = settle(alloc, scaled, market)?;
     let mut deepening = Deepening::new(alloc, leasts)?;
-    looks.add(scaled.problem.pairs.len());
+    looks.add(scaled.problem.pairs.len().saturating_mul(2));
     let mut left = Vec::new(alloc);
     for person in 0..place_at(scaled.problem.persons()) {
         let is_served = at(market.objects.as_slice(), person) != NOBODY;
