@@ -23,7 +23,7 @@ pub struct Queue {
 #[derive(Clone, Copy)]
 pub struct Terms {
     pub slackness: i64,
-    // How much a price rises, beside the slackness, where a person lists a single object.
+    // How much a price rises, with the slackness, where a person lists a single object.
     pub lone_raise: i64,
 }
 

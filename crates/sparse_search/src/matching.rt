@@ -10,7 +10,7 @@ use std::alloc::{AllocError, Global};
 pub struct Matching {
     pub owners: Vec<u32>,
     pub objects: Vec<u32>,
-    // The layer of each person, from 0 for those without an object; nobody's number: none.
+    // The layer of each person, from 0 for those without an object; `NOBODY`: none.
     layers: Vec<u32>,
     // The next pair of each row.
     next: Vec<u32>,
@@ -26,7 +26,7 @@ pub struct Matching {
 pub enum Known {
     /// Each person has an object.
     Full,
-    /// This person can't get an object beside the others.
+    /// This person can't get an object unless another loses one.
     Blocked(u32),
     /// Nothing so far.
     Open,
@@ -228,7 +228,7 @@ impl Matching {
         NOBODY
     }
 
-    /// Phases until nobody can get an object beside the others, or the looks are spent.
+    /// Phases until no more persons can have objects, or the looks are spent.
     pub fn grow(
         &mut self,
         problem: SparseProblem<'_>,
@@ -251,7 +251,7 @@ impl Matching {
         Ok(Known::Open)
     }
 
-    /// The persons whom a blocked one can put out in turn, with itself.
+    /// A blocked person, and those that it can put out in turn.
     pub fn blocked_persons(
         &mut self,
         problem: SparseProblem<'_>,

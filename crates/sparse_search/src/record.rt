@@ -17,7 +17,7 @@ pub enum Stage {
     Finish,
 }
 
-/// What the next call needs to go on, beside prices and objects. Whatever it holds, an answer is
+/// What the next call needs to go on, with prices and objects. Whatever it holds, an answer is
 /// judged by a checker alone.
 #[derive(Clone, Copy)]
 pub struct Record {
