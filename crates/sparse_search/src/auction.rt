@@ -67,6 +67,13 @@ impl Queue {
         self.next = self.after(place);
     }
 
+    /// The person after the next one.
+    #[inline(always)]
+    pub fn second(&self) -> u32 {
+        let place = self.after(self.first);
+        self.persons.get(place).copied().unwrap_or(NOBODY)
+    }
+
     #[inline(always)]
     fn after(&self, place: usize) -> usize {
         let next = place.wrapping_add(1);
@@ -127,6 +134,7 @@ pub fn bid_from_queue(
         let Some(person) = queue.pop() else {
             return made;
         };
+        looks.read_ahead(scaled.problem.row(queue.second()));
         let row = scaled.problem.row(person);
         looks.add(row.len());
         let two = two_best(row, prices, scaled.shift);
@@ -185,6 +193,18 @@ fn has_dearer(market: &Market, price: i64) -> bool {
         .any(|(own, owner)| *owner == NOBODY && *own > price)
 }
 
+// A dummy's bid for an object below this price. Returns whether somebody loses it.
+fn outbid(market: &mut Market, object: u32, price: i64, raised: i64) -> bool {
+    let place = object as usize;
+    if place >= market.prices.len() || market.prices[place] >= price {
+        return false;
+    }
+    market.prices[place] = raised;
+    let owner = at(market.owners.as_slice(), object);
+    market.leave(owner);
+    owner != NOBODY
+}
+
 /// Fewer persons than objects: dummies, who are served by the cheapest objects, bid these up to the
 /// price of the next one, if an unowned object is dearer. Their owners wait again. Returns whether
 /// somebody does.
@@ -201,12 +221,7 @@ pub fn bid_for_dummies(
     }
     let mut is_anybody_out = false;
     for k in 0..market.prices.len() {
-        if market.prices[k] < price {
-            market.prices[k] = raised;
-            let owner = at(market.owners.as_slice(), place_at(k));
-            market.leave(owner);
-            is_anybody_out = is_anybody_out || owner != NOBODY;
-        }
+        is_anybody_out = outbid(market, place_at(k), price, raised) || is_anybody_out;
     }
     Ok(is_anybody_out)
 }

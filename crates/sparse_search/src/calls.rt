@@ -1,4 +1,6 @@
 // The call of a search.
+ghost use Rattle.std.specs.Prelude.{◌≡◌, length};
+
 use super::blocks::{Blocks, find_blocks};
 use super::looks::Looks;
 use super::matching::{Known, Matching, hall_set};
@@ -82,10 +84,7 @@ fn blocks_of(
     looks: &mut Looks,
 ) -> Result<Option<Blocks>, AllocError> {
     let mut matching = Matching::begin(alloc, problem, objects)?;
-    let mut free = Looks {
-        done: looks.done,
-        limit: u64::MAX,
-    };
+    let mut free = Looks::begin(looks.done, u64::MAX);
     let known = matching.grow(problem, &mut free)?;
     looks.done = free.done;
     match known {
@@ -126,10 +125,7 @@ fn go_on_in_blocks(
     told: &mut Told<'_>,
     limit: u64,
 ) -> Result<Outcome, AllocError> {
-    let mut looks = Looks {
-        done: told.record.looks,
-        limit,
-    };
+    let mut looks = Looks::begin(told.record.looks, limit);
     match blocks_of(alloc, problem, told.objects, &mut looks)? {
         Some(blocks) => {
             told.record.looks = looks.done;
@@ -155,7 +151,10 @@ pub fn search(
     objects: &mut [u32],
     record: &mut Record,
     budget: u64,
-) -> Result<Outcome, AllocError> {
+) -> Result<Outcome, AllocError>
+    ensures prices { length prices.new ≡ length prices.old }
+    ensures objects { length objects.new ≡ length objects.old }
+{
     if prices.len() != problem.objects || objects.len() != problem.persons() {
         return Ok(Outcome::Lost);
     }

@@ -2,6 +2,9 @@
 use super::place::{NOBODY, at, is_unowned, place_at, put};
 use std::alloc::{AllocError, Global};
 
+// Greater first prices, and lower ones than its negative, are cut.
+const PRICE_CUT: i64 = 1 << 60;
+
 /// The price and the owner of each object, and the object of each person, by places from 0.
 #[derive(Drop)]
 pub struct Market {
@@ -66,10 +69,10 @@ impl Market {
         Ok(persons)
     }
 
-    /// Takes over prices.
+    /// Takes over prices, which are cut where sums with them could leave the range.
     pub fn set_prices(&mut self, prices: &[i64]) {
         for (price, given) in self.prices.iter_mut().zip(prices) {
-            *price = *given;
+            *price = (*given).min(PRICE_CUT).max(PRICE_CUT.wrapping_neg());
         }
     }
 

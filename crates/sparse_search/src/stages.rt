@@ -7,7 +7,7 @@ use super::market::Market;
 use super::matching::{Known, Matching};
 use super::pace::Pace;
 use super::path::{End, PathSearch};
-use super::place::{NOBODY, at, place_at};
+use super::place::{NOBODY, place_at};
 use super::problem::{Scaled, SparseProblem};
 use super::record::{Record, Stage};
 use super::row::look_at;
@@ -118,10 +118,7 @@ impl<'a> Run<'a> {
             market,
             search: PathSearch::new(alloc, problem.objects)?,
             record,
-            looks: Looks {
-                done: record.looks,
-                limit,
-            },
+            looks: Looks::begin(record.looks, limit),
             spread: problem.spread(),
         })
     }
@@ -440,9 +437,4 @@ pub fn first_without_pairs(problem: SparseProblem<'_>) -> Option<u32> {
         }
     }
     None
-}
-
-/// Whether each person has one of the objects.
-pub fn is_whole(objects: &[u32]) -> bool {
-    (0..place_at(objects.len())).all(|person| at(objects, person) != NOBODY)
 }
