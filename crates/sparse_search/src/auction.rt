@@ -3,7 +3,7 @@
 use super::looks::Looks;
 use super::market::Market;
 use super::place::{NOBODY, at, place_at, put};
-use super::problem::Scaled;
+use super::problem::{Pair, Scaled};
 use super::row::{Two, two_best};
 use std::alloc::{AllocError, Global};
 
@@ -25,6 +25,29 @@ pub struct Terms {
     pub slackness: i64,
     // How much a price rises, with the slackness, where a person lists a single object.
     pub lone_raise: i64,
+}
+
+/// What was read ahead of its use, so that it is in the cache by then. No answer depends on it.
+#[derive(Clone, Copy)]
+pub struct Ahead {
+    pub objects: u32,
+}
+
+#[inline(always)]
+fn object_at(row: &[Pair], place: usize) -> u32 {
+    match row.get(place) {
+        Some(pair) => pair.object,
+        None => 0,
+    }
+}
+
+impl Ahead {
+    // The beginning, the middle and the end of a row.
+    #[inline(always)]
+    fn read(&mut self, row: &[Pair]) {
+        let (first, last) = (object_at(row, 0), object_at(row, row.len().wrapping_sub(1)));
+        self.objects = self.objects ^ first ^ object_at(row, row.len() / 2) ^ last;
+    }
 }
 
 impl Queue {
@@ -126,6 +149,7 @@ pub fn bid_from_queue(
     terms: Terms,
     most: u64,
     looks: &mut Looks,
+    ahead: &mut Ahead,
 ) -> u64 {
     let prices = market.prices.as_mut_slice();
     let owners = market.owners.as_mut_slice();
@@ -134,7 +158,7 @@ pub fn bid_from_queue(
         let Some(person) = queue.pop() else {
             return made;
         };
-        looks.read_ahead(scaled.problem.row(queue.second()));
+        ahead.read(scaled.problem.row(queue.second()));
         let row = scaled.problem.row(person);
         looks.add(row.len());
         let two = two_best(row, prices, scaled.shift);

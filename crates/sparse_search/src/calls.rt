@@ -84,7 +84,10 @@ fn blocks_of(
     looks: &mut Looks,
 ) -> Result<Option<Blocks>, AllocError> {
     let mut matching = Matching::begin(alloc, problem, objects)?;
-    let mut free = Looks::begin(looks.done, u64::MAX);
+    let mut free = Looks {
+        done: looks.done,
+        limit: u64::MAX,
+    };
     let known = matching.grow(problem, &mut free)?;
     looks.done = free.done;
     match known {
@@ -125,7 +128,10 @@ fn go_on_in_blocks(
     told: &mut Told<'_>,
     limit: u64,
 ) -> Result<Outcome, AllocError> {
-    let mut looks = Looks::begin(told.record.looks, limit);
+    let mut looks = Looks {
+        done: told.record.looks,
+        limit,
+    };
     match blocks_of(alloc, problem, told.objects, &mut looks)? {
         Some(blocks) => {
             told.record.looks = looks.done;

@@ -1,5 +1,5 @@
 // The search by stages, each of which goes on from what the last one left.
-use super::auction::{Queue, Terms, bid_for_dummies, bid_from_queue};
+use super::auction::{Ahead, Queue, Terms, bid_for_dummies, bid_from_queue};
 use super::bids::{bid_all, set_first_prices};
 use super::blocks::{Blocks, find_blocks};
 use super::looks::Looks;
@@ -42,6 +42,7 @@ pub struct Run<'a> {
     search: PathSearch,
     pub record: Record,
     looks: Looks,
+    ahead: Ahead,
     spread: i64,
 }
 
@@ -118,7 +119,11 @@ impl<'a> Run<'a> {
             market,
             search: PathSearch::new(alloc, problem.objects)?,
             record,
-            looks: Looks::begin(record.looks, limit),
+            looks: Looks {
+                done: record.looks,
+                limit,
+            },
+            ahead: Ahead { objects: 0 },
             spread: problem.spread(),
         })
     }
@@ -319,6 +324,7 @@ impl<'a> Run<'a> {
             terms,
             most,
             &mut self.looks,
+            &mut self.ahead,
         );
         self.record.bids = self.record.bids.saturating_add(made);
         if queue.is_empty() && made <= most {
