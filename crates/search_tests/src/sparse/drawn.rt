@@ -75,8 +75,8 @@ fn draw_row(
 
 fn draw_lists(alloc: Global, seed: &mut u64) -> Result<Lists, AllocError> {
     let objects = (draw_wide(seed, 7) & 7) as u32 + 1;
-    let persons = draw_wide(seed, u64::from(objects)) + 1;
-    let share = draw_wide(seed, 7) + 2;
+    let persons = draw_wide(seed, u64::from(objects)).wrapping_add(1);
+    let share = draw_wide(seed, 7).wrapping_add(2);
     let span = SPANS[(draw_wide(seed, 6) % 6) as usize];
     let mut lists = Lists {
         starts: Vec::new(alloc),
@@ -253,7 +253,7 @@ fn searches_in_pieces_find_the_best(rt: HostRuntime) -> Result<(), Fail> {
     let mut seed = 4u64;
     for turn in 0..1500 {
         let lists = draw_lists(rt.alloc(), &mut seed)?;
-        let budget = draw_wide(&mut seed, 40) + 1;
+        let budget = draw_wide(&mut seed, 40).wrapping_add(1);
         let found = in_pieces(rt.alloc(), &lists, budget)?;
         assert_eq!(rt; found, slow(rt.alloc(), &lists)?, "problem {turn}");
     }

@@ -9,22 +9,27 @@ const PERSONS: u32 = 100_000;
 
 const PAIRS: usize = 10;
 
-// A row: the person's own object, and drawn ones up to an end.
+fn draw_pair(seed: &mut u64, object: u64) -> Pair {
+    Pair {
+        object: (object & 0xffff_ffff) as u32,
+        cost: (draw_wide(seed, 1_000_000) & 0xff_ffff) as i64,
+    }
+}
+
+// A row: the person's own object, if it is before an end, and drawn ones before it.
 fn draw_row(
     seed: &mut u64,
     person: u32,
     end: u64,
     pairs: &mut Vec<Pair>,
 ) -> Result<(), AllocError> {
-    let cost = (draw_wide(seed, 1_000_000) & 0xff_ffff) as i64;
-    pairs.push(Pair {
-        object: (u64::from(person) % end.max(1) & 0xffff_ffff) as u32,
-        cost,
-    })?;
+    let own = u64::from(person).checked_rem(end).unwrap_or(0);
+    let pair = draw_pair(seed, own);
+    pairs.push(pair)?;
     for _pair in 1..PAIRS {
-        let object = (draw_wide(seed, end) & 0xffff_ffff) as u32;
-        let cost = (draw_wide(seed, 1_000_000) & 0xff_ffff) as i64;
-        pairs.push(Pair { object, cost })?;
+        let object = draw_wide(seed, end);
+        let pair = draw_pair(seed, object);
+        pairs.push(pair)?;
     }
     Ok(())
 }
@@ -40,7 +45,7 @@ fn draw_pairs(alloc: Global, seed: &mut u64, end: u64) -> Result<Vec<Pair>, Allo
 fn starts(alloc: Global) -> Result<Vec<usize>, AllocError> {
     let mut starts = Vec::new(alloc);
     for person in 0..PERSONS + 1 {
-        starts.push(person as usize * PAIRS)?;
+        starts.push((person as usize).wrapping_mul(PAIRS))?;
     }
     Ok(starts)
 }
@@ -67,7 +72,7 @@ fn a_hundred_thousand_persons(rt: HostRuntime) -> Result<(), Fail> {
 #[test]
 fn one_object_too_few(rt: HostRuntime) -> Result<(), Fail> {
     let starts = starts(rt.alloc())?;
-    let pairs = draw_pairs(rt.alloc(), &mut 6u64, u64::from(PERSONS) - 1)?;
+    let pairs = draw_pairs(rt.alloc(), &mut 6u64, u64::from(PERSONS).wrapping_sub(1))?;
     let problem = SparseProblem {
         starts: starts.as_slice(),
         pairs: pairs.as_slice(),
