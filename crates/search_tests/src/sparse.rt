@@ -1,0 +1,5 @@
+// Sparse problems: what a search finds is judged by a plain checker and compared with a slow search.
+mod drawn;
+mod judged;
+mod large;
+mod worked;

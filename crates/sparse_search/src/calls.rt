@@ -1,0 +1,185 @@
+// The call of a search.
+ghost use Rattle.std.specs.Prelude.{◌≡◌, length};
+
+use super::blocks::{Blocks, find_blocks};
+use super::looks::Looks;
+use super::matching::{Known, Matching, hall_set};
+use super::outcome::Outcome;
+use super::problem::SparseProblem;
+use super::record::{Record, Stage};
+use super::stages::{Run, RunEnd, first_without_pairs};
+use std::alloc::{AllocError, Global};
+
+// What a call reads and writes.
+#[derive(Drop)]
+struct Told<'b> {
+    prices: &'b mut [i64],
+    objects: &'b mut [u32],
+    record: &'b mut Record,
+}
+
+impl<'b> Told<'b> {
+    fn begin<'a>(
+        &self,
+        alloc: Global,
+        problem: SparseProblem<'a>,
+        limit: u64,
+    ) -> Result<Run<'a>, AllocError> {
+        Run::begin(
+            alloc,
+            problem,
+            self.prices,
+            self.objects,
+            *self.record,
+            limit,
+        )
+    }
+
+    // Writes where a run stands.
+    fn write(&mut self, run: &Run<'_>) {
+        for (price, found) in self.prices.iter_mut().zip(&run.market.prices) {
+            *price = *found;
+        }
+        for (object, found) in self.objects.iter_mut().zip(&run.market.objects) {
+            *object = *found;
+        }
+        *self.record = run.record;
+    }
+}
+
+// Solves without the pairs that lie in no assignment, and lifts the prices over the blocks.
+fn search_blocks(
+    alloc: Global,
+    problem: SparseProblem<'_>,
+    blocks: &Blocks,
+    told: &mut Told<'_>,
+    limit: u64,
+) -> Result<Outcome, AllocError> {
+    let kept = blocks.kept_pairs(alloc, problem)?;
+    let reduced = SparseProblem {
+        starts: kept.starts.as_slice(),
+        pairs: kept.pairs.as_slice(),
+        objects: problem.objects,
+    };
+    let mut run = told.begin(alloc, reduced, limit)?;
+    match run.run()? {
+        RunEnd::Best => {
+            blocks.lift_prices(alloc, problem, &mut run.market)?;
+            told.write(&run);
+            Ok(Outcome::Best)
+        }
+        RunEnd::Stopped => {
+            told.write(&run);
+            Ok(Outcome::Stopped)
+        }
+        RunEnd::Hall(_) | RunEnd::Drops(_) | RunEnd::Lost => Ok(Outcome::Lost),
+    }
+}
+
+// The blocks of an assignment; none if there is no assignment.
+fn blocks_of(
+    alloc: Global,
+    problem: SparseProblem<'_>,
+    objects: &[u32],
+    looks: &mut Looks,
+) -> Result<Option<Blocks>, AllocError> {
+    let mut matching = Matching::begin(alloc, problem, objects)?;
+    let mut free = Looks {
+        done: looks.done,
+        limit: u64::MAX,
+    };
+    let known = matching.grow(problem, &mut free)?;
+    looks.done = free.done;
+    match known {
+        Known::Full => {
+            let Matching { owners, .. } = matching;
+            Ok(Some(find_blocks(alloc, problem, owners, looks)?))
+        }
+        Known::Blocked(_) | Known::Open => Ok(None),
+    }
+}
+
+fn search_whole(
+    alloc: Global,
+    problem: SparseProblem<'_>,
+    told: &mut Told<'_>,
+    limit: u64,
+) -> Result<Outcome, AllocError> {
+    let mut run = told.begin(alloc, problem, limit)?;
+    let end = run.run()?;
+    told.write(&run);
+    match end {
+        RunEnd::Best => Ok(Outcome::Best),
+        RunEnd::Stopped => Ok(Outcome::Stopped),
+        RunEnd::Lost => Ok(Outcome::Lost),
+        RunEnd::Hall(persons) => Ok(Outcome::Hall(hall_set(alloc, problem, persons.as_slice())?)),
+        RunEnd::Drops(blocks) => {
+            told.record.stage = Stage::Cold;
+            told.record.drops_pairs = true;
+            search_blocks(alloc, problem, &blocks, told, limit)
+        }
+    }
+}
+
+// Goes on without the pairs that lie in no assignment.
+fn go_on_in_blocks(
+    alloc: Global,
+    problem: SparseProblem<'_>,
+    told: &mut Told<'_>,
+    limit: u64,
+) -> Result<Outcome, AllocError> {
+    let mut looks = Looks {
+        done: told.record.looks,
+        limit,
+    };
+    match blocks_of(alloc, problem, told.objects, &mut looks)? {
+        Some(blocks) => {
+            told.record.looks = looks.done;
+            told.record.has_assignment = true;
+            search_blocks(alloc, problem, &blocks, told, limit)
+        }
+        None => {
+            *told.record = Record::cold();
+            search_whole(alloc, problem, told, limit)
+        }
+    }
+}
+
+/// Searches for exact prices and a plan, or for a Hall set, and stops after about `budget` looks at
+/// pairs (0: it doesn't). A call reads and writes a price for each object and an object for each
+/// person. At `Best` prices are whole numbers in the unit of the costs, none below 0, and 0 where
+/// nobody owns the object. At `Stopped` they are those from which the next call goes on, with the
+/// record.
+pub fn search(
+    alloc: Global,
+    problem: SparseProblem<'_>,
+    prices: &mut [i64],
+    objects: &mut [u32],
+    record: &mut Record,
+    budget: u64,
+) -> Result<Outcome, AllocError>
+    ensures prices { length prices.new ≡ length prices.old }
+    ensures objects { length objects.new ≡ length objects.old }
+{
+    if prices.len() != problem.objects || objects.len() != problem.persons() {
+        return Ok(Outcome::Lost);
+    }
+    if let Some(person) = first_without_pairs(problem) {
+        return Ok(Outcome::Hall(hall_set(alloc, problem, &[person])?));
+    }
+    let limit = if budget == 0 {
+        u64::MAX
+    } else {
+        record.looks.saturating_add(budget)
+    };
+    let mut told = Told {
+        prices,
+        objects,
+        record,
+    };
+    if told.record.drops_pairs {
+        go_on_in_blocks(alloc, problem, &mut told, limit)
+    } else {
+        search_whole(alloc, problem, &mut told, limit)
+    }
+}

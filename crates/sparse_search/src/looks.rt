@@ -1,0 +1,28 @@
+// The work of a search, counted by looks at pairs.
+
+#[derive(Clone, Copy)]
+pub struct Looks {
+    pub done: u64,
+    /// From here on the search stops at the next place where it can.
+    pub limit: u64,
+}
+
+impl Looks {
+    #[inline(always)]
+    pub fn add(&mut self, pairs: usize) {
+        self.done = self.done.wrapping_add(pairs as u64);
+    }
+
+    #[inline(always)]
+    pub fn is_spent(&self) -> bool {
+        self.done >= self.limit
+    }
+
+    /// The looks from here on, with a limit of their own that is no later.
+    pub fn within(self, most: u64) -> Looks {
+        Looks {
+            done: self.done,
+            limit: self.limit.min(self.done.saturating_add(most)),
+        }
+    }
+}

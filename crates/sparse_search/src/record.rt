@@ -1,0 +1,68 @@
+// Where a search stands between two calls.
+
+/// What a search does next.
+#[derive(Clone, Copy)]
+pub enum Stage {
+    /// It begins; prices and objects aren't read.
+    Cold,
+    /// It begins from prices, in the unit of the costs, and objects that somebody has.
+    Warm,
+    /// Searches for the persons who are left over by bids without slackness.
+    Paths,
+    /// The auction.
+    Auction,
+    /// The matching without costs, whose objects are in the place of the auction's.
+    Matching,
+    /// Searches from the auction's prices.
+    Finish,
+}
+
+/// What the next call needs to go on, with prices and objects. Whatever it holds, an answer is
+/// judged by a checker alone.
+#[derive(Clone, Copy)]
+pub struct Record {
+    pub stage: Stage,
+    /// The costs count 2 to this power times, and prices are in this unit.
+    pub shift: u32,
+    /// The slackness of the auction; before it, the one to begin with from these prices, or 0 to begin
+    /// at prices of 0.
+    pub slackness: i64,
+    /// The bids of this phase of the auction since searches last helped it.
+    pub bids: u64,
+    /// How often dummies bid in this phase.
+    pub dummy_bids: u32,
+    /// Whether an assignment is known to exist.
+    pub has_assignment: bool,
+    /// Whether pairs in no assignment are dropped.
+    pub drops_pairs: bool,
+    /// The looks at pairs of all calls.
+    pub looks: u64,
+}
+
+impl Record {
+    /// A search that begins without first prices.
+    pub fn cold() -> Record {
+        Record {
+            stage: Stage::Cold,
+            shift: 0,
+            slackness: 0,
+            bids: 0,
+            dummy_bids: 0,
+            has_assignment: false,
+            drops_pairs: false,
+            looks: 0,
+        }
+    }
+
+    /// A search that begins from prices, in the unit of the costs, and objects (or `NOBODY`).
+    pub fn warm() -> Record {
+        Record {
+            stage: Stage::Warm,
+            ..Record::cold()
+        }
+    }
+
+    pub fn with_stage(self, stage: Stage) -> Record {
+        Record { stage, ..self }
+    }
+}
