@@ -8,6 +8,7 @@ then: if a best plan has none of the dear ones, it is best among the plans that 
 Whole numbers are added and subtracted here as those of 64 bits, which may wrap around: what is left in the end is small."""
 import math
 import operator
+import sys
 from fractions import Fraction
 from typing import TYPE_CHECKING, Any, List, NamedTuple, Optional, Sequence, Tuple
 
@@ -29,6 +30,8 @@ _SHARE = 1 / 8
 _MOST_VALUES = 2**14
 # So few are counted by comparing each with all costs.
 _FEW_VALUES = 8
+# Into so many slots the way from the least to the greatest value is divided, so that most costs are found without a search.
+_SLOTS = 2**16
 _BITS = 64
 
 
@@ -45,12 +48,15 @@ class Matrix(NamedTuple):
 
 
 class Values(NamedTuple):
-    """Costs that are decimals, rising, and what each is in a unit, which is 1 / denominator, in 64 bits."""
+    """Costs that are decimals, rising, and what each is in a unit, which is 1 / denominator, in 64 bits. A cost is mostly at the place
+    that `slots` has for its distance from the least one, times `scale`."""
 
     costs: Any
     wholes: List[int]
     wrapped: Any
     denominator: int
+    scale: float
+    slots: Any
 
 
 def of_problem(problem: Problem) -> Optional[Matrix]:
@@ -158,7 +164,19 @@ def _values_of(matrix: Matrix, costs: Any) -> Values:
     ratios = [ratio_of(cost, False) for cost in found.tolist()]
     unit = unit_of(set((1, denominator) for _, denominator in ratios))
     wholes = [in_unit(ratio, unit) for ratio in ratios]
-    return Values(found, wholes, _wrapped(matrix.numpy, wholes), unit.denominator)
+    return Values(found, wholes, _wrapped(matrix.numpy, wholes), unit.denominator, *_slots_of(matrix.numpy, found))
+
+
+def _slots_of(numpy: Any, costs: Any) -> Tuple[float, Any]:
+    """What distances from the least of some rising costs are multiplied by, and the place of a cost for each product, rounded down; None
+    for these where a search is to find all."""
+    width = costs.item(-1) - costs.item(0)
+    scale = (_SLOTS - 1) / width if len(costs) > _FEW_VALUES and width > _SLOTS * sys.float_info.min else math.inf
+    if not 0 < scale < math.inf:
+        return 0.0, None
+    slots = numpy.zeros(_SLOTS, numpy.intp)
+    slots[((costs - costs[0]) * scale).astype(numpy.intp)] = numpy.arange(len(costs))
+    return scale, slots
 
 
 def _whole_values(matrix: Matrix, values: Values) -> Optional[Any]:
@@ -185,14 +203,28 @@ def _room_for(matrix: Matrix) -> Any:
 
 def _known(numpy: Any, values: Values, costs: Any) -> Optional[Any]:
     """The places of costs among the values; None where one isn't there."""
-    if len(values.costs) > _FEW_VALUES:
-        places = numpy.searchsorted(values.costs, costs)
-    else:
+    if len(values.costs) <= _FEW_VALUES:
         counts = numpy.zeros(costs.shape, numpy.int8)
         for cost in values.costs[1:].tolist():
             counts += (costs >= cost).view(numpy.int8)
         places = counts.astype(numpy.intp)
+    elif values.slots is None:
+        places = numpy.searchsorted(values.costs, costs)
+    else:
+        places = _by_slots(numpy, values, costs)
     return places if (values.costs.take(places, mode="clip") == costs).all() else None
+
+
+def _by_slots(numpy: Any, values: Values, costs: Any) -> Any:
+    """The places of costs among the values, with a search for those that their slots don't have."""
+    with numpy.errstate(all="ignore"):
+        far = costs - values.costs[0]
+        far *= values.scale
+        places = values.slots.take(far.astype(numpy.intp), mode="clip")
+    others = values.costs.take(places, mode="clip") != costs
+    if others.any():
+        places[others] = numpy.searchsorted(values.costs, costs[others])
+    return places
 
 
 def _wrapped(numpy: Any, numbers: Sequence[int]) -> Any:
