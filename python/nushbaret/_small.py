@@ -63,7 +63,8 @@ class SmallArrays:
         """What a result is made of, for a small array, a frame or a list of lists, where floats are the decimals that they print as. None as
         in `assignment`."""
         matrix, flat = self._read(costs) if type(costs) is list else (self._plain(costs, True), None)
-        room = None if matrix is None else self._solved(matrix, maximize, True, flat is not None)
+        matrix, least_places = (matrix, 0) if matrix is None or matrix.dtype.itemsize == 8 else self._printed(matrix)
+        room = None if matrix is None else self._solved(matrix, maximize, True, flat is not None, least_places)
         if room is None:
             return None
         n_rows, n_columns = matrix.shape
@@ -83,7 +84,7 @@ class SmallArrays:
 
     def _plain(self, costs: Any, printed: bool) -> Any:
         """An array of 64-bit integers or floats with all numbers of a small array or frame; None where there is none, or it isn't small.
-        Short floats are the decimals that they print as where `printed`."""
+        Short floats stay what they are where they are to be `printed`."""
         if type(costs) is not self.array:
             costs = self._of_frame(costs)
         if costs is None or costs.ndim != 2 or not _is_small(*costs.shape):
@@ -93,8 +94,13 @@ class SmallArrays:
             return costs
         own = self.kinds.get(kind)
         if own is self.float64 and printed and kind.itemsize < 8:
-            return printing.of_array(self.numpy, costs.ravel()).reshape(costs.shape)
+            return costs
         return own and costs.astype(own, copy=False)
+
+    def _printed(self, costs: Any) -> Tuple[Any, int]:
+        """The decimals that short floats print as, and how many places these have, or fewer."""
+        found, least_places = printing.with_places(self.numpy, costs.ravel())
+        return found.reshape(costs.shape), least_places
 
     def _of_frame(self, costs: Any) -> Any:
         """The array that holds all costs of a frame of pandas; None where these stand in several, maybe of several kinds."""
@@ -130,9 +136,10 @@ class SmallArrays:
         except struct.error:
             return None
 
-    def _solved(self, costs: Any, maximize: bool, printed: bool, of_list: bool = False) -> Optional[library.Room]:
+    def _solved(self, costs: Any, maximize: bool, printed: bool, of_list: bool = False, least_places: int = 0) -> Optional[library.Room]:
         """A room with a best plan, whose persons are the fewer of rows and columns; floats are the decimals that they print as where
-        `printed`. Of a list those with at most 12 digits are left to the longer way, which may find a unit for them."""
+        `printed`, and these have so many places or more. Of a list those with at most 12 digits are left to the longer way, which may find
+        a unit for them."""
         n, m = costs.shape
         is_turned = n > m
         if is_turned:
@@ -143,7 +150,7 @@ class SmallArrays:
         room.is_turned, room.places, room.listed, room.of_list = is_turned, 0, None, of_list and printed
         if costs.dtype.kind == "i":
             return room if self._of_whole(costs.ravel(), room, maximize) else None
-        return room if self._of_doubles(costs, room, maximize, printed) else None
+        return room if self._of_doubles(costs, room, maximize, printed, least_places) else None
 
     def _of_whole(self, costs: Any, room: library.Room, maximize: bool) -> bool:
         """Whether the room has a best plan for whole numbers."""
@@ -153,7 +160,7 @@ class SmallArrays:
             return not room.listed.call(*room.listed.words(sense, lent))
         return not room.call(sense, *room.sizes, lent, *room.rest)
 
-    def _of_doubles(self, costs: Any, room: library.Room, maximize: bool, printed: bool) -> bool:
+    def _of_doubles(self, costs: Any, room: library.Room, maximize: bool, printed: bool, least_places: int) -> bool:
         """Whether the room has a plan that is best for doubles."""
         allowed, values = None, costs
         whole, most = self._whole(costs), 0.0
@@ -166,7 +173,7 @@ class SmallArrays:
                     return False
                 whole, most = self._whole(values), _greatest(values)
             if whole is None and printed:
-                whole = self._with_places(values.ravel(), room, most)
+                whole = self._with_places(values.ravel(), room, most, least_places)
         if whole is not None:
             self._list(allowed, room)
             return self._of_whole(whole, room, maximize)
@@ -206,13 +213,13 @@ class SmallArrays:
         if allowed is not None:
             room.listed = library.Listed(self.numpy, room, allowed.nonzero()[0])
 
-    def _with_places(self, flat: Any, room: library.Room, most: float) -> Any:
-        """Doubles as whole numbers of a decimal unit, whose places the room gets; None where they have more places, or are too great.
-        What `_least_places` says holds here too."""
+    def _with_places(self, flat: Any, room: library.Room, most: float, least_places: int) -> Any:
+        """Doubles of so many places or more as whole numbers of a decimal unit, whose places the room gets; None where they have too many
+        places, or are too great. What `_least_places` says holds here too."""
         rint, first = self.numpy.rint, flat.item(0)
         if not most <= GREATEST_COST:
             return None
-        for places in range(exact.MOST_PLACES + 1):
+        for places in range(least_places, exact.MOST_PLACES + 1):
             power = 10.0**places
             if most * power > GREATEST_COST:
                 return None

@@ -20,6 +20,7 @@ KINDS = {
     "near and far": lambda draw, row, column: draw.choice([0.1234567890123456 + draw.randint(0, 2) * 2.0**-54, 1e3 / 7]),
     "thirds": lambda draw, row, column: draw.randint(0, 3) / 3,
     "thirds and more": lambda draw, row, column: draw.randint(0, 60) / 3 if draw.random() < 0.5 else float(draw.randint(0, 1)),
+    "many near": lambda draw, row, column: draw.randint(0, 12) / 3 + draw.randint(0, 1) * 1e-12,
     "whole and small": lambda draw, row, column: draw.randint(1, 3) + draw.randint(0, 2) * 1e-13,
     "row and small": lambda draw, row, column: 1000 / (row + 3) + draw.randint(0, 2) * 1e-13,
     "zeros": lambda draw, row, column: draw.choice([0.0, -0.0, 0.1 + 0.2, 0.3]),
@@ -51,7 +52,7 @@ class Ties(unittest.TestCase):
         draw, seen = drawing(181), {"best": 0, "after_level": 0}
         wrapped = {name: self.counted(seen, name) for name in seen}
         with mock.patch.multiple(_ties, **wrapped):
-            for turn in range(560):
+            for turn in range(600):
                 kind = list(KINDS)[turn % len(KINDS)]
                 n_rows, n_columns = draw.randint(1, 18), draw.randint(1, 18)
                 costs = [[KINDS[kind](draw, row, column) for column in range(n_columns)] for row in range(n_rows)]
