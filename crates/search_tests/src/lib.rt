@@ -2,4 +2,6 @@
 #![tactic(auto)]
 
 #[cfg(test)]
+mod dense;
+#[cfg(test)]
 mod sparse;

@@ -1,5 +1,5 @@
 // Sparse problems: what a search finds is judged by a plain checker and compared with a slow search.
-mod drawn;
-mod judged;
+pub mod drawn;
+pub mod judged;
 mod large;
 mod worked;

@@ -25,7 +25,7 @@ enum Finding {
 }
 
 // The ends of the drawn costs.
-const SPANS: [u64; 6] = [1, 3, 100, 1 << 25, 1 << 40, 1_000_000_000_000];
+pub const SPANS: [u64; 6] = [1, 3, 100, 1 << 25, 1 << 40, 1_000_000_000_000];
 
 impl Lists {
     fn problem(&self) -> SparseProblem<'_> {
@@ -38,7 +38,7 @@ impl Lists {
 }
 
 // A drawn cost, half of them below 0.
-fn draw_cost(seed: &mut u64, span: u64) -> i64 {
+pub fn draw_cost(seed: &mut u64, span: u64) -> i64 {
     let wide = next_number(seed).wrapping_mul(next_number(seed));
     let cost = (wide.checked_rem(span).unwrap_or(0) & 0xff_ffff_ffff) as i64;
     if next_number(seed) % 2 == 0 {

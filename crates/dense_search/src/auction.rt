@@ -1,0 +1,157 @@
+// The auction over all pairs (Bertsekas's): a person takes its best object and raises its price by
+// the gap to the second best and a slackness, which falls from phase to phase.
+use super::market::Market;
+use super::matrix::Matrix;
+use super::reading::Reading;
+use super::record::{Ended, Record};
+use super::rows::two_best;
+use sparse_search::{Looks, NOBODY, place_at};
+use std::alloc::{AllocError, Global};
+use std::collections::VecDeque;
+
+// Each phase has a fifth of the slackness before it.
+const DIVISOR: i64 = 5;
+
+const PHASES: usize = 32;
+
+// The most bids of a phase, as a number a person.
+const BIDS_A_PERSON: u64 = 50;
+
+// How often in a phase dummies take cheap objects.
+const CROWDINGS: usize = 8;
+
+fn unserved_persons(alloc: Global, market: &Market<'_>) -> Result<VecDeque<u32>, AllocError> {
+    let mut queue = VecDeque::new(alloc);
+    for (k, object) in market.objects.iter().enumerate() {
+        if *object == NOBODY {
+            queue.push_back(place_at(k))?;
+        }
+    }
+    Ok(queue)
+}
+
+// One bid: the person who lost its object by it, or nobody.
+fn bid<R: Reading>(
+    matrix: &Matrix<'_, R>,
+    market: &mut Market<'_>,
+    person: u32,
+    slackness: i64,
+) -> u32 {
+    let two = two_best(&matrix.reading, matrix.row(person), market.prices);
+    let owner = market.owner(two.object);
+    if owner != NOBODY {
+        market.release(owner);
+    }
+    market.raise(two.object, two.gap().wrapping_add(slackness));
+    market.give(two.object, person);
+    owner
+}
+
+// Bids until each person has an object.
+fn bid_in_turn<R: Reading>(
+    alloc: Global,
+    matrix: &Matrix<'_, R>,
+    market: &mut Market<'_>,
+    record: &mut Record,
+    looks: &mut Looks,
+) -> Result<Ended, AllocError> {
+    let most = (matrix.persons as u64).saturating_mul(BIDS_A_PERSON);
+    let mut queue = unserved_persons(alloc, market)?;
+    for _ in record.bids..most {
+        let Some(person) = queue.pop_front() else {
+            return Ok(Ended::Served);
+        };
+        let loser = bid(matrix, market, person, record.slackness);
+        record.bids = record.bids.saturating_add(1);
+        looks.add(matrix.objects);
+        if loser != NOBODY {
+            queue.push_back(loser)?;
+        }
+        if looks.is_spent() {
+            return Ok(Ended::Stopped);
+        }
+    }
+    Ok(Ended::Long)
+}
+
+// The price below which as many objects lie as there are more objects than persons.
+fn crowd_price(alloc: Global, market: &Market<'_>) -> Result<i64, AllocError> {
+    let mut prices = market.prices.to_vec(alloc)?;
+    prices.as_mut_slice().sort_unstable();
+    let more = prices.len().saturating_sub(market.objects.len());
+    Ok(prices.get(more).copied().unwrap_or(0))
+}
+
+fn has_dear_unowned(market: &Market<'_>, limit: i64) -> bool {
+    for (price, owner) in market.prices.iter().zip(&market.owners) {
+        if *owner == NOBODY && *price > limit {
+            return true;
+        }
+    }
+    false
+}
+
+// Dummies, as many as there are more objects than persons, take the cheapest objects at the price
+// of the next one, if an unowned object is dearer. Returns whether they did.
+fn crowd_out(alloc: Global, market: &mut Market<'_>, slackness: i64) -> Result<bool, AllocError> {
+    let price = crowd_price(alloc, market)?;
+    let dear = price.saturating_add(slackness);
+    if !has_dear_unowned(market, dear) {
+        return Ok(false);
+    }
+    for k in 0..market.prices.len() {
+        let object = place_at(k);
+        if market.price(object) < price {
+            market.set_price(object, dear);
+            let owner = market.owner(object);
+            if owner != NOBODY {
+                market.release(owner);
+            }
+        }
+    }
+    Ok(true)
+}
+
+// A phase of one slackness.
+fn phase<R: Reading>(
+    alloc: Global,
+    matrix: &Matrix<'_, R>,
+    market: &mut Market<'_>,
+    record: &mut Record,
+    looks: &mut Looks,
+) -> Result<Ended, AllocError> {
+    for _ in 0..CROWDINGS {
+        match bid_in_turn(alloc, matrix, market, record, looks)? {
+            Ended::Served => {}
+            ended => return Ok(ended),
+        }
+        let is_square = matrix.persons == matrix.objects;
+        if is_square || !crowd_out(alloc, market, record.slackness)? {
+            return Ok(Ended::Served);
+        }
+    }
+    bid_in_turn(alloc, matrix, market, record, looks)
+}
+
+// Phases of falling slackness, down to 1 in the unit of the prices.
+pub fn auction<R: Reading>(
+    alloc: Global,
+    matrix: &Matrix<'_, R>,
+    market: &mut Market<'_>,
+    record: &mut Record,
+    looks: &mut Looks,
+) -> Result<Ended, AllocError> {
+    for _ in 0..PHASES {
+        match phase(alloc, matrix, market, record, looks)? {
+            Ended::Served => {}
+            ended => return Ok(ended),
+        }
+        if record.slackness <= 1 {
+            return Ok(Ended::Served);
+        }
+        record.slackness = (record.slackness / DIVISOR).max(1);
+        record.bids = 0;
+        market.release_all();
+    }
+    Ok(Ended::Served)
+}

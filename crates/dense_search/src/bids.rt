@@ -1,0 +1,57 @@
+// Bids without slackness: a person takes its best object and raises its price until the second best
+// is as good; whoever owned it bids next. This is the augmenting row reduction of Jonker and
+// Volgenant (A shortest augmenting path algorithm for dense and sparse linear assignment problems,
+// 1987).
+use super::market::Market;
+use super::matrix::Matrix;
+use super::reading::Reading;
+use super::rows::{Two, two_best};
+use sparse_search::{NOBODY, place_at};
+
+// One bid: the person who lost its object by it, or nobody.
+fn bid(market: &mut Market<'_>, two: Two, person: u32) -> u32 {
+    let (gap, owner) = (two.gap(), market.owner(two.object));
+    if gap == 0 && owner != NOBODY {
+        if two.other != NOBODY && market.owner(two.other) == NOBODY {
+            market.give(two.other, person);
+        }
+        return NOBODY;
+    }
+    if owner != NOBODY {
+        market.release(owner);
+    }
+    market.raise(two.object, gap);
+    market.give(two.object, person);
+    owner
+}
+
+// At most `most` bids of a person and of those who lose their objects in turn. Returns how many.
+fn bid_on<R: Reading>(
+    matrix: &Matrix<'_, R>,
+    market: &mut Market<'_>,
+    first: u32,
+    most: usize,
+) -> usize {
+    let mut person = first;
+    for made in 0..most {
+        let two = two_best(&matrix.reading, matrix.row(person), market.prices);
+        person = bid(market, two, person);
+        if person == NOBODY {
+            return made + 1;
+        }
+    }
+    most
+}
+
+// Bids of each person without an object, and of those who lose theirs, at most `most` in all.
+// Returns their number.
+pub fn bid_all<R: Reading>(matrix: &Matrix<'_, R>, market: &mut Market<'_>, most: usize) -> usize {
+    let mut left = most;
+    for k in 0..matrix.persons {
+        let person = place_at(k);
+        if market.object(person) == NOBODY && left > 0 {
+            left = left.saturating_sub(bid_on(matrix, market, person, left));
+        }
+    }
+    most.saturating_sub(left)
+}

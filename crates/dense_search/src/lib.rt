@@ -1,0 +1,27 @@
+//! Dense assignment problems of any size: an untrusted search over the caller's list of costs by
+//! bids, shortest augmenting paths, a core of cheap pairs and an auction. Sums wrap, and a checker
+//! decides about what it finds.
+#![tactic(auto)]
+
+mod auction;
+mod bids;
+mod cores;
+mod gather;
+mod market;
+mod matrix;
+mod paths;
+mod pick;
+mod prices;
+mod pricing;
+mod reading;
+mod record;
+mod rows;
+mod settling;
+mod shortest;
+mod stages;
+mod tree;
+
+pub use matrix::DenseProblem;
+pub use record::{Outcome, Record, Stage};
+pub use sparse_search::NOBODY;
+pub use stages::search;

@@ -1,0 +1,134 @@
+// Prices and owners during a search.
+use sparse_search::{NOBODY, at, place_at, put};
+use std::alloc::{AllocError, Global};
+
+// The price and the owner of each object, and the object of each person, by places from 0.
+#[derive(Drop)]
+pub struct Market<'a> {
+    pub prices: &'a mut [i64],
+    pub owners: Vec<u32>,
+    pub objects: &'a mut [u32],
+}
+
+impl<'a> Market<'a> {
+    // A market at these prices, with these objects of the persons.
+    pub fn new(
+        alloc: Global,
+        prices: &'a mut [i64],
+        objects: &'a mut [u32],
+    ) -> Result<Market<'a>, AllocError> {
+        let owners = vec![in alloc; NOBODY; prices.len()]?;
+        let mut market = Market {
+            prices,
+            owners,
+            objects,
+        };
+        market.enter_objects();
+        Ok(market)
+    }
+
+    // Enters the owner of each object anew, by the objects of the persons. A person keeps an object
+    // if nobody before it has it.
+    pub fn enter_objects(&mut self) {
+        self.enter_nobody();
+        for k in 0..self.objects.len() {
+            let object = self.objects[k];
+            let at = object as usize;
+            if at < self.owners.len() && self.owners[at] == NOBODY {
+                self.owners[at] = place_at(k);
+            } else {
+                self.objects[k] = NOBODY;
+            }
+        }
+    }
+
+    pub fn price(&self, object: u32) -> i64 {
+        self.prices.get(object as usize).copied().unwrap_or(0)
+    }
+
+    pub fn owner(&self, object: u32) -> u32 {
+        at(self.owners.as_slice(), object)
+    }
+
+    pub fn object(&self, person: u32) -> u32 {
+        at(self.objects, person)
+    }
+
+    pub fn raise(&mut self, object: u32, by: i64) {
+        let at = object as usize;
+        if at < self.prices.len() {
+            self.prices[at] = self.prices[at].wrapping_add(by);
+        }
+    }
+
+    pub fn set_price(&mut self, object: u32, price: i64) {
+        let at = object as usize;
+        if at < self.prices.len() {
+            self.prices[at] = price;
+        }
+    }
+
+    // Gives an object to a person; whoever has it keeps it in its own entry.
+    pub fn give(&mut self, object: u32, person: u32) {
+        put(self.owners.as_mut_slice(), object, person);
+        put(self.objects, person, object);
+    }
+
+    // Takes a person's object from it.
+    pub fn release(&mut self, person: u32) {
+        let object = self.object(person);
+        if self.owner(object) == person {
+            put(self.owners.as_mut_slice(), object, NOBODY);
+        }
+        put(self.objects, person, NOBODY);
+    }
+
+    // Takes all objects from their owners.
+    pub fn release_all(&mut self) {
+        for object in self.objects.iter_mut() {
+            *object = NOBODY;
+        }
+        self.enter_nobody();
+    }
+
+    fn enter_nobody(&mut self) {
+        for owner in self.owners.iter_mut() {
+            *owner = NOBODY;
+        }
+    }
+
+    // The number of persons without an object.
+    pub fn unserved(&self) -> usize {
+        self.objects
+            .iter()
+            .filter(|object| **object == NOBODY)
+            .count()
+    }
+
+    // The objects that nobody owns.
+    pub fn unowned(&self, alloc: Global) -> Result<Vec<u32>, AllocError> {
+        let mut unowned = Vec::new(alloc);
+        for (k, owner) in self.owners.iter().enumerate() {
+            if *owner == NOBODY {
+                unowned.push(place_at(k))?;
+            }
+        }
+        Ok(unowned)
+    }
+
+    // Whether an unowned object is dearer than the cheapest one.
+    pub fn has_dear_unowned(&self) -> bool {
+        let least = self.least_price();
+        for (price, owner) in self.prices.iter().zip(&self.owners) {
+            if *owner == NOBODY && *price > least {
+                return true;
+            }
+        }
+        false
+    }
+
+    // The least price.
+    pub fn least_price(&self) -> i64 {
+        self.prices.iter().copied().min().unwrap_or(0)
+    }
+}

@@ -1,0 +1,88 @@
+// Searches for all persons without an object, as far as their pace promises an early end.
+use super::market::Market;
+use super::matrix::Matrix;
+use super::reading::Reading;
+use super::record::Ended;
+use super::settling::lower_prices;
+use super::shortest::Search;
+use sparse_search::{Looks, NOBODY, Pace, place_at};
+use std::alloc::{AllocError, Global};
+
+// The looks that searches may take, and how they are foretold.
+#[derive(Clone, Copy)]
+pub struct Allowance {
+    pub most: u64,
+    // Whether searches get longer, as they do from first prices: the fewer objects are unowned, the
+    // farther they lie.
+    pub is_growing: bool,
+}
+
+impl Allowance {
+    // As how many searches of the pace so far those for the persons left count.
+    fn searches_for(self, left: usize) -> usize {
+        if !self.is_growing {
+            return left;
+        }
+        let doublings = left.checked_ilog2().unwrap_or(0) as usize;
+        left.saturating_mul(doublings.wrapping_add(1)) / 4 * 3
+    }
+}
+
+// Serves each person without an object, as long as the searches keep to the allowance. At least
+// one search ends, so that calls of any budget get on.
+pub fn serve_all<R: Reading>(
+    alloc: Global,
+    matrix: &Matrix<'_, R>,
+    market: &mut Market<'_>,
+    allowed: Allowance,
+    looks: &mut Looks,
+) -> Result<Ended, AllocError> {
+    let mut left = market.unserved();
+    let few = if allowed.is_growing { 0 } else { left / 16 };
+    if left == 0 {
+        return Ok(Ended::Served);
+    }
+    let mut search = Search::new(alloc, market)?;
+    let mut pace = Pace::begin(left, *looks, allowed.most);
+    for k in 0..matrix.persons {
+        let person = place_at(k);
+        if market.object(person) == NOBODY {
+            if !search.serve(matrix, market, person, looks)? {
+                return Ok(Ended::Blocked);
+            }
+            left = left.saturating_sub(1);
+            if left == 0 {
+                return Ok(Ended::Served);
+            }
+            if looks.is_spent() {
+                return Ok(Ended::Stopped);
+            }
+            if left > few && !pace.goes_on(*looks, allowed.searches_for(left)) {
+                return Ok(Ended::Long);
+            }
+        }
+    }
+    Ok(Ended::Served)
+}
+
+// Brings the prices of unowned objects down to the least one.
+pub fn lower_unowned<R: Reading>(
+    alloc: Global,
+    matrix: &Matrix<'_, R>,
+    market: &mut Market<'_>,
+    looks: &mut Looks,
+) -> Result<Ended, AllocError> {
+    if market.has_dear_unowned() {
+        looks.add(lower_prices(alloc, matrix, market)?);
+    }
+    let mut search = Search::new(alloc, market)?;
+    for _ in 0..matrix.objects {
+        if !search.lower_one(matrix, market, looks)? {
+            return Ok(Ended::Served);
+        }
+        if looks.is_spent() {
+            return Ok(Ended::Stopped);
+        }
+    }
+    Ok(Ended::Served)
+}

@@ -1,0 +1,76 @@
+// First and last prices.
+use super::matrix::Matrix;
+use super::reading::Reading;
+use sparse_search::place_at;
+
+// The greatest first price.
+const GREATEST_PRICE: i64 = 1 << 60;
+
+fn lower<R: Reading>(reading: &R, row: &[i64], least: &mut [i64]) {
+    for (cost, least) in row.iter().zip(least.iter_mut()) {
+        *least = reading.value(*cost).min(*least);
+    }
+}
+
+fn negate(prices: &mut [i64]) {
+    for price in prices.iter_mut() {
+        *price = price.wrapping_neg();
+    }
+}
+
+fn fill(prices: &mut [i64], value: i64) {
+    for price in prices.iter_mut() {
+        *price = value;
+    }
+}
+
+// The negated least cost of each object.
+fn least_of_columns<R: Reading>(matrix: &Matrix<'_, R>, prices: &mut [i64]) {
+    fill(prices, i64::MAX);
+    for k in 0..matrix.persons {
+        lower(&matrix.reading, matrix.row(place_at(k)), prices);
+    }
+    negate(prices);
+}
+
+// Prices without first prices. With more objects than persons they are equal: bids and searches
+// raise only prices of owned objects, and these stay owned, so unowned objects stay cheapest.
+// Returns the looks at pairs.
+pub fn begin<R: Reading>(matrix: &Matrix<'_, R>, prices: &mut [i64]) -> usize {
+    if matrix.persons < matrix.objects {
+        fill(prices, 0);
+        return 0;
+    }
+    least_of_columns(matrix, prices);
+    matrix.pairs()
+}
+
+// Prices in units of a power of 2, cut to whole units. Exact prices stay exact, since costs are
+// whole in these units.
+pub fn reduce(prices: &mut [i64], shift: u32) {
+    for price in prices.iter_mut() {
+        *price = price.wrapping_shr(shift);
+    }
+}
+
+// Prices in a unit less by a power of 2.
+pub fn magnify(prices: &mut [i64], shift: u32) {
+    for price in prices.iter_mut() {
+        *price = price.wrapping_shl(shift);
+    }
+}
+
+// Lets the least price be 0.
+pub fn begin_at_zero(prices: &mut [i64]) {
+    let least = prices.iter().copied().min().unwrap_or(0);
+    for price in prices.iter_mut() {
+        *price = price.saturating_sub(least);
+    }
+}
+
+// Cuts prices, so that sums have room.
+pub fn cut(prices: &mut [i64]) {
+    for price in prices.iter_mut() {
+        *price = (*price).min(GREATEST_PRICE);
+    }
+}

@@ -1,0 +1,103 @@
+// Where a search stands between two calls, and how a call ends.
+
+/// What a search does next.
+#[derive(Clone, Copy)]
+pub enum Stage {
+    /// It begins; prices and objects aren't read.
+    Cold,
+    /// It begins from prices and objects that somebody has.
+    Warm,
+    /// Searches for the persons who are left over by bids.
+    Paths,
+    /// The cheapest pairs of each person as a sparse problem.
+    Core,
+    /// Searches on from the prices of the core.
+    Retry,
+    /// The auction over all pairs.
+    Auction,
+    /// Searches to the end.
+    Finish,
+}
+
+// In the auction costs count 2 to this power times.
+pub const SHIFT: u32 = 9;
+
+/// What the next call needs to go on, with prices and objects. Whatever it holds, an answer is
+/// judged by a checker alone.
+#[derive(Clone, Copy)]
+pub struct Record {
+    pub stage: Stage,
+    /// Costs count two to this power, and prices are in this unit.
+    pub shift: u32,
+    pub slackness: i64,
+    /// The bids of this phase of the auction.
+    pub bids: u64,
+    /// The passes over all pairs that found pairs better than the core's.
+    pub passes: u64,
+    /// The looks at pairs of all calls.
+    pub looks: u64,
+}
+
+impl Record {
+    /// A search that begins without first prices.
+    pub fn cold() -> Record {
+        Record {
+            stage: Stage::Cold,
+            shift: 0,
+            slackness: 0,
+            bids: 0,
+            passes: 0,
+            looks: 0,
+        }
+    }
+
+    /// A search that begins from prices, in the unit of the costs, and objects (or `NOBODY`).
+    pub fn warm() -> Record {
+        Record {
+            stage: Stage::Warm,
+            ..Record::cold()
+        }
+    }
+
+    // Whether another call left it.
+    pub fn is_begun(&self) -> bool {
+        !matches!(self.stage, Stage::Cold | Stage::Warm)
+    }
+
+    // The record, with a unit that its stage may have.
+    pub fn sound(&self) -> Record {
+        let shift = match self.stage {
+            Stage::Auction | Stage::Finish => self.shift.min(SHIFT),
+            _ => 0,
+        };
+        Record {
+            shift,
+            slackness: self.slackness.max(0),
+            ..*self
+        }
+    }
+}
+
+/// The end of a call.
+#[derive(Clone, Copy)]
+pub enum Outcome {
+    /// Each person has an object, at exact prices.
+    Best,
+    /// The budget of looks is spent, and the record says where to go on.
+    Stopped,
+    /// The lists don't fit one another, or sums left the range: nothing was found.
+    Lost,
+}
+
+// How a stage ends.
+#[derive(Clone, Copy)]
+pub enum Ended {
+    // Each person has an object.
+    Served,
+    // It takes too long; another stage is to go on.
+    Long,
+    // The budget of looks is spent.
+    Stopped,
+    // A person reached no object: sums left the range.
+    Blocked,
+}

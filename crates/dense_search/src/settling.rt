@@ -1,0 +1,68 @@
+// Prices that somebody has: who keeps or takes a best object.
+use super::market::Market;
+use super::matrix::Matrix;
+use super::reading::Reading;
+use super::rows::two_best;
+use sparse_search::{NOBODY, place_at};
+use std::alloc::{AllocError, Global};
+
+// A person leaves an object that isn't best, and takes a best one that nobody owns.
+fn settle<R: Reading>(matrix: &Matrix<'_, R>, market: &mut Market<'_>, person: u32) {
+    let two = two_best(&matrix.reading, matrix.row(person), market.prices);
+    let object = market.object(person);
+    if object != NOBODY {
+        let own = matrix
+            .value(person, object)
+            .wrapping_add(market.price(object));
+        if own <= two.best {
+            return;
+        }
+        market.release(person);
+    }
+    if market.owner(two.object) == NOBODY {
+        market.give(two.object, person);
+    } else if two.gap() == 0 && market.owner(two.other) == NOBODY {
+        market.give(two.other, person);
+    }
+}
+
+// Settles all persons. Returns the looks at pairs.
+pub fn settle_all<R: Reading>(matrix: &Matrix<'_, R>, market: &mut Market<'_>) -> usize {
+    for k in 0..matrix.persons {
+        settle(matrix, market, place_at(k));
+    }
+    matrix.pairs()
+}
+
+// Raises the bounds to the prices at which a person with this value for its object would take the
+// others.
+fn raise_bounds<R: Reading>(reading: &R, row: &[i64], value: i64, bounds: &mut [i64]) {
+    for (cost, bound) in row.iter().zip(bounds.iter_mut()) {
+        *bound = value.wrapping_sub(reading.value(*cost)).max(*bound);
+    }
+}
+
+// Lowers the prices of unowned objects as far as nobody prefers them, and not below the least
+// price. Returns the looks at pairs.
+pub fn lower_prices<R: Reading>(
+    alloc: Global,
+    matrix: &Matrix<'_, R>,
+    market: &mut Market<'_>,
+) -> Result<usize, AllocError> {
+    let mut bounds = vec![in alloc; market.least_price(); matrix.objects]?;
+    for k in 0..matrix.persons {
+        let person = place_at(k);
+        let object = market.object(person);
+        let value = matrix
+            .value(person, object)
+            .wrapping_add(market.price(object));
+        let row = matrix.row(person);
+        raise_bounds(&matrix.reading, row, value, bounds.as_mut_slice());
+    }
+    for k in 0..market.prices.len() {
+        if k < bounds.len() && market.owner(place_at(k)) == NOBODY {
+            market.prices[k] = market.prices[k].min(bounds[k]);
+        }
+    }
+    Ok(matrix.pairs())
+}

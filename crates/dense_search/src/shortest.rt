@@ -1,0 +1,251 @@
+// The search for a shortest path from a person without an object to an unowned object (Dijkstra's;
+// Edmonds and Karp 1972, Tomizawa 1971).
+use super::market::Market;
+use super::matrix::Matrix;
+use super::reading::Reading;
+use super::rows::{BLOCK, FAR, is_any_below};
+use super::tree::{Label, Scanned, Tree};
+use sparse_search::{Looks, NOBODY, put};
+use std::alloc::{AllocError, Global};
+
+// The prices of objects, or `FAR` where an object is passed, and the paths.
+#[derive(Drop)]
+pub struct Search {
+    keys: Vec<i64>,
+    tree: Tree,
+    // The objects that nobody owned as the searches began.
+    unowned: Vec<u32>,
+}
+
+// Reaches objects from a person, as far as they are nearer than the best end.
+fn scan_row<R: Reading>(
+    tree: &mut Tree,
+    market: &Market<'_>,
+    reading: &R,
+    row: &[i64],
+    keys: &[i64],
+    one: Scanned,
+) -> Result<(), AllocError> {
+    let mut at = 0usize;
+    for (costs, keys) in row.chunks(BLOCK).zip(keys.chunks(BLOCK)) {
+        let limit = tree.best.wrapping_sub(one.base);
+        if is_any_below(reading, costs, keys, limit) {
+            tree.reach_block(market, reading, costs, keys, at, one)?;
+            if tree.best == tree.level {
+                return Ok(());
+            }
+        }
+        at = at.wrapping_add(BLOCK);
+    }
+    Ok(())
+}
+
+// Raises the prices of passed objects up to the distance of the end.
+fn raise(tree: &Tree, market: &mut Market<'_>) {
+    for object in &tree.passed {
+        let distance = tree.label(*object).distance;
+        if distance < tree.best {
+            market.raise(*object, tree.best.wrapping_sub(distance));
+        }
+    }
+}
+
+impl Search {
+    pub fn new(alloc: Global, market: &Market<'_>) -> Result<Search, AllocError> {
+        Ok(Search {
+            keys: market.prices.to_vec(alloc)?,
+            tree: Tree::new(alloc, market.prices.len())?,
+            unowned: market.unowned(alloc)?,
+        })
+    }
+
+    // Shows the passed objects again, at their prices.
+    fn show(&mut self, market: &Market<'_>) {
+        for object in &self.tree.passed {
+            let at = *object as usize;
+            if at < self.keys.len() {
+                self.keys[at] = market.price(*object);
+            }
+        }
+    }
+
+    // Hides the passed objects from this one on.
+    fn hide(&mut self, from: usize) {
+        for object in self.tree.passed.iter().skip(from) {
+            let at = *object as usize;
+            if at < self.keys.len() {
+                self.keys[at] = FAR;
+            }
+        }
+    }
+
+    // The nearest unowned object seen from the first person bounds the search. Where most objects
+    // are unowned a scan finds it as fast.
+    fn look_at_unowned<R: Reading>(
+        &mut self,
+        matrix: &Matrix<'_, R>,
+        market: &Market<'_>,
+        person: u32,
+    ) -> Result<(), AllocError> {
+        if self.unowned.len() > matrix.objects / 4 {
+            return Ok(());
+        }
+        let row = matrix.row(person);
+        let mut best = FAR;
+        let mut end = NOBODY;
+        for object in &self.unowned {
+            let cost = row.get(*object as usize).copied().unwrap_or(FAR);
+            let value = matrix
+                .reading
+                .value(cost)
+                .wrapping_add(market.price(*object));
+            if value < best && market.owner(*object) == NOBODY {
+                best = value;
+                end = *object;
+            }
+        }
+        let came = Label {
+            distance: best,
+            from: person,
+        };
+        self.tree.reach(market, end as usize, came)
+    }
+
+    fn scan<R: Reading>(
+        &mut self,
+        matrix: &Matrix<'_, R>,
+        market: &Market<'_>,
+        one: Scanned,
+        looks: &mut Looks,
+    ) -> Result<(), AllocError> {
+        let hidden = self.tree.passed.len();
+        let row = matrix.row(one.person);
+        let keys = self.keys.as_slice();
+        scan_row(&mut self.tree, market, &matrix.reading, row, keys, one)?;
+        self.hide(hidden);
+        looks.add(row.len());
+        Ok(())
+    }
+
+    // Whether an object waits whose owner is to be scanned in this turn.
+    fn goes_on(&mut self, turn: usize) -> Result<bool, AllocError> {
+        if self.tree.best == self.tree.level {
+            return Ok(false);
+        }
+        let hidden = self.tree.passed.len();
+        if hidden <= turn {
+            self.tree.pass_next(self.keys.as_slice())?;
+            self.hide(hidden);
+        }
+        Ok(turn < self.tree.passed.len())
+    }
+
+    // The owner of the object that was passed in this turn.
+    fn owner_in<R: Reading>(
+        &self,
+        matrix: &Matrix<'_, R>,
+        market: &Market<'_>,
+        turn: usize,
+    ) -> Scanned {
+        let object = self.tree.passed.get(turn).copied().unwrap_or(NOBODY);
+        let person = market.owner(object);
+        let own = matrix
+            .value(person, object)
+            .wrapping_add(market.price(object));
+        let distance = self.tree.label(object).distance;
+        Scanned {
+            person,
+            base: distance.wrapping_sub(own),
+        }
+    }
+
+    // Scans the owners of passed objects, until no path can be shorter than the best one.
+    fn follow<R: Reading>(
+        &mut self,
+        matrix: &Matrix<'_, R>,
+        market: &Market<'_>,
+        looks: &mut Looks,
+    ) -> Result<(), AllocError> {
+        for turn in 0..matrix.objects {
+            if !self.goes_on(turn)? {
+                return Ok(());
+            }
+            let one = self.owner_in(matrix, market, turn);
+            self.scan(matrix, market, one, looks)?;
+        }
+        Ok(())
+    }
+
+    // Gives each person on the way back from the end the object that was reached from it. The last
+    // person had no object; or an object was reached from nobody, and becomes unowned.
+    fn walk_back(&self, market: &mut Market<'_>) {
+        let mut object = self.tree.end;
+        for _ in 0..self.tree.labels.len() {
+            let person = self.tree.label(object).from;
+            if person == NOBODY {
+                put(market.owners.as_mut_slice(), object, NOBODY);
+                return;
+            }
+            let left = market.object(person);
+            market.give(object, person);
+            if left == NOBODY {
+                return;
+            }
+            object = left;
+        }
+    }
+
+    // Changes prices and owners by what was found. Returns whether an end was found.
+    fn finish(&mut self, market: &mut Market<'_>) -> bool {
+        let is_found = self.tree.end != NOBODY;
+        if is_found {
+            raise(&self.tree, market);
+            self.walk_back(market);
+        }
+        self.show(market);
+        self.tree.clear();
+        is_found
+    }
+
+    // Gives one more person an object, if it reaches an unowned one.
+    pub fn serve<R: Reading>(
+        &mut self,
+        matrix: &Matrix<'_, R>,
+        market: &mut Market<'_>,
+        person: u32,
+        looks: &mut Looks,
+    ) -> Result<bool, AllocError> {
+        self.look_at_unowned(matrix, market, person)?;
+        self.scan(matrix, market, Scanned { person, base: 0 }, looks)?;
+        self.follow(matrix, market, looks)?;
+        Ok(self.finish(market))
+    }
+
+    // A search from a dummy, to whom all objects cost nothing: an unowned object whose price is
+    // above the least one gets an owner, or the least price rises to its price. Returns whether
+    // there was such an object.
+    pub fn lower_one<R: Reading>(
+        &mut self,
+        matrix: &Matrix<'_, R>,
+        market: &mut Market<'_>,
+        looks: &mut Looks,
+    ) -> Result<bool, AllocError> {
+        self.tree.floor = market.least_price();
+        for k in 0..self.keys.len() {
+            if self.keys[k] < self.tree.best {
+                let came = Label {
+                    distance: self.keys[k],
+                    from: NOBODY,
+                };
+                self.tree.reach(market, k, came)?;
+            }
+        }
+        looks.add(self.keys.len());
+        if self.tree.end == NOBODY {
+            self.tree.clear();
+            return Ok(false);
+        }
+        self.follow(matrix, market, looks)?;
+        Ok(self.finish(market))
+    }
+}

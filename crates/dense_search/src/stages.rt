@@ -1,0 +1,430 @@
+// The whole search, stage by stage.
+use super::auction::auction;
+use super::bids::bid_all;
+use super::cores::solve_by_cores;
+use super::market::Market;
+use super::matrix::{DenseProblem, Matrix};
+use super::paths::{Allowance, lower_unowned, serve_all};
+use super::prices::{begin, begin_at_zero, cut, magnify, reduce};
+use super::reading::{AsCosts, AsGains, Reading};
+use super::record::{Ended, Outcome, Record, SHIFT, Stage};
+use super::settling::settle_all;
+use assign_core::Sense;
+use sparse_search::Looks;
+use std::alloc::{AllocError, Global};
+
+/// The most persons and the most objects.
+pub const MOST: usize = 1 << 22;
+
+// The most stages of a search.
+const STAGES: usize = 12;
+
+// Searches alone serve problems with fewer pairs.
+const SMALL: usize = 1 << 14;
+
+// Problems with fewer pairs are mostly served by searches.
+const MIDDLE: usize = 1 << 19;
+
+// A core's work apart from its passes, in looks at pairs a person; and the passes.
+const CORE_LOOKS: u64 = 4000;
+
+const CORE_PASSES: u64 = 2;
+
+// The looks of searches after a core, as passes over all pairs.
+const RETRY_PASSES: u64 = 32;
+
+// The first slackness of the auction is this part of what a person would gain on average.
+const FIRST_DIVISOR: i64 = 5;
+
+// The first bids of a person. A core's are cheaper, and only large problems come to one.
+fn first_bids<R: Reading>(matrix: &Matrix<'_, R>) -> usize {
+    if matrix.pairs() < MIDDLE { 2 } else { 1 }
+}
+
+// The looks after which a core is as fast as searches.
+fn most_looks<R: Reading>(matrix: &Matrix<'_, R>) -> u64 {
+    if matrix.pairs() < SMALL {
+        return u64::MAX;
+    }
+    let persons = (matrix.persons as u64).saturating_mul(CORE_LOOKS);
+    let passes = (matrix.pairs() as u64).saturating_mul(CORE_PASSES);
+    persons.saturating_add(passes)
+}
+
+// What a step of a search leads to.
+#[derive(Clone, Copy)]
+enum Step {
+    To(Stage),
+    End(Outcome),
+}
+
+// What follows on an end of a stage.
+fn after(ended: Ended, served: Step, long: Stage) -> Step {
+    match ended {
+        Ended::Served => served,
+        Ended::Long => Step::To(long),
+        Ended::Stopped => Step::End(Outcome::Stopped),
+        Ended::Blocked => Step::End(Outcome::Lost),
+    }
+}
+
+// Prices and objects of another stage.
+#[derive(Drop)]
+struct Kept {
+    prices: Vec<i64>,
+    objects: Vec<u32>,
+}
+
+impl Kept {
+    fn of(alloc: Global, market: &Market<'_>) -> Result<Kept, AllocError> {
+        Ok(Kept {
+            prices: market.prices.to_vec(alloc)?,
+            objects: market.objects.to_vec(alloc)?,
+        })
+    }
+
+    // Changes places with those of the market.
+    fn swap(&mut self, market: &mut Market<'_>) {
+        swap_prices(market.prices, self.prices.as_mut_slice());
+        swap_objects(market.objects, self.objects.as_mut_slice());
+        market.enter_objects();
+    }
+}
+
+fn swap_prices(some: &mut [i64], others: &mut [i64]) {
+    for (one, other) in some.iter_mut().zip(others.iter_mut()) {
+        let before = *one;
+        *one = *other;
+        *other = before;
+    }
+}
+
+fn swap_objects(some: &mut [u32], others: &mut [u32]) {
+    for (one, other) in some.iter_mut().zip(others.iter_mut()) {
+        let before = *one;
+        *one = *other;
+        *other = before;
+    }
+}
+
+// A search at work: what its stages change.
+#[derive(Drop)]
+struct Work<'a> {
+    market: Market<'a>,
+    record: Record,
+    looks: Looks,
+    // Whether this call went on from what another one left, so that an end is to be confirmed.
+    is_resumed: bool,
+    // Where the first searches ended, while a core is solved; then where the core ended.
+    kept: Option<Kept>,
+}
+
+impl<'a> Work<'a> {
+    // First bids of each person without an object, as far as the looks allow. Returns whether more
+    // are to come.
+    fn bid_first<R: Reading>(&mut self, matrix: &Matrix<'_, R>) -> bool {
+        let all = matrix.persons.saturating_mul(first_bids(matrix)) as u64;
+        let left = all.saturating_sub(self.record.bids) as usize;
+        let room = self.looks.limit.saturating_sub(self.looks.done) as usize;
+        let most = left.min(room / matrix.objects.max(1));
+        let made = bid_all(matrix, &mut self.market, most);
+        self.record.bids = self.record.bids.saturating_add(made as u64);
+        self.looks.add(made.saturating_mul(matrix.objects));
+        made > 0 && made == most && most < left
+    }
+
+    fn begin_cold<R: Reading>(&mut self, matrix: &Matrix<'_, R>) -> Step {
+        self.market.release_all();
+        let looks = begin(matrix, self.market.prices);
+        self.looks.add(looks);
+        self.record.bids = 0;
+        Step::To(Stage::Paths)
+    }
+
+    // First prices of which many persons' best objects are others' too save nothing, and so do those
+    // of many more objects than persons, since a search without any looks at few pairs twice.
+    fn begin_warm<R: Reading>(&mut self, matrix: &Matrix<'_, R>) -> Step {
+        if matrix.persons < matrix.objects / 8 * 7 {
+            return Step::To(Stage::Cold);
+        }
+        begin_at_zero(self.market.prices);
+        cut(self.market.prices);
+        let looks = settle_all(matrix, &mut self.market);
+        self.looks.add(looks);
+        if self.market.unserved() > matrix.persons / 2 {
+            return Step::To(Stage::Cold);
+        }
+        self.record.bids = 0;
+        Step::To(Stage::Paths)
+    }
+
+    fn serve<R: Reading>(
+        &mut self,
+        alloc: Global,
+        matrix: &Matrix<'_, R>,
+        allowed: Allowance,
+    ) -> Result<Ended, AllocError> {
+        serve_all(alloc, matrix, &mut self.market, allowed, &mut self.looks)
+    }
+
+    // Each person has an object: unowned objects come down to the least price.
+    fn lower<R: Reading>(
+        &mut self,
+        alloc: Global,
+        matrix: &Matrix<'_, R>,
+    ) -> Result<Step, AllocError> {
+        let is_square = matrix.persons == matrix.objects;
+        if is_square || !self.market.has_dear_unowned() {
+            return Ok(Step::End(Outcome::Best));
+        }
+        let ended = lower_unowned(alloc, matrix, &mut self.market, &mut self.looks)?;
+        Ok(after(ended, Step::End(Outcome::Best), Stage::Finish))
+    }
+
+    fn after_searches<R: Reading>(
+        &mut self,
+        alloc: Global,
+        matrix: &Matrix<'_, R>,
+        ended: Ended,
+        long: Stage,
+    ) -> Result<Step, AllocError> {
+        match ended {
+            Ended::Served => self.lower(alloc, matrix),
+            ended => Ok(after(ended, Step::End(Outcome::Best), long)),
+        }
+    }
+
+    fn search_paths<R: Reading>(
+        &mut self,
+        alloc: Global,
+        matrix: &Matrix<'_, R>,
+    ) -> Result<Step, AllocError> {
+        if self.bid_first(matrix) {
+            return Ok(Step::End(Outcome::Stopped));
+        }
+        let allowed = Allowance {
+            most: most_looks(matrix),
+            is_growing: true,
+        };
+        let ended = self.serve(alloc, matrix, allowed)?;
+        if let Ended::Long = ended {
+            self.kept = Some(Kept::of(alloc, &self.market)?);
+        }
+        self.after_searches(alloc, matrix, ended, Stage::Core)
+    }
+
+    fn solve_cores<R: Reading>(
+        &mut self,
+        alloc: Global,
+        matrix: &Matrix<'_, R>,
+    ) -> Result<Step, AllocError> {
+        let record = &mut self.record;
+        let ended = solve_by_cores(alloc, matrix, &mut self.market, record, &mut self.looks)?;
+        Ok(after(ended, Step::End(Outcome::Best), Stage::Retry))
+    }
+
+    // Changes places with what is kept. Returns whether anything is.
+    fn swap_kept(&mut self) -> bool {
+        match &mut self.kept {
+            Some(kept) => {
+                kept.swap(&mut self.market);
+                true
+            }
+            None => false,
+        }
+    }
+
+    // Searches on from where the first ones ended; if these take too long, the core's prices are
+    // those of the auction.
+    fn retry<R: Reading>(
+        &mut self,
+        alloc: Global,
+        matrix: &Matrix<'_, R>,
+    ) -> Result<Step, AllocError> {
+        if !self.swap_kept() {
+            let looks = settle_all(matrix, &mut self.market);
+            self.looks.add(looks);
+        }
+        let allowed = Allowance {
+            most: (matrix.pairs() as u64).saturating_mul(RETRY_PASSES),
+            is_growing: false,
+        };
+        let ended = self.serve(alloc, matrix, allowed)?;
+        if let Ended::Long = ended {
+            let _ = self.swap_kept();
+        }
+        self.after_searches(alloc, matrix, ended, Stage::Auction)
+    }
+
+    // The auction, in whose unit costs count 2^9 times.
+    fn bid_in_phases<R: Reading>(
+        &mut self,
+        alloc: Global,
+        matrix: &Matrix<'_, R>,
+    ) -> Result<Step, AllocError> {
+        if self.record.shift == 0 {
+            self.record.shift = SHIFT;
+            magnify(self.market.prices, SHIFT);
+            let slackness = self.record.slackness / FIRST_DIVISOR;
+            self.record.slackness = slackness.wrapping_shl(SHIFT).max(1);
+            self.record.bids = 0;
+            self.market.release_all();
+        }
+        let matrix = &matrix.magnified(self.record.shift);
+        let record = &mut self.record;
+        let ended = auction(alloc, matrix, &mut self.market, record, &mut self.looks)?;
+        Ok(after(ended, Step::To(Stage::Finish), Stage::Finish))
+    }
+
+    // Searches to the end, in the unit of the prices.
+    fn finish<R: Reading>(
+        &mut self,
+        alloc: Global,
+        matrix: &Matrix<'_, R>,
+    ) -> Result<Step, AllocError> {
+        let matrix = &matrix.magnified(self.record.shift);
+        let looks = settle_all(matrix, &mut self.market);
+        self.looks.add(looks);
+        let unserved = self.market.unserved();
+        let made = bid_all(matrix, &mut self.market, unserved);
+        self.looks.add(made.saturating_mul(matrix.objects));
+        let allowed = Allowance {
+            most: u64::MAX,
+            is_growing: false,
+        };
+        let ended = serve_all(alloc, matrix, &mut self.market, allowed, &mut self.looks)?;
+        let Ended::Served = ended else {
+            return Ok(after(ended, Step::End(Outcome::Best), Stage::Finish));
+        };
+        let ended = lower_unowned(alloc, matrix, &mut self.market, &mut self.looks)?;
+        Ok(after(ended, Step::End(Outcome::Best), Stage::Finish))
+    }
+
+    fn step<R: Reading>(
+        &mut self,
+        alloc: Global,
+        matrix: &Matrix<'_, R>,
+    ) -> Result<Step, AllocError> {
+        match self.record.stage {
+            Stage::Cold => Ok(self.begin_cold(matrix)),
+            Stage::Warm => Ok(self.begin_warm(matrix)),
+            Stage::Paths => self.search_paths(alloc, matrix),
+            Stage::Core => self.solve_cores(alloc, matrix),
+            Stage::Retry => self.retry(alloc, matrix),
+            Stage::Auction => self.bid_in_phases(alloc, matrix),
+            Stage::Finish => self.finish(alloc, matrix),
+        }
+    }
+
+    // The prices in the unit of the costs, the least one 0.
+    fn close(&mut self) {
+        let shift = self.record.shift;
+        reduce(self.market.prices, shift);
+        begin_at_zero(self.market.prices);
+        self.record.shift = 0;
+    }
+
+    // Whether an end holds in a call that went on from what another one left: what that was, nobody
+    // vouches for. If it doesn't, searches go on from there.
+    fn is_confirmed<R: Reading>(&mut self, matrix: &Matrix<'_, R>) -> bool {
+        if !self.is_resumed {
+            return true;
+        }
+        self.is_resumed = false;
+        let looks = settle_all(matrix, &mut self.market);
+        self.looks.add(looks);
+        self.market.unserved() == 0 && !self.market.has_dear_unowned()
+    }
+
+    // Stage by stage up to an end.
+    fn go_on<R: Reading>(
+        &mut self,
+        alloc: Global,
+        matrix: &Matrix<'_, R>,
+    ) -> Result<Outcome, AllocError> {
+        for _ in 0..STAGES {
+            match self.step(alloc, matrix)? {
+                Step::To(stage) => {
+                    self.record.stage = stage;
+                    if self.looks.is_spent() {
+                        return Ok(Outcome::Stopped);
+                    }
+                }
+                Step::End(Outcome::Best) => {
+                    self.close();
+                    if self.is_confirmed(matrix) {
+                        return Ok(Outcome::Best);
+                    }
+                    self.record.stage = Stage::Finish;
+                }
+                Step::End(outcome) => return Ok(outcome),
+            }
+        }
+        Ok(Outcome::Lost)
+    }
+}
+
+fn run_as<R: Reading>(
+    alloc: Global,
+    matrix: &Matrix<'_, R>,
+    prices: &mut [i64],
+    objects: &mut [u32],
+    record: &mut Record,
+    budget: u64,
+) -> Result<Outcome, AllocError> {
+    let limit = if budget == 0 {
+        u64::MAX
+    } else {
+        record.looks.saturating_add(budget)
+    };
+    let mut work = Work {
+        market: Market::new(alloc, prices, objects)?,
+        record: record.sound(),
+        is_resumed: record.is_begun(),
+        kept: None,
+        looks: Looks {
+            done: record.looks,
+            limit,
+        },
+    };
+    let outcome = work.go_on(alloc, matrix)?;
+    *record = work.record;
+    record.looks = work.looks.done;
+    Ok(outcome)
+}
+
+// Whether the lists fit one another.
+fn is_whole(problem: DenseProblem<'_>, prices: &[i64], objects: &[u32]) -> bool {
+    problem.persons <= problem.objects
+        && problem.objects <= MOST
+        && problem.costs.len() == problem.persons.wrapping_mul(problem.objects)
+        && prices.len() == problem.objects
+        && objects.len() == problem.persons
+}
+
+/// Searches for exact prices and a plan, and stops after about `budget` looks at pairs (0: it
+/// doesn't). A call reads and writes a price for each object and an object for each person. At
+/// `Best` prices are whole numbers in the unit of the costs, none below 0, and 0 where nobody owns
+/// the object. At `Stopped` they are those from which the next call goes on, with the record.
+pub fn search(
+    alloc: Global,
+    problem: DenseProblem<'_>,
+    prices: &mut [i64],
+    objects: &mut [u32],
+    record: &mut Record,
+    budget: u64,
+) -> Result<Outcome, AllocError> {
+    if !is_whole(problem, prices, objects) {
+        return Ok(Outcome::Lost);
+    }
+    match problem.sense {
+        Sense::Min => {
+            let matrix = problem.read_as(AsCosts);
+            run_as(alloc, &matrix, prices, objects, record, budget)
+        }
+        Sense::Max => {
+            let matrix = problem.read_as(AsGains);
+            run_as(alloc, &matrix, prices, objects, record, budget)
+        }
+    }
+}

@@ -1,0 +1,206 @@
+// Drawn problems of every shape: cold, warm, from any record and in pieces.
+use super::lists::{Finding, Lists};
+use crate::sparse::drawn::{SPANS, draw_cost};
+use crate::sparse::judged::nobody;
+use dense_search::{Record, Stage};
+use std::alloc::{AllocError, Global};
+use std::test::Fail;
+use test_helpers::{draw_wide, drawn_sense};
+
+// Kinds of costs.
+#[derive(Clone, Copy)]
+enum Kind {
+    Drawn,
+    // Nearly sums of a person's and an object's part.
+    Sums,
+    Products,
+    // Few cheap pairs among dear ones.
+    Band,
+}
+
+fn draw_kind(seed: &mut u64) -> Kind {
+    match draw_wide(seed, 6) {
+        0 => Kind::Sums,
+        1 => Kind::Products,
+        2 => Kind::Band,
+        _ => Kind::Drawn,
+    }
+}
+
+fn small(index: usize) -> i64 {
+    (index & 0xffff) as i64
+}
+
+fn cost_at(seed: &mut u64, kind: Kind, span: u64, person: usize, object: usize) -> i64 {
+    let drawn = draw_cost(seed, span);
+    let (row, column) = (small(person), small(object));
+    match kind {
+        Kind::Drawn => drawn,
+        Kind::Sums => row
+            .wrapping_mul(1000)
+            .wrapping_add(column.wrapping_mul(7))
+            .wrapping_add(drawn & 3),
+        Kind::Products => row.wrapping_add(1).wrapping_mul(column.wrapping_add(1)),
+        Kind::Band => {
+            if row == column || row == column.wrapping_add(1) {
+                drawn
+            } else {
+                1_000_000_000_000
+            }
+        }
+    }
+}
+
+// A problem of at most `most` objects.
+fn draw_lists(alloc: Global, seed: &mut u64, most: u64) -> Result<Lists, AllocError> {
+    let objects = (draw_wide(seed, most) & 0xff) as usize + 1;
+    let share = draw_wide(seed, 4);
+    let fewer = (draw_wide(seed, objects as u64) & 0xff) as usize;
+    let persons = if share == 0 {
+        objects
+    } else {
+        objects.saturating_sub(fewer).max(1)
+    };
+    let span = SPANS[(draw_wide(seed, 6) % 6) as usize];
+    let kind = draw_kind(seed);
+    let mut costs = Vec::new(alloc);
+    for k in 0..persons.wrapping_mul(objects) {
+        let (person, object) = (k / objects.max(1), k % objects.max(1));
+        costs.push(cost_at(seed, kind, span, person, object))?;
+    }
+    Ok(Lists {
+        sense: drawn_sense(seed),
+        persons,
+        objects,
+        costs,
+    })
+}
+
+// Prices and objects from anywhere.
+fn draw_start(
+    alloc: Global,
+    seed: &mut u64,
+    lists: &Lists,
+) -> Result<(Vec<i64>, Vec<u32>), AllocError> {
+    let span = SPANS[(draw_wide(seed, 6) % 6) as usize];
+    let mut prices = Vec::new(alloc);
+    for _object in 0..lists.objects {
+        prices.push(draw_cost(seed, span))?;
+    }
+    let mut objects = Vec::new(alloc);
+    for _person in 0..lists.persons {
+        objects.push((draw_wide(seed, 9) & 15) as u32)?;
+    }
+    Ok((prices, objects))
+}
+
+fn draw_stage(seed: &mut u64) -> Stage {
+    match draw_wide(seed, 7) {
+        0 => Stage::Cold,
+        1 => Stage::Warm,
+        2 => Stage::Paths,
+        3 => Stage::Core,
+        4 => Stage::Retry,
+        5 => Stage::Auction,
+        _ => Stage::Finish,
+    }
+}
+
+// A record that no search wrote.
+fn draw_record(seed: &mut u64) -> Record {
+    Record {
+        stage: draw_stage(seed),
+        shift: (draw_wide(seed, 12) & 15) as u32,
+        slackness: draw_cost(seed, 1 << 30),
+        bids: draw_wide(seed, 200),
+        passes: draw_wide(seed, 4),
+        looks: draw_wide(seed, 1000),
+    }
+}
+
+// Calls of a budget each, up to the end.
+fn in_pieces(
+    alloc: Global,
+    seed: &mut u64,
+    lists: &Lists,
+    record: Record,
+    budget: u64,
+) -> Result<Finding, AllocError> {
+    let (mut prices, mut objects) = draw_start(alloc, seed, lists)?;
+    let mut record = record;
+    for _piece in 0..2000 {
+        let (prices, objects) = (prices.as_mut_slice(), objects.as_mut_slice());
+        let found = lists.call(alloc, prices, objects, &mut record, budget)?;
+        if found != Finding::Stopped {
+            return Ok(found);
+        }
+    }
+    Ok(Finding::Stopped)
+}
+
+#[test]
+fn cold_searches_find_the_best(rt: HostRuntime) -> Result<(), Fail> {
+    let mut seed = 1u64;
+    for turn in 0..4000 {
+        let lists = draw_lists(rt.alloc(), &mut seed, 8)?;
+        let found = in_pieces(rt.alloc(), &mut seed, &lists, Record::cold(), 0)?;
+        assert_eq!(rt; found, lists.slow(rt.alloc())?, "problem {turn}");
+    }
+    Ok(())
+}
+
+#[test]
+fn warm_searches_find_the_best(rt: HostRuntime) -> Result<(), Fail> {
+    let mut seed = 2u64;
+    for turn in 0..3000 {
+        let lists = draw_lists(rt.alloc(), &mut seed, 8)?;
+        let found = in_pieces(rt.alloc(), &mut seed, &lists, Record::warm(), 0)?;
+        assert_eq!(rt; found, lists.slow(rt.alloc())?, "problem {turn}");
+    }
+    Ok(())
+}
+
+#[test]
+fn searches_from_any_record_find_the_best(rt: HostRuntime) -> Result<(), Fail> {
+    let mut seed = 3u64;
+    for turn in 0..1000 {
+        let lists = draw_lists(rt.alloc(), &mut seed, 8)?;
+        let record = draw_record(&mut seed);
+        let found = in_pieces(rt.alloc(), &mut seed, &lists, record, 0)?;
+        assert_eq!(rt; found, lists.slow(rt.alloc())?, "problem {turn}");
+    }
+    Ok(())
+}
+
+#[test]
+fn searches_in_pieces_find_the_best(rt: HostRuntime) -> Result<(), Fail> {
+    let mut seed = 4u64;
+    for turn in 0..1000 {
+        let lists = draw_lists(rt.alloc(), &mut seed, 8)?;
+        let budget = draw_wide(&mut seed, 40).wrapping_add(1);
+        let record = draw_record(&mut seed);
+        let found = in_pieces(rt.alloc(), &mut seed, &lists, record, budget)?;
+        assert_eq!(rt; found, lists.slow(rt.alloc())?, "problem {turn}");
+    }
+    Ok(())
+}
+
+// Exact prices are a proof, so larger problems need no slow search.
+#[test]
+fn larger_problems_end_at_exact_prices(rt: HostRuntime) -> Result<(), Fail> {
+    let mut seed = 5u64;
+    for turn in 0..20 {
+        let lists = draw_lists(rt.alloc(), &mut seed, 100)?;
+        let alloc = rt.alloc();
+        let mut prices = vec![in alloc; 0i64; lists.objects]?;
+        let mut objects = nobody(alloc, lists.persons)?;
+        let mut record = Record::cold();
+        if turn % 3 == 0 {
+            record.stage = Stage::Core;
+        }
+        let (prices, objects) = (prices.as_mut_slice(), objects.as_mut_slice());
+        let found = lists.call(alloc, prices, objects, &mut record, 0)?;
+        assert!(rt; matches!(found, Finding::Best(_)), "problem {turn}");
+    }
+    Ok(())
+}
