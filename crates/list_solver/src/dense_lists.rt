@@ -7,8 +7,8 @@ use super::record::Record;
 use super::standing::Standing;
 use super::whole::all_of_rows;
 use assign_core::{Cost, Sense};
-use cost_lists::{Object, Person};
-use dense_search::{DenseProblem, Outcome, search};
+use cost_lists::{Object, Person, Price};
+use dense_search::{DenseProblem, Outcome, Record as DenseRecord, search};
 use std::alloc::{AllocError, Global};
 
 fn ended_as(outcome: Outcome) -> Ended {
@@ -17,6 +17,25 @@ fn ended_as(outcome: Outcome) -> Ended {
         Outcome::Stopped => Ended::Stopped,
         Outcome::Lost => Ended::Lost,
     }
+}
+
+// The search over places.
+fn search_places(
+    alloc: Global,
+    problem: DenseProblem<'_>,
+    prices: &mut Vec<Price>,
+    objects: &mut Vec<Object>,
+    record: &mut DenseRecord,
+    budget: u64,
+) -> Result<Outcome, AllocError>
+    ensures prices { length prices.new.items ≡ length prices.old.items }
+    ensures objects { length objects.new.items ≡ length objects.old.items }
+{
+    to_places(objects.as_mut_slice());
+    let (slice, places) = (prices.as_mut_slice(), objects.as_mut_slice());
+    let outcome = search(alloc, problem, slice, places, record, budget);
+    to_numbers(objects.as_mut_slice());
+    outcome
 }
 
 // Searches over the costs of `n` persons and `m` objects, which are read where they are.
@@ -42,16 +61,14 @@ pub fn search_rows(
         costs,
     };
     let mut record = standing.record.to_dense(standing.has_nothing());
-    to_places(standing.objects.as_mut_slice());
-    let outcome = search(
+    let outcome = search_places(
         alloc,
         problem,
-        standing.prices.as_mut_slice(),
-        standing.objects.as_mut_slice(),
+        &mut standing.prices,
+        &mut standing.objects,
         &mut record,
         budget,
     );
-    to_numbers(standing.objects.as_mut_slice());
     standing.record = Record::of_dense(&record);
     Ok(ended_as(outcome?))
 }

@@ -9,7 +9,7 @@ use super::standing::Standing;
 use super::whole::all_of_pairs;
 use assign_core::Sense;
 use cost_lists::{Object, Pairs, Person, Price};
-use sparse_search::{Outcome, search};
+use sparse_search::{Outcome, Record as SparseRecord, SparseProblem, search};
 use std::alloc::{AllocError, Global};
 
 // Prices in the unit of the costs as prices of the search.
@@ -43,6 +43,25 @@ fn ended_as(outcome: Outcome) -> Ended {
     }
 }
 
+// The search over places, in its own unit.
+fn search_places(
+    alloc: Global,
+    problem: SparseProblem<'_>,
+    prices: &mut Vec<Price>,
+    objects: &mut Vec<Object>,
+    record: &mut SparseRecord,
+    budget: u64,
+) -> Result<Outcome, AllocError>
+    ensures prices { length prices.new.items ≡ length prices.old.items }
+    ensures objects { length objects.new.items ≡ length objects.old.items }
+{
+    to_places(objects.as_mut_slice());
+    let (slice, places) = (prices.as_mut_slice(), objects.as_mut_slice());
+    let outcome = search(alloc, problem, slice, places, record, budget);
+    to_numbers(objects.as_mut_slice());
+    outcome
+}
+
 // One search over rows of pairs.
 fn search_grouped(
     alloc: Global,
@@ -57,16 +76,14 @@ fn search_grouped(
     if standing.record.begins_sparse() && grouped.factor != 1 {
         divide(standing.prices.as_mut_slice(), grouped.factor);
     }
-    to_places(standing.objects.as_mut_slice());
-    let outcome = search(
+    let outcome = search_places(
         alloc,
         grouped.problem(),
-        standing.prices.as_mut_slice(),
-        standing.objects.as_mut_slice(),
+        &mut standing.prices,
+        &mut standing.objects,
         &mut record,
         budget,
     );
-    to_numbers(standing.objects.as_mut_slice());
     standing.record = Record::of_sparse(&record);
     let ended = ended_as(outcome?);
     if matches!(&ended, Ended::Best) && grouped.factor != 1 {

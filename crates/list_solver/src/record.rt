@@ -4,16 +4,24 @@ use sparse_search::{Record as SparseRecord, Stage as SparseStage};
 
 // The numbers of the stages of both searches. Any other number stands for the beginning.
 const COLD: u32 = 1;
+
 const WARM: u32 = 2;
+
 const PATHS: u32 = 3;
+
 const CORE: u32 = 4;
+
 const RETRY: u32 = 5;
+
 const AUCTION: u32 = 6;
+
 const FINISH: u32 = 7;
+
 const MATCHING: u32 = 8;
 
 // The bits of the flags.
 const HAS_ASSIGNMENT: u32 = 1;
+
 const DROPS_PAIRS: u32 = 2;
 
 /// Where a search stands between two calls. Whatever it holds, the checker alone decides about the
@@ -177,7 +185,8 @@ impl Record {
     }
 
     pub fn of_sparse(record: &SparseRecord) -> Record {
-        let flags = flag(record.has_assignment, HAS_ASSIGNMENT) | flag(record.drops_pairs, DROPS_PAIRS);
+        let flags = flag(record.has_assignment, HAS_ASSIGNMENT)
+            | flag(record.drops_pairs, DROPS_PAIRS);
         Record {
             stage: number_of_sparse(record.stage),
             shift: record.shift,

@@ -13,6 +13,7 @@ pub struct Standing {
 impl Standing {
     // Whether all prices are 0 and nobody has an object.
     pub fn has_nothing(&self) -> bool {
-        self.objects.iter().all(|object| *object == 0) && self.prices.iter().all(|price| *price == 0)
+        self.objects.iter().all(|object| *object == 0)
+            && self.prices.iter().all(|price| *price == 0)
     }
 }
