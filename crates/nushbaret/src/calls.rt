@@ -1,15 +1,16 @@
 // The calls, as `c/nushbaret.h` declares them.
-ghost use Rattle.std.specs.Prelude.{[], ◌⊎◌, None, Some, map};
+ghost use Rattle.std.specs.Prelude.{◌≡◌, ◌≢◌, [], ◌⊎◌, pos};
 ghost use Rattle.lent_lists.specs.Checks.{IsHallJudged, IsJudged, IsRefused};
 ghost use Rattle.lent_lists.specs.Ends.{Solves, buffers};
 ghost use Rattle.lent_lists.specs.Given.{either, problem_alone};
 ghost use Rattle.lent_lists.specs.declared.form.Form.TheVariants.{Dense, Sparse};
-ghost use Rattle.lent_lists.specs.Prices.{price_in};
 
+use cost_lists::{Object, Person, Price};
 use lent_lists::{
-    Buffers, Form, Given, Info, SplitPrice, form_of, hall_verdict_on, refuse, report_hall_verdict,
-    report_verdict, solve_given, verdict_on,
+    Buffers, Form, Given, Info, form_of, hall_verdict_on, refuse, report_hall_verdict,
+    report_verdict, solve_from, solve_given, verdict_on,
 };
+use list_solver::Record;
 use std::alloc::Global;
 
 /// Solves a dense problem: `n` persons, `m` objects, and the cost of each pair, row by row.
@@ -20,12 +21,12 @@ pub extern "C" fn nushbaret_dense(
     n: usize,
     m: usize,
     costs: &[i64],
-    objects: &mut [u16],
-    persons: &mut [u16],
-    prices: &mut [SplitPrice],
+    objects: &mut [Object],
+    persons: &mut [Person],
+    prices: &mut [Price],
     info: &mut Info,
 ) -> i32
-    ensures { Solves (problem_alone Dense sense n m [] [] costs.now) None
+    ensures { Solves (problem_alone Dense sense n m [] [] costs.now) [] 0
         (buffers objects.old persons.old prices.old info.old)
         (buffers objects.new persons.new prices.new info.new) result }
 {
@@ -60,18 +61,21 @@ pub extern "C" fn nushbaret_dense_from(
     n: usize,
     m: usize,
     costs: &[i64],
-    first: &[SplitPrice],
-    objects: &mut [u16],
-    persons: &mut [u16],
-    prices: &mut [SplitPrice],
+    first: &[Price],
+    objects: &mut [Object],
+    persons: &mut [Person],
+    prices: &mut [Price],
+    budget: u64,
+    progress: &mut Record,
     info: &mut Info,
 ) -> i32
-    ensures { Solves (problem_alone Dense sense n m [] [] costs.now) (Some first.now)
+    ensures solves { Solves (problem_alone Dense sense n m [] [] costs.now) first.now budget
         (buffers objects.old persons.old prices.old info.old)
         (buffers objects.new persons.new prices.new info.new) result }
+    ensures progress { result ≢ pos 21 → progress.new ≡ progress.old }
 {
     let by_person = [objects.len(), persons.len()];
-    let by_object = [prices.len(), first.len()];
+    let by_object = [prices.len()];
     let given = Given {
         form: Form::Dense,
         sense,
@@ -90,7 +94,7 @@ pub extern "C" fn nushbaret_dense_from(
         prices,
         info,
     };
-    solve_given(alloc, &given, room)
+    solve_from(alloc, &given, budget, room, progress)
 }
 
 /// Solves a sparse problem: `n` persons, `m` objects, and the persons, the objects and the costs of
@@ -101,15 +105,15 @@ pub extern "C" fn nushbaret_sparse(
     sense: u32,
     n: usize,
     m: usize,
-    of_persons: &[u16],
-    of_objects: &[u16],
+    of_persons: &[Person],
+    of_objects: &[Object],
     costs: &[i64],
-    objects: &mut [u16],
-    persons: &mut [u16],
-    prices: &mut [SplitPrice],
+    objects: &mut [Object],
+    persons: &mut [Person],
+    prices: &mut [Price],
     info: &mut Info,
 ) -> i32
-    ensures { Solves (problem_alone Sparse sense n m of_persons.now of_objects.now costs.now) None
+    ensures { Solves (problem_alone Sparse sense n m of_persons.now of_objects.now costs.now) [] 0
         (buffers objects.old persons.old prices.old info.old)
         (buffers objects.new persons.new prices.new info.new) result }
 {
@@ -143,21 +147,24 @@ pub extern "C" fn nushbaret_sparse_from(
     sense: u32,
     n: usize,
     m: usize,
-    of_persons: &[u16],
-    of_objects: &[u16],
+    of_persons: &[Person],
+    of_objects: &[Object],
     costs: &[i64],
-    first: &[SplitPrice],
-    objects: &mut [u16],
-    persons: &mut [u16],
-    prices: &mut [SplitPrice],
+    first: &[Price],
+    objects: &mut [Object],
+    persons: &mut [Person],
+    prices: &mut [Price],
+    budget: u64,
+    progress: &mut Record,
     info: &mut Info,
 ) -> i32
-    ensures { Solves (problem_alone Sparse sense n m of_persons.now of_objects.now costs.now) (Some first.now)
+    ensures solves { Solves (problem_alone Sparse sense n m of_persons.now of_objects.now costs.now) first.now budget
         (buffers objects.old persons.old prices.old info.old)
         (buffers objects.new persons.new prices.new info.new) result }
+    ensures progress { result ≢ pos 21 → progress.new ≡ progress.old }
 {
     let by_person = [objects.len(), persons.len()];
-    let by_object = [prices.len(), first.len()];
+    let by_object = [prices.len()];
     let given = Given {
         form: Form::Sparse,
         sense,
@@ -176,7 +183,7 @@ pub extern "C" fn nushbaret_sparse_from(
         prices,
         info,
     };
-    solve_given(alloc, &given, room)
+    solve_from(alloc, &given, budget, room, progress)
 }
 
 /// Checks an assignment with its prices against a problem. The problem is dense if there are costs
@@ -187,15 +194,15 @@ pub extern "C" fn nushbaret_check(
     sense: u32,
     n: usize,
     m: usize,
-    of_persons: &[u16],
-    of_objects: &[u16],
+    of_persons: &[Person],
+    of_objects: &[Object],
     costs: &[i64],
-    objects: &[u16],
-    prices: &[SplitPrice],
+    objects: &[Object],
+    prices: &[Price],
     info: &mut Info,
 ) -> i32
     ensures { let given = either sense n m of_persons.now of_objects.now costs.now in
-        IsJudged given objects.now (map price_in prices.now) info.old info.new result
+        IsJudged given objects.now prices.now info.old info.new result
         ⊎ IsRefused given info.old info.new result }
 {
     let given = Given {
@@ -222,11 +229,11 @@ pub extern "C" fn nushbaret_check_hall(
     alloc: Global,
     n: usize,
     m: usize,
-    of_persons: &[u16],
-    of_objects: &[u16],
+    of_persons: &[Person],
+    of_objects: &[Object],
     costs: &[i64],
-    persons: &[u16],
-    objects: &[u16],
+    persons: &[Person],
+    objects: &[Object],
     info: &mut Info,
 ) -> i32
     ensures { let given = either 0 n m of_persons.now of_objects.now costs.now in
