@@ -1,5 +1,5 @@
 -- The lists that a caller gives.
-use Rattle.std.specs.Prelude.{◌≡◌, ℕ, zero, suc, ◌*◌, ◌⊎◌, ℤ, List, [], ◌∷◌, Option, None, Some, length, All, ◌==◌, ◌&&◌, not, if◌then◌else◌}
+use Rattle.std.specs.Prelude.{◌≡◌, ℕ, zero, suc, ◌*◌, ◌⊎◌, ℤ, List, [], Option, None, Some, length, All, ◌==◌, ◌&&◌, not, if◌then◌else◌}
 use Rattle.assign_core.specs.declared.sense.Sense.{Sense}
 use Rattle.assign_core.specs.declared.sense.Sense.TheVariants.{Min, Max}
 use Rattle.assign_core.specs.Rows.{Listing}

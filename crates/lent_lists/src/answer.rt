@@ -7,14 +7,13 @@ ghost use Rattle.lent_lists.specs.Faults.{HasFault, IsWhole};
 ghost use Rattle.lent_lists.specs.Given.{HasLengths};
 ghost use Rattle.lent_lists.specs.Shapes.{HasStandingLengths, IsShape};
 
-use crate::buffers::Buffers;
 use crate::fault::Fault;
 use crate::given::Given;
 use crate::judge::{Shape, judge};
 use crate::lists::lists_of;
 use crate::standing::{standing_anew, standing_of};
 use assign_core::Cost;
-use cost_lists::CostLists;
+use cost_lists::{CostLists, Object, Price};
 use list_solver::{Found, HallSet, Record, Standing, solve_lists};
 use std::alloc::{AllocError, Global};
 
@@ -104,16 +103,17 @@ pub fn search_from(
     alloc: Global,
     given: &Given<'_>,
     budget: u64,
-    room: &Buffers<'_>,
+    objects: &[Object],
+    prices: &[Price],
     record: Record,
 ) -> Result<Searched, Fault>
-    requires objects { HasLengths given.now → length room.now.objects.now ≡ given.now.n }
-    requires prices { HasLengths given.now → length room.now.prices.now ≡ given.now.m }
+    requires objects { HasLengths given.now → length objects.now ≡ given.now.n }
+    requires prices { HasLengths given.now → length prices.now ≡ given.now.m }
     ensures searched { IfOk result (IsSearched given.now budget) }
     ensures fault { IfErr result (HasFault given.now) }
 {
     let shape = judge(given)?;
-    let standing = standing_of(alloc, shape, given, room.objects, room.prices, record)?;
+    let standing = standing_of(alloc, shape, given, objects, prices, record)?;
     let searched = search_on(alloc, shape, given, standing, budget)?;
     Ok(searched)
 }

@@ -16,7 +16,6 @@ mod rule;
 mod solve;
 mod standing;
 
-pub use buffers::Buffers;
 pub use check::{hall_verdict_on, report_hall_verdict, report_verdict, verdict_on};
 pub use end::refuse;
 pub use fault::Fault;

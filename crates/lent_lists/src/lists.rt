@@ -1,5 +1,5 @@
 // The costs that a caller gives, where they are.
-ghost use Rattle.std.specs.Prelude.{◌≡◌};
+ghost use Rattle.std.specs.Prelude.{◌≡◌, length};
 ghost use Rattle.lent_lists.specs.Faults.{IsWhole};
 ghost use Rattle.lent_lists.specs.Given.{lists_in};
 ghost use Rattle.lent_lists.specs.Shapes.{IsShape};
@@ -13,7 +13,8 @@ use cost_lists::{CostLists, Pairs};
 pub fn lists_of<'a>(shape: Shape, given: &'a Given<'_>) -> CostLists<'a>
     requires shape { IsShape given.now shape }
     requires whole { IsWhole given.now }
-    ensures { result ≡ lists_in shape.sense given.now }
+    ensures lists { result ≡ lists_in shape.sense given.now }
+    ensures persons { length result.rows ≡ given.now.n }
 {
     let Shape { sense, n, m } = shape;
     match given.form {

@@ -5,7 +5,7 @@ ghost use Rattle.lent_lists.specs.Ends.{HoldsEnd, IsReported, buffers};
 ghost use Rattle.lent_lists.specs.Given.{HasLengths};
 
 use crate::answer::{Answer, search_anew, search_from};
-use crate::buffers::{Buffers, put_front};
+use crate::buffers::put_front;
 use crate::end::{End, code_of_end, refuse};
 use crate::given::Given;
 use crate::info::Info;
@@ -45,28 +45,28 @@ fn put_hall(objects: &mut [Object], persons: &mut [Person], info: &mut Info, set
 }
 
 // Writes an answer into the buffers.
-fn put_answer(lists: &CostLists<'_>, standing: &Standing, answer: &Answer, room: Buffers<'_>) -> End
+fn put_answer(
+    lists: &CostLists<'_>,
+    standing: &Standing,
+    answer: &Answer,
+    objects: &mut [Object],
+    persons: &mut [Person],
+    prices: &mut [Price],
+    info: &mut Info,
+) -> End
     requires answer { IsAnswer lists.now standing.now answer.now }
-    requires objects { length room.objects.now ≡ length standing.now.objects.items }
-    requires prices { length room.prices.now ≡ length standing.now.prices.items }
-    requires persons { length room.persons.now ≡ length lists.now.rows }
+    requires objects { length objects.old ≡ length standing.now.objects.items }
+    requires prices { length prices.old ≡ length standing.now.prices.items }
+    requires persons { length persons.old ≡ length lists.now.rows }
     requires long { length standing.now.objects.items ≡ length lists.now.rows }
     ensures end { result ≡ end_of answer.now }
     ensures holds { HoldsEnd lists.now
-        (buffers room.entry.objects.now room.entry.persons.now room.entry.prices.now
-        room.entry.info.now)
-        (buffers room.exit.0.now room.exit.1.0.now room.exit.1.1.0.now room.exit.1.1.1.0.now)
-        result }
+        (buffers objects.old persons.old prices.old info.old)
+        (buffers objects.new persons.new prices.new info.new) result }
 {
     // These calls show the prover that an assignment with exact prices is optimal.
     let _persons = lists.persons();
     exact_means_best();
-    let Buffers {
-        objects,
-        persons,
-        prices,
-        info,
-    } = room;
     match answer {
         Answer::Best(total) => {
             put_standing(objects, prices, standing);
@@ -87,22 +87,35 @@ fn put_answer(lists: &CostLists<'_>, standing: &Standing, answer: &Answer, room:
 
 /// Solves the given problem from nothing but first prices, if there are any. Writes the answer into
 /// the buffers, and returns its code. If there is no answer, the lists stay as they were.
-pub fn solve_given(alloc: Global, given: &Given<'_>, room: Buffers<'_>) -> i32
-    requires objects { HasLengths given.now → length room.objects.now ≡ given.now.n }
-    requires persons { HasLengths given.now → length room.persons.now ≡ given.now.n }
-    requires prices { HasLengths given.now → length room.prices.now ≡ given.now.m }
+pub fn solve_given(
+    alloc: Global,
+    given: &Given<'_>,
+    objects: &mut [Object],
+    persons: &mut [Person],
+    prices: &mut [Price],
+    info: &mut Info,
+) -> i32
+    requires objects { HasLengths given.now → length objects.old ≡ given.now.n }
+    requires persons { HasLengths given.now → length persons.old ≡ given.now.n }
+    requires prices { HasLengths given.now → length prices.old ≡ given.now.m }
     ensures { IsReported given.now 0
-        (buffers room.entry.objects.now room.entry.persons.now room.entry.prices.now
-        room.entry.info.now)
-        (buffers room.exit.0.now room.exit.1.0.now room.exit.1.1.0.now room.exit.1.1.1.0.now)
-        result }
+        (buffers objects.old persons.old prices.old info.old)
+        (buffers objects.new persons.new prices.new info.new) result }
 {
     let searched = match search_anew(alloc, given) {
         Ok(searched) => searched,
-        Err(fault) => return refuse(fault, room.info),
+        Err(fault) => return refuse(fault, info),
     };
     let lists = lists_of(searched.shape, given);
-    code_of_end(put_answer(&lists, &searched.standing, &searched.answer, room))
+    code_of_end(put_answer(
+        &lists,
+        &searched.standing,
+        &searched.answer,
+        objects,
+        persons,
+        prices,
+        info,
+    ))
 }
 
 /// Solves the given problem from the objects and the prices in the buffers, first prices and a
@@ -112,25 +125,34 @@ pub fn solve_from(
     alloc: Global,
     given: &Given<'_>,
     budget: u64,
-    room: Buffers<'_>,
+    objects: &mut [Object],
+    persons: &mut [Person],
+    prices: &mut [Price],
     progress: &mut Record,
+    info: &mut Info,
 ) -> i32
-    requires objects { HasLengths given.now → length room.objects.now ≡ given.now.n }
-    requires persons { HasLengths given.now → length room.persons.now ≡ given.now.n }
-    requires prices { HasLengths given.now → length room.prices.now ≡ given.now.m }
+    requires objects { HasLengths given.now → length objects.old ≡ given.now.n }
+    requires persons { HasLengths given.now → length persons.old ≡ given.now.n }
+    requires prices { HasLengths given.now → length prices.old ≡ given.now.m }
     ensures reported { IsReported given.now budget
-        (buffers room.entry.objects.now room.entry.persons.now room.entry.prices.now
-        room.entry.info.now)
-        (buffers room.exit.0.now room.exit.1.0.now room.exit.1.1.0.now room.exit.1.1.1.0.now)
-        result }
+        (buffers objects.old persons.old prices.old info.old)
+        (buffers objects.new persons.new prices.new info.new) result }
     ensures progress { result ≢ pos 21 → progress.new ≡ progress.old }
 {
-    let searched = match search_from(alloc, given, budget, &room, *progress) {
+    let searched = match search_from(alloc, given, budget, objects, prices, *progress) {
         Ok(searched) => searched,
-        Err(fault) => return refuse(fault, room.info),
+        Err(fault) => return refuse(fault, info),
     };
     let lists = lists_of(searched.shape, given);
-    let end = put_answer(&lists, &searched.standing, &searched.answer, room);
+    let end = put_answer(
+        &lists,
+        &searched.standing,
+        &searched.answer,
+        objects,
+        persons,
+        prices,
+        info,
+    );
     if end == End::Stopped {
         *progress = searched.standing.record;
     }

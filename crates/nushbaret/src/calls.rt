@@ -7,7 +7,7 @@ ghost use Rattle.lent_lists.specs.declared.form.Form.TheVariants.{Dense, Sparse}
 
 use cost_lists::{Object, Person, Price};
 use lent_lists::{
-    Buffers, Form, Given, Info, form_of, hall_verdict_on, refuse, report_hall_verdict,
+    Form, Given, Info, form_of, hall_verdict_on, refuse, report_hall_verdict,
     report_verdict, solve_from, solve_given, verdict_on,
 };
 use list_solver::Record;
@@ -44,13 +44,7 @@ pub extern "C" fn nushbaret_dense(
         costs,
         first: &[],
     };
-    let room = Buffers {
-        objects,
-        persons,
-        prices,
-        info,
-    };
-    solve_given(alloc, &given, room)
+    solve_given(alloc, &given, objects, persons, prices, info)
 }
 
 /// Solves a dense problem from first prices.
@@ -88,13 +82,7 @@ pub extern "C" fn nushbaret_dense_from(
         costs,
         first,
     };
-    let room = Buffers {
-        objects,
-        persons,
-        prices,
-        info,
-    };
-    solve_from(alloc, &given, budget, room, progress)
+    solve_from(alloc, &given, budget, objects, persons, prices, progress, info)
 }
 
 /// Solves a sparse problem: `n` persons, `m` objects, and the persons, the objects and the costs of
@@ -131,13 +119,7 @@ pub extern "C" fn nushbaret_sparse(
         costs,
         first: &[],
     };
-    let room = Buffers {
-        objects,
-        persons,
-        prices,
-        info,
-    };
-    solve_given(alloc, &given, room)
+    solve_given(alloc, &given, objects, persons, prices, info)
 }
 
 /// Solves a sparse problem from first prices.
@@ -177,13 +159,7 @@ pub extern "C" fn nushbaret_sparse_from(
         costs,
         first,
     };
-    let room = Buffers {
-        objects,
-        persons,
-        prices,
-        info,
-    };
-    solve_from(alloc, &given, budget, room, progress)
+    solve_from(alloc, &given, budget, objects, persons, prices, progress, info)
 }
 
 /// Checks an assignment with its prices against a problem. The problem is dense if there are costs
