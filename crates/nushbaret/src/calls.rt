@@ -7,8 +7,8 @@ ghost use Rattle.lent_lists.specs.declared.form.Form.TheVariants.{Dense, Sparse}
 
 use cost_lists::{Object, Person, Price};
 use lent_lists::{
-    Form, Given, Info, form_of, hall_verdict_on, refuse, report_hall_verdict,
-    report_verdict, solve_from, solve_given, verdict_on,
+    Form, Given, Info, form_of, hall_verdict_on, refuse, report_hall_verdict, report_verdict,
+    solve_from, solve_given, verdict_on,
 };
 use list_solver::Record;
 use std::alloc::Global;
@@ -82,7 +82,9 @@ pub extern "C" fn nushbaret_dense_from(
         costs,
         first,
     };
-    solve_from(alloc, &given, budget, objects, persons, prices, progress, info)
+    solve_from(
+        alloc, &given, budget, objects, persons, prices, progress, info,
+    )
 }
 
 /// Solves a sparse problem: `n` persons, `m` objects, and the persons, the objects and the costs of
@@ -159,7 +161,9 @@ pub extern "C" fn nushbaret_sparse_from(
         costs,
         first,
     };
-    solve_from(alloc, &given, budget, objects, persons, prices, progress, info)
+    solve_from(
+        alloc, &given, budget, objects, persons, prices, progress, info,
+    )
 }
 
 /// Checks an assignment with its prices against a problem. The problem is dense if there are costs
