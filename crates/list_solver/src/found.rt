@@ -21,3 +21,12 @@ pub enum Found {
     /// The search found nothing that the checker accepts.
     Unfound,
 }
+
+// How a search ends, before the checker has seen it.
+#[derive(Drop)]
+pub enum Ended {
+    Best,
+    Hall(HallSet),
+    Stopped,
+    Lost,
+}

@@ -1,11 +1,17 @@
-//! A search over lent lists of costs, whose answers the checker of exact prices has accepted. It
-//! finds nothing yet.
+//! Optimal assignments with exact prices, and Hall sets, over lent lists of costs: an untrusted
+//! search finds them, and the checker of exact prices decides.
 #![tactic(auto)]
 
+mod dense_lists;
 mod found;
+mod grouped;
+mod judging;
+mod listed_pairs;
+mod places;
 mod record;
 mod solver;
 mod standing;
+mod whole;
 
 pub use found::{Found, HallSet};
 pub use record::Record;

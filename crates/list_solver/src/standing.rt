@@ -9,3 +9,11 @@ pub struct Standing {
     pub objects: Vec<Object>,
     pub record: Record,
 }
+
+impl Standing {
+    // Whether all prices are 0 and nobody has an object.
+    pub fn has_nothing(&self) -> bool {
+        self.objects.iter().all(|object| *object == 0)
+            && self.prices.iter().all(|price| *price == 0)
+    }
+}
