@@ -5,7 +5,7 @@ use Rattle.exact_checker.specs.HallVerdicts.{IsHallVerdict}
 use Rattle.lent_lists.specs.declared.form.Form.{Form}
 use Rattle.lent_lists.specs.Faults.{IsOfGiven}
 use Rattle.lent_lists.specs.Given.{problem_alone}
-use Rattle.nushbaret.proofs.calls.nushbaret_check_hall.Goals as goal
+use Rattle.nushbaret.proofs.check.nushbaret_check_hall.Goals as goal
 
 pub returns-in-Ok : goal.returns-in-Ok
 returns-in-Ok c =
