@@ -26,7 +26,6 @@ from ._problem import Problem
 
 # Rounded costs have so many bits.
 BITS = 39
-MORE = ties.MORE
 # From so many pairs on an array is worth making.
 FEW_PAIRS = 64
 
@@ -74,7 +73,7 @@ def _solved(problem: Problem, served: Optional[int], prices: Any) -> Union[prove
         return found
     objects = None if tied is None else ties.after_level(tied, found)
     if objects is None:
-        pairs = priced.pairs if priced else kept(found, found.asked.n + MORE)
+        pairs = priced.pairs if priced else kept(found, found.asked.n + ties.more(found.asked.n))
         objects = found.objects if is_only_plan(found, pairs) else finer(problem, found, pairs)
     return proved.Answer(found.asked.n, found.asked.m, None, objects, None)
 
@@ -87,13 +86,14 @@ def after_first(problem: Problem, level: Level) -> Any:
         objects = ties.after_level(tied, level)
     if objects is not None:
         return objects
-    pairs = kept(level, level.asked.n + MORE)
+    pairs = kept(level, level.asked.n + ties.more(level.asked.n))
     return level.objects if is_only_plan(level, pairs) else finer(problem, level, pairs)
 
 
 def _most_left(problem: Problem) -> int:
     """Up to how many units of reduced cost pairs are left."""
-    return min(problem.n_rows, problem.n_columns) + MORE
+    n = min(problem.n_rows, problem.n_columns)
+    return n + ties.more(n)
 
 
 def prepared(problem: Problem) -> Problem:
@@ -137,11 +137,11 @@ def kept(level: Level, most: int) -> Pairs:
     if not isinstance(asked.costs, (array, library.Lent)):
         return Pairs(*arrays.kept(level, most))
     costs = reading.plain(asked.costs)
-    persons, objects, places = array("H"), array("H"), array("q")
+    persons, objects, places = array("I"), array("I"), array("q")
     if len(asked.persons):
         places.extend(place for place, (person, item, cost) in enumerate(zip(asked.persons, asked.objects, costs))
                       if sign * cost - level.of_persons[person] - level.of_objects[item] <= most)
-        return Pairs(array("H", [asked.persons[place] for place in places]), array("H", [asked.objects[place] for place in places]), places)
+        return Pairs(array("I", [asked.persons[place] for place in places]), array("I", [asked.objects[place] for place in places]), places)
     for person in range(asked.n):
         begin, bound = person * asked.m, level.of_persons[person + 1] + most
         own = [item for item, cost in enumerate(costs[begin:begin + asked.m], 1) if sign * cost - level.of_objects[item] <= bound]
@@ -286,9 +286,9 @@ def finer(problem: Problem, level: Level, pairs: Pairs) -> Any:
     if left is None:
         return level.objects
     if numpy and len(left) >= FEW_PAIRS and max(max(left), -min(left)) < 2**61:
-        as_arrays = Pairs(numpy.array(persons, numpy.uint16), numpy.array(objects, numpy.uint16), None)
+        as_arrays = Pairs(numpy.array(persons, numpy.uint32), numpy.array(objects, numpy.uint32), None)
         return arrays.finish(numpy, level.asked.n, level.asked.m, as_arrays, numpy.array(left, numpy.int64))
-    return finish(level.asked.n, level.asked.m, array("H", persons), array("H", objects), left)
+    return finish(level.asked.n, level.asked.m, array("I", persons), array("I", objects), left)
 
 
 def taken_off(level: Level) -> Tuple[List[int], List[int]]:

@@ -94,7 +94,7 @@ def solve(costs: Any, maximize: bool = False, decimals: Optional[int] = None, st
     costs : matrix
         A list of rows, a NumPy array, a DataFrame of pandas, a sparse matrix of SciPy's, or a buffer of two dimensions. Whole numbers,
         floats, Decimals or Fractions; a float of any size is the decimal that it prints as. None or infinity (under maximize -infinity) forbids
-        a pair. At most 8192 rows and columns.
+        a pair. At most 4194304 rows and columns.
     maximize : bool, optional
         Whether to find the greatest sum, not the least.
     decimals : int, optional
@@ -153,7 +153,7 @@ def solve_sparse(n_rows: Any, n_columns: Optional[int] = None, rows: Any = None,
     Parameters
     ----------
     n_rows, n_columns : int
-        How many rows and columns there are, 0 to 8192 each. Or one sparse matrix of SciPy's instead of these and of the three
+        How many rows and columns there are, 0 to 4194304 each. Or one sparse matrix of SciPy's instead of these and of the three
         lists; its stored entries are the pairs, also those that are 0. Entries of one place add up, as in SciPy.
     rows, columns, costs : lists or NumPy arrays of one length
         Row rows[k] may have column columns[k] at costs[k]; numbers from 0. A pair that is given several times counts once, at its
