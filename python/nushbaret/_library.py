@@ -169,7 +169,7 @@ def searched(sense: bool, n: int, m: int, lists: Sequence[Any], first: Optional[
     if first is None and _end() is None and n * pairs < LONG:
         return call(name, sense, n, m, *lists, *written)
     record, code, info = Record(), "STOPPED", Info()
-    budget = PIECE + 4 * pairs
+    budget = PIECE + PASSES * pairs
     while code == "STOPPED":
         look_at_time()
         start = _SPARE[:0] if first is None else first
@@ -179,10 +179,11 @@ def searched(sense: bool, n: int, m: int, lists: Sequence[Any], first: Optional[
 
 # The alarm of a thread's call.
 _limits = threading.local()
-# A search whose persons times pairs are so many may take long. It is done in pieces, with so many looks at pairs each, and some more for
-# many pairs, since each piece reads all of them.
+# A search whose persons times pairs are so many may take long. It is done in pieces of so many looks at pairs, and some more for each
+# pair, since each piece reads all of them.
 LONG = 2**27
 PIECE = 2 * 10**7
+PASSES = 4
 _LONGEST_WAIT = 10.0**5
 _TIME_IS_OVER = "the time is over; nothing of the caller's was changed"
 
