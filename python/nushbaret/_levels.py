@@ -50,10 +50,10 @@ class Pairs(NamedTuple):
     places: Any
 
 
-def solved(problem: Problem, served: Optional[int], prices: Any) -> Union[proved.Answer, proved.Short]:
+def solved(problem: Problem, served: Optional[int], start: Optional[proved.Start]) -> Union[proved.Answer, proved.Short]:
     """The best plan of so many pairs, for costs of any size; its answer has no prices."""
     with quiet(problem):
-        return _solved(prepared(problem), served, prices)
+        return _solved(prepared(problem), served, start)
 
 
 def quiet(problem: Problem) -> Any:
@@ -61,14 +61,14 @@ def quiet(problem: Problem) -> Any:
     return problem.numpy.errstate(all="ignore") if problem.numpy else contextlib.nullcontext()
 
 
-def _solved(problem: Problem, served: Optional[int], prices: Any) -> Union[proved.Answer, proved.Short]:
+def _solved(problem: Problem, served: Optional[int], start: Optional[proved.Start]) -> Union[proved.Answer, proved.Short]:
     tied = ties.of_problem(problem) if served is None else None
     objects = None if tied is None else ties.best(tied)
     if objects is not None:
         n, m = sorted((problem.n_rows, problem.n_columns))
         return proved.Answer(n, m, None, objects, None)
-    priced = None if served is not None or tied or prices is not None else pricing.first_level(problem, BITS, _most_left(problem))
-    found = priced.level if priced else first_level(problem, served, prices)
+    priced = None if served is not None or tied or start is not None else pricing.first_level(problem, BITS, _most_left(problem))
+    found = priced.level if priced else first_level(problem, served, start)
     if isinstance(found, proved.Short):
         return found
     objects = None if tied is None else ties.after_level(tied, found)
@@ -103,11 +103,11 @@ def prepared(problem: Problem) -> Problem:
     return arrays.as_list(problem) if problem.numpy and len(problem.costs) and arrays.is_extreme(problem) else problem
 
 
-def first_level(problem: Problem, served: Optional[int], prices: Any = None) -> Union[Level, proved.Short]:
+def first_level(problem: Problem, served: Optional[int], start: Optional[proved.Start] = None) -> Union[Level, proved.Short]:
     """The level of the first unit."""
     coarse, shift = _rounded(problem)
     asked = proved.given(coarse, served)
-    first = None if prices is None else proved.first_prices(coarse, prices, served)
+    first = None if start is None else proved.first_of(coarse, start, served)
     answer = proved.answer(coarse, asked, first)
     if answer is None:
         raise RuntimeError("costs were rounded to the library's range, and it says otherwise")

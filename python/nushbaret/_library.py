@@ -6,7 +6,7 @@ import pathlib
 import threading
 import time
 from array import array
-from typing import TYPE_CHECKING, Any, Dict, List, Optional, Sequence, Tuple, Union
+from typing import TYPE_CHECKING, Any, Callable, Dict, List, Optional, Sequence, Tuple, Union
 
 # An array of whole numbers; before Python 3.12 `array` takes no type while a program runs.
 if TYPE_CHECKING:
@@ -164,9 +164,11 @@ def searched(sense: bool, n: int, m: int, lists: Sequence[Any], first: Optional[
     """What a solving call says to `lists`: the costs of a dense problem, or the persons, objects and costs of listed pairs. It begins at the
     `first` prices, if there are any, and at what objects `written` holds, which are objects, persons and prices.
 
-    A search that may take long is done in pieces, so that Ctrl-C ends it, and TimeoutError is raised where the time of `limited` is over."""
+    A search that may take long is done in pieces, so that Ctrl-C ends it, and TimeoutError is raised where the time of `limited` is over.
+    After each piece its `progress` is told how many persons are served."""
     name, pairs = "dense" if len(lists) == 1 else "sparse", len(lists[-1])
-    if first is None and _end() is None and n * pairs < LONG:
+    progress: Optional[Callable[[int, int], Any]] = getattr(_limits, "progress", None)
+    if first is None and _end() is None and progress is None and n * pairs < LONG:
         return call(name, sense, n, m, *lists, *written)
     record, code, info = Record(), "STOPPED", Info()
     budget = PIECE + PASSES * pairs
@@ -174,10 +176,12 @@ def searched(sense: bool, n: int, m: int, lists: Sequence[Any], first: Optional[
         look_at_time()
         start = _SPARE[:0] if first is None else first
         code, info = call(name + "_from", sense, n, m, *lists, start, *written, piece=(budget, ctypes.addressof(record)))
+        if progress is not None and code in ("BEST", "STOPPED"):
+            progress(n - written[0].count(0), n)
     return code, info
 
 
-# The alarm of a thread's call.
+# The alarm of a thread's call, and what is told its progress.
 _limits = threading.local()
 # A search whose persons times pairs are so many may take long. It is done in pieces of so many looks at pairs, and some more for each
 # pair, since each piece reads all of them.
@@ -248,25 +252,29 @@ def started(thread: threading.Thread) -> None:
 
 
 class limited:
-    """Within, calls and the steps of Python raise TimeoutError after so many seconds; never where that is None."""
+    """Within, calls and the steps of Python raise TimeoutError after so many seconds; never where that is None. After each piece of a
+    search `progress` is called with the persons served so far, and their number."""
 
-    def __init__(self, timeout: Optional[float]):
+    def __init__(self, timeout: Optional[float], progress: Optional[Callable[[int, int], Any]] = None):
         if timeout is not None and not hasattr(timeout, "__float__"):
             raise TypeError(f"timeout is {timeout!r}: it must be a number of seconds")
         if timeout is not None and not timeout >= 0:
             raise ValueError(f"timeout is {timeout!r}: it must be a number of seconds, 0 or more")
-        self.timeout = timeout
+        if progress is not None and not callable(progress):
+            raise TypeError(f"progress is {progress!r}: it must be a call of two numbers, how many are served and how many there are")
+        self.timeout, self.progress = timeout, progress
 
     def __enter__(self) -> None:
         before: Optional[_Alarm] = getattr(_limits, "alarm", None)
         # What rings just as a block ends may leave its alarm here.
         self.before = None if before is None or before.rang else before
         self.alarm: Optional[_Alarm] = None
+        if self.timeout == 0:
+            raise TimeoutError(_TIME_IS_OVER)
+        self.told, _limits.progress = getattr(_limits, "progress", None), self.progress
         if self.timeout is None:
             return
         end = time.monotonic() + self.timeout
-        if self.timeout == 0:
-            raise TimeoutError(_TIME_IS_OVER)
         if self.before is None or end < self.before.end:
             self.alarm = _Alarm(end)
             try:
@@ -287,7 +295,7 @@ class limited:
             raise TimeoutError(_TIME_IS_OVER) from None
 
     def _leave(self) -> None:
-        _limits.alarm = self.before
+        _limits.alarm, _limits.progress = self.before, self.told
         if self.alarm is not None:
             self.alarm.stop()
 

@@ -43,7 +43,7 @@ def first_level(problem: Problem, bits: int, most: int) -> Optional[Priced]:
         cheaper, left = matrix.priced(level, most)
         if not len(cheaper):
             return Priced(level, left)
-        chosen, prices = numpy.union1d(chosen, cheaper), answer.prices
+        chosen, prices = numpy.union1d(chosen, cheaper), proved.First(answer.prices, answer.objects)
         if len(chosen) > MOST_SHARE * problem.costs.size:
             return None
     return None

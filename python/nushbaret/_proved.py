@@ -43,6 +43,21 @@ class Short(NamedTuple):
     objects: Any
 
 
+class Start(NamedTuple):
+    """Where a search begins: prices of columns in the unit of the costs, and the pairs of an earlier plan."""
+
+    prices: List[Fraction]
+    rows: Sequence[int] = ()
+    columns: Sequence[int] = ()
+
+
+class First(NamedTuple):
+    """The same for the library: prices of objects, and an object for each person, from 1 on; 0 for nobody's."""
+
+    prices: Numbers
+    objects: Numbers
+
+
 NONE = array("I")
 
 
@@ -111,25 +126,25 @@ def refuse(code: str, info: library.Info) -> NoReturn:
     raise RuntimeError(f"the library refused its lists: {code} at {info.place}")
 
 
-def answer(problem: Problem, asked: Given, first: Optional[Numbers] = None) -> Union[Answer, Short, None]:
-    """The library's answer, an Answer or a Short; None where a cost is beyond its range. `first` are prices to start from."""
+def answer(problem: Problem, asked: Given, first: Optional[First] = None) -> Union[Answer, Short, None]:
+    """The library's answer, an Answer or a Short; None where a cost is beyond its range. `first` is where to begin."""
     is_dense = problem.persons is None and not len(asked.persons)
     lists = (asked.costs,) if is_dense else (asked.persons, asked.objects, asked.costs)
     code, info, answer_ = _searched(asked, problem.maximize, lists, first)
     return None if code == "COST" else answer_ or refuse(code, info)
 
 
-def found(asked: Given, maximize: bool, first: Optional[Numbers] = None) -> Union[Answer, Short]:
+def found(asked: Given, maximize: bool, first: Optional[First] = None) -> Union[Answer, Short]:
     """The library's answer to listed pairs, whose costs are in its range."""
     code, info, answer_ = _searched(asked, maximize, (asked.persons, asked.objects, asked.costs), first)
     return answer_ or refuse(code, info)
 
 
-def _searched(asked: Given, maximize: bool, lists: Sequence[Any], first: Optional[Numbers]) -> Tuple[str, library.Info, Union[Answer, Short, None]]:
+def _searched(asked: Given, maximize: bool, lists: Sequence[Any], first: Optional[First]) -> Tuple[str, library.Info, Union[Answer, Short, None]]:
     """What the library says to lists, and its answer if it has one."""
     n, m = asked.n, asked.m
-    objects, persons, prices = array("I", bytes(4 * n)), array("I", bytes(4 * n)), array("q", bytes(8 * m))
-    code, info = library.searched(maximize, n, m, lists, first, (objects, persons, prices))
+    objects, persons, prices = first.objects[:] if first else array("I", bytes(4 * n)), array("I", bytes(4 * n)), array("q", bytes(8 * m))
+    code, info = library.searched(maximize, n, m, lists, first and first.prices, (objects, persons, prices))
     if code == "BEST":
         return code, info, Answer(n, m, info.total, objects, prices)
     return code, info, Short(persons[:info.persons], objects[:info.objects]) if code == "HALL" else None
@@ -249,15 +264,16 @@ def whole_of(problem: Problem, prices: List[Fraction], parts: int = 1) -> Option
     return None if max(whole, default=0) > GREATEST_PRICE else whole
 
 
-def first_prices(problem: Problem, prices: List[Fraction], served: Optional[int]) -> Optional[Numbers]:
-    """Prices to start from, for the library; those of dummies are 0. None where they are too far apart to be of use."""
-    dummies = sizes_of(problem, served)[2]
-    first = whole_of(problem, prices)
-    if first is None:
+def first_of(problem: Problem, start: Start, served: Optional[int]) -> Optional[First]:
+    """Where the library's search begins; prices of dummies are 0. None where prices are too far apart to be of use."""
+    n, _, dummies = sizes_of(problem, served)
+    prices, turned, objects = whole_of(problem, start.prices), is_turned(problem), array("I", bytes(4 * n))
+    if prices is None:
         return None
-    if is_turned(problem):
-        first = _of_rows(problem, first)
-    return array("q", first + [0] * dummies)
+    for row, column in zip(start.rows, start.columns):
+        if row < problem.n_rows and column < problem.n_columns:
+            objects[column if turned else row] = (row if turned else column) + 1
+    return First(array("q", (_of_rows(problem, prices) if turned else prices) + [0] * dummies), objects)
 
 
 def _of_rows(problem: Problem, prices: List[int]) -> List[int]:
