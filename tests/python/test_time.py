@@ -92,6 +92,47 @@ class Pieces(unittest.TestCase):
         self.assertGreater(pieces, 300)
 
 
+class Progress(unittest.TestCase):
+    COSTS = [[(7 * row * column + 3 * row) % 31 for column in range(40)] for row in range(30)]
+
+    def told(self, solve, **words):
+        """What is told of a search in small pieces, and what it returns."""
+        told = []
+        with mock.patch.multiple(library, PIECE=1, PASSES=0):
+            found = solve(progress=lambda served, rows: told.append((served, rows)), **words)
+        return told, found
+
+    def test_what_is_told(self):
+        lists = [(row, column, cost) for row, costs in enumerate(self.COSTS) for column, cost in enumerate(costs)]
+        calls = (lambda **words: nushbaret.solve(self.COSTS, **words).cost, lambda **words: nushbaret.linear_sum_assignment(self.COSTS, **words),
+                 lambda **words: nushbaret.solve([list(column) for column in zip(*self.COSTS)], **words).cost,
+                 lambda **words: nushbaret.solve_sparse(30, 40, *zip(*lists), **words).cost,
+                 lambda **words: nushbaret.solve([[cost + 1e15 / 3 for cost in row] for row in self.COSTS], **words).columns)
+        for call in calls:
+            told, found = self.told(call)
+            self.assertEqual(found, call())
+            self.assertEqual((told[-1], {rows for _, rows in told}), ((30, 30), {30}))
+            self.assertTrue(all(0 <= served <= 30 for served, _ in told))
+            self.assertGreater(len(told), 1)
+            self.assertEqual(self.told(call, timeout=1000)[1], found)
+
+    def test_it_may_end_the_call(self):
+        def stop(served, rows):
+            nushbaret.solve([[1, 2], [3, 5]])
+            raise KeyError(served)
+
+        with self.assertRaises(KeyError):
+            nushbaret.solve(self.COSTS, progress=stop)
+        self.assertEqual(nushbaret.solve(self.COSTS).cost, nushbaret.solve(self.COSTS, progress=print_nothing).cost)
+        for wrong in 5, "bar":
+            with self.assertRaisesRegex(TypeError, f"progress is {wrong!r}: it must be a call of two numbers"):
+                nushbaret.solve(self.COSTS, progress=wrong)
+
+
+def print_nothing(served, rows):
+    """Told, and silent."""
+
+
 class Timeouts(unittest.TestCase):
     COSTS = [[0.1, 2, 1e15], [3, 5, 1 / 3], [0.5, 0.25, 7]]
 
