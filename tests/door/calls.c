@@ -788,7 +788,8 @@ static void longest_sides(void) {
     for (k = 0; k < 2; k++) {
         problem = large(1, FULL, FULL, (int)k);
         WANT(nushbaret_solve(&problem, &answer) == NUSHBARET_BEST && answer.info.total == INT64_C(-500000000000));
-        WANT(full_costs[full_objects[0] - 1] == answer.info.total && nushbaret_verify(&problem, &answer) == NUSHBARET_BEST);
+        WANT(full_objects[0] > 0 && full_costs[(full_objects[0] + FULL - 1) % FULL] == answer.info.total);
+        WANT(nushbaret_verify(&problem, &answer) == NUSHBARET_BEST);
         full_prices[full_objects[0] % FULL] += 2;
         WANT(nushbaret_verify(&problem, &answer) == NUSHBARET_OVERPRICED && answer.info.object == full_objects[0] % FULL + 1u);
         problem = large(FULL, 1, FULL, (int)k);
