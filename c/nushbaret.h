@@ -53,7 +53,7 @@
    Of several faults a call returns the first in this order: the codes from NUSHBARET_SENSE to NUSHBARET_PRICE as they
    are numbered; then, in nushbaret_check, those from NUSHBARET_ANSWER_LENGTH to NUSHBARET_SLACK and
    NUSHBARET_OVERPRICED, and in nushbaret_check_hall those from NUSHBARET_HALL_RANGE to NUSHBARET_HALL_COUNT.
-   info->place is the first place with this fault. NUSHBARET_MEMORY comes only where nothing is wrong with the problem, nor
+   info->place is the first place with this fault. NUSHBARET_MEMORY comes only where nothing is wrong with the problem or
    with a length: memory was refused that the call can't do without. The checking calls ask for it before they judge the
    numbers of an answer.
 
@@ -131,7 +131,7 @@ enum nushbaret_code {
     NUSHBARET_UNLISTED = 11,     /* info->person, the lowest, doesn't list its object */
     NUSHBARET_TWICE = 12,        /* info->object, the lowest, is given twice */
     NUSHBARET_PRICE_RANGE = 13,  /* the price of info->object, the lowest, isn't from 0 to NUSHBARET_GREATEST_PRICE */
-    NUSHBARET_SLACK = 14,        /* info->person, the lowest, would be better off with info->object, its lowest such */
+    NUSHBARET_SLACK = 14,        /* info->person, the lowest, would be better off with info->object, its lowest one */
 
     NUSHBARET_HALL_RANGE = 15,   /* a person isn't from 1 to n, or an object isn't from 1 to m */
     NUSHBARET_HALL_ORDER = 16,   /* a list doesn't rise */

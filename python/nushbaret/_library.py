@@ -50,7 +50,7 @@ class Info(ctypes.Structure):
 
 
 class Unfound(RuntimeError):
-    """The library's search found neither a best plan nor a proof that there is none. Nobody has seen it."""
+    """The library's search found no best plan, and no proof that there is none. Nobody has seen it."""
 
     def __init__(self) -> None:
         super().__init__("the library found no plan that its checker accepts, and no proof that there is none: please report this problem")
@@ -165,7 +165,7 @@ def searched(sense: bool, n: int, m: int, lists: Sequence[Any], first: Optional[
     `first` prices, if there are any, and at what objects `written` holds, which are objects, persons and prices.
 
     A search that may take long is done in pieces, so that Ctrl-C ends it, and TimeoutError is raised where the time of `limited` is over.
-    After each piece its `progress` is told how many persons are served."""
+    After each piece its `progress` is called with how many persons are served."""
     name, pairs = "dense" if len(lists) == 1 else "sparse", len(lists[-1])
     progress: Optional[Callable[[int, int], Any]] = getattr(_limits, "progress", None)
     if first is None and _end() is None and progress is None and n * pairs < LONG:
@@ -181,7 +181,7 @@ def searched(sense: bool, n: int, m: int, lists: Sequence[Any], first: Optional[
     return code, info
 
 
-# The alarm of a thread's call, and what is told its progress.
+# The alarm of a thread's call, and what is called with its progress.
 _limits = threading.local()
 # A search whose persons times pairs are so many may take long. It is done in pieces of so many looks at pairs, and some more for each
 # pair, since each piece reads all of them.
@@ -271,7 +271,7 @@ class limited:
         self.alarm: Optional[_Alarm] = None
         if self.timeout == 0:
             raise TimeoutError(_TIME_IS_OVER)
-        self.told, _limits.progress = getattr(_limits, "progress", None), self.progress
+        self.outer_progress, _limits.progress = getattr(_limits, "progress", None), self.progress
         if self.timeout is None:
             return
         end = time.monotonic() + self.timeout
@@ -295,7 +295,7 @@ class limited:
             raise TimeoutError(_TIME_IS_OVER) from None
 
     def _leave(self) -> None:
-        _limits.alarm, _limits.progress = self.before, self.told
+        _limits.alarm, _limits.progress = self.before, self.outer_progress
         if self.alarm is not None:
             self.alarm.stop()
 

@@ -14,7 +14,7 @@ from ._result import Found
 
 # Beyond these powers of two the double that rounds is none.
 MOST_SHIFT = 850
-# Matrices of more rows or columns aren't small, nor those whose search may take more steps.
+# Matrices of more rows or columns aren't small, and those whose search may take more steps aren't either.
 MOST_SIDE = 8192
 MOST_STEPS = 2**27
 # With more costs the library's second call would take longer than to look at reduced costs.

@@ -11,7 +11,7 @@ from ._source import Held, Source
 Start = Union[Result, Sequence[Any], None]
 Found = Union[proved.Answer, proved.Short]
 Began = Optional[proved.Start]
-# What is told the rows served so far, and how many there are.
+# What is called with the rows served so far, and how many there are.
 Progress = Optional[Callable[[int, int], Any]]
 
 
@@ -112,7 +112,7 @@ def solve(costs: Any, maximize: bool = False, decimals: Optional[int] = None, st
         After so many seconds TimeoutError is raised, in reading too. Nothing of the caller's is changed, and nothing goes on.
     progress : callable, optional
         Is called as progress(served, all) after each piece of a search, some tenth of a second: so many of all rows have a column
-        then, or of columns a row where these are fewer. Where levels or dummies take several searches, each counts anew. What it
+        then, or of columns a row where these are fewer. Where levels or dummies take several searches, each counts from 0. What it
         raises ends the call.
 
     Returns

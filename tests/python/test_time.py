@@ -95,26 +95,26 @@ class Pieces(unittest.TestCase):
 class Progress(unittest.TestCase):
     COSTS = [[(7 * row * column + 3 * row) % 31 for column in range(40)] for row in range(30)]
 
-    def told(self, solve, **words):
-        """What is told of a search in small pieces, and what it returns."""
-        told = []
+    def noted(self, solve, **words):
+        """What progress is called with in a search in small pieces, and what that returns."""
+        noted = []
         with mock.patch.multiple(library, PIECE=1, PASSES=0):
-            found = solve(progress=lambda served, rows: told.append((served, rows)), **words)
-        return told, found
+            found = solve(progress=lambda served, rows: noted.append((served, rows)), **words)
+        return noted, found
 
-    def test_what_is_told(self):
+    def test_what_it_is_called_with(self):
         lists = [(row, column, cost) for row, costs in enumerate(self.COSTS) for column, cost in enumerate(costs)]
         calls = (lambda **words: nushbaret.solve(self.COSTS, **words).cost, lambda **words: nushbaret.linear_sum_assignment(self.COSTS, **words),
                  lambda **words: nushbaret.solve([list(column) for column in zip(*self.COSTS)], **words).cost,
                  lambda **words: nushbaret.solve_sparse(30, 40, *zip(*lists), **words).cost,
                  lambda **words: nushbaret.solve([[cost + 1e15 / 3 for cost in row] for row in self.COSTS], **words).columns)
         for call in calls:
-            told, found = self.told(call)
+            noted, found = self.noted(call)
             self.assertEqual(found, call())
-            self.assertEqual((told[-1], {rows for _, rows in told}), ((30, 30), {30}))
-            self.assertTrue(all(0 <= served <= 30 for served, _ in told))
-            self.assertGreater(len(told), 1)
-            self.assertEqual(self.told(call, timeout=1000)[1], found)
+            self.assertEqual((noted[-1], {rows for _, rows in noted}), ((30, 30), {30}))
+            self.assertTrue(all(0 <= served <= 30 for served, _ in noted))
+            self.assertGreater(len(noted), 1)
+            self.assertEqual(self.noted(call, timeout=1000)[1], found)
 
     def test_it_may_end_the_call(self):
         def stop(served, rows):
@@ -123,14 +123,14 @@ class Progress(unittest.TestCase):
 
         with self.assertRaises(KeyError):
             nushbaret.solve(self.COSTS, progress=stop)
-        self.assertEqual(nushbaret.solve(self.COSTS).cost, nushbaret.solve(self.COSTS, progress=print_nothing).cost)
+        self.assertEqual(nushbaret.solve(self.COSTS).cost, nushbaret.solve(self.COSTS, progress=silent).cost)
         for wrong in 5, "bar":
             with self.assertRaisesRegex(TypeError, f"progress is {wrong!r}: it must be a call of two numbers"):
                 nushbaret.solve(self.COSTS, progress=wrong)
 
 
-def print_nothing(served, rows):
-    """Told, and silent."""
+def silent(served, rows):
+    """Does nothing."""
 
 
 class Timeouts(unittest.TestCase):
