@@ -319,8 +319,8 @@ def check(costs: Any, columns: Any, prices: Any, rows: Any = None, maximize: boo
 
     Notes
     -----
-    Within its range the proved library checks, with prices rounded to a part in n + 1 of the costs' unit, which loses nothing. Beyond it
-    Python compares exactly: the plan is proved if what all rows pay above their best adds up to less than the unit of the costs.
+    Within its range the proved library checks, at prices that are whole in the unit of the costs: others are rounded so that what they
+    prove they still prove. Beyond it Python compares exactly: the plan is proved if what all rows pay above their best adds up to less than the unit of the costs.
 
     >>> import nushbaret
     >>> nushbaret.check([[1, 2], [3, 5]], columns=[1, 0], prices=[1, 0])

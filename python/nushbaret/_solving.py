@@ -133,6 +133,8 @@ def solve(costs: Any, maximize: bool = False, decimals: Optional[int] = None, st
         If memory is refused.
     LibraryNotFound
         If the shared library is missing. An OSError.
+    RuntimeError
+        If the library's search finds nothing that its checker accepts. Nobody has seen it.
 
     Notes
     -----

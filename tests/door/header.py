@@ -18,6 +18,8 @@ NUMBERS = {"u8": "uint8_t", "u32": "uint32_t", "u64": "uint64_t", "usize": "size
 # What a code's variant is called in the header, where that isn't its own name.
 CALLED = {"Verdict::Length": "ANSWER_LENGTH", "Verdict::PriceRange": "PRICE_RANGE", "HallVerdict::Range": "HALL_RANGE", "HallVerdict::Order": "HALL_ORDER",
           "HallVerdict::Missing": "HALL_MISSING", "HallVerdict::Extra": "HALL_EXTRA", "HallVerdict::Count": "HALL_COUNT"}
+# What a parameter is called in the header, where the crate can't call it so: clauses have the word for other things.
+PARAMETERS = {"progress": "record"}
 BUILT = pathlib.Path(sys.argv[1]) if sys.argv[1:] else TOP / "c/out"
 differ = []
 
@@ -36,7 +38,7 @@ def parameters(text):
             yield f"{'' if many[1] else 'const '}{NUMBERS[many[2]]} *{name}"
             yield f"size_t {name}_count"
         elif one:
-            yield f"{NUMBERS[one[1]]} *{name}"
+            yield f"{NUMBERS[one[1]]} *{PARAMETERS.get(name, name)}"
         elif kind != "Global":
             yield f"{NUMBERS[kind]} {name}"
 
