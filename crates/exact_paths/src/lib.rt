@@ -11,4 +11,4 @@ mod pieces;
 mod solve;
 
 pub use observer::{Observer, Unobserved};
-pub use solve::{solve_paths, try_paths};
+pub use solve::{solve_by_rounds, solve_paths, try_paths};

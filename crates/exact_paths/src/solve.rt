@@ -124,8 +124,11 @@ pub fn try_paths<O: Observer>(
     }
 }
 
-// The outcome of rounds.
-fn solve_by_rounds<F: Offering>(
+/// Solves by rounds from prices of 0, for which `offering` makes the offers.
+///
+/// # Errors
+/// `AllocError` if memory is refused.
+pub fn solve_by_rounds<F: Offering>(
     alloc: Global,
     problem: &Problem,
     sense: Sense,

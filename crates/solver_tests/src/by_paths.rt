@@ -10,7 +10,7 @@ use assign_core::{
     Cost, GREATEST_COST, GREATEST_FIRST_PRICE, MOST_PERSONS, Object, Outcome, Person, Price,
     Problem, Sense,
 };
-use exact_paths::{Observer, Unobserved, solve_paths, try_paths};
+use exact_paths::{Observer, Unobserved, solve_by_rounds, solve_paths, try_paths};
 use rounds::Alone;
 use std::alloc::{AllocError, Global};
 use test_helpers::{Pair, best_cost, first_prices, next_number, problem_of, scaled_of, size};

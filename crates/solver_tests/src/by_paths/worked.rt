@@ -102,6 +102,32 @@ fn public_calls(rt: HostRuntime) -> Result<(), Fail> {
     Ok(())
 }
 
+// What rounds give in place of paths.
+fn solved_by_rounds(
+    alloc: Global,
+    n: u16,
+    pairs: &[Pair],
+    sense: Sense,
+) -> Result<Option<Cost>, AllocError> {
+    let problem = problem_of(alloc, size(n), pairs)?;
+    let outcome = solve_by_rounds(alloc, &problem, sense, &mut Alone)?;
+    Ok(cost_in(&problem, &outcome))
+}
+
+#[test]
+fn rounds_in_place_of_paths(rt: HostRuntime) -> Result<(), Fail> {
+    let pairs = [(1, 1, 1), (1, 2, 2), (2, 1, 3), (2, 2, 5)];
+    for (listed, sense, cost) in [
+        (4, Sense::Min, Some(5)),
+        (4, Sense::Max, Some(6)),
+        (2, Sense::Min, None),
+    ] {
+        let seen = solved_by_rounds(rt.alloc(), 2, &pairs[..listed], sense)?;
+        assert_eq!(rt; seen, cost);
+    }
+    Ok(())
+}
+
 // Follows a search in short pieces: how often it reported a number, the last number, and whether it
 // reported an impossible number.
 #[derive(Drop)]
