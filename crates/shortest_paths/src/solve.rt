@@ -42,18 +42,6 @@ fn solve<O: Observer>(
 ///
 /// # Errors
 /// `AllocError` if memory is refused.
-///
-/// # Example
-/// The body of `calling::solve_costs`:
-/// ```
-/// let rows = CostRows::dense(n, m, costs);
-/// let copy = copy_dense(alloc, n, m, sense, costs)?;
-/// let wishes = Wishes {
-///     prices: None,
-///     observer: &Unobserved,
-/// };
-/// solve_paths(alloc, &rows, sense, copy, wishes)
-/// ```
 pub fn solve_paths<O: Observer>(
     alloc: Global,
     rows: &CostRows<'_>,
