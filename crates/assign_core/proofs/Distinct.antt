@@ -1,5 +1,5 @@
 -- Lists of different numbers from 1 to m, and sums over them.
-use Rattle.std.proofs.Common.{◌≡◌, ℕ, ℤ, pos, ◌+ℤ◌, ◌≤ℤ◌, ◌+◌, zero, suc, List, [], ◌∷◌, length, nat_eq, cond, true, false, ◌⊎◌, inl, inr, refl, arith, ap, sym, ◌∙◌, subst}
+use Rattle.std.proofs.Common.{◌≡◌, ℕ, ℤ, pos, ◌+ℤ◌, ◌≤ℤ◌, ◌≤◌, ◌+◌, zero, suc, List, [], ◌∷◌, length, nat_eq, cond, true, false, ◌⊎◌, inl, inr, refl, arith, ap, sym, ◌∙◌, subst}
 use Rattle.std.specs.List.{IsDistinct, AllByRecursion}
 use Rattle.std.proofs.lemmas.Bool.{eqb-false, cond-true, cond-false}
 use Rattle.std.proofs.lemmas.Bool.Decides.{eqb_tells}

@@ -28,7 +28,8 @@ fn mark_row(marks: &mut [bool], problem: &Problem, person: Person)
 {
     let row = problem.row(person);
     for i in 0..row.len() {
-        let (object, _) = row[i];
+        let pair = row[i];
+        let (object, _) = pair;
         marks[object.place()] = true;
     }
 }
@@ -54,7 +55,8 @@ fn first_unnamed(problem: &Problem, person: Person, named: &[bool]) -> Option<Ob
 {
     let row = problem.row(person);
     for i in 0..row.len() {
-        let (object, _) = row[i];
+        let pair = row[i];
+        let (object, _) = pair;
         if !named[object.place()] {
             return Some(object);
         }

@@ -61,7 +61,8 @@ fn first_broken(
 {
     let n = prices.len() as u16;
     for i in 0..row.len() {
-        let (object, cost) = row[i];
+        let pair = row[i];
+        let (object, cost) = pair;
         if worth(sense, n, cost, price_at(prices, object)) > own_worth + 1 {
             return Some(object);
         }

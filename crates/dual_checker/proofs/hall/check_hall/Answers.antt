@@ -1,4 +1,4 @@
-use Rattle.std.proofs.Common.{subst}
+use Rattle.std.proofs.Common.{length, subst}
 use Rattle.assign_core.proofs.HallSets.{no_assignment}
 use Rattle.dual_checker.specs.declared.hall_verdict.HallVerdict.TheVariants.{Yes}
 use Rattle.dual_checker.specs.HallVerdicts.{IsHallVerdict}

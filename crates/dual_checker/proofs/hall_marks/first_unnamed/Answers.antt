@@ -10,7 +10,7 @@ returns-then-not-named-place c =
     let marks = c.args.named.now in
     let row = c.row-row.result.now in
     let i = c.loop-i.i in
-    let lt : i < length row = omega (arith, c.loop-i-test.true, c.len-i-end.ensures) in
+    let lt : i < length row = omega (arith, c.loop-i-test.true) in
     let x : ℕ = c.index-row-i.result.0 in
     let listed = c.row-row.ensures.rule.within i c.index-row-i.result lt in
     let within : IsNumber (length marks) x = rw c.requires.long (subst (IsNumber m) (sym (ap (λ e. e.0) c.index-row-i.is)) listed) in
@@ -21,5 +21,5 @@ returns-then-not-named-place c =
 
 pub returns : goal.returns
 returns c =
-    let end : length c.row-row.result.now ≤ c.loop-i.i = omega (arith, c.loop-i-test.false, c.len-i-end.ensures) in
+    let end : length c.row-row.result.now ≤ c.loop-i.i = omega (arith, c.loop-i-test.false) in
     all_marked c.args.problem.now c.args.person c.loop-i.i c.args.named.now c.row-row.result.now c.row-row.ensures.row end c.loop-i.invariant

@@ -12,7 +12,7 @@ pub loop-i-preserved : goal.loop-i-preserved
 loop-i-preserved c =
     let row = c.row-row.result.now in
     let i = c.loop-i.i in
-    let lt : i < length row = omega (arith, c.loop-i-test.true, c.len-i-end.ensures) in
+    let lt : i < length row = omega (arith, c.loop-i-test.true) in
     let x : ℕ = c.index-row-i.result.0 in
     let at = ap (λ e. e.0) (c.index-row-i.is ∙ get_or_default row i c.index-row-i.result (0, pos 0) lt) in
     let listed = subst (IsNumber (length c.args.problem.now)) (sym at) (c.row-row.ensures.rule.within i (0, pos 0) lt) in
@@ -24,4 +24,4 @@ returns c =
     let row = c.row-row.result.now in
     let rising = c.row-row.ensures.rule.rising in
     subst (λ q. AddsMarks c.args.marks.now (λ j. IsSome (listed_in q j)) c.loop-i.marks) c.row-row.ensures.row
-    (adds_same _ (λ j. IsSome (listed_in row j)) c.args.marks.now c.loop-i.marks (λ j. row_places row c.loop-i.i j rising (omega (arith, c.len-i-end.ensures))) c.loop-i.invariant)
+    (adds_same _ (λ j. IsSome (listed_in row j)) c.args.marks.now c.loop-i.marks (λ j. row_places row c.loop-i.i j rising (omega (arith, c.loop-i-test.false))) c.loop-i.invariant)

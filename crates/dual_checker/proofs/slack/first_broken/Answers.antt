@@ -20,7 +20,7 @@ returns-then-worth-own_worth c =
     let price = c.price_at.ensures.value in
     let over = simp to_z-of_z at c.if-worth-own_worth.true in
     let inv = simp to_z-of_z at c.loop-i.invariant in
-    first_break c.args.sense _ c.args.prices.now c.args.row.now c.args.own c.loop-i.i c.args.own_worth c.index-row-i.result c.requires.row (omega (arith, c.loop-i-test.true, c.len-i-end.ensures)) c.index-row-i.is c.requires.own inv (grind (arith, ints, over, value, price))
+    first_break c.args.sense _ c.args.prices.now c.args.row.now c.args.own c.loop-i.i c.args.own_worth c.index-row-i.result c.requires.row (omega (arith, c.loop-i-test.true)) c.index-row-i.is c.requires.own inv (grind (arith, ints, over, value, price))
 
 pub loop-i-preserved : goal.loop-i-preserved
 loop-i-preserved c =
@@ -37,11 +37,11 @@ loop-i-preserved c =
     let here : P c.index-row-i.result = grind (arith, ints, upto, value, price) in
     let inv = simp to_z-of_z at c.loop-i.invariant in
     let all = below_more (λ k. (e : ℕ × ℤ) → P (get_or c.args.row.now k e)) c.loop-i.i (λ k l e. inv k e l)
-    (λ e. subst P (c.index-row-i.is ∙ get_or_default c.args.row.now c.loop-i.i c.index-row-i.result e (omega (arith, c.loop-i-test.true, c.len-i-end.ensures))) here) in
+    (λ e. subst P (c.index-row-i.is ∙ get_or_default c.args.row.now c.loop-i.i c.index-row-i.result e (omega (arith, c.loop-i-test.true))) here) in
     simp to_z-of_z (λ k e l. all k l e)
 
 pub returns : goal.returns
 returns c =
     let g = c.ranges.own_worth in
     let inv = simp to_z-of_z at c.loop-i.invariant in
-    slack_from c.args.sense _ c.args.prices.now c.args.row.now c.args.own c.args.own_worth c.requires.own (λ k d lt. inv k d (omega (arith, c.loop-i-test.false, c.len-i-end.ensures)))
+    slack_from c.args.sense _ c.args.prices.now c.args.row.now c.args.own c.args.own_worth c.requires.own (λ k d lt. inv k d (omega (arith, c.loop-i-test.false)))

@@ -1,4 +1,4 @@
-use Rattle.std.proofs.Common.{ℕ, pos, map}
+use Rattle.std.proofs.Common.{ℕ, pos, length, map}
 use Rattle.assign_core.specs.Numbered.{IsNumber}
 use Rattle.assign_core.specs.Rows.{row_of}
 use Rattle.assign_core.specs.Benefits.{benefit_row}
