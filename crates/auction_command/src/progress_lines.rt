@@ -89,10 +89,7 @@ fn write_paths<W: fmt::Write>(
     write_persons(f, assigned, persons)
 }
 
-fn write_round_after_paths<W: fmt::Write>(
-    f: &mut fmt::Formatter<W>,
-    it: &Progress,
-) -> fmt::Result {
+fn write_round_after_paths<W: fmt::Write>(f: &mut fmt::Formatter<W>, it: &Progress) -> fmt::Result {
     f.write_str("rounds after shortest paths, ")?;
     write_phase(f, it)?;
     write_persons(f, it.assigned, it.persons)

@@ -290,7 +290,14 @@ fn solve_by_paths<T: Threads + Sync, G, V: Watch>(
     let observer = WatchedPaths::new(problem.n(), context.watch);
     let mut offering = WatchedOffers::new(context.rt, context.watch, true);
     let first = telling(prices);
-    solve_paths(context.alloc, problem, sense, first, &observer, &mut offering)
+    solve_paths(
+        context.alloc,
+        problem,
+        sense,
+        first,
+        &observer,
+        &mut offering,
+    )
 }
 
 // The end that belongs to an outcome.

@@ -101,7 +101,7 @@ fn try_sparse<O: Observer>(
 /// The prices of an optimal assignment are multiples of `n + 1`, at which each person has slackness
 /// 0. First prices are used by how far they are above the least one, in whole costs; a list of
 /// another length counts as none. Prices of a similar problem save most of the work, and any prices
-/// are allowed. None of this is proved, nor what the observer hears.
+/// are allowed. None of this is proved, and no clause says what the observer hears.
 ///
 /// Where each person lists each object it takes 8 bytes a pair, else 16, and more for each person.
 ///
