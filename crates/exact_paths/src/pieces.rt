@@ -5,7 +5,7 @@ use sparse_search::{HallSet, NOBODY, SparseProblem};
 use std::alloc::{AllocError, Global};
 
 // The most pieces. A search that takes more goes on without a stop.
-const PIECES: usize = 1 << 16;
+const PIECES: usize = 1 << 12;
 
 /// The end of a piece.
 #[derive(Drop)]

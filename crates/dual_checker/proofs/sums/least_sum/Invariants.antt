@@ -1,7 +1,7 @@
 use Rattle.std.proofs.Common.{ℕ, ℤ, ◌<◌, ◌+ℤ◌, ◌≤ℤ◌, slice_index_or}
 use Rattle.assign_core.specs.Prices.{price_of}
 use Rattle.dual_checker.specs.inside.Rounded.{minimised}
-use Rattle.dual_checker.proofs.sums.least_listed.Given as goal
+use Rattle.dual_checker.proofs.sums.least_sum.Given as goal
 
 -- no passed sum is less
 abbrev pub invariant-loop-object : goal.invariant-loop-object
