@@ -21,3 +21,4 @@ pub mod Members
 pub mod LeastCosts
 pub mod SparseRows
 pub mod Gathering
+pub mod FirstPairs

@@ -1,8 +1,8 @@
 // A problem: for each person the listed objects, rising, each with its cost.
 ghost use Rattle.std.specs.Prelude.{◌≡◌, ℕ, ℤ, ◌+◌, ◌-◌, ◌*◌, ◌<◌, ◌≤◌, List, [], ◌++◌, Some, IsSome, length, map, replicate, All, IfOk};
 ghost use Rattle.assign_core.specs.Numbered.{IsNumber, numbered};
-ghost use Rattle.assign_core.specs.Rows.{Listing, IsProblem, IsRising, IsRow, IsCost, IsSize, HasCosts, listed_in, row_of};
-ghost use Rattle.assign_core.specs.Dense.{dense_rows, row_from, rows_cut};
+ghost use Rattle.assign_core.specs.Rows.{Listing, IsAmong, IsProblem, IsRising, IsRow, IsCost, IsSize, HasCosts, listed_in, row_of};
+ghost use Rattle.assign_core.specs.Dense.{dense_rows, dense_rows_among, row_from, rows_cut};
 ghost use Rattle.assign_core.specs.Assignment.{IsAssignment, total};
 
 use super::assignment::Assignment;
@@ -86,6 +86,22 @@ fn cut_rows(
     Ok(rows)
 }
 
+// The rows, followed by empty ones so that there are at least `m`.
+fn filled_up(
+    alloc: Global,
+    mut rows: Vec<Vec<(Object, Cost)>>,
+    n: u16,
+    m: u16,
+) -> Result<Vec<Vec<(Object, Cost)>>, AllocError>
+    ensures { IfOk result (λ all. map (λ r. r.items) all.items
+        ≡ map (λ r. r.items) rows.items ++ replicate (m - n) []) }
+{
+    for _ in 0..m.saturating_sub(n) {
+        rows.push(Vec::new(alloc))?;
+    }
+    Ok(rows)
+}
+
 impl Problem {
     /// The problem of these rows.
     pub fn from_rows(rows: Vec<Vec<(Object, Cost)>>) -> Problem
@@ -118,6 +134,29 @@ impl Problem {
     {
         Ok(Problem {
             rows: cut_rows(alloc, n, n, costs)?,
+        })
+    }
+
+    /// The problem of `n` persons among `m` objects in which each person lists each object. The
+    /// first `m` costs are those of person 1 to objects 1, 2, .., the next `m` those of person 2,
+    /// and so on. If there are more objects than persons, persons `n + 1` to `m` list nothing: only
+    /// the first `n` persons are to be assigned.
+    ///
+    /// It reads each cost once, and takes 16 bytes for it, and 24 for each person.
+    ///
+    /// # Errors
+    /// `AllocError` if memory is refused.
+    pub fn dense_among(alloc: Global, n: u16, m: u16, costs: &[Cost]) -> Result<Problem, AllocError>
+        requires persons { IsSize n }
+        requires objects { IsSize m }
+        requires count { length costs.now ≡ n * m }
+        requires costs { All IsCost costs.now }
+        ensures rows { IfOk result (λ problem. problem ≡ dense_rows_among n m costs.now) }
+        ensures among { IfOk result (IsAmong n m) }
+    {
+        let rows = cut_rows(alloc, n, m, costs)?;
+        Ok(Problem {
+            rows: filled_up(alloc, rows, n, m)?,
         })
     }
 
