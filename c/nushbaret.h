@@ -102,7 +102,7 @@
 extern "C" {
 #endif
 
-#define NUSHBARET_VERSION "3.1.0"
+#define NUSHBARET_VERSION "4.0.0"
 
 /* The sense: the least sum of costs, or the greatest. */
 #define NUSHBARET_MIN 0u
