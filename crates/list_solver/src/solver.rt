@@ -73,7 +73,9 @@ fn begin_anew(standing: &mut Standing)
 /// A record whose stage is 0 begins: from the prices and the objects of the standing, or with nothing
 /// if all of them are 0. Objects that aren't from 1 to `m`, or are given twice, count as nobody's. Any
 /// other stage goes on from the prices, the objects and the record, as a `Stopped` call left them.
-/// Whatever they hold, the answer is as good: `Best` and `Hall` are what the checker accepts.
+/// Whatever they hold, the answer is as good: `Best` and `Hall` are what the checker accepts. Where a
+/// search from given prices, objects or a record finds nothing, another one begins with nothing, and
+/// doesn't stop before its end.
 ///
 /// # Errors
 /// `AllocError` if memory is refused.
@@ -95,5 +97,6 @@ pub fn solve_lists(
         return Ok(found);
     }
     begin_anew(standing);
-    try_once(alloc, lists, standing, budget)
+    // Without a limit, so that no call comes here again.
+    try_once(alloc, lists, standing, 0)
 }
