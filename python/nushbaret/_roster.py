@@ -21,7 +21,7 @@ from ._times import Times
 LINES, MATRIX = "lines", "matrix"
 TITLES = ("person", "object", "cost")
 # Of plans in JSON; those before are read too.
-FORMAT = 3
+FORMAT = 4
 # Where a workbook has its plan.
 PLAN_SHEET = "Plan"
 # The column of a plan that says what changed from an earlier one, and its words: for a new pair, and for two that are no pairs of the plan.
@@ -87,14 +87,27 @@ class Names:
 Read = Tuple[Tuple[str, str, str], Names, Names, Numbers, Numbers]
 
 
+class Earlier(NamedTuple):
+    """An object of a day before the roster's: its name, its group, its kind and times as far as the file has them, and the line."""
+
+    name: str
+    group: str
+    kind: str
+    times: Optional[Times]
+    line: int
+
+
 class Groups(NamedTuple):
     """Groups of objects of which nobody takes two: their title, their names in the order of the file, the group of each object that is in
-    one, and when objects begin and end, where the file says it."""
+    one, and when objects begin and end, where the file says it; their kinds, if a column has them; and objects of earlier days."""
 
     title: str
     names: List[str]
     of_objects: Dict[int, int]
     times: Dict[int, Times] = {}
+    kinds: Dict[int, str] = {}
+    has_kinds: bool = False
+    earlier: Sequence[Earlier] = ()
 
 
 class Roster(NamedTuple):
