@@ -133,7 +133,7 @@ def _whole(report: Report) -> Iterator[str]:
     """All that there is to say."""
     roster, answer, marked = report.roster, report.answer, with_marks(report)
     for place, line in enumerate(first_lines(marked)):
-        yield f"<p{classes('short' if place < len(answer.groups) else '')}>{words(line)}</p>\n"
+        yield f"<p{classes('short' if place < report.alarms else '')}>{words(line)}</p>\n"
         if place < len(answer.groups):
             yield from _all_names(marked.roster, answer.groups[place])
     if answer.plan is not None:

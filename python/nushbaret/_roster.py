@@ -418,7 +418,7 @@ def read_plan(path: str, roster: Roster) -> List[PlanLine]:
     then for the first pair that the roster forbids; and `OSError` where the file can't be read.
     """
     places = [(_known(path, roster, person, line, 1, 1), _known(path, roster, object_, line, 2, 2), line)
-              for person, object_, line, _ in _named_pairs(path, roster)]
+              for person, object_, line, _ in named_pairs(path, roster)]
     _refuse_twice(path, roster, places)
     costs = roster.costs_of({(person, object_) for person, object_, _ in places})
     for person, object_, line in places:
@@ -457,13 +457,13 @@ def read_old_plan(path: str, roster: Roster, by_counts: bool = True) -> OldPlan:
 
     Raises `RosterFault` for the first name that stands more often than it may, if counts are to be kept, and for a pair that stands twice.
     """
-    return old_plan_of(path, roster, _named_pairs(path, roster), by_counts)
+    return old_plan_of(path, roster, named_pairs(path, roster), by_counts)
 
 
 def read_hand_plan(path: str, roster: Roster) -> Tuple[OldPlan, List[NamedPair]]:
     """Reads a plan from elsewhere, whatever rules it breaks: each pair once, and those that stand again."""
     first: Dict[Tuple[str, str], NamedPair] = {}
-    named = _named_pairs(path, roster)
+    named = named_pairs(path, roster)
     repeated = [pair for pair in named if first.setdefault(pair[:2], pair) is not pair]
     return old_plan_of(path, roster, list(first.values()), False), repeated
 
@@ -488,7 +488,7 @@ def _as_written(names: List[str], numbers: Dict[str, int], name: str) -> str:
     return names[numbers[name]] if name in numbers else name
 
 
-def _named_pairs(path: str, roster: Roster) -> List[NamedPair]:
+def named_pairs(path: str, roster: Roster) -> List[NamedPair]:
     """The pairs of a plan by names."""
     pairs = _plan_of_json(path) if is_json(path) else _plan_of_sheet(path, roster)
     return [NamedPair(_as_written(roster.persons, roster.person_numbers, pair.person),
