@@ -101,9 +101,9 @@ PATTERNS: Sequence[Tuple[str, str]] = (
 
 def _shape_of(text: str) -> Optional[Tuple[str, Match[str]]]:
     """Which rule a text is."""
-    words = " ".join(text.split()).casefold()
+    words = " ".join(text.split())
     for pattern, name in PATTERNS:
-        found = re.fullmatch(pattern, words)
+        found = re.fullmatch(pattern, words, re.IGNORECASE)
         if found is not None:
             return name, found
     return None
@@ -215,13 +215,13 @@ class _Reader:
 
     def _per(self, line: Line, words: Match[str]) -> None:
         least, most = self._bounds(line)
-        of_weekends = words[1] == WEEKENDS
+        of_weekends = words[1].casefold() == WEEKENDS
         kinds = None if of_weekends else self._kinds(line, 1, words[1])
-        self._add(line, Rule(COUNT, _sentence(line), self._persons(line), kinds, None, least, most, words[2], of_weekends))
+        self._add(line, Rule(COUNT, _sentence(line), self._persons(line), kinds, None, least, most, words[2].casefold(), of_weekends))
 
     def _per_hours(self, line: Line, words: Match[str]) -> None:
         least, most = self._bounds(line, False)
-        self._add(line, Rule(HOURS, _sentence(line), self._persons(line), None, None, least, most, words[1]))
+        self._add(line, Rule(HOURS, _sentence(line), self._persons(line), None, None, least, most, words[1].casefold()))
 
     def _free(self, line: Line, words: Match[str]) -> None:
         least, most = self._bounds(line, True, True)
@@ -235,9 +235,10 @@ class _Reader:
         text = re.sub("^each *", "", line.value, flags=re.IGNORECASE)
         kinds = self._kinds(line, 2, text) if text else None
         persons, count = self._several(line, 1), Fraction(words[2])
-        least, most = (count, None) if words[1] == "least" else (None, count)
+        side = words[1].casefold()
+        least, most = (count, None) if side == "least" else (None, count)
         who = ", ".join(self._roster.persons[person] for person in persons)
-        self._add(line, Rule(STAFF, f"at {words[1]} {words[2]} of {who} on {line.value or 'each'}", persons, kinds, None, least, most))
+        self._add(line, Rule(STAFF, f"at {side} {words[2]} of {who} on {line.value or 'each'}", persons, kinds, None, least, most))
 
     def _apart(self, line: Line, words: Match[str]) -> None:
         self._with_others(line, APART)

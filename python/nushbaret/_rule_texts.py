@@ -102,6 +102,7 @@ def as_content(roster: Roster, proved: Proved) -> Content:
     if proved.even:
         content["even"], content["is_most_even"] = [even._asdict() for even in proved.even], proved.is_most_even
     if proved.otherwise is not None and proved.otherwise_cost is not None:
-        cost = decimal_text(proved.otherwise_cost, roster.decimals, ".")
-        content["without_evenness"] = {"cost": cost, **as_content(roster, proved.otherwise)}
+        without = as_content(roster, proved.otherwise)
+        without["cost"] = decimal_text(proved.otherwise_cost, roster.decimals, ".")
+        content["without_evenness"] = without
     return content
