@@ -40,7 +40,7 @@ class Reason(NamedTuple):
 
 
 class Evenness(NamedTuple):
-    """A rule of evenness: its sentence, and the least and the greatest count of those whom it compares."""
+    """A rule of evenness: its sentence, and the least and the greatest count of those that it compares."""
 
     sentence: str
     least: int
