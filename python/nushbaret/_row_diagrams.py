@@ -67,6 +67,53 @@ def _step_by_step(variables: int, rows: Sequence[Limits]) -> List[int]:
     return order
 
 
+class _Packing:
+    """Disjoint rows of ones of which at most so many may be taken: bounds on what the rest of another row can come to."""
+
+    def __init__(self, order: Sequence[int], rows: Sequence[Limits]):
+        self.order = order
+        packed = [row for row in rows if row.most is not None and row.terms and all(factor == 1 for _, factor in row.terms)]
+        self.item_of, self.items = _disjoint([[variable for variable, _ in row.terms] for row in packed if row.most == 1], len(order))
+        wide = [row for row in packed if row.most is not None and row.most > 1]
+        unions = [(sorted({self.item_of[variable] for variable, _ in row.terms}), row.most or 0) for row in wide]
+        self.group_of, groups = _disjoint([union for union, _ in unions], self.items)
+        most_of = {tuple(union): most for union, most in reversed(unions)}
+        members: List[List[int]] = [[] for _ in range(groups)]
+        for item, group in enumerate(self.group_of):
+            members[group].append(item)
+        self.groups = [(own, most_of.get(tuple(own), len(own))) for own in members]
+
+    def most_left(self, weights: Dict[int, int]) -> List[int]:
+        """The greatest sum of weights from each layer on, by these rows; after the last layer 0."""
+        of_items, of_groups = [0] * self.items, [0] * len(self.groups)
+        total, found = 0, [0]
+        for variable in reversed(self.order):
+            item = self.item_of[variable]
+            if weights.get(variable, 0) > of_items[item]:
+                of_items[item] = weights[variable]
+                group = self.group_of[item]
+                own, most = self.groups[group]
+                value = sum(sorted((of_items[other] for other in own), reverse=True)[:most])
+                total, of_groups[group] = total + value - of_groups[group], value
+            found.append(total)
+        return found[::-1]
+
+
+def _disjoint(sets: Sequence[Sequence[int]], count: int) -> Tuple[List[int], int]:
+    """To which of disjoint sets each of 0..count belongs, and how many there are: those given that share none, then one of its own."""
+    set_of, number = [-1] * count, 0
+    for own in sets:
+        if all(set_of[one] < 0 for one in own):
+            for one in own:
+                set_of[one] = number
+            number += 1
+    for one in range(count):
+        if set_of[one] < 0:
+            set_of[one] = number
+            number += 1
+    return set_of, number
+
+
 class _Layers:
     """States of a layer: the sums so far of the rows that have begun and not ended."""
 
@@ -78,8 +125,11 @@ class _Layers:
             for variable, factor in row.terms:
                 self.at[place[variable]][number] = factor
         self.ends = [max((place[variable] for variable, _ in row.terms), default=-1) for row in rows]
-        self.least = [sum(min(0, factor) for _, factor in row.terms) for row in rows]
-        self.most = [sum(max(0, factor) for _, factor in row.terms) for row in rows]
+        packing = _Packing(order, rows)
+        self.mosts = [packing.most_left(dict(row.terms)) for row in rows]
+        self.leasts = [packing.most_left({variable: -factor for variable, factor in row.terms}) for row in rows]
+        self.least: List[int] = []
+        self.most: List[int] = []
         self.open: List[int] = []
         self.states: Any = np.zeros((1, 0), dtype=np.int64)
         self.mixers: Any = np.random.default_rng(1).integers(1, 2**62, (2, len(rows)), dtype=np.int64) * 2 + 1
@@ -92,9 +142,8 @@ class _Layers:
         self.open += begun
         states = np.hstack([self.states, np.zeros((count, len(begun)), dtype=np.int64)])
         states = np.vstack([states, states + np.array([factors.get(row, 0) for row in self.open], dtype=np.int64)])
-        for row, factor in factors.items():
-            self.least[row] -= min(0, factor)
-            self.most[row] -= max(0, factor)
+        self.least = [-left[at + 1] for left in self.leasts]
+        self.most = [left[at + 1] for left in self.mosts]
         wanted, allowed = self._left(states)
         alive = np.flatnonzero(((wanted <= self._of(self.most)) & (allowed >= self._of(self.least))).all(axis=1))
         keys = self._keys(wanted[alive], allowed[alive])
