@@ -13,6 +13,7 @@ optimize: Any = importlib.import_module("scipy.optimize")
 # Multipliers are tried as whole multiples of one in so many.
 DENOMINATORS = (1, 2, 3, 4, 6, 8, 12, 16, 24, 32, 48, 64, 120, 1000, 10_000, 100_000, 1_000_000)
 _MOST = 2.0**62
+# So many of the longest sums, and so many of those farthest from whole numbers, are tried for a split.
 _CANDIDATES = 3
 
 
@@ -109,12 +110,13 @@ class Trees:
         """Sums of rows and variables that are the farthest from whole numbers: a row or None, the variable, and the whole number below."""
         sums = self.matrix[self.sums] @ point if self.sums else np.zeros(0)
         rows = [(abs(value - np.floor(value) - 0.5), row, -1, int(np.floor(value + 1e-9))) for row, value in zip(self.sums, sums.tolist())]
-        ones = [(abs(value - 0.5), None, variable, 0) for variable, value in enumerate(point.tolist())]
-        found: List[Tuple[Optional[int], int, int]] = []
-        for some, count in ((rows, _CANDIDATES), (ones, 1)):
-            near = sorted((one for one in some if one[0] < 0.5 - 1e-6), key=lambda one: one[0])
-            found += [one[1:] for one in near[:count]]
-        return found
+        ones = [(abs(value - 0.5), variable) for variable, value in enumerate(point.tolist())]
+        broken = sorted(one for one in rows if one[0] < 0.5 - 1e-6)
+        longest = sorted(broken, key=lambda one: -len(self.part.rows[one[1]].terms))[:_CANDIDATES]
+        found: List[Tuple[Optional[int], int, int]] = [one[1:] for one in longest]
+        found += [one[1:] for one in broken if one not in longest][:_CANDIDATES]
+        far, variable = min(ones, default=(0.5, -1))
+        return found + [(None, variable, 0)] if far < 0.5 - 1e-6 else found
 
     def _halves(self, node: _Node, row: Optional[int], variable: int, most: int) -> Tuple[_Node, _Node]:
         side = len(self.part.rows) + 1 + node.depth
