@@ -3,8 +3,9 @@
 Needs NumPy and SciPy.
 """
 import importlib
+import math
 import time
-from typing import Any, Dict, Iterator, List, NamedTuple, Optional
+from typing import Any, Callable, Dict, Iterator, List, NamedTuple, Optional
 
 from ._row_blocks import Block, blocks_of, limits_of, matrix_of, side_of
 from ._row_diagrams import TOO_MUCH, Diagram, cheapest, cheapest_with, diagram_of
@@ -31,6 +32,10 @@ class Bound(NamedTuple):
     value: int
     prices: Any
     least: List[int]
+
+
+def _reaches(bound: Bound, target: Optional[int]) -> bool:
+    return target is not None and bound.value > SCALE * target
 
 
 class TooWide(Exception):
@@ -92,23 +97,31 @@ class Pricing:
         whole[np.isinf(self.most) & (whole < 0)] = 0
         return whole
 
-    def search(self, prices: Any, target: int, deadline: float) -> Iterator[Bound]:
-        """Better and better bounds, until one shows that no plan costs `target` or less, or no better one is found, or the time is over."""
+    def search(self, prices: Any, target: Callable[[], Optional[int]], deadline: float) -> Iterator[Bound]:
+        """Better and better bounds, until one shows that no plan costs `target()` or less, or no better one in whole costs can be found, or
+        the time is over."""
         best = self.bound(self.rounded(prices))
         if best is None:
             return
         yield best
-        near = prices
-        while best.value <= SCALE * target and time.monotonic() < deadline:
+        near, step = prices, 0.5
+        while not _reaches(best, target()) and time.monotonic() < deadline:
             master = self.master()
-            if master is None or master.value * SCALE - best.value < 1:
+            if master is None or math.ceil(master.value - 1e-6) <= -(-best.value // SCALE):
                 return
-            trial = 0.5 * near + 0.5 * master.prices
+            count = self.count()
+            trial = (1 - step) * near + step * master.prices
             found = self.bound(self.rounded(trial))
-            assert found is not None
-            if found.value > best.value:
+            if found is not None and found.value > best.value:
                 best, near = found, trial
                 yield best
+            elif self.count() == count and step == 1.0:
+                return
+            step = 1.0 if self.count() == count else 0.5
+
+    def count(self) -> int:
+        """How many months are kept."""
+        return sum(map(len, self.months))
 
     def master(self) -> Optional["Master"]:
         """The best mixture of the kept months, where a shared row may be missed at a high cost; None where it isn't found."""

@@ -46,7 +46,7 @@ class _Node(NamedTuple):
     depth: int
 
 
-class _Solved(NamedTuple):
+class Solved(NamedTuple):
     """The relaxation's value (infinite where it has no point), its point, and multipliers of the rows."""
 
     value: float
@@ -72,12 +72,21 @@ class Trees:
         """A tree that shows that no month costs `most` or less (None: that there is no month), where row number `len(rows)` is
         `cost <= most` and splits' rows follow. Raises `Open` where it isn't found."""
         self.costs, self.most, self.left = np.asarray(costs, dtype=np.int64), most, most_leaves
-        root = _Node(tuple(None if row.least is None else _Side(row.least, at) for at, row in enumerate(self.part.rows)),
-                     tuple(None if row.most is None else _Side(row.most, at) for at, row in enumerate(self.part.rows)),
-                     (_Side(0, -1),) * self.count, (_Side(1, -1),) * self.count, 0)
+        root = self._root()
         return self._grown(root, self._solve(root))
 
-    def _grown(self, node: _Node, solved: _Solved) -> Proof:
+    def relaxed(self, costs: Any) -> Solved:
+        """The relaxation's value, its point, and multipliers, before any split."""
+        self.costs, self.most = np.asarray(costs, dtype=np.int64), 0
+        return self._solve(self._root())
+
+    def _root(self) -> _Node:
+        rows = self.part.rows
+        return _Node(tuple(None if row.least is None else _Side(row.least, at) for at, row in enumerate(rows)),
+                     tuple(None if row.most is None else _Side(row.most, at) for at, row in enumerate(rows)),
+                     (_Side(0, -1),) * self.count, (_Side(1, -1),) * self.count, 0)
+
+    def _grown(self, node: _Node, solved: Solved) -> Proof:
         leaf = self._leaf(node, solved)
         if leaf is not None:
             self.leaves += 1
@@ -89,9 +98,9 @@ class Trees:
         below, above = [self._grown(half, result) for half, result in halves]
         return Split(terms, most, below, above)
 
-    def _branch(self, node: _Node, solved: _Solved) -> Tuple[Terms, int, List[Tuple[_Node, _Solved]]]:
+    def _branch(self, node: _Node, solved: Solved) -> Tuple[Terms, int, List[Tuple[_Node, Solved]]]:
         """The candidate whose halves have the greatest values, the lesser of each first."""
-        best: Optional[Tuple[Tuple[float, float], Terms, int, List[Tuple[_Node, _Solved]]]] = None
+        best: Optional[Tuple[Tuple[float, float], Terms, int, List[Tuple[_Node, Solved]]]] = None
         for row, variable, most in self._candidates(solved.point):
             halves = [(half, self._solve(half)) for half in self._halves(node, row, variable, most)]
             low, high = sorted(result.value for _, result in halves)
@@ -133,26 +142,26 @@ class Trees:
         low = [far if side is None else -side.bound for side, far in zip(node.low, self.far)]
         return np.array(high + low, dtype=float)
 
-    def _solve(self, node: _Node) -> _Solved:
+    def _solve(self, node: _Node) -> Solved:
         bounds = [(least.bound, most.bound) for least, most in zip(node.least, node.most)]
         if any(least > most for least, most in bounds):
-            return _Solved(np.inf, None, np.zeros(len(self.part.rows)))
+            return Solved(np.inf, None, np.zeros(len(self.part.rows)))
         costs = np.zeros(self.count) if self.most is None else self.costs
         if not self.part.rows:
             point = np.array([most if cost < 0 else least for cost, (least, most) in zip(costs, bounds)], dtype=float)
-            return _Solved(float(costs @ point), point, np.zeros(0))
+            return Solved(float(costs @ point), point, np.zeros(0))
         found = optimize.linprog(costs, A_ub=self.both, b_ub=self._sides(node), bounds=bounds, method="highs")
         if found.status == 2:
             return self._without_point(node, bounds)
         if found.status != 0:
             raise Open
-        return _Solved(float(found.fun), found.x, self._multipliers(found))
+        return Solved(float(found.fun), found.x, self._multipliers(found))
 
     def _multipliers(self, found: Any) -> Any:
         marginals, rows = found.ineqlin.marginals, len(self.part.rows)
         return marginals[:rows] - marginals[rows:2 * rows]
 
-    def _without_point(self, node: _Node, bounds: Sequence[Tuple[int, int]]) -> _Solved:
+    def _without_point(self, node: _Node, bounds: Sequence[Tuple[int, int]]) -> Solved:
         """Multipliers that show that the relaxation has no point: those of the least violation."""
         rows = len(self.part.rows)
         slack = sparse.vstack([sparse.identity(rows)] * 2)
@@ -161,9 +170,9 @@ class Trees:
                                  bounds=[*bounds, *[(0, None)] * rows], method="highs")
         if found.status != 0:
             raise Open
-        return _Solved(np.inf, None, self._multipliers(found))
+        return Solved(np.inf, None, self._multipliers(found))
 
-    def _leaf(self, node: _Node, solved: _Solved) -> Optional[Leaf]:
+    def _leaf(self, node: _Node, solved: Solved) -> Optional[Leaf]:
         """A leaf by the multipliers, where they show it in whole numbers."""
         is_costly = bool(np.isfinite(solved.value))
         if is_costly and (self.most is None or solved.value < self.most + 1e-6):
