@@ -1,5 +1,5 @@
 """Models of 0/1 variables, rows with sentences, and costs; and what is found of one."""
-from typing import NamedTuple, Optional, Tuple, Union
+from typing import List, NamedTuple, Optional, Tuple, Union
 
 # A sum of variables: each by its number, from 0, with a whole coefficient that isn't 0.
 Terms = Tuple[Tuple[int, int], ...]
@@ -56,12 +56,31 @@ class Split(NamedTuple):
 Proof = Union[Leaf, Split]
 
 
+def flat(proof: Proof) -> Tuple[int, ...]:
+    """A proof as one list: a leaf is 0, how many multipliers, and them; a split 1, how many terms, the greatest sum of the half below,
+    the terms, and then both halves."""
+    numbers: List[int] = []
+    waiting = [proof]
+    while waiting:
+        node = waiting.pop()
+        pairs = node.multipliers if isinstance(node, Leaf) else node.terms
+        numbers += (0, len(pairs)) if isinstance(node, Leaf) else (1, len(pairs), node.most)
+        numbers += [number for pair in pairs for number in pair]
+        if isinstance(node, Split):
+            waiting += (node.above, node.below)
+    return tuple(numbers)
+
+
 class Certificate(NamedTuple):
-    """The claim that no 0/1 plan meets all rows, and its proof. Where plans are costly, the last row is `cost <= most`."""
+    """The claim that no 0/1 plan meets all rows, with its proof as one list, in the form of `nushbaret_rows` in C.
+
+    With a plan the last row is `cost <= most`: the plan meets all rows but that one, and no plan costs less than `most + 1`.
+    """
 
     variables: int
     rows: Tuple[Limits, ...]
-    proof: Proof
+    plan: Optional[Tuple[int, ...]]
+    tree: Tuple[int, ...]
 
 
 class Finding(NamedTuple):

@@ -1,0 +1,131 @@
+"""Bounds on what a plan costs, with their proofs: by the relaxation's dual values, by small trees, and person by person. Needs NumPy and
+SciPy."""
+import importlib
+import time
+from typing import Any, List, Optional
+
+from ._row_blocks import cost_of, cost_row, limits_of
+from ._row_chains import chain
+from ._row_model import Model, Proof, flat
+from ._row_plans import tried
+from ._row_prices import SCALE, Bound, Pricing, TooWide
+from ._row_reasons import reasons
+from ._row_trees import Open, Part, Solved, Trees
+from ._row_worker import Channel
+
+np: Any = importlib.import_module("numpy")
+
+# Models of so few variables are shown by one tree over all of them.
+_SMALL = 200
+_MOST_LEAVES = 5000
+_FEW_LEAVES = 12
+
+
+class Prover:
+    """Looks for bounds of a model and tells them with their proofs."""
+
+    def __init__(self, model: Model, channel: Channel, seconds: float):
+        self.model, self.channel = model, channel
+        self.deadline = time.monotonic() + seconds
+        self.rows = [limits_of(row) for row in model.rows]
+        self.whole = Trees(Part(self.rows, list(range(len(self.rows))), list(range(model.variables))), self.deadline)
+        self.is_small = model.variables <= _SMALL
+        self.bound: Optional[int] = None
+
+    def left(self) -> float:
+        return self.deadline - time.monotonic()
+
+    def tell(self, proof: Proof, most: int) -> None:
+        """Tells a proof that no plan costs `most` or less."""
+        self.bound = most + 1
+        self.channel.say(tree=flat(proof), most=most)
+
+    def is_closed(self) -> bool:
+        return self.bound is not None and self.channel.cost is not None and self.bound >= self.channel.cost
+
+    def run(self) -> None:
+        solved = self.whole.relaxed(self.model.costs)
+        if solved.value == np.inf:
+            self.explain(None)
+            return
+        self.by_relaxation(solved)
+        if self.is_small:
+            self.by_one_tree()
+        if not self.is_closed():
+            self.by_prices(solved)
+
+    def explain(self, first: Optional[Proof]) -> None:
+        """Tells sentences that can't hold together."""
+        for found in reasons(self.model, self.deadline, _MOST_LEAVES if self.is_small else _FEW_LEAVES, first):
+            self.channel.say(reasons=found.texts, is_minimal=found.is_minimal, rows=found.rows, tree=found.tree)
+
+    def by_relaxation(self, solved: Solved) -> None:
+        """The bound of the relaxation of all rows."""
+        most = int(np.ceil(solved.value - 1e-6)) - 1
+        try:
+            self.tell(self.whole.tree(self.model.costs, most, 0), most)
+        except Open:
+            pass
+
+    def by_one_tree(self) -> None:
+        """One tree over all variables, for the cost of the plan that the other process finds."""
+        while self.channel.cost is None and not self.channel.is_hopeless and self.left() > 0:
+            time.sleep(0.005)
+        if self.is_closed():
+            return
+        try:
+            if self.channel.cost is None:
+                self.explain(None)
+                return
+            most = self.channel.cost - 1
+            self.tell(self.whole.tree(self.model.costs, most, _MOST_LEAVES), most)
+        except Open:
+            pass
+
+    def by_prices(self, solved: Solved) -> None:
+        """Person by person: prices, then a tree for each person."""
+        try:
+            pricing = Pricing(self.model, self.deadline)
+        except TooWide:
+            return
+        if self.channel.plan is not None:
+            pricing.add_plan(self.channel.plan)
+        best: Optional[Bound] = None
+        for best in pricing.search(solved.multipliers[pricing.shared], self.target, self.deadline):
+            self.channel.say(stage="prices", value=int(best.value // SCALE))
+        if best is not None:
+            self.by_persons(pricing, best)
+
+    def target(self) -> Optional[int]:
+        """The cost that no plan may have, so that the plan known is best."""
+        return None if self.channel.cost is None else self.channel.cost - 1
+
+    def by_persons(self, pricing: Pricing, best: Bound) -> None:
+        most = -(-best.value // SCALE) - 1
+        if self.channel.cost is not None:
+            most = min(most, self.channel.cost - 1)
+        if self.bound is None or most >= self.bound:
+            try:
+                self.tell(chain(pricing, best, most, len(self.rows), self.deadline), most)
+            except Open:
+                pass
+        if not self.is_closed():
+            self.look_near(pricing, best)
+
+    def look_near(self, pricing: Pricing, best: Bound) -> None:
+        """Looks for a plan among the variables that a plan between the bound and the plan known can have."""
+        most = self.channel.cost - 1 if self.channel.cost is not None else int(best.value // SCALE * 1.01) + 2
+        reaches = pricing.reaches(best.prices)
+        least = (reaches[0] > SCALE * most).astype(float)
+        greatest = 1.0 - (reaches[1] > SCALE * most)
+        if (least > greatest).any():
+            return
+        found = tried(self.model, [*self.rows, cost_row(self.model, most)], self.left() / 3, least, greatest)
+        cost = cost_of(self.model, found.plan)
+        if found.plan is not None and cost is not None:
+            self.channel.say_plan(found.plan, cost)
+
+
+def look_for_bounds(model: Model, channel: Channel, seconds: float) -> None:
+    """Tells better and better bounds with their proofs, or sentences that can't hold together."""
+    Prover(model, channel, seconds).run()

@@ -1,0 +1,48 @@
+"""Plans by HiGHS, as SciPy has it: a mixed-integer program of the rows. Needs NumPy and SciPy."""
+import importlib
+import time
+from typing import Any, List, NamedTuple, Optional, Sequence
+
+from ._row_blocks import cost_row, limits_of, matrix_of, side_of
+from ._row_model import Limits, Model
+from ._row_worker import Channel
+
+np: Any = importlib.import_module("numpy")
+optimize: Any = importlib.import_module("scipy.optimize")
+
+# What HiGHS is given first, as a part of the time; with the rest it looks below what is known then.
+_FIRST_PART = 0.4
+
+
+class Tried(NamedTuple):
+    """What HiGHS returned: a plan or None; and whether it says that there is no plan, or none that costs less."""
+
+    plan: Optional[List[int]]
+    is_over: bool
+
+
+def tried(model: Model, rows: Sequence[Limits], seconds: float, least: Any = 0, most: Any = 1) -> Tried:
+    """Lets HiGHS look for the cheapest plan that meets the rows, with bounds of the variables, for so many seconds at most."""
+    low, high = side_of(rows)
+    constraints = optimize.LinearConstraint(matrix_of(rows, model.variables), low, high) if rows else ()
+    found = optimize.milp(np.array(model.costs, dtype=float), constraints=constraints, integrality=np.ones(model.variables),
+                          bounds=optimize.Bounds(least, most), options={"time_limit": max(0.1, seconds), "mip_rel_gap": 0})
+    plan = None if found.x is None else [int(value > 0.5) for value in found.x]
+    return Tried(plan, found.status in (0, 2))
+
+
+def look_for_plans(model: Model, channel: Channel, seconds: float) -> None:
+    """Tells each better plan that HiGHS returns."""
+    deadline = time.monotonic() + seconds
+    rows = [limits_of(row) for row in model.rows]
+    part = _FIRST_PART
+    while time.monotonic() < deadline:
+        below = [] if channel.cost is None else [cost_row(model, channel.cost - 1)]
+        found = tried(model, rows + below, (deadline - time.monotonic()) * part)
+        if found.plan is not None:
+            channel.say_plan(found.plan, sum(cost for cost, taken in zip(model.costs, found.plan) if taken))
+        elif found.is_over and channel.cost is None:
+            channel.say(hopeless=True)
+        if found.is_over:
+            return
+        part = 1.0

@@ -1,0 +1,225 @@
+"""Small trees that show that none of a person's months costs so little. Needs NumPy and SciPy."""
+import importlib
+import time
+from typing import Any, Dict, List, NamedTuple, Optional, Sequence, Tuple
+
+from ._row_blocks import matrix_of
+from ._row_model import Leaf, Limits, Proof, Split, Terms
+
+np: Any = importlib.import_module("numpy")
+sparse: Any = importlib.import_module("scipy.sparse")
+optimize: Any = importlib.import_module("scipy.optimize")
+
+# Multipliers are tried as whole multiples of one in so many.
+DENOMINATORS = (1, 2, 3, 4, 6, 8, 12, 16, 24, 32, 48, 64, 120, 1000, 10_000, 100_000, 1_000_000)
+_MOST = 2.0**62
+# So many of the longest sums, and so many of those farthest from whole numbers, are tried for a split.
+_CANDIDATES = 3
+
+
+class Open(Exception):
+    """A tree can't be finished: the time or the leaves are used up, or there is a plan."""
+
+
+class Part(NamedTuple):
+    """Rows over a person's variables, from 0, with the numbers that the rows and the variables have in the model."""
+
+    rows: List[Limits]
+    numbers: List[int]
+    variables: List[int]
+
+
+class _Side(NamedTuple):
+    """A bound, and the number of the row that has it: -1 for that of a variable as such."""
+
+    bound: int
+    row: int
+
+
+class _Node(NamedTuple):
+    """Bounds of the rows and of the variables at a node, and how many splits are above it."""
+
+    low: Tuple[Optional[_Side], ...]
+    high: Tuple[Optional[_Side], ...]
+    least: Tuple[_Side, ...]
+    most: Tuple[_Side, ...]
+    depth: int
+
+
+class Solved(NamedTuple):
+    """The relaxation's value (infinite where it has no point), its point, and multipliers of the rows."""
+
+    value: float
+    point: Any
+    multipliers: Any
+
+
+class Trees:
+    """Trees over a part's rows; several may be made, for different costs."""
+
+    def __init__(self, part: Part, deadline: float):
+        self.part = part
+        self.deadline = deadline
+        self.count = len(part.variables)
+        self.matrix = matrix_of(part.rows, self.count)
+        self.both = sparse.vstack([self.matrix, -self.matrix]).tocsc()
+        self.whole = self.matrix.astype(np.int64)
+        self.far = np.asarray(abs(self.matrix).sum(axis=1)).ravel() + 1 if part.rows else np.zeros(0)
+        self.sums = [row for row, limits in enumerate(part.rows) if len(limits.terms) > 1 and all(abs(factor) == 1 for _, factor in limits.terms)]
+        self.leaves = 0
+
+    def tree(self, costs: Any, most: Optional[int], most_leaves: int = 2000) -> Proof:
+        """A tree that shows that no month costs `most` or less (None: that there is no month), where row number `len(rows)` is
+        `cost <= most` and splits' rows follow. Raises `Open` where it isn't found."""
+        self.costs, self.most, self.left = np.asarray(costs, dtype=np.int64), most, most_leaves
+        root = self._root()
+        return self._grown(root, self._solve(root))
+
+    def relaxed(self, costs: Any) -> Solved:
+        """The relaxation's value, its point, and multipliers, before any split."""
+        self.costs, self.most = np.asarray(costs, dtype=np.int64), 0
+        return self._solve(self._root())
+
+    def _root(self) -> _Node:
+        rows = self.part.rows
+        return _Node(tuple(None if row.least is None else _Side(row.least, at) for at, row in enumerate(rows)),
+                     tuple(None if row.most is None else _Side(row.most, at) for at, row in enumerate(rows)),
+                     (_Side(0, -1),) * self.count, (_Side(1, -1),) * self.count, 0)
+
+    def _grown(self, node: _Node, solved: Solved) -> Proof:
+        leaf = self._leaf(node, solved)
+        if leaf is not None:
+            self.leaves += 1
+            return leaf
+        self.left -= 1
+        if self.left < 0 or time.monotonic() > self.deadline or not np.isfinite(solved.value):
+            raise Open
+        terms, most, halves = self._branch(node, solved)
+        below, above = [self._grown(half, result) for half, result in halves]
+        return Split(terms, most, below, above)
+
+    def _branch(self, node: _Node, solved: Solved) -> Tuple[Terms, int, List[Tuple[_Node, Solved]]]:
+        """The candidate whose halves have the greatest values, the lesser of each first."""
+        best: Optional[Tuple[Tuple[float, float], Terms, int, List[Tuple[_Node, Solved]]]] = None
+        for row, variable, most in self._candidates(solved.point):
+            halves = [(half, self._solve(half)) for half in self._halves(node, row, variable, most)]
+            low, high = sorted(result.value for _, result in halves)
+            cut = np.inf if self.most is None else self.most + 1.0
+            score = (min(low, cut), min(high, cut))
+            if best is None or score > best[0]:
+                terms: Terms = ((variable, 1),) if row is None else self.part.rows[row].terms
+                best = (score, terms, most, halves)
+            if low >= cut:
+                break
+        if best is None:
+            raise Open
+        return best[1:]
+
+    def _candidates(self, point: Any) -> List[Tuple[Optional[int], int, int]]:
+        """Sums of rows and variables that are the farthest from whole numbers: a row or None, the variable, and the whole number below."""
+        sums = self.matrix[self.sums] @ point if self.sums else np.zeros(0)
+        rows = [(abs(value - np.floor(value) - 0.5), row, -1, int(np.floor(value + 1e-9))) for row, value in zip(self.sums, sums.tolist())]
+        ones = [(abs(value - 0.5), variable) for variable, value in enumerate(point.tolist())]
+        broken = sorted(one for one in rows if one[0] < 0.5 - 1e-6)
+        longest = sorted(broken, key=lambda one: -len(self.part.rows[one[1]].terms))[:_CANDIDATES]
+        found: List[Tuple[Optional[int], int, int]] = [one[1:] for one in longest]
+        found += [one[1:] for one in broken if one not in longest][:_CANDIDATES]
+        far, variable = min(ones, default=(0.5, -1))
+        return found + [(None, variable, 0)] if far < 0.5 - 1e-6 else found
+
+    def _halves(self, node: _Node, row: Optional[int], variable: int, most: int) -> Tuple[_Node, _Node]:
+        side = len(self.part.rows) + 1 + node.depth
+        below, above = _Side(most, side), _Side(most + 1, side)
+        if row is None:
+            return (node._replace(most=_with(node.most, variable, below), depth=node.depth + 1),
+                    node._replace(least=_with(node.least, variable, above), depth=node.depth + 1))
+        return (node._replace(high=_with(node.high, row, below), depth=node.depth + 1),
+                node._replace(low=_with(node.low, row, above), depth=node.depth + 1))
+
+    def _sides(self, node: _Node) -> Any:
+        """The greatest values of the rows, and of the rows with the signs changed."""
+        high = [far if side is None else side.bound for side, far in zip(node.high, self.far)]
+        low = [far if side is None else -side.bound for side, far in zip(node.low, self.far)]
+        return np.array(high + low, dtype=float)
+
+    def _solve(self, node: _Node) -> Solved:
+        bounds = [(least.bound, most.bound) for least, most in zip(node.least, node.most)]
+        if any(least > most for least, most in bounds):
+            return Solved(np.inf, None, np.zeros(len(self.part.rows)))
+        costs = np.zeros(self.count) if self.most is None else self.costs
+        if not self.part.rows:
+            point = np.array([most if cost < 0 else least for cost, (least, most) in zip(costs, bounds)], dtype=float)
+            return Solved(float(costs @ point), point, np.zeros(0))
+        found = optimize.linprog(costs, A_ub=self.both, b_ub=self._sides(node), bounds=bounds, method="highs")
+        if found.status == 2:
+            return self._without_point(node, bounds)
+        if found.status != 0:
+            raise Open
+        return Solved(float(found.fun), found.x, self._multipliers(found))
+
+    def _multipliers(self, found: Any) -> Any:
+        marginals, rows = found.ineqlin.marginals, len(self.part.rows)
+        return marginals[:rows] - marginals[rows:2 * rows]
+
+    def _without_point(self, node: _Node, bounds: Sequence[Tuple[int, int]]) -> Solved:
+        """Multipliers that show that the relaxation has no point: those of the least violation."""
+        rows = len(self.part.rows)
+        slack = sparse.vstack([sparse.identity(rows)] * 2)
+        wide = sparse.hstack([self.both, -slack]).tocsc()
+        found = optimize.linprog(np.append(np.zeros(self.count), np.ones(rows)), A_ub=wide, b_ub=self._sides(node),
+                                 bounds=[*bounds, *[(0, None)] * rows], method="highs")
+        if found.status != 0:
+            raise Open
+        return Solved(np.inf, None, self._multipliers(found))
+
+    def _leaf(self, node: _Node, solved: Solved) -> Optional[Leaf]:
+        """A leaf by the multipliers, where they show it in whole numbers."""
+        is_costly = bool(np.isfinite(solved.value))
+        if is_costly and (self.most is None or solved.value < self.most + 1e-6):
+            return None
+        for denominator in DENOMINATORS:
+            if denominator * float(np.abs(self.costs).max(initial=1)) * self.count > _MOST:
+                return None
+            whole = np.rint(solved.multipliers * denominator)
+            if float(np.abs(whole).sum()) * float(self.far.max(initial=1.0)) > _MOST:
+                return None
+            leaf = self._shown(node, whole.astype(np.int64), denominator if is_costly else 0)
+            if leaf is not None:
+                return leaf
+        return None
+
+    def _shown(self, node: _Node, multipliers: Any, times: int) -> Optional[Leaf]:
+        """The leaf with these multipliers of rows, and `times` the costs against them, where no month reaches the weighed sum."""
+        weights = (self.whole.T @ multipliers if self.part.rows else np.zeros(self.count, dtype=np.int64)) - times * self.costs
+        used: Dict[int, int] = {}
+        bound = 0
+        for row in np.flatnonzero(multipliers).tolist():
+            factor = int(multipliers[row])
+            side = node.low[row] if factor > 0 else node.high[row]
+            if side is None:
+                return None
+            bound += factor * side.bound
+            used[side.row] = used.get(side.row, 0) + factor
+        if times:
+            bound -= times * (self.most or 0)
+            used[len(self.part.rows)] = -times
+        for variable in np.flatnonzero(weights).tolist():
+            weight = int(weights[variable])
+            side = node.most[variable] if weight > 0 else node.least[variable]
+            bound -= weight * side.bound
+            if side.row >= 0:
+                used[side.row] = used.get(side.row, 0) - weight
+        return Leaf(tuple(used.items())) if bound > 0 else None
+
+
+def _with(sides: Tuple[Any, ...], at: int, side: _Side) -> Tuple[Any, ...]:
+    return sides[:at] + (side,) + sides[at + 1:]
+
+
+def renamed(proof: Proof, part: Part, cost_row: int) -> Proof:
+    """A part's tree in the model's numbers, where `cost <= most` is row `cost_row`, and splits' rows follow it."""
+    rows = len(part.rows)
+    if isinstance(proof, Leaf):
+        return Leaf(tuple((part.numbers[row] if row < rows else cost_row + row - rows, factor) for row, factor in proof.multipliers))
+    terms = tuple((part.variables[variable], factor) for variable, factor in proof.terms)
+    return Split(terms, proof.most, renamed(proof.below, part, cost_row), renamed(proof.above, part, cost_row))
