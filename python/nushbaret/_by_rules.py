@@ -12,11 +12,11 @@ from ._rule_file import EVEN, Rules
 from ._rule_rows import even_counted
 
 BEST, WITHIN, IMPOSSIBLE, UNDECIDED = "best", "within", "impossible", "undecided"
-# What is said while something is found: the stage, the cost of the best plan, and what no plan costs less than.
-Progress = Callable[[str, Optional[int], Optional[int]], None]
+# What is said while something is found: the goal, what is being done, the cost of the best plan, and what no plan costs less than.
+Progress = Callable[[str, str, Optional[int], Optional[int]], None]
 # The share of the time that a stage before the costs gets, and that is left for one after them.
 SHARE = 0.25
-# The stages, as progress shows them.
+# The goals, as progress shows them.
 MISSING, UNEVEN, COSTS, CHANGES = "missing", "evenness", "costs", "changes"
 
 
@@ -138,8 +138,12 @@ class _Stages:
 
     def _find(self, stage: str, costs: Sequence[int], seconds: float) -> Finding:
         from ._row_finding import find
-        progress = self.task.progress
-        named = None if progress is None else lambda _, cost, bound: progress(stage, cost, bound)
+        show = self.task.progress
+
+        def named(done: str, cost: Optional[int], bound: Optional[int]) -> None:
+            if show is not None:
+                show(stage, done, cost, bound)
+
         finding = find(self.built.rows.model(costs, self._rows), seconds, named, self._start)
         self._start = finding.plan if finding.plan is not None else self._start
         return finding

@@ -6,7 +6,7 @@ import threading
 from typing import Callable, Iterator, List, NamedTuple, Optional, Sequence, Tuple
 
 from ._answer import Answer, Wish, counted, listed
-from ._by_rules import COSTS, Proved, Task, answer_by_rules
+from ._by_rules import COSTS, Progress, Proved, Task, answer_by_rules
 from ._groups import Broken, Paired
 from ._month import Before, Month, month_of, undated
 from ._roster import Roster, named_pairs
@@ -83,15 +83,15 @@ def _interruptible() -> Iterator[None]:
 
 
 @contextlib.contextmanager
-def _shown(roster: Roster, options: Options) -> Iterator[Optional[Callable[[str, Optional[int], Optional[int]], None]]]:
+def _shown(roster: Roster, options: Options) -> Iterator[Optional[Progress]]:
     """On a terminal a line of progress, which is wiped at the end."""
     if sys.stderr is None or not sys.stderr.isatty():
         yield None
         return
     widest = [0]
 
-    def show(stage: str, cost: Optional[int], bound: Optional[int]) -> None:
-        line = progress_line(roster, options, stage, cost, bound)
+    def show(goal: str, done: str, cost: Optional[int], bound: Optional[int]) -> None:
+        line = progress_line(roster, options, goal, done, cost, bound)
         widest[0] = max(widest[0], len(line))
         _put("\r" + line.ljust(widest[0]))
 
@@ -101,13 +101,13 @@ def _shown(roster: Roster, options: Options) -> Iterator[Optional[Callable[[str,
         _put("\r" + " " * widest[0] + "\r")
 
 
-def progress_line(roster: Roster, options: Options, stage: str, cost: Optional[int], bound: Optional[int]) -> str:
-    """A stage, the cost of its best plan so far, and what is proved of all plans; other stages than that of costs count from 0."""
+def progress_line(roster: Roster, options: Options, goal: str, done: str, cost: Optional[int], bound: Optional[int]) -> str:
+    """A goal, what is being done, the best plan so far, and what is proved of all plans; other goals than costs count from 0."""
     def shown(units: int) -> str:
         own = -units if options.max else units
-        return str(units) if stage != COSTS else halves(roster, own) if options.change_cost is not None else roster.shown(own)
-    parts = [stage] if cost is None else [stage, f"found {shown(cost)}"]
-    side = "at most" if options.max and stage == COSTS else "at least"
+        return str(units) if goal != COSTS else halves(roster, own) if options.change_cost is not None else roster.shown(own)
+    parts = [f"{goal}: {done}"] + [f"found {shown(cost)}" for cost in [cost] if cost is not None]
+    side = "at most" if options.max and goal == COSTS else "at least"
     return ", ".join(parts if bound is None else [*parts, f"proved {side} {shown(bound)}"])
 
 
