@@ -48,6 +48,9 @@ def built(roster: Roster, rules: Rules, month: Month, wish: Wish, own: Sequence[
     past = [(pair.person, pair.object) for pair in wish.fixed if pair.object in roster.past]
     work = Work(month, {pair: variable for variable, pair in enumerate(pairs)}, past)
     making = Making(roster, rules, work, Rows([cost for _, _, cost in listed], [person for person, _ in pairs]))
+    if not pairs:
+        # A solver needs one.
+        making.rows.helper(None)
     _fixed(making, wish)
     missing = _counts(making, wish, may_miss)
     _one_of_each(making)
