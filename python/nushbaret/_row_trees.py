@@ -128,7 +128,7 @@ class Trees:
         return found + [(None, variable, 0)] if far < 0.5 - 1e-6 else found
 
     def _halves(self, node: _Node, row: Optional[int], variable: int, most: int) -> Tuple[_Node, _Node]:
-        side = len(self.part.rows) + 1 + node.depth
+        side = len(self.part.rows) + int(self.most is not None) + node.depth
         below, above = _Side(most, side), _Side(most + 1, side)
         if row is None:
             return (node._replace(most=_with(node.most, variable, below), depth=node.depth + 1),
