@@ -197,7 +197,7 @@ class _Stages:
                         missing=0 if missing is None or missing.cost is None else missing.cost,
                         least_missing=None if missing is None else missing.bound,
                         is_most_even=uneven is None or uneven.kind == BEST,
-                        even=self._even(plan), fewer_changes=changed is not finding and changed.kind != BEST,
+                        even=self._even(plan) if self.built.uneven else (), fewer_changes=changed is not finding and changed.kind != BEST,
                         certificate=finding.certificate)
         return Answer(plan, []), self._with_otherwise(proved)
 
