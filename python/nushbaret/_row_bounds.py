@@ -106,7 +106,7 @@ class Prover:
             most = min(most, self.channel.cost - 1)
         if self.bound is None or most >= self.bound:
             try:
-                self.tell(chain(pricing, best, most, len(self.rows), self.deadline), most)
+                self.tell(chain(pricing, best, most, self.deadline), most)
             except Open:
                 pass
         if not self.is_closed():

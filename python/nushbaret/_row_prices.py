@@ -5,7 +5,7 @@ Needs NumPy and SciPy.
 import importlib
 import math
 import time
-from typing import Any, Callable, Dict, Iterator, List, NamedTuple, Optional
+from typing import Any, Callable, Dict, Iterator, List, NamedTuple, Optional, Tuple
 
 from ._row_blocks import Block, blocks_of, limits_of, matrix_of, side_of
 from ._row_diagrams import TOO_MUCH, Diagram, cheapest, cheapest_with, diagram_of
@@ -130,6 +130,11 @@ class Pricing:
         uses = np.array([month.uses for month in months]).T.reshape(len(self.shared), len(months))
         costs = np.array([month.cost for month in months], dtype=float)
         return _master(uses, costs, counts, self.least, self.most)
+
+    def with_and_without(self, number: int, costs: Any) -> Tuple[List[int], List[int]]:
+        """The least costs of a block's months without each of its variables, and with it."""
+        without, with_ = cheapest_with(self.diagrams[number], costs).tolist()
+        return without, with_
 
     def reaches(self, prices: Any) -> Any:
         """For each variable the bounds at whole prices where it is 0 and where it is 1: an array of shape (2, variables), times `SCALE`."""

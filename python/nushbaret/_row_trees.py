@@ -55,18 +55,23 @@ class Solved(NamedTuple):
 
 
 class Trees:
-    """Trees over a part's rows; several may be made, for different costs."""
+    """Trees over a part's rows; several may be made, for different costs. `fixing` has the places of rows that leave one choice for each
+    of their variables: of those with factor 1 none is taken, and each with factor -1 is."""
 
-    def __init__(self, part: Part, deadline: float):
+    def __init__(self, part: Part, deadline: float, fixing: Sequence[int] = ()):
         self.part = part
         self.deadline = deadline
         self.count = len(part.variables)
         self.matrix = matrix_of(part.rows, self.count)
-        self.both = sparse.vstack([self.matrix, -self.matrix]).tocsc()
+        self.fixing = set(fixing)
+        self.used = self._needed()
+        self.both = sparse.vstack([self.matrix[self.used], -self.matrix[self.used]]).tocsc()
         self.whole = self.matrix.astype(np.int64)
         self.far = np.asarray(abs(self.matrix).sum(axis=1)).ravel() + 1 if part.rows else np.zeros(0)
-        self.sums = [row for row, limits in enumerate(part.rows) if len(limits.terms) > 1 and all(abs(factor) == 1 for _, factor in limits.terms)]
+        self.sums = [row for row in self.used if len(part.rows[row].terms) > 1 and all(abs(factor) == 1 for _, factor in part.rows[row].terms)]
         self.leaves = 0
+        # A plan that a tree came upon instead of its end.
+        self.plan: Optional[List[int]] = None
 
     def tree(self, costs: Any, most: Optional[int], most_leaves: int = 2000) -> Proof:
         """A tree that shows that no month costs `most` or less (None: that there is no month), where row number `len(rows)` is
@@ -82,9 +87,22 @@ class Trees:
 
     def _root(self) -> _Node:
         rows = self.part.rows
+        least, most = self._fixed()
         return _Node(tuple(None if row.least is None else _Side(row.least, at) for at, row in enumerate(rows)),
-                     tuple(None if row.most is None else _Side(row.most, at) for at, row in enumerate(rows)),
-                     (_Side(0, -1),) * self.count, (_Side(1, -1),) * self.count, 0)
+                     tuple(None if row.most is None else _Side(row.most, at) for at, row in enumerate(rows)), tuple(least), tuple(most), 0)
+
+    def _fixed(self) -> Tuple[List[_Side], List[_Side]]:
+        """The least and the greatest values of the variables, and the rows that fix them."""
+        least, most = [_Side(0, -1)] * self.count, [_Side(1, -1)] * self.count
+        for row in self.fixing:
+            for variable, factor in self.part.rows[row].terms:
+                (most if factor > 0 else least)[variable] = _Side(int(factor < 0), row)
+        return least, most
+
+    def _needed(self) -> List[int]:
+        """The rows that not every choice of the variables that aren't fixed meets."""
+        least, most = ([side.bound for side in sides] for sides in self._fixed())
+        return [place for place, row in enumerate(self.part.rows) if not _is_met(row, least, most)]
 
     def _grown(self, node: _Node, solved: Solved) -> Proof:
         leaf = self._leaf(node, solved)
@@ -112,6 +130,7 @@ class Trees:
             if low >= cut:
                 break
         if best is None:
+            self.plan = np.rint(solved.point).astype(int).tolist()
             raise Open
         return best[1:]
 
@@ -138,18 +157,18 @@ class Trees:
 
     def _sides(self, node: _Node) -> Any:
         """The greatest values of the rows, and of the rows with the signs changed."""
-        high = [far if side is None else side.bound for side, far in zip(node.high, self.far)]
-        low = [far if side is None else -side.bound for side, far in zip(node.low, self.far)]
-        return np.array(high + low, dtype=float)
+        sides = [(node.low[row], node.high[row], self.far[row]) for row in self.used]
+        return np.array([far if side is None else side.bound for _, side, far in sides]
+                        + [far if side is None else -side.bound for side, _, far in sides], dtype=float)
 
     def _solve(self, node: _Node) -> Solved:
         bounds = [(least.bound, most.bound) for least, most in zip(node.least, node.most)]
         if any(least > most for least, most in bounds):
             return Solved(np.inf, None, np.zeros(len(self.part.rows)))
         costs = np.zeros(self.count) if self.most is None else self.costs
-        if not self.part.rows:
+        if not self.used:
             point = np.array([most if cost < 0 else least for cost, (least, most) in zip(costs, bounds)], dtype=float)
-            return Solved(float(costs @ point), point, np.zeros(0))
+            return Solved(float(costs @ point), point, np.zeros(len(self.part.rows)))
         found = optimize.linprog(costs, A_ub=self.both, b_ub=self._sides(node), bounds=bounds, method="highs")
         if found.status == 2:
             return self._without_point(node, bounds)
@@ -158,12 +177,14 @@ class Trees:
         return Solved(float(found.fun), found.x, self._multipliers(found))
 
     def _multipliers(self, found: Any) -> Any:
-        marginals, rows = found.ineqlin.marginals, len(self.part.rows)
-        return marginals[:rows] - marginals[rows:2 * rows]
+        marginals, rows = found.ineqlin.marginals, len(self.used)
+        multipliers = np.zeros(len(self.part.rows))
+        multipliers[self.used] = marginals[:rows] - marginals[rows:2 * rows]
+        return multipliers
 
     def _without_point(self, node: _Node, bounds: Sequence[Tuple[int, int]]) -> Solved:
         """Multipliers that show that the relaxation has no point: those of the least violation."""
-        rows = len(self.part.rows)
+        rows = len(self.used)
         slack = sparse.vstack([sparse.identity(rows)] * 2)
         wide = sparse.hstack([self.both, -slack]).tocsc()
         found = optimize.linprog(np.append(np.zeros(self.count), np.ones(rows)), A_ub=wide, b_ub=self._sides(node),
@@ -207,7 +228,9 @@ class Trees:
             weight = int(weights[variable])
             side = node.most[variable] if weight > 0 else node.least[variable]
             bound -= weight * side.bound
-            if side.row >= 0:
+            if side.row in self.fixing:
+                used[side.row] = min(used.get(side.row, 0), -abs(weight))
+            elif side.row >= 0:
                 used[side.row] = used.get(side.row, 0) - weight
         return Leaf(tuple(used.items())) if bound > 0 else None
 
@@ -216,10 +239,22 @@ def _with(sides: Tuple[Any, ...], at: int, side: _Side) -> Tuple[Any, ...]:
     return sides[:at] + (side,) + sides[at + 1:]
 
 
-def renamed(proof: Proof, part: Part, cost_row: int) -> Proof:
-    """A part's tree in the model's numbers, where `cost <= most` is row `cost_row`, and splits' rows follow it."""
-    rows = len(part.rows)
+def _is_met(row: Limits, least: Sequence[int], most: Sequence[int]) -> bool:
+    """Whether each choice of variables within bounds meets a row."""
+    low = sum(factor * (least if factor > 0 else most)[variable] for variable, factor in row.terms)
+    high = sum(factor * (most if factor > 0 else least)[variable] for variable, factor in row.terms)
+    return (row.least is None or row.least <= low) and (row.most is None or high <= row.most)
+
+
+def renamed(proof: Proof, part: Part, cost_row: int, first: Optional[int] = None) -> Proof:
+    """A part's tree in the model's numbers, where `cost <= most` is row `cost_row`, and the splits' rows begin with `first`, or after it."""
+    numbers = dict(enumerate([*part.numbers, cost_row]))
+    after = (cost_row + 1 if first is None else first) - len(numbers)
+    return _renamed(proof, part.variables, numbers, after)
+
+
+def _renamed(proof: Proof, variables: Sequence[int], numbers: Dict[int, int], after: int) -> Proof:
     if isinstance(proof, Leaf):
-        return Leaf(tuple((part.numbers[row] if row < rows else cost_row + row - rows, factor) for row, factor in proof.multipliers))
-    terms = tuple((part.variables[variable], factor) for variable, factor in proof.terms)
-    return Split(terms, proof.most, renamed(proof.below, part, cost_row), renamed(proof.above, part, cost_row))
+        return Leaf(tuple((numbers.get(row, row + after), factor) for row, factor in proof.multipliers))
+    terms = tuple((variables[variable], factor) for variable, factor in proof.terms)
+    return Split(terms, proof.most, _renamed(proof.below, variables, numbers, after), _renamed(proof.above, variables, numbers, after))
