@@ -87,6 +87,8 @@ def _device(fault: Exception) -> str:
 
 
 def _run(options: Options) -> int:
+    if options.certificate is not None and not options.force:
+        refuse_existing(options.certificate)
     for output in options.outputs:
         if not options.force and not output.is_standard:
             refuse_existing(output.path)
@@ -104,6 +106,8 @@ def _run(options: Options) -> int:
     is_content = _write(report, lines)
     skipped = [f"{output.path} isn't written: there is no plan" for output in options.outputs if not _is_written(output, answer, options)]
     skipped += _lines_on_each(report)
+    if options.certificate is not None and (report.proved is None or report.proved.certificate is None):
+        skipped.append(f"{options.certificate} isn't written: nothing was proved")
     _print_lines(lines + ([] if options.quiet else printed(report)) + skipped, is_content)
     return _status(report)
 
@@ -243,6 +247,9 @@ def _write(report: Report, lines: List[str]) -> bool:
     outputs = [*options.outputs, *([Output(STANDARD_OUTPUT[0], options.print)] if options.print else [])]
     contents = [(output, content_of(report, lines, output)) for output in outputs if _is_written(output, report.answer, options)]
     files = [(output.path, content) for output, content in contents if not output.is_standard]
+    if report.proved is not None and report.proved.certificate is not None and options.certificate is not None:
+        from ._certificates import text_of
+        files.append((options.certificate, text_of(report.proved.certificate).encode()))
     if options.each and report.answer.plan is not None:
         from ._each import files_of
         files += files_of(report.roster, report.answer.plan, report.kept, options.each)

@@ -81,7 +81,7 @@ class Words(Files):
     def test_not_decided(self):
         with mock.patch.object(finding, "find", return_value=Finding("undecided")):
             self.expect(6, "not decided in 60 s\no.csv isn't written: there is no plan\n", "", *WORDS, "--output", "o.csv")
-            self.expect(6, "not decided in 5 s\n", "", *WORDS, "--time", "5")
+            self.expect(6, "not decided in 5 s\nc isn't written: nothing was proved\n", "", *WORDS, "--time", "5", "--certificate", "c")
 
     def test_not_proved_best(self):
         """What was found is said to be no better than was shown."""
@@ -119,6 +119,23 @@ class Plans(Files):
         self.expect(0, "least cost: 6, proved: no plan that keeps the rules costs less\n" + PLAN, "", *WORDS)
         status, out, _ = self.run_words(*WORDS, "--max", "-q")
         self.assertEqual((status, out), (0, "greatest cost: 44, proved: no plan that keeps the rules has more\n"))
+
+    def test_certificates(self):
+        """What proves an answer is checked alone; a changed bound isn't shown, and what is no certificate is refused."""
+        words = (*WORDS, "-q", "--certificate", "c.txt")
+        self.assertEqual(self.run_words(*words)[0], 0)
+        rows = int(self.read("c.txt").count(" ", self.read("c.txt").index("least"), self.read("c.txt").index("most"))) - 1
+        self.expect(0, f"c.txt: shown: a plan of cost 6 meets the {rows} rows, and no plan that meets them costs less\n", "", "--check", "c.txt")
+        self.refused(4, "c.txt exists: --force overwrites it", *words)
+        most = self.read("c.txt").split("\nmost ")[1].split("\n")[0]
+        self.file("d.txt", self.read("c.txt").replace(f"\nmost {most}", f"\nmost {most.rpartition(' ')[0]} 6"))
+        self.expect(1, "d.txt: not shown\n", "", "--check", "d.txt")
+        self.expect(3, "r.csv: no certificate: line 1: it isn't 'nushbaret rows 1'\n", "", "--check", "r.csv")
+        self.rules("rest,Night > Early,", "Night per month,1,")
+        self.assertEqual(self.run_words(*words, "--force")[0], 1)
+        status, out, _ = self.run_words("--check", "c.txt")
+        self.assertEqual((status, out), (0, "c.txt: shown: no plan meets the 7 rows\n"))
+        self.assertEqual(self.run_words("--check", "missing.txt")[0], 4)
 
     def test_impossible(self):
         self.rules("rest,Night > Early,", "Night per month,1,")
