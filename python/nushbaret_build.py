@@ -64,7 +64,8 @@ def _tag():
 def _metadata():
     fields = [("Metadata-Version", "2.1"), ("Name", "nushbaret"), ("Version", VERSION), ("Summary", _text("description")),
               ("Keywords", ",".join(_listed("keywords"))), ("License", "MIT OR Apache-2.0"), ("Requires-Python", _text("requires-python")),
-              *(("Classifier", text) for text in _listed("classifiers")), ("Description-Content-Type", "text/markdown")]
+              *(("Classifier", text) for text in _listed("classifiers")), ("Provides-Extra", "rules"),
+              *(("Requires-Dist", f"{text}; extra == 'rules'") for text in _listed("rules")), ("Description-Content-Type", "text/markdown")]
     return "".join(f"{name}: {text}\n" for name, text in fields) + "\n" + _description()
 
 
