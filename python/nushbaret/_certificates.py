@@ -60,8 +60,8 @@ def text_of(certificate: Certificate) -> str:
     """A certificate as the text of its file. Raises `CertificateFault` where a number is beyond 64 bits."""
     lists = lists_of(certificate)
     lines = [_HEAD]
-    for name, values in zip(_LISTS, lists):
-        numbers: Sequence[Optional[int]] = [values] if isinstance(values, int) else values
+    for name in _LISTS:
+        numbers: Sequence[Optional[int]] = [lists.n] if name == "n" else getattr(lists, name)
         if any(number is not None and not _LEAST < number < _MOST for number in numbers):
             raise CertificateFault(f"a number of the list {name} is beyond 64 bits")
         lines.append(" ".join([name, *("-" if number is None else str(number) for number in numbers)]))

@@ -26,7 +26,7 @@ def blocks_of(model: Model) -> Tuple[List[Block], List[int]]:
     """The persons' blocks, a variable of nobody being one of its own, and the numbers of the rows over several blocks or none."""
     block_of, variables = _blocks_of_variables(model)
     numbers: List[List[int]] = [[] for _ in variables]
-    shared = []
+    shared: List[int] = []
     for number, row in enumerate(model.rows):
         blocks = {block_of[variable] for variable, _ in row.terms}
         (numbers[blocks.pop()] if len(blocks) == 1 else shared).append(number)
@@ -34,7 +34,8 @@ def blocks_of(model: Model) -> Tuple[List[Block], List[int]]:
 
 
 def _blocks_of_variables(model: Model) -> Tuple[List[int], List[List[int]]]:
-    block_of, variables = [], []
+    block_of: List[int] = []
+    variables: List[List[int]] = []
     known: Dict[Tuple[str, int], int] = {}
     for variable, person in enumerate(model.persons):
         key = ("nobody", variable) if person is None else ("person", person)
@@ -75,16 +76,6 @@ def side_of(rows: Sequence[Limits]) -> Tuple[Any, Any]:
 def cost_row(model: Model, most: int) -> Limits:
     """The row `cost <= most`."""
     return Limits(None, tuple((variable, cost) for variable, cost in enumerate(model.costs) if cost), most)
-
-
-def meets(plan: Sequence[int], rows: Sequence[Limits]) -> bool:
-    """Whether a 0/1 plan meets all rows."""
-    return all((row.least is None or row.least <= _sum(plan, row.terms)) and (row.most is None or _sum(plan, row.terms) <= row.most)
-               for row in rows)
-
-
-def _sum(plan: Sequence[int], terms: Terms) -> int:
-    return sum(factor for variable, factor in terms if plan[variable])
 
 
 def cost_of(model: Model, plan: Optional[Sequence[int]]) -> Optional[int]:

@@ -1,7 +1,7 @@
 """Proofs person by person: a chain of splits, each with a person's tree, and behind it one leaf that adds them up, or a tree over all
 variables. Needs NumPy and SciPy."""
 import importlib
-from typing import Any, Dict, List, NamedTuple, Optional, Sequence, Tuple
+from typing import Any, Dict, List, NamedTuple, Optional, Tuple
 
 from ._row_blocks import limits_of
 from ._row_model import Leaf, Limits, Proof, Split, Terms
@@ -30,7 +30,9 @@ class Chain:
 
     def __init__(self, pricing: Pricing, bound: Bound, target: int, deadline: float):
         self.pricing, self.bound, self.target, self.deadline = pricing, bound, target, deadline
-        self.cost_row = len(pricing.model.rows)
+        # Without costs there is no cost row, and the splits' rows stand right behind the model's.
+        self.has_costs = any(pricing.model.costs)
+        self.cost_row = len(pricing.model.rows) - int(not self.has_costs)
         self.costs = pricing.priced(bound.prices)
         self.links: List[_Link] = []
         # Of each person that has a link: its row, and the least that it shows.
@@ -60,7 +62,7 @@ class Chain:
         tree = Trees(part, self.deadline).tree(own, least - 1)
         terms = self._terms(number)
         self.row_of[number], self.least[number] = self.next_row(), least
-        self.links.append(_Link(terms, least - 1, renamed(tree, part, self.next_row()), Limits(least, terms, None)))
+        self.links.append(_Link(terms, least - 1, renamed(tree, part, self.next_row(), self.next_row() + 1), Limits(least, terms, None)))
 
     def _terms(self, number: int) -> Terms:
         variables = self.pricing.blocks[number].variables
@@ -71,7 +73,8 @@ class Chain:
         prices = [(self.pricing.shared[place], int(self.bound.prices[place])) for place in np.flatnonzero(self.bound.prices).tolist()]
         rows = [row for number, row in self.row_of.items() if instead is None or number != instead[0]]
         rows += [] if instead is None else [instead[1]]
-        return Leaf((*prices, (self.cost_row, -SCALE), *((row, 1) for row in rows)))
+        costs = [(self.cost_row, -SCALE)] if self.has_costs else []
+        return Leaf((*prices, *costs, *((row, 1) for row in rows)))
 
     def joined(self, last: Proof) -> Proof:
         """The proof with `last` behind all links."""
@@ -107,7 +110,7 @@ class Chain:
             tree = Trees(part, self.deadline).tree(own, wanted - 1, _FIXING_LEAVES)
         except Open:
             return None
-        beyond = Split(self._terms(number), wanted - 1, renamed(tree, part, other + 1), self.last((number, other + 1)))
+        beyond = Split(self._terms(number), wanted - 1, renamed(tree, part, other + 1, other + 2), self.last((number, other + 1)))
         moved = tuple((block.variables[place], factor) for place, factor in terms)
         return _Link(moved, most, beyond, Limits(None, moved, most))
 

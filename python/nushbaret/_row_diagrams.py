@@ -62,8 +62,8 @@ def _step_by_step(variables: int, rows: Sequence[Limits]) -> List[int]:
         best = min(waiting, key=lambda variable: sum((left[row] == len(rows[row].terms)) - (left[row] == 1) for row in rows_of[variable]))
         waiting.remove(best)
         order.append(best)
-        for row in rows_of[best]:
-            left[row] -= 1
+        for number in rows_of[best]:
+            left[number] -= 1
     return order
 
 

@@ -2,6 +2,7 @@
 
 Needs NumPy and SciPy.
 """
+import copy
 import importlib
 import math
 import time
@@ -119,6 +120,26 @@ class Pricing:
                 return
             step = 1.0 if self.count() == count else 0.5
 
+    def without_costs(self) -> "Pricing":
+        """The same, without costs."""
+        free = copy.copy(self)
+        free.model = self.model._replace(costs=(0,) * self.model.variables)
+        free.costs = np.zeros(self.model.variables, dtype=np.int64)
+        free.months = [{} for _ in self.blocks]
+        for number, months in enumerate(self.months):
+            for month in months.values():
+                free.add(number, month.taken)
+        return free
+
+    def empty(self) -> Optional[Block]:
+        """A block that has no month, or None."""
+        return next((block for block, diagram in zip(self.blocks, self.diagrams) if diagram.widths[0] == 0), None)
+
+    def is_short(self) -> bool:
+        """Whether the best mixture of the kept months misses a shared row."""
+        master = self.master()
+        return master is not None and master.missed > 1e-6
+
     def count(self) -> int:
         """How many months are kept."""
         return sum(map(len, self.months))
@@ -149,10 +170,11 @@ class Pricing:
 
 
 class Master(NamedTuple):
-    """The value of the master problem and its dual prices of the shared rows."""
+    """The value of the master problem, its dual prices of the shared rows, and by how much it misses these."""
 
     value: float
     prices: Any
+    missed: float
 
 
 def _master(uses: Any, costs: Any, counts: List[int], least: Any, most: Any) -> Optional[Master]:
@@ -170,7 +192,7 @@ def _master(uses: Any, costs: Any, counts: List[int], least: Any, most: Any) -> 
     prices = np.zeros(rows)
     prices[low] -= found.ineqlin.marginals[:len(low)]
     prices[up] += found.ineqlin.marginals[len(low):]
-    return Master(float(found.fun), prices)
+    return Master(float(found.fun), prices, float(found.x[columns:].sum()))
 
 
 def _diagram(block: Block, deadline: float) -> Diagram:

@@ -1,5 +1,6 @@
 """Small trees that show that none of a person's months costs so little. Needs NumPy and SciPy."""
 import importlib
+import math
 import time
 from typing import Any, Dict, List, NamedTuple, Optional, Sequence, Tuple
 
@@ -54,6 +55,19 @@ class Solved(NamedTuple):
     multipliers: Any
 
 
+class _Candidate(NamedTuple):
+    """A sum to split on: that of a row, or of one variable; the whole number below it, and how far above that it is."""
+
+    row: Optional[int]
+    variable: int
+    most: int
+    above: float
+
+    def key(self) -> int:
+        """The row, or the variable as a number below 0."""
+        return -1 - self.variable if self.row is None else self.row
+
+
 class Trees:
     """Trees over a part's rows; several may be made, for different costs. `fixing` has the places of rows that leave one choice for each
     of their variables: of those with factor 1 none is taken, and each with factor -1 is."""
@@ -70,6 +84,8 @@ class Trees:
         self.far = np.asarray(abs(self.matrix).sum(axis=1)).ravel() + 1 if part.rows else np.zeros(0)
         self.sums = [row for row in self.used if len(part.rows[row].terms) > 1 and all(abs(factor) == 1 for _, factor in part.rows[row].terms)]
         self.leaves = 0
+        # What a unit of a candidate gained in the half below and above, by the candidates' keys.
+        self.gains: Dict[int, List[float]] = {}
         # A plan that a tree came upon instead of its end.
         self.plan: Optional[List[int]] = None
 
@@ -77,6 +93,7 @@ class Trees:
         """A tree that shows that no month costs `most` or less (None: that there is no month), where row number `len(rows)` is
         `cost <= most` and splits' rows follow. Raises `Open` where it isn't found."""
         self.costs, self.most, self.left = np.asarray(costs, dtype=np.int64), most, most_leaves
+        self.gains = {}
         root = self._root()
         return self._grown(root, self._solve(root))
 
@@ -119,14 +136,14 @@ class Trees:
     def _branch(self, node: _Node, solved: Solved) -> Tuple[Terms, int, List[Tuple[_Node, Solved]]]:
         """The candidate whose halves have the greatest values, the lesser of each first."""
         best: Optional[Tuple[Tuple[float, float], Terms, int, List[Tuple[_Node, Solved]]]] = None
-        for row, variable, most in self._candidates(solved.point):
-            halves = [(half, self._solve(half)) for half in self._halves(node, row, variable, most)]
-            low, high = sorted(result.value for _, result in halves)
-            cut = np.inf if self.most is None else self.most + 1.0
-            score = (min(low, cut), min(high, cut))
-            if best is None or score > best[0]:
-                terms: Terms = ((variable, 1),) if row is None else self.part.rows[row].terms
-                best = (score, terms, most, halves)
+        cut = np.inf if self.most is None else self.most + 1.0
+        for candidate in self._worth_trying(solved, cut):
+            halves = [(half, self._solve(half)) for half in self._halves(node, candidate)]
+            self._learn(candidate, solved.value, [result.value for _, result in halves])
+            low, high = sorted(min(result.value, cut) for _, result in halves)
+            if best is None or (low, high) > best[0]:
+                terms: Terms = ((candidate.variable, 1),) if candidate.row is None else self.part.rows[candidate.row].terms
+                best = ((low, high), terms, candidate.most, halves)
             if low >= cut:
                 break
         if best is None:
@@ -134,19 +151,43 @@ class Trees:
             raise Open
         return best[1:]
 
-    def _candidates(self, point: Any) -> List[Tuple[Optional[int], int, int]]:
-        """Sums of rows and variables that are the farthest from whole numbers: a row or None, the variable, and the whole number below."""
-        sums = self.matrix[self.sums] @ point if self.sums else np.zeros(0)
-        rows = [(abs(value - np.floor(value) - 0.5), row, -1, int(np.floor(value + 1e-9))) for row, value in zip(self.sums, sums.tolist())]
-        ones = [(abs(value - 0.5), variable) for variable, value in enumerate(point.tolist())]
-        broken = sorted(one for one in rows if one[0] < 0.5 - 1e-6)
-        longest = sorted(broken, key=lambda one: -len(self.part.rows[one[1]].terms))[:_CANDIDATES]
-        found: List[Tuple[Optional[int], int, int]] = [one[1:] for one in longest]
-        found += [one[1:] for one in broken if one not in longest][:_CANDIDATES]
-        far, variable = min(ones, default=(0.5, -1))
-        return found + [(None, variable, 0)] if far < 0.5 - 1e-6 else found
+    def _worth_trying(self, solved: Solved, cut: float) -> List[_Candidate]:
+        """Some candidates that weren't tried before: the longest sums, those farthest from whole numbers, and a variable; and of the others
+        those that gained the most."""
+        sums, ones = self._candidates(solved.point)
+        new = [one for one in sums if one.row not in self.gains]
+        longest = sorted(new, key=lambda one: -len(self.part.rows[one.row or 0].terms))[:_CANDIDATES]
+        others = [one for one in new if one not in longest][:_CANDIDATES]
+        tried = [one for one in sums + ones if one.key() in self.gains]
+        tried.sort(key=lambda one: self._expected(one, solved.value, cut), reverse=True)
+        some = longest + others + [one for one in ones if one.key() not in self.gains][:1]
+        return some if not tried else tried[:2] + some[:_CANDIDATES]
 
-    def _halves(self, node: _Node, row: Optional[int], variable: int, most: int) -> Tuple[_Node, _Node]:
+    def _expected(self, candidate: _Candidate, value: float, cut: float) -> Tuple[float, float]:
+        """The values of the halves, as earlier gains let expect them, the lesser first."""
+        below, above = self.gains[candidate.key()]
+        low, high = sorted((min(cut, value + below * candidate.above), min(cut, value + above * (1 - candidate.above))))
+        return low, high
+
+    def _learn(self, candidate: _Candidate, value: float, values: Sequence[float]) -> None:
+        """Keeps the mean of what a unit of the candidate gained before and gains now."""
+        shares = (candidate.above, 1 - candidate.above)
+        gains = [min(new - value, 10 * abs(value) + 10) / share for new, share in zip(values, shares)]
+        before = self.gains.get(candidate.key(), gains)
+        self.gains[candidate.key()] = [(old + new) / 2 for old, new in zip(before, gains)]
+
+    def _candidates(self, point: Any) -> Tuple[List[_Candidate], List[_Candidate]]:
+        """The sums of rows, and the variables, that aren't whole, the farthest from whole numbers first."""
+        values = (self.matrix[self.sums] @ point).tolist() if self.sums else []
+        sums = [_Candidate(row, -1, math.floor(value), value - math.floor(value)) for row, value in zip(self.sums, values)]
+        ones = [_Candidate(None, variable, 0, value) for variable, value in enumerate(point.tolist())]
+        both = [[one for one in some if 1e-6 < one.above < 1 - 1e-6] for some in (sums, ones)]
+        for some in both:
+            some.sort(key=lambda one: abs(one.above - 0.5))
+        return both[0], both[1]
+
+    def _halves(self, node: _Node, candidate: _Candidate) -> Tuple[_Node, _Node]:
+        row, variable, most, _ = candidate
         side = len(self.part.rows) + int(self.most is not None) + node.depth
         below, above = _Side(most, side), _Side(most + 1, side)
         if row is None:
@@ -246,10 +287,10 @@ def _is_met(row: Limits, least: Sequence[int], most: Sequence[int]) -> bool:
     return (row.least is None or row.least <= low) and (row.most is None or high <= row.most)
 
 
-def renamed(proof: Proof, part: Part, cost_row: int, first: Optional[int] = None) -> Proof:
-    """A part's tree in the model's numbers, where `cost <= most` is row `cost_row`, and the splits' rows begin with `first`, or after it."""
-    numbers = dict(enumerate([*part.numbers, cost_row]))
-    after = (cost_row + 1 if first is None else first) - len(numbers)
+def renamed(proof: Proof, part: Part, cost_row: Optional[int], first: int) -> Proof:
+    """A part's tree in the model's numbers, where `cost <= most` is row `cost_row`, if there is one, and the splits' rows begin with `first`."""
+    numbers = dict(enumerate([*part.numbers, *([] if cost_row is None else [cost_row])]))
+    after = first - len(numbers)
     return _renamed(proof, part.variables, numbers, after)
 
 
