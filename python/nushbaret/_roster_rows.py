@@ -44,6 +44,8 @@ def built(roster: Roster, rules: Rules, month: Month, wish: Wish, own: Sequence[
     sign = -1 if wish.maximize else 1
     listed = [(person, object_, sign * cost) for person, object_, cost in zip(roster.of_persons, roster.of_objects, roster.costs)
               if object_ not in roster.past]
+    # Finding is faster where each person's variables go by days.
+    listed.sort(key=lambda triple: (triple[0], month.shifts[triple[1]].day if triple[1] in month.shifts else month.last + 1, triple[1]))
     pairs = [(person, object_) for person, object_, _ in listed]
     past = [(pair.person, pair.object) for pair in wish.fixed if pair.object in roster.past]
     work = Work(month, {pair: variable for variable, pair in enumerate(pairs)}, past)
