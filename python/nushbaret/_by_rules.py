@@ -84,12 +84,13 @@ def answer_by_rules(task: Task) -> Tuple[Answer, Proved]:
 
     Raises ImportError where SciPy isn't there.
     """
-    stages = _Stages(task, built(task.roster, task.rules, task.month, task.wish, task.own))
+    end = time.monotonic() + task.seconds
+    stages = _Stages(task, built(task.roster, task.rules, task.month, task.wish, task.own), end)
     finding = stages.costs()
     if finding.kind == IMPOSSIBLE:
         proved = Proved(IMPOSSIBLE, task.seconds, reasons=_reasons(stages.built, finding.reasons), is_minimal=finding.is_minimal,
                         is_around_past=_is_around_past(task), certificate=finding.certificate)
-        return _fullest(task, proved) if task.wish.fullest else (Answer(None, []), proved)
+        return _fullest(task, proved, end) if task.wish.fullest else (Answer(None, []), proved)
     if finding.plan is None:
         return Answer(None, []), Proved(UNDECIDED, task.seconds, certificate=finding.certificate)
     return stages.answer(finding)
@@ -99,9 +100,9 @@ def _is_around_past(task: Task) -> bool:
     return bool(task.roster.past) or bool(task.month.worked)
 
 
-def _fullest(task: Task, why: Proved) -> Tuple[Answer, Proved]:
-    """The plan that misses as few least counts as can be, and costs the least then, or is as good as was found."""
-    stages = _Stages(task, built(task.roster, task.rules, task.month, task.wish, task.own, True))
+def _fullest(task: Task, why: Proved, end: float) -> Tuple[Answer, Proved]:
+    """The plan that misses as few least counts as can be, and costs the least then, or is as good as was found until the end."""
+    stages = _Stages(task, built(task.roster, task.rules, task.month, task.wish, task.own, True), end)
     finding = stages.costs()
     if finding.plan is None:
         # Rules are never missed, so there may be no plan.
@@ -123,11 +124,11 @@ def _reasons(found: Built, texts: Sequence[str]) -> List[Reason]:
 
 
 class _Stages:
-    """One goal after the other: what is missing, evenness, costs, changes. What one has reached is a row of the next."""
+    """One goal after the other: what is missing, evenness, costs, changes. What one has reached is a row of the next. All ends at a time
+    of the monotonic clock."""
 
-    def __init__(self, task: Task, found: Built):
-        self.task, self.built = task, found
-        self._end = time.monotonic() + task.seconds
+    def __init__(self, task: Task, found: Built, end: float):
+        self.task, self.built, self._end = task, found, end
         self._rows: List[Row] = []
         self._start: Optional[Tuple[int, ...]] = None
         self._reached: Dict[str, Finding] = {}
@@ -244,8 +245,8 @@ class _Stages:
         if not self.built.uneven:
             return proved
         task = self.task
-        other = _Stages(task._replace(seconds=self._left(), wish=task.wish._replace(kept=None, change=None)),
-                        built(task.roster, task.rules, task.month, task.wish, task.own, bool(self.built.missing), False))
+        other = _Stages(task._replace(wish=task.wish._replace(kept=None, change=None)),
+                        built(task.roster, task.rules, task.month, task.wish, task.own, bool(self.built.missing), False), self._end)
         finding = other.costs()
         if finding.plan is None:
             return proved._replace(otherwise=Proved(UNDECIDED, task.seconds))

@@ -1,5 +1,6 @@
 """Rules of rosters as planners write them: lines of a rule, its value, and for which names it is."""
 import re
+import unicodedata
 from difflib import get_close_matches
 from fractions import Fraction
 from typing import Callable, Dict, FrozenSet, List, Match, NamedTuple, NoReturn, Optional, Sequence, Tuple
@@ -76,7 +77,7 @@ def read_rules(path: str, roster: Roster, month: Month) -> Rules:
         if any(cells[3:]):
             sheet.refuse(f"{len(cells)} cells, where a rule, a value and names are needed"
                          + (" (several names in one cell need quotes)" if sheet.separator == "," else ""), line)
-        rule, value, names = (cells + ["", ""])[:3]
+        rule, value, names = (unicodedata.normalize("NFC", cell) for cell in (cells + ["", ""])[:3])
         lines.append(Line(rule, value, names, line))
     return rules_of(sheet.path, lines, roster, month)
 

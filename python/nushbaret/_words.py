@@ -182,10 +182,10 @@ OPTIONS = (
 )
 
 
-# The options that need no roster, with their short words, if any, after the one for help.
-GENERAL = (("-V", "--version", "show program's version number and exit"),
-           ("", "--guide", "print the guide to rosters, and where it lies with its examples, and exit"),
-           ("", "--check", "check a file that --certificate wrote, print what it shows, and exit: 0 if shown, 1 if not"))
+# The options that need no roster, with their short words and what stands after them, if any, after the one for help.
+GENERAL = (("-V", "--version", "", "show program's version number and exit"),
+           ("", "--guide", "", "print the guide to rosters, and where it lies with its examples, and exit"),
+           ("", "--check", "FILE", "check a file that --certificate wrote, print what it shows, and exit: 0 if shown, 1 if not"))
 HINT = f"{NAME} --help lists all options"
 DASHES = "-\u2013\u2014"
 
@@ -233,7 +233,7 @@ class _Check(argparse.Action):
     """Checks a certificate, and ends."""
 
     def __init__(self, option_strings: Sequence[str], dest: str, **words: Any) -> None:
-        super().__init__(option_strings, argparse.SUPPRESS, metavar="FILE", **words)
+        super().__init__(option_strings, argparse.SUPPRESS, **words)
 
     def __call__(self, parser: argparse.ArgumentParser, namespace: argparse.Namespace, values: Any, option_string: Optional[str] = None) -> None:
         from ._check_file import checked
@@ -259,10 +259,10 @@ def parser_of(options: Sequence[Option] = OPTIONS) -> _Parser:
     """The parser of a table of options."""
     parser = _Parser(prog=NAME, allow_abbrev=False, description=SUMMARY, epilog=STATUSES, formatter_class=_Help)
     parser.add_argument("roster", metavar="ROSTER", help=ROSTER)
-    (short, version, version_help), (_, guide, guide_help), (_, check, check_help) = GENERAL
+    (short, version, _, version_help), (_, guide, _, guide_help), (_, check, file, check_help) = GENERAL
     parser.add_argument(short, version, action="version", version=f"{NAME} {VERSION}", help=version_help)
     parser.add_argument(guide, action=_Guide, help=guide_help)
-    parser.add_argument(check, action=_Check, help=check_help)
+    parser.add_argument(check, action=_Check, metavar=file, help=check_help)
     sections = {name: parser.add_argument_group(name) for name in SECTIONS}
     choices: Dict[str, Any] = {}
     for option in options:
@@ -299,9 +299,10 @@ def read_words(words: Optional[Sequence[str]]) -> Options:
 
 def _refuse_unknown(words: Sequence[str], parser: argparse.ArgumentParser) -> None:
     """Refuses the first word that looks like an option and is none, with the nearest option."""
-    known = ["-h", "--help", *(word for *both, _ in GENERAL for word in both if word)]
+    known = ["-h", "--help", *(word for *both, _, _ in GENERAL for word in both if word)]
     known += [word for option in OPTIONS for word in (option.word, option.short) if word]
-    valued = {word for option in OPTIONS if option.value is not None for word in (option.word, option.short) if word} | {GENERAL[-1][1]}
+    valued = {word for option in OPTIONS if option.value is not None for word in (option.word, option.short) if word}
+    valued.update(word for _, word, value, _ in GENERAL if value)
     words = words[:words.index("--")] if "--" in words else words
     for before, word in zip((NAME, *words), words):
         name = word.partition("=")[0]
