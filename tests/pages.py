@@ -39,8 +39,8 @@ COMMENTS = {"crates/*/src/**/*.rt": re.compile(r"\s*//[/!]"), "crates/*/specs/**
 COMMAND = ("answer", "blocks", "by_counts", "by_rules", "calendar", "changes", "check_file", "command", "costs", "dates",
            "day_sheets", "days", "each", "encodings", "exchanges", "fair", "files", "gadgets", "groups", "html", "json",
            "lack", "month", "names", "nodes", "page", "past", "ranked", "read_workbook", "roster", "roster_rows",
-           "rule_file", "rule_rows", "rule_texts", "rules", "rules_kept", "ruling", "sentences", "sheet_looks", "sheets",
-           "texts", "times", "words", "workbook")
+           "rule_even", "rule_file", "rule_rows", "rule_texts", "rules", "rules_kept", "ruling", "sentences", "sheet_looks",
+           "sheets", "texts", "times", "words", "workbook")
 # The other sources, and what their comments are, by how their names end; those of Python are found by its own reader.
 SCRIPTED = (".ci/run", "prove", "bench/**/*", "c/*", "docs/*.py", "programs/**/*", "python/**/*.py", "release/**/*", "tests/**/*")
 SCRIPTS = {("/run", ".sh"): re.compile(r'^\s*#.*$|"""[\s\S]*?"""', re.M), (".c", ".h"): re.compile(r"/\*.*?\*/", re.DOTALL),

@@ -8,8 +8,8 @@ from ._month import Month
 from ._roster import Roster
 from ._roster_rows import Built, OwnRow, built
 from ._row_model import Certificate, Finding, Row
-from ._rule_file import EVEN, Rules
-from ._rule_rows import even_counted
+from ._rule_even import even_counted, even_rules, start_of
+from ._rule_file import Rules
 
 BEST, WITHIN, IMPOSSIBLE, UNDECIDED = "best", "within", "impossible", "undecided"
 # What is said while something is found: the goal, what is being done, the cost of the best plan, and what no plan costs less than.
@@ -85,7 +85,7 @@ def answer_by_rules(task: Task) -> Tuple[Answer, Proved]:
     Raises ImportError where SciPy isn't there.
     """
     end = time.monotonic() + task.seconds
-    stages = _Stages(task, built(task.roster, task.rules, task.month, task.wish, task.own), end)
+    stages = _Stages(task, end)
     finding = stages.costs()
     if finding.kind == IMPOSSIBLE:
         proved = Proved(IMPOSSIBLE, task.seconds, reasons=_reasons(stages.built, finding.reasons), is_minimal=finding.is_minimal,
@@ -102,7 +102,7 @@ def _is_around_past(task: Task) -> bool:
 
 def _fullest(task: Task, why: Proved, end: float) -> Tuple[Answer, Proved]:
     """The plan that misses as few least counts as can be, and costs the least then, or is as good as was found until the end."""
-    stages = _Stages(task, built(task.roster, task.rules, task.month, task.wish, task.own, True), end)
+    stages = _Stages(task, end, True)
     finding = stages.costs()
     if finding.plan is None:
         # Rules are never missed, so there may be no plan.
@@ -124,26 +124,34 @@ def _reasons(found: Built, texts: Sequence[str]) -> List[Reason]:
 
 
 class _Stages:
-    """One goal after the other: what is missing, evenness, costs, changes. What one has reached is a row of the next. All ends at a time
-    of the monotonic clock."""
+    """One goal after the other: what is missing, evenness rule by rule, costs, changes. What one has reached bounds the next. All ends at a
+    time of the monotonic clock."""
 
-    def __init__(self, task: Task, found: Built, end: float):
-        self.task, self.built, self._end = task, found, end
+    def __init__(self, task: Task, end: float, may_miss: bool = False, is_even: bool = True):
+        self.task, self._end, self._may_miss = task, end, may_miss
+        self.is_even = is_even and bool(even_rules(task.rules.rules))
+        self._spreads: List[int] = []
+        self.built = self._build(False)
         self._rows: List[Row] = []
-        self._start: Optional[Tuple[int, ...]] = None
-        self._reached: Dict[str, Finding] = {}
+        self._start: Optional[Sequence[int]] = None
+        self._reached: List[Finding] = []
+        self._missing: Optional[Finding] = None
+
+    def _build(self, is_measured: bool) -> Built:
+        task = self.task
+        return built(task.roster, task.rules, task.month, task.wish, task.own, self._may_miss, self._spreads, is_measured)
 
     def _left(self, share: float = 1.0) -> float:
         """A share of the time that is left."""
         return max(0.1, (self._end - time.monotonic()) * share)
 
-    def _find(self, stage: str, costs: Sequence[int], seconds: float) -> Finding:
+    def _find(self, goal: str, costs: Sequence[int], seconds: float) -> Finding:
         from ._row_finding import find
         show = self.task.progress
 
         def named(done: str, cost: Optional[int], bound: Optional[int]) -> None:
             if show is not None:
-                show(stage, done, cost, bound)
+                show(goal, done, cost, bound)
 
         finding = find(self.built.rows.model(costs, self._rows), seconds, named, self._start)
         self._start = finding.plan if finding.plan is not None else self._start
@@ -152,13 +160,6 @@ class _Stages:
     def _weighed(self, factors: Dict[int, int]) -> List[int]:
         """Costs that are factors of some variables alone."""
         return [factors.get(variable, 0) for variable in range(len(self.built.rows.costs))]
-
-    def _least(self, stage: str, factors: Dict[int, int]) -> Finding:
-        """Makes a sum as small as can be in a part of the time, and keeps it so."""
-        finding = self._find(stage, self._weighed(factors), self._left(SHARE))
-        if finding.plan is not None:
-            self._rows.append(Row(None, tuple(sorted(factors.items())), finding.cost, stage))
-        return finding
 
     def _pair_costs(self) -> List[int]:
         """What variables cost, twice where half of what a change costs counts for each."""
@@ -170,14 +171,33 @@ class _Stages:
         return costs
 
     def costs(self) -> Finding:
-        """The plan of least cost, of those that miss the least and are the most even."""
-        for stage, factors in ((MISSING, self.built.missing), (UNEVEN, self.built.uneven)):
-            if factors:
-                self._reached[stage] = self._least(stage, factors)
-                if self._reached[stage].plan is None:
-                    return self._reached[stage]
-        needs_more = bool(self.built.uneven) or self._counts_changes
+        """The plan of least cost, of those that miss the least and are the most even; or why an earlier goal has none."""
+        if self.built.missing:
+            self._missing = self._find(MISSING, self._weighed(self.built.missing), self._left(SHARE))
+            if self._missing.plan is None:
+                return self._missing
+            self._rows.append(Row(None, tuple(sorted(self.built.missing.items())), self._missing.cost, MISSING))
+        for _ in even_rules(self.task.rules.rules) if self.is_even else ():
+            finding = self._more_even()
+            if finding.plan is None:
+                return finding
+        needs_more = self.is_even or self._counts_changes
         return self._find(COSTS, self._pair_costs(), self._left(1 - SHARE if needs_more else 1.0))
+
+    def _more_even(self) -> Finding:
+        """Makes the counts of the next rule of evenness differ as little as can be, and keeps it so."""
+        before, self.built = self._start, self._build(True)
+        self._start = None
+        finding = self._find(UNEVEN, self._weighed(self.built.evenness.excess), self._left(SHARE))
+        self._reached.append(finding)
+        if finding.plan is None:
+            self._start = before
+            return finding
+        prefix = finding.plan[:self.built.before_even]
+        self._spreads.append(1 + (finding.cost or 0))
+        self.built = self._build(False)
+        self._start = start_of(self.built.evenness, prefix)
+        return finding
 
     @property
     def _counts_changes(self) -> bool:
@@ -193,12 +213,12 @@ class _Stages:
         cost = sum(own for own, value in zip(costs, values) if value)
         better = None if finding.bound is None else cost - finding.bound
         kind = UNDECIDED if better is None else WITHIN if better else BEST
-        missing, uneven = self._reached.get(MISSING), self._reached.get(UNEVEN)
+        missing = self._missing
         proved = Proved(kind, self.task.seconds, better, self._with_changes(cost) if wish.change is not None else None,
                         missing=0 if missing is None or missing.cost is None else missing.cost,
                         least_missing=None if missing is None else missing.bound,
-                        is_most_even=uneven is None or uneven.kind == BEST,
-                        even=self._even(plan) if self.built.uneven else (), fewer_changes=changed is not finding and changed.kind != BEST,
+                        is_most_even=all(reached.kind == BEST for reached in self._reached),
+                        even=self._even(plan) if self.is_even else (), fewer_changes=changed is not finding and changed.kind != BEST,
                         certificate=finding.certificate)
         return Answer(plan, []), self._with_otherwise(proved)
 
@@ -214,7 +234,7 @@ class _Stages:
         terms = tuple((variable, cost) for variable, cost in enumerate(costs) if cost)
         self._rows.append(Row(None, terms, finding.cost, COSTS))
         self._start = finding.plan
-        return self._find(CHANGES, self._weighed(factors), self._left(1.0 if not self.built.uneven else 0.5))
+        return self._find(CHANGES, self._weighed(factors), self._left(0.5 if self.is_even else 1.0))
 
     def _with_changes(self, cost: int) -> int:
         """What a plan costs with its changes, in halves: a kept pair that goes costs too."""
@@ -229,8 +249,8 @@ class _Stages:
     def _even(self, plan: Plan) -> List[Evenness]:
         """How even a plan is."""
         found, month = [], self.task.month
-        for rule in self.task.rules.rules:
-            persons = even_counted(self.built.making.work, rule) if rule.what == EVEN else []
+        for rule in even_rules(self.task.rules.rules):
+            persons = even_counted(self.built.making.work, rule)
             counts = dict.fromkeys(persons, 0)
             for pair in plan.pairs:
                 shift = month.shifts.get(pair.object)
@@ -242,11 +262,10 @@ class _Stages:
 
     def _with_otherwise(self, proved: Proved) -> Proved:
         """What a plan without the rules of evenness would cost, as far as the time that is left shows it."""
-        if not self.built.uneven:
+        if not self.is_even:
             return proved
         task = self.task
-        other = _Stages(task._replace(wish=task.wish._replace(kept=None, change=None)),
-                        built(task.roster, task.rules, task.month, task.wish, task.own, bool(self.built.missing), False), self._end)
+        other = _Stages(task._replace(wish=task.wish._replace(kept=None, change=None)), self._end, self._may_miss, False)
         finding = other.costs()
         if finding.plan is None:
             return proved._replace(otherwise=Proved(UNDECIDED, task.seconds))

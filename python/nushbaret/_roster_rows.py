@@ -9,7 +9,8 @@ from ._month import Month
 from ._roster import Roster
 from ._row_sums import Rows, Said, Sum, Work
 from ._rule_file import Rules
-from ._rule_rows import Making, add_evenness, add_rules
+from ._rule_even import Evenness, add_evenness
+from ._rule_rows import Making, add_rules
 
 Pair = Tuple[int, int]
 
@@ -24,13 +25,14 @@ class OwnRow(NamedTuple):
 
 
 class Built(NamedTuple):
-    """A model's variables and rows: the pair of each of the first variables; those that say how many are missing, and how uneven counts
-    are, with their factors."""
+    """A model's variables and rows: the pair of each of the first variables; those that say how many are missing, with their factors; how
+    many variables come before those of evenness; and what says how even counts are."""
 
     making: Making
     pairs: List[Pair]
     missing: Dict[int, int]
-    uneven: Dict[int, int]
+    before_even: int
+    evenness: Evenness
 
     @property
     def rows(self) -> Rows:
@@ -38,9 +40,9 @@ class Built(NamedTuple):
 
 
 def built(roster: Roster, rules: Rules, month: Month, wish: Wish, own: Sequence[OwnRow] = (), may_miss: bool = False,
-          is_even: bool = True) -> Built:
-    """The variables and rows of a roster with rules; with `may_miss` least counts may be missed, and without `is_even` nothing is said of
-    evenness."""
+          spreads: Sequence[int] = (), is_measured: bool = False) -> Built:
+    """The variables and rows of a roster with rules; with `may_miss` least counts may be missed. Counts of the first rules of evenness differ
+    by `spreads`; with `is_measured` the model measures how little those of the next rule can differ."""
     sign = -1 if wish.maximize else 1
     listed = [(person, object_, sign * cost) for person, object_, cost in zip(roster.of_persons, roster.of_objects, roster.costs)
               if object_ not in roster.past]
@@ -49,7 +51,10 @@ def built(roster: Roster, rules: Rules, month: Month, wish: Wish, own: Sequence[
     pairs = [(person, object_) for person, object_, _ in listed]
     past = [(pair.person, pair.object) for pair in wish.fixed if pair.object in roster.past]
     work = Work(month, {pair: variable for variable, pair in enumerate(pairs)}, past)
-    making = Making(roster, rules, work, Rows([cost for _, _, cost in listed], [person for person, _ in pairs]))
+    used = Counter(pair.object for pair in wish.fixed)
+    places = [Bounds(0 if may_miss else _with(bounds, used[object_]).least, _with(bounds, used[object_]).most)
+              for object_, bounds in enumerate(bounds_around(roster, wish.fixed)[1])]
+    making = Making(roster, rules, work, Rows([cost for _, _, cost in listed], [person for person, _ in pairs]), places)
     if not pairs:
         # A solver needs one.
         making.rows.helper(None)
@@ -58,7 +63,7 @@ def built(roster: Roster, rules: Rules, month: Month, wish: Wish, own: Sequence[
     _one_of_each(making)
     add_rules(making)
     _own(making, own, set(past))
-    return Built(making, pairs, missing, add_evenness(making) if is_even else {})
+    return Built(making, pairs, missing, len(making.rows.costs), add_evenness(making, spreads, is_measured))
 
 
 def _fixed(making: Making, wish: Wish) -> None:

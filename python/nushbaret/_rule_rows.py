@@ -2,6 +2,7 @@
 from fractions import Fraction
 from typing import Callable, Dict, FrozenSet, Iterator, List, NamedTuple, Sequence, Set, Tuple
 
+from ._gadgets import Bounds
 from ._month import Month, Shift
 from ._roster import Roster
 from ._row_sums import Rows, Said, Sum, Work
@@ -18,6 +19,8 @@ class Making(NamedTuple):
     rules: Rules
     work: Work
     rows: Rows
+    # How many persons each object takes.
+    places: Sequence[Bounds] = ()
 
     @property
     def month(self) -> Month:
@@ -198,39 +201,3 @@ def _at(making: Making, persons: Sequence[int], object_: int) -> Sum:
 
 MAKERS: Dict[str, Callable[[Making, Rule], None]] = {
     RUN: _run, COUNT: _count, HOURS: _hours, FREE: _free, WHOLE: _whole, STAFF: _staff, APART: _apart, TOGETHER: _together}
-
-
-def add_evenness(making: Making) -> Dict[int, int]:
-    """Adds the rows of rules of evenness: the counts of some persons differ by at most one, and by as much as variables say, with their
-    factors: these are returned."""
-    excess: Dict[int, int] = {}
-    for rule in making.rules.rules:
-        if rule.what == EVEN:
-            excess.update(_even(making, rule))
-    return excess
-
-
-def even_counted(work: Work, rule: Rule) -> List[int]:
-    """The persons that a rule of evenness compares: those who may have any of its shifts."""
-    days = _even_days(work.month, rule)
-    return [person for person in rule.persons if any(work.may_have(person, day, rule.kinds) for day in days)]
-
-
-def _even_days(month: Month, rule: Rule) -> List[int]:
-    return [day for day in month.days if not rule.of_weekends or month.is_weekend(day)]
-
-
-def _even(making: Making, rule: Rule) -> Dict[int, int]:
-    persons, days = even_counted(making.work, rule), _even_days(making.month, rule)
-    low = making.rows.bits(len(days))
-    excess = making.rows.bits(len(days))
-    for person in persons:
-        own = making.work.sum(person, days, rule.kinds)
-        for variable, factor in low.items():
-            own.add(variable, -factor)
-        said = making.said(rule, person)
-        making.rows.add(own, 0, None, said)
-        above = Sum()
-        above.terms, above.past, above.is_open = {**own.terms, **{variable: -factor for variable, factor in excess.items()}}, own.past, True
-        making.rows.add(above, None, 1, said)
-    return excess

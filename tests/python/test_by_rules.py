@@ -16,7 +16,7 @@ from nushbaret._roster import PlanLine
 from nushbaret._roster_rows import built
 from nushbaret._row_finding import find
 from nushbaret._row_model import Model, Row
-from nushbaret._rule_file import rules_of
+from nushbaret._rule_file import Line, rules_of
 from nushbaret._rules_kept import broken_by, plan_of
 
 MOST_PLANS = 4000
@@ -184,6 +184,55 @@ class Reasons(unittest.TestCase):
             if (best is None or judged < best) and keeps_counts(loose, plan) and not broken_by(plan_of(roster, rules, month, plan)):
                 best = judged
         return best
+
+
+def most_even(roster, month, rules, past, options):
+    """The least excess of each rule of evenness, in order, and then the least cost, of all plans that keep counts and rules."""
+    best = None
+    even = [rule for rule in rules.rules if rule.what == "even"]
+    allowed = {(person, object_) for person, object_ in zip(roster.of_persons, roster.of_objects) if object_ not in roster.past}
+    for choice in itertools.product(*options):
+        plan = [*past, *filter(None, choice)]
+        judged = (*(excess_of(rule, month, plan, allowed) for rule in even), sum(pair.cost for pair in plan))
+        if (best is None or judged < best) and keeps_counts(roster, plan) and not broken_by(plan_of(roster, rules, month, plan)):
+            best = judged
+    return best
+
+
+def excess_of(rule, month, plan, allowed):
+    """By how much more than one the counts of those who may have any shift of a rule of evenness differ."""
+    def counts(object_):
+        shift = month.shifts[object_]
+        return (rule.kinds is None or shift.kind in rule.kinds) and (not rule.of_weekends or month.is_weekend(shift.day))
+    had = [(pair.person, pair.object) for pair in plan if counts(pair.object)]
+    persons = {person for person, object_ in [*had, *allowed] if person in rule.persons and counts(object_)}
+    numbers = [sum(person == own for own, _ in had) for person in persons]
+    return max(0, max(numbers, default=0) - min(numbers, default=0) - 1)
+
+
+@unittest.skipIf(optimize is None or np is None, "needs SciPy")
+class Evenness(unittest.TestCase):
+    FIRST, COUNT = 5000, 4
+
+    def test_evenness_before_cost(self):
+        tried = 0
+        for seed in itertools.count(self.FIRST):
+            roster, month, rules, past, options = drawn(seed)
+            r = random.Random(seed)
+            lines = [Line("even", r.choice(("Night", "Early, Late", "shifts", "weekend shifts")), r.choice(("", ", ".join(roster.persons[:2]))), number)
+                     for number in range(2, 2 + r.randint(1, 2))]
+            own = rules_of("r.csv", lines, roster, month)
+            # Of other rules few are kept, so that there are plans.
+            rules = rules._replace(rules=[*rules.rules[:1], *own.rules])
+            best = most_even(roster, month, rules, past, options)
+            if best is None:
+                continue
+            answer, proved = answer_by_rules(Task(roster, month, rules, Wish(past), 60))
+            even = [max(0, one.most - one.least - 1) for one in proved.even]
+            self.assertEqual((proved.kind, proved.is_most_even, answer.plan.cost, sum(even)), ("best", True, best[-1], sum(best[:-1])), seed)
+            tried += 1
+            if tried == self.COUNT:
+                break
 
 
 if __name__ == "__main__":
