@@ -159,6 +159,9 @@ def find(model: Model, seconds: float, progress: Optional[Progress] = None, star
     if any(importlib.util.find_spec(name) is None for name in ("numpy", "scipy")):
         raise ImportError(NEEDS_SCIPY)
     search = _Search(model)
+    if model.variables == 0:
+        _without_variables(search)
+        return search.finding()
     if start is not None:
         search.take_plan(start)
     told: "queue.Queue[Dict[str, Any]]" = queue.Queue()
@@ -173,6 +176,16 @@ def find(model: Model, seconds: float, progress: Optional[Progress] = None, star
         for worker in workers:
             worker.end()
     return search.finding()
+
+
+def _without_variables(search: _Search) -> None:
+    """Decides a model of no variables: its one plan meets the rows, or some row can't hold."""
+    if search.take_plan(()):
+        search.take_bound(-1, (0, 1, len(search.rows), -1))
+    for number, row in enumerate(search.model.rows):
+        if not meets((), search.rows[number:number + 1]):
+            factor = 1 if row.least is not None and row.least > 0 else -1
+            search.take_reasons({"reasons": [row.text], "is_minimal": True, "rows": [number], "tree": [0, 1, 0, factor]})
 
 
 def _follow(search: _Search, workers: List[_Worker], told: "queue.Queue[Dict[str, Any]]", deadline: float,

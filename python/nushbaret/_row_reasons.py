@@ -1,15 +1,15 @@
 """Why no plan meets a model's rows: the fewest sentences that can't hold together, by a deletion filter. Needs NumPy and SciPy."""
 import importlib
 import time
-from typing import Any, Dict, Iterator, List, NamedTuple, Optional, Sequence, Set, Tuple
+from typing import Any, Dict, Iterator, List, NamedTuple, Optional, Set, Tuple
 
-from ._row_blocks import limits_of, matrix_of, side_of
+from ._row_blocks import limits_of
 from ._row_check import MOST_DEPTH, meets
 from ._row_model import Leaf, Limits, Model, Proof, Split, flat
+from ._row_plans import tried
 from ._row_trees import Open, Part, Trees
 
 np: Any = importlib.import_module("numpy")
-optimize: Any = importlib.import_module("scipy.optimize")
 
 
 class Reasons(NamedTuple):
@@ -53,7 +53,7 @@ class _Filter:
             return None
         shown = self.refuted(texts, 0)
         if shown is None:
-            plan = _some_plan(self.model.variables, self.limits_of(texts), self.deadline - time.monotonic())
+            plan = tried((0,) * self.model.variables, self.limits_of(texts), self.deadline - time.monotonic()).plan
             self.plans += [] if plan is None else [plan]
             shown = None if self.knows_plan(texts) else self.refuted(texts, leaves)
         return shown
@@ -65,16 +65,6 @@ class _Filter:
 
     def limits_of(self, texts: Set[str]) -> List[Limits]:
         return [limits_of(self.model.rows[number]) for number in self.rows_of(texts)]
-
-
-def _some_plan(variables: int, rows: Sequence[Limits], seconds: float) -> Optional[List[int]]:
-    if seconds <= 0:
-        return None
-    least, most = side_of(rows)
-    constraints = optimize.LinearConstraint(matrix_of(rows, variables), least, most) if rows else ()
-    found = optimize.milp(np.zeros(variables), constraints=constraints, integrality=np.ones(variables), bounds=optimize.Bounds(0, 1),
-                          options={"time_limit": seconds})
-    return None if found.x is None else [int(value > 0.5) for value in found.x]
 
 
 def reasons(model: Model, deadline: float, leaves: int, first: Optional[Proof] = None) -> Iterator[Reasons]:

@@ -114,6 +114,14 @@ class Processes(unittest.TestCase):
         self.assertEqual(finding.find(model, 0, start=(0, 1))[:4], ("undecided", (0, 1), 4, None))
         self.assertEqual(finding.find(model, 0, start=(0, 0))[:2], ("undecided", None))
 
+    def test_no_variables(self):
+        rows = (Row(None, (), 0, "holds"), Row(None, (), -1, "less"), Row(1, (), None, "more"))
+        self.assertEqual(finding.find(Model(0, (), rows[:1], ()), 1)[:4], ("best", (), 0, 0))
+        for row in rows[1:]:
+            found = finding.find(Model(0, (), (rows[0], row), ()), 1)
+            self.assertEqual((found.kind, found.reasons, found.is_minimal), ("impossible", (row.text,), True))
+            self.assertTrue(shows(found.certificate))
+
     def test_no_time(self):
         self.assertEqual(finding.find(models.drawn_month(random.Random(1)), 0).kind, "undecided")
 
