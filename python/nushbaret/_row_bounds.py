@@ -169,9 +169,10 @@ class Prover:
         is_whole = True
         while self.channel.cost is not None and not self.is_closed() and self.left() > 1:
             most = self.channel.cost - 1
-            target = most if is_whole or self.bound is None else (self.bound + most) // 2
-            has_gained = self.attempt(pricing, best, target, self.left() * (_FIRST_PART if is_whole else 1.0))
-            if not has_gained and (not is_whole or self.bound is None or self.bound >= most):
+            half = most if self.bound is None else (self.bound + most) // 2
+            target, part = (most, _FIRST_PART if half < most else 1.0) if is_whole else (half, 1.0)
+            has_gained = self.attempt(pricing, best, target, self.left() * part)
+            if not has_gained and target == half:
                 return
             is_whole = has_gained
 
