@@ -56,7 +56,7 @@ def certificate_of(lists: Lists) -> Certificate:
     return Certificate(lists.n, tuple(rows), tuple(lists.plan) if lists.plan else None, tuple(lists.tree))
 
 
-def text_of(certificate: Certificate) -> str:
+def certificate_text(certificate: Certificate) -> str:
     """A certificate as the text of its file. Raises `CertificateFault` where a number is beyond 64 bits."""
     lists = lists_of(certificate)
     lines = [_HEAD]
@@ -98,7 +98,7 @@ def _number(word: str, line: int, may_be_absent: bool) -> Optional[int]:
 
 def write_certificate(path: Union[str, "pathlib.Path"], certificate: Certificate) -> None:
     """Writes a certificate. Raises `CertificateFault` and writes nothing where a number is beyond 64 bits, OSError where it can't be written."""
-    pathlib.Path(path).write_bytes(text_of(certificate).encode("ascii"))
+    pathlib.Path(path).write_bytes(certificate_text(certificate).encode("ascii"))
 
 
 def read_certificate(path: Union[str, "pathlib.Path"]) -> Certificate:

@@ -56,6 +56,8 @@ class Prover:
             self.by_one_tree()
         if not self.is_closed():
             self.by_prices(solved)
+        if not self.is_closed():
+            self.by_one_tree()
 
     def explain(self, first: Optional[Proof]) -> None:
         """Tells sentences that can't hold together."""
@@ -74,16 +76,21 @@ class Prover:
         """One tree over all variables, for the cost of the plan that the other process finds."""
         while self.channel.cost is None and not self.channel.is_hopeless and self.left() > 0:
             time.sleep(0.005)
-        if self.is_closed():
-            return
+        if self.channel.cost is None:
+            self.explain(None)
+        has_gained = True
+        while has_gained and self.channel.cost is not None and not self.is_closed() and self.left() > 0:
+            has_gained = self.attempt_whole(self.channel.cost - 1)
+
+    def attempt_whole(self, most: int) -> bool:
+        """Looks for a tree over all variables that shows that no plan costs `most` or less; whether it, or a better plan, was found."""
+        cost, self.whole.plan = self.channel.cost, None
         try:
-            if self.channel.cost is None:
-                self.explain(None)
-                return
-            most = self.channel.cost - 1
             self.tell(self.whole.tree(self.model.costs, most, _MOST_LEAVES), most)
+            return True
         except Open:
-            pass
+            self.say_found(self.whole.plan)
+        return self.channel.cost != cost
 
     def by_prices(self, solved: Solved) -> None:
         """Person by person: prices, then a tree for each person."""
@@ -152,7 +159,7 @@ class Prover:
         greatest = 1.0 - (reaches[1] > SCALE * most)
         if (least > greatest).any():
             return
-        found = tried(self.model, [*self.rows, cost_row(self.model, most)], self.left() / 3, least, greatest)
+        found = tried(self.model.costs, [*self.rows, cost_row(self.model, most)], self.left() / 3, least, greatest)
         cost = cost_of(self.model, found.plan)
         if found.plan is not None and cost is not None:
             self.channel.say_plan(found.plan, cost)
@@ -162,9 +169,10 @@ class Prover:
         is_whole = True
         while self.channel.cost is not None and not self.is_closed() and self.left() > 1:
             most = self.channel.cost - 1
-            target = most if is_whole or self.bound is None else (self.bound + most) // 2
-            has_gained = self.attempt(pricing, best, target, self.left() * (_FIRST_PART if is_whole else 1.0))
-            if not has_gained and (not is_whole or self.bound is None or self.bound >= most):
+            half = most if self.bound is None else (self.bound + most) // 2
+            target, part = (most, _FIRST_PART if half < most else 1.0) if is_whole else (half, 1.0)
+            has_gained = self.attempt(pricing, best, target, self.left() * part)
+            if not has_gained and target == half:
                 return
             is_whole = has_gained
 

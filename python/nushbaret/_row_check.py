@@ -1,6 +1,7 @@
-"""The check of certificates in Python's whole numbers: slow, and without any other module."""
+"""The check of certificates: by the library's proved check, or here in Python's whole numbers."""
 from typing import Dict, Iterator, List, NamedTuple, Optional, Sequence, Tuple
 
+from ._row_library import shown_by_library
 from ._row_model import Certificate, Limits, Terms
 
 MOST_DEPTH = 1000
@@ -18,7 +19,14 @@ class _Node(NamedTuple):
 
 
 def shows(certificate: Certificate) -> bool:
-    """Whether a certificate shows that no plan meets its rows, and its plan, where it has one, meets all but the last."""
+    """Whether a certificate shows that no plan meets its rows, and its plan, where it has one, meets all but the last. The library says so,
+    but where it has no such check, or a number is beyond 64 bits: then this module does."""
+    is_shown = shown_by_library(certificate)
+    return shows_here(certificate) if is_shown is None else is_shown
+
+
+def shows_here(certificate: Certificate) -> bool:
+    """The same by this module alone."""
     plan, rows = certificate.plan, certificate.rows
     if plan is not None and not (rows and len(plan) == certificate.variables and set(plan) <= {0, 1} and meets(plan, rows[:-1])):
         return False

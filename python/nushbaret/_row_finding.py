@@ -1,4 +1,5 @@
 """Finds the cheapest plan of a model, with a certificate: SciPy looks, in processes of its own, and the check of certificates decides."""
+import contextlib
 import importlib.util
 import json
 import math
@@ -23,42 +24,50 @@ _STAGES = {"plans": "looks for plans", "prices": "prices of shared rows", "proof
 class _Worker:
     """A process that works on a model. Its lines come into a queue; lines for it are written beside."""
 
-    def __init__(self, first: Dict[str, Any], told: "queue.Queue[Dict[str, Any]]"):
+    def __init__(self, told: "queue.Queue[Dict[str, Any]]"):
+        self.told = told
+        self.waiting: "queue.Queue[Optional[str]]" = queue.Queue()
+        self.process: Optional["subprocess.Popen[str]"] = None
+        self.threads: List[threading.Thread] = []
+
+    def start(self, first: Dict[str, Any]) -> None:
+        """Starts the process, which no Ctrl-C of the terminal reaches: who started it ends it, or it ends when its input does."""
         package = str(pathlib.Path(__file__).resolve().parent.parent)
         paths = [package, *filter(None, [os.environ.get("PYTHONPATH")])]
         environment = {**os.environ, "PYTHONPATH": os.pathsep.join(paths), "OMP_NUM_THREADS": "1", "OPENBLAS_NUM_THREADS": "1"}
         self.process = subprocess.Popen([sys.executable, "-m", "nushbaret._row_worker"], stdin=subprocess.PIPE, stdout=subprocess.PIPE,
-                                        stderr=None, text=True, env=environment, start_new_session=True)
-        self.waiting: "queue.Queue[Optional[str]]" = queue.Queue()
+                                        stderr=subprocess.DEVNULL, text=True, env=environment, start_new_session=True)
         self.tell(first)
-        threading.Thread(target=self._write, daemon=True).start()
-        threading.Thread(target=self._read, args=(told,), daemon=True).start()
+        self.threads = [threading.Thread(target=work, args=(self.process,), daemon=True) for work in (self._write, self._read)]
+        for thread in self.threads:
+            thread.start()
 
     def tell(self, told: Dict[str, Any]) -> None:
         self.waiting.put(json.dumps(told) + "\n")
 
-    def _write(self) -> None:
-        assert self.process.stdin is not None
-        try:
+    def _write(self, process: "subprocess.Popen[str]") -> None:
+        assert process.stdin is not None
+        with contextlib.suppress(OSError, ValueError):
             for line in iter(self.waiting.get, None):
-                self.process.stdin.write(line)
-                self.process.stdin.flush()
-        except (OSError, ValueError):
-            pass
+                process.stdin.write(line)
+                process.stdin.flush()
+        with contextlib.suppress(OSError, ValueError):
+            process.stdin.close()
 
-    def _read(self, told: "queue.Queue[Dict[str, Any]]") -> None:
-        assert self.process.stdout is not None
-        try:
-            for line in self.process.stdout:
-                told.put(json.loads(line))
-        except (OSError, ValueError):
-            pass
-        told.put({"ended": True})
+    def _read(self, process: "subprocess.Popen[str]") -> None:
+        assert process.stdout is not None
+        with contextlib.suppress(OSError, ValueError), process.stdout:
+            for line in process.stdout:
+                self.told.put(json.loads(line))
+        self.told.put({"ended": True})
 
     def end(self) -> None:
+        if self.process is not None:
+            self.process.kill()
+            self.process.wait()
         self.waiting.put(None)
-        self.process.kill()
-        self.process.wait()
+        for thread in self.threads:
+            thread.join()
 
 
 class _Search:
@@ -150,6 +159,9 @@ def find(model: Model, seconds: float, progress: Optional[Progress] = None, star
     if any(importlib.util.find_spec(name) is None for name in ("numpy", "scipy")):
         raise ImportError(NEEDS_SCIPY)
     search = _Search(model)
+    if model.variables == 0:
+        _without_variables(search)
+        return search.finding()
     if start is not None:
         search.take_plan(start)
     told: "queue.Queue[Dict[str, Any]]" = queue.Queue()
@@ -157,12 +169,23 @@ def find(model: Model, seconds: float, progress: Optional[Progress] = None, star
     workers: List[_Worker] = []
     try:
         for role in ("plans", "bounds"):
-            workers.append(_Worker({**first, "role": role}, told))
+            workers.append(_Worker(told))
+            workers[-1].start({**first, "role": role})
         _follow(search, workers, told, deadline, progress)
     finally:
         for worker in workers:
             worker.end()
     return search.finding()
+
+
+def _without_variables(search: _Search) -> None:
+    """Decides a model of no variables: its one plan meets the rows, or some row can't hold."""
+    if search.take_plan(()):
+        search.take_bound(-1, (0, 1, len(search.rows), -1))
+    for number, row in enumerate(search.model.rows):
+        if not meets((), search.rows[number:number + 1]):
+            factor = 1 if row.least is not None and row.least > 0 else -1
+            search.take_reasons({"reasons": [row.text], "is_minimal": True, "rows": [number], "tree": [0, 1, 0, factor]})
 
 
 def _follow(search: _Search, workers: List[_Worker], told: "queue.Queue[Dict[str, Any]]", deadline: float,

@@ -1,15 +1,15 @@
 """Why no plan meets a model's rows: the fewest sentences that can't hold together, by a deletion filter. Needs NumPy and SciPy."""
 import importlib
 import time
-from typing import Any, Dict, Iterator, List, NamedTuple, Optional, Sequence, Set, Tuple
+from typing import Any, Dict, Iterator, List, NamedTuple, Optional, Set, Tuple
 
-from ._row_blocks import limits_of, matrix_of, side_of
+from ._row_blocks import limits_of
 from ._row_check import MOST_DEPTH, meets
 from ._row_model import Leaf, Limits, Model, Proof, Split, flat
+from ._row_plans import tried
 from ._row_trees import Open, Part, Trees
 
 np: Any = importlib.import_module("numpy")
-optimize: Any = importlib.import_module("scipy.optimize")
 
 
 class Reasons(NamedTuple):
@@ -40,34 +40,31 @@ class _Filter:
 
     def refuted(self, texts: Set[str], leaves: int) -> Optional[_Shown]:
         """A proof that no plan meets the sentences' rows; None where it isn't found."""
-        numbers = self.rows_of(texts)
-        rows = [limits_of(self.model.rows[number]) for number in numbers]
+        numbers, rows = self.rows_of(texts), self.limits_of(texts)
         part = Part(rows, list(range(len(rows))), list(range(self.model.variables)))
         try:
             return _Shown(numbers, Trees(part, self.deadline).tree(np.zeros(self.model.variables), None, leaves))
         except Open:
             return None
 
-    def has_plan(self, texts: Set[str]) -> bool:
-        """Whether a plan is known, or found, that meets the sentences."""
-        rows = [limits_of(self.model.rows[number]) for number in self.rows_of(texts)]
-        if any(meets(plan, rows) for plan in self.plans):
-            return True
-        plan = _some_plan(self.model.variables, rows, self.deadline - time.monotonic())
-        if plan is None or not meets(plan, rows):
-            return False
-        self.plans.append(plan)
-        return True
+    def without(self, texts: Set[str], leaves: int) -> Optional[_Shown]:
+        """A proof that no plan meets these sentences; None where it isn't found, or a plan is known, or found and kept."""
+        if self.knows_plan(texts):
+            return None
+        shown = self.refuted(texts, 0)
+        if shown is None:
+            plan = tried((0,) * self.model.variables, self.limits_of(texts), self.deadline - time.monotonic()).plan
+            self.plans += [] if plan is None else [plan]
+            shown = None if self.knows_plan(texts) else self.refuted(texts, leaves)
+        return shown
 
+    def knows_plan(self, texts: Set[str]) -> bool:
+        """Whether a plan is known that meets the sentences."""
+        rows = self.limits_of(texts)
+        return any(meets(plan, rows) for plan in self.plans)
 
-def _some_plan(variables: int, rows: Sequence[Limits], seconds: float) -> Optional[List[int]]:
-    if seconds <= 0:
-        return None
-    least, most = side_of(rows)
-    constraints = optimize.LinearConstraint(matrix_of(rows, variables), least, most) if rows else ()
-    found = optimize.milp(np.zeros(variables), constraints=constraints, integrality=np.ones(variables), bounds=optimize.Bounds(0, 1),
-                          options={"time_limit": seconds})
-    return None if found.x is None else [int(value > 0.5) for value in found.x]
+    def limits_of(self, texts: Set[str]) -> List[Limits]:
+        return [limits_of(self.model.rows[number]) for number in self.rows_of(texts)]
 
 
 def reasons(model: Model, deadline: float, leaves: int, first: Optional[Proof] = None) -> Iterator[Reasons]:
@@ -85,11 +82,11 @@ def reasons(model: Model, deadline: float, leaves: int, first: Optional[Proof] =
         text = next(text for text in kept if text not in tried)
         tried.add(text)
         fewer = set(kept) - {text}
-        without = work.refuted(fewer, leaves)
+        without = work.without(fewer, leaves)
         if without is not None:
             shown, kept = without, _used(model, without)
             yield _reasons(model, shown, False)
-        elif work.has_plan(fewer):
+        elif work.knows_plan(fewer):
             needed.add(text)
     yield _reasons(model, shown, needed >= set(kept))
 
