@@ -73,9 +73,10 @@ function stop() {
   byId("plan", HTMLElement).focus();
 }
 
-/** @param {string} id */
-function choice(id) {
-  return byId(id, HTMLSelectElement).value;
+/** What is chosen below the roster. */
+function choices() {
+  const chosen = new FormData(byId("ask", HTMLFormElement));
+  return { form: String(chosen.get("form")), comma: chosen.get("mark") === "comma", max: chosen.get("sense") === "max" };
 }
 
 /** Plans the file, or the cells in the box where there is none. */
@@ -100,8 +101,7 @@ async function plan() {
   byId("stop", HTMLElement).hidden = false;
   worker.addEventListener("message", (event) => take(event.data));
   worker.addEventListener("error", (event) => take({ kind: "failure", text: event.message || "The worker doesn't start." }));
-  const choices = { form: choice("form-of"), comma: choice("mark") === "comma", max: choice("sense") === "max" };
-  worker.postMessage({ source, choices, module: moduleBytes() });
+  worker.postMessage({ source, choices: choices(), module: moduleBytes() });
 }
 
 /**

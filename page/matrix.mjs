@@ -154,10 +154,10 @@ export async function drawMatrix(found, room, isWanted) {
   for (const [place, part] of parts.entries()) {
     const name = `${objects[part.begin]} to ${objects[part.end - 1]} (part ${place + 1} of ${parts.length})`;
     const body = element("tbody", {});
-    room.append(element("table", {}, headOf(drawing, part, parts.length > 1 ? name : ""), body));
     for (let person = 0; person < persons.length && isWanted(); person++) {
       if (person % ROWS_AT_ONCE === ROWS_AT_ONCE - 1) await new Promise((done) => setTimeout(done));
       body.append(rowOf(drawing, person, part));
     }
+    room.append(element("table", {}, headOf(drawing, part, parts.length > 1 ? name : ""), body));
   }
 }
