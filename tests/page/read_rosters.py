@@ -17,7 +17,7 @@ sys.path.insert(0, os.path.join(os.path.dirname(os.path.abspath(__file__)), "../
 sys.dont_write_bytecode = True
 
 from nushbaret._answer import Wish, answer_of, left_out  # noqa: E402
-from nushbaret._names import joined, without_marks  # noqa: E402
+from nushbaret._names import without_marks  # noqa: E402
 from nushbaret._roster import Roster, read_roster  # noqa: E402
 from nushbaret._sheets import Reading, RosterFault  # noqa: E402
 from nushbaret._texts import Report, first_lines, rows_of  # noqa: E402
