@@ -15,6 +15,7 @@ export function clearResult() {
   byId("result", HTMLElement).hidden = true;
   byId("answer", HTMLElement).replaceChildren();
   byId("matrix", HTMLElement).replaceChildren();
+  delete byId("matrix", HTMLElement).dataset.drawn;
 }
 
 /**
@@ -79,5 +80,5 @@ async function drawInto(found, room) {
   const key = found.rows.length ? "; the plan's are outlined" : "; who is short is marked";
   room.replaceChildren(inner, element("p", {}, `Stronger colours cost more, hatched cells are forbidden${key}.`));
   await drawMatrix(found, inner, () => own === current);
-  room.dataset.drawn = "yes";
+  if (own === current) room.dataset.drawn = "yes";
 }

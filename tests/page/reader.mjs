@@ -1,4 +1,4 @@
-// Whether the page reads rosters as the command does, and says the same of them: node reader.mjs READ.json MODULE.wasm
+// Whether the page reads rosters as the command does, and says the same of them: node reader.mjs READ.json PAGE.html|MODULE.wasm
 // READ.json is what read_rosters.py wrote.
 import assert from "node:assert";
 import fs from "node:fs";
@@ -6,9 +6,10 @@ import { answerOf, firstLines, leftOut, rowsOf } from "../../page/plan.mjs";
 import { Library, MOST_PERSONS } from "../../page/library.mjs";
 import { RosterFault } from "../../page/faults.mjs";
 import { rosterOfBytes } from "../../page/roster.mjs";
+import { moduleOf } from "./page_parts.mjs";
 
 const cases = JSON.parse(fs.readFileSync(process.argv[2], "utf8"));
-const library = await Library.load(fs.readFileSync(process.argv[3]));
+const library = await Library.load(moduleOf(process.argv[3]));
 
 function said(roster, max) {
   const answer = answerOf(roster, max, library);
