@@ -1,7 +1,8 @@
 // The calls of nushbaret.h over the WebAssembly module. No proof covers this file; what a call returns is what the proved call wrote.
 
 // Of which version's header the module is: 3 or 4.
-const LAYOUT = 3;
+/** @type {number} */
+const LAYOUT = 4;
 export const MOST_PERSONS = LAYOUT === 3 ? 8192 : 4194304;
 const Numbers = LAYOUT === 3 ? Uint16Array : Uint32Array;
 const WORDS_OF_A_PRICE = LAYOUT === 3 ? 2 : 1;

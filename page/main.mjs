@@ -19,6 +19,8 @@ let run = null;
 let file = null;
 /** @type {Found | null} */
 let found = null;
+// How often a plan was asked for.
+let asked = 0;
 
 /** @param {string} text */
 function say(text) {
@@ -79,18 +81,39 @@ function choices() {
   return { form: String(chosen.get("form")), comma: chosen.get("mark") === "comma", max: chosen.get("sense") === "max" };
 }
 
-/** Plans the file, or the cells in the box where there is none. */
+/**
+ * The file's bytes, or the cells in the box where there is none; nothing where the file can't be read.
+ * @returns {Promise<string | ArrayBuffer>}
+ */
+async function roster() {
+  if (file === null) return byId("text", HTMLTextAreaElement).value;
+  try {
+    return await file.arrayBuffer();
+  } catch (fault) {
+    return "";
+  }
+}
+
+/** Plans the file, or the cells in the box. */
 async function plan() {
   end();
   clearResult();
   refuse("");
+  say("");
   found = null;
-  const source = file ? await file.arrayBuffer() : byId("text", HTMLTextAreaElement).value;
-  if (source === "") {
-    say("");
-    refuse("There is no roster yet: drop a file, or paste cells.");
-    return;
-  }
+  const own = ++asked;
+  const source = await roster();
+  // Meanwhile another plan may have been asked for.
+  if (own !== asked) return;
+  if (source === "") refuse(file ? "The file can't be read: choose it again." : "There is no roster yet: drop a file, or paste cells.");
+  else start(source);
+}
+
+/**
+ * Starts a worker that plans a roster.
+ * @param {string | ArrayBuffer} source
+ */
+function start(source) {
   const begin = performance.now();
   const worker = newWorker();
   const clock = window.setInterval(() => {

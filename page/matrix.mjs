@@ -14,7 +14,7 @@ const MARGIN = 10;
 const MOST_NAME_WIDTH = 180;
 const MOST_HEADING_HEIGHT = 120;
 // So many rows are drawn before the page answers again.
-const ROWS_AT_ONCE = 40;
+const ROWS_AT_ONCE = 100;
 
 /**
  * @typedef {import("./answers.mjs").Found} Found
@@ -142,7 +142,7 @@ function headOf(drawing, part, name) {
 }
 
 /**
- * Draws the matrix of an answer, some rows at a time. It stops where `isWanted` says so.
+ * Draws the matrix of an answer, some rows at a time, so that the page answers meanwhile. It stops where `isWanted` says so.
  * @param {Found} found
  * @param {HTMLElement} room
  * @param {() => boolean} isWanted
@@ -151,6 +151,8 @@ export async function drawMatrix(found, room, isWanted) {
   const drawing = drawingOf(found);
   const { objects, persons } = found.roster;
   const parts = partsOf(drawing);
+  // All is laid out once, at the end.
+  const tables = [];
   for (const [place, part] of parts.entries()) {
     const name = `${objects[part.begin]} to ${objects[part.end - 1]} (part ${place + 1} of ${parts.length})`;
     const body = element("tbody", {});
@@ -158,6 +160,7 @@ export async function drawMatrix(found, room, isWanted) {
       if (person % ROWS_AT_ONCE === ROWS_AT_ONCE - 1) await new Promise((done) => setTimeout(done));
       body.append(rowOf(drawing, person, part));
     }
-    room.append(element("table", {}, headOf(drawing, part, parts.length > 1 ? name : ""), body));
+    tables.push(element("table", {}, headOf(drawing, part, parts.length > 1 ? name : ""), body));
   }
+  if (isWanted()) room.append(...tables);
 }
