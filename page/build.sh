@@ -16,8 +16,8 @@ stop() {
     exit 1
 }
 
-[ -e "$module" ] || stop "c/out/module.ll isn't there: run c/build.sh first"
 type -P rt > /dev/null || stop "the Rattle kit isn't on the path (docs/RATTLE.md)"
+[ -e "$module" ] || stop "c/out/module.ll isn't there: run c/build.sh first"
 clang=$(dirname "$(rt doc)")/toolchain/bin/clang
 work=$(mktemp -d)
 trap 'rm -rf "$work"' EXIT

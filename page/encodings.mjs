@@ -44,7 +44,7 @@ function isQuoteInWord(bytes, place) {
 }
 
 /**
- * Where bytes are no western text of Windows: the first byte that no such text has, else the first letter around a quote; -1 if nowhere.
+ * Where bytes are no western text of Windows: the first byte that none has, else the first letter around a quote; -1 if nowhere.
  * @param {Uint8Array} bytes
  * @returns {number}
  */

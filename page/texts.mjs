@@ -22,7 +22,7 @@ export function stripped(cell) {
 }
 
 /**
- * Whether a text has neither control characters nor white space other than blanks.
+ * Whether a text has no control characters and no white space other than blanks.
  * @param {string} text
  * @returns {boolean}
  */

@@ -19,7 +19,7 @@ static word high_of(whole number) {
     return it.halves[1];
 }
 
-/* The lower 128 bits of a product, for either sign. Each sum of a product of 32-bit numbers and two such numbers fits 64 bits. */
+/* The lower 128 bits of a product, for either sign. A product of two numbers of 32 bits and two more of them fit 64 bits. */
 whole __multi3(whole x, whole y) {
     word a = (word)x, b = (word)y, low_a = a & 0xffffffff, high_a = a >> 32, low_b = b & 0xffffffff, high_b = b >> 32;
     word first = low_a * low_b, second = high_a * low_b + (first >> 32), third = low_a * high_b + (second & 0xffffffff);

@@ -1,0 +1,40 @@
+#!/usr/bin/env bash
+# The roster page: tests/page.sh [PAGE.html], the built one if none is named, or else that of release/.
+#
+# Its reader and its answers agree with the command's on a table of rosters, on examples/ and on 300 drawn ones; its module agrees
+# with a plain search, and where its trial is built its heap is tried; in Chromium the page plans, refuses and prints, from a
+# file on disk, and asks nobody for anything. Its scripts are typed. Needs python3, the library of c/out and node, and says what
+# it left out where tsc or chromium isn't there.
+set -euo pipefail
+cd "$(dirname "$0")/.."
+export PYTHONPATH=$PWD/python PYTHONDONTWRITEBYTECODE=1
+page=${1:-page/out/nushbaret.html}
+[ -e "$page" ] || page=release/nushbaret.html
+if [ ! -e "$page" ]; then
+    echo 'page: there is none yet; page/build.sh makes it'
+    exit 0
+fi
+work=$(mktemp -d)
+trap 'rm -rf "$work"' EXIT
+examples=(examples/named_roster.csv examples/night_shifts.csv examples/week.csv)
+
+tests/page/read_rosters.py tests/page/rosters.json 300 "${examples[@]}" > "$work/read.json"
+node tests/page/reader.mjs "$work/read.json" "$page"
+tried=()
+[ "$page" != page/out/nushbaret.html ] || tried=(page/out/tried.wasm)
+node tests/page/module.mjs "$page" 3000 "${tried[@]}"
+
+if type -P tsc > /dev/null; then
+    tsc -p page
+    echo 'page: its scripts are typed'
+else
+    echo 'page: left out: types (no tsc)'
+fi
+if type -P chromium > /dev/null; then
+    tests/page/great_roster.py 400 > "$work/great.csv"
+    # Elsewhere than where it was built, so that it needs no other file.
+    cp "$page" "$work/page.html"
+    node tests/page/in_chromium.mjs "$work/page.html" examples "$work/great.csv" "$(python3 -m nushbaret -q "$work/great.csv")"
+else
+    echo 'page: left out: the browser (no chromium)'
+fi
