@@ -3,8 +3,8 @@
 #
 # Its reader and its answers agree with the command's on a table of rosters, on examples/ and on 300 drawn ones; its module agrees
 # with a plain search, and where its trial is built its heap is tried; in Chromium the page plans, refuses and prints, from a
-# file on disk, and asks nobody for anything. Its scripts are typed. Needs python3, the library of c/out and node, and says what
-# it left out where tsc or chromium isn't there.
+# file on disk, and asks nobody for anything; in Firefox it plans. Its scripts are typed. Needs python3, the library of c/out and
+# node, and says what it left out where tsc, chromium or firefox-esr isn't there.
 set -euo pipefail
 cd "$(dirname "$0")/.."
 export PYTHONPATH=$PWD/python PYTHONDONTWRITEBYTECODE=1
@@ -30,11 +30,14 @@ if type -P tsc > /dev/null; then
 else
     echo 'page: left out: types (no tsc)'
 fi
-if type -P chromium > /dev/null; then
-    tests/page/great_roster.py 400 > "$work/great.csv"
-    # Elsewhere than where it was built, so that it needs no other file.
-    cp "$page" "$work/page.html"
-    node tests/page/in_chromium.mjs "$work/page.html" examples "$work/great.csv" "$(python3 -m nushbaret -q "$work/great.csv")"
-else
-    echo 'page: left out: the browser (no chromium)'
-fi
+# Browsers open it elsewhere than where it was built, so that it needs no other file.
+cp "$page" "$work/page.html"
+tests/page/great_roster.py 400 > "$work/great.csv"
+heading=$(python3 -m nushbaret -q "$work/great.csv")
+for browser in chromium firefox-esr; do
+    if type -P "$browser" > /dev/null; then
+        node "tests/page/in_${browser%-esr}.mjs" "$work/page.html" examples "$work/great.csv" "$heading"
+    else
+        echo "page: left out: a browser (no $browser)"
+    fi
+done
