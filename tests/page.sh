@@ -23,6 +23,7 @@ node tests/page/reader.mjs "$work/read.json" "$page"
 tried=()
 [ "$page" != page/out/nushbaret.html ] || tried=(page/out/tried.wasm)
 node tests/page/module.mjs "$page" 3000 "${tried[@]}"
+tests/page/retarget.py
 
 if type -P tsc > /dev/null; then
     tsc -p page

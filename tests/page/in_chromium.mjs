@@ -43,6 +43,21 @@ async function tryPlan() {
   assert.strictEqual(fs.readFileSync(file, "utf8"), wanted);
 }
 
+// A file that is dropped, and the plan of it that is copied.
+async function tryDrop() {
+  await browser.answered(() => browser.value(`(() => {
+    const dataTransfer = new DataTransfer();
+    dataTransfer.items.add(new File(["nurse;shift;hours\\nAda;early;1\\nAda;late;2\\nBen;early;2\\nBen;late;7\\n"], "dropped.csv"));
+    document.dispatchEvent(new DragEvent("drop", { dataTransfer, bubbles: true, cancelable: true }));
+  })()`));
+  assert.strictEqual(await textOf("from"), "From the file dropped.csv");
+  const copied = `new Promise((done) => {
+    addEventListener("copy", (event) => done(event.clipboardData.getData("text/plain")), { once: true });
+    document.getElementById("copy").click();
+  })`;
+  assert.strictEqual(await browser.value(copied), "nurse\tshift\thours\nAda\tlate\t2\nBen\tearly\t2\n");
+}
+
 // Who is short, who is left over, a decimal comma, the greatest sum, and a cell that is no number.
 async function tryAnswers() {
   await browser.answered(() => browser.giveFile(path.join(examples, "night_shifts.csv")));
@@ -124,7 +139,7 @@ async function tryPolicy() {
 
 try {
   await browser.open(`file://${path.resolve(page)}`);
-  for (const part of [tryPlan, tryAnswers, tryNames, tryGreat, tryRequest, tryLooks, tryPolicy]) await part();
+  for (const part of [tryPlan, tryDrop, tryAnswers, tryNames, tryGreat, tryRequest, tryLooks, tryPolicy]) await part();
   console.log("page: plans, refusals, looks and policy in Chromium");
 } finally {
   await browser.end();
