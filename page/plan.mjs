@@ -15,13 +15,19 @@ import { joined } from "./texts.mjs";
  */
 
 /**
- * The cost of each pair, by its person and object.
+ * The pairs of persons with their objects, in the order of persons. A pair that the roster forbids isn't among them.
  * @param {Roster} roster
- * @returns {Map<number, number>}
+ * @param {Map<number, number>} objectOf The object of each person that has one
+ * @returns {Pair[]}
  */
-function costsByPair(roster) {
-  const width = roster.objects.length;
-  return new Map(roster.costs.map((cost, k) => [roster.ofPersons[k] * width + roster.ofObjects[k], cost]));
+function pairsOf(roster, objectOf) {
+  /** @type {Pair[]} */
+  const pairs = [];
+  roster.costs.forEach((cost, k) => {
+    const [person, object] = [roster.ofPersons[k], roster.ofObjects[k]];
+    if (objectOf.get(person) === object) pairs.push({ person, object, cost });
+  });
+  return pairs.sort((one, other) => one.person - other.person);
 }
 
 /**
@@ -39,7 +45,7 @@ function problemOf(roster, max) {
 }
 
 /**
- * The plan of an assignment; a fault where its costs don't sum up to the total.
+ * The plan of an assignment; a fault where it has other pairs than the roster, or another sum than the total.
  * @param {Roster} roster
  * @param {number[]} assigned
  * @param {bigint} total
@@ -47,14 +53,12 @@ function problemOf(roster, max) {
  */
 function planOf(roster, assigned, total) {
   const isTurned = roster.persons.length > roster.objects.length;
-  const costs = costsByPair(roster);
-  const pairs = assigned.map((column, row) => {
-    const [person, object] = isTurned ? [column - 1, row] : [row, column - 1];
-    return { person, object, cost: /** @type {number} */ (costs.get(person * roster.objects.length + object)) };
-  });
-  pairs.sort((one, other) => one.person - other.person);
+  const objectOf = new Map(assigned.map((column, row) => isTurned ? [column - 1, row] : [row, column - 1]));
+  const pairs = pairsOf(roster, objectOf);
   const cost = pairs.reduce((sum, pair) => sum + BigInt(pair.cost), 0n);
-  if (cost !== total) throw new Error(`the plan's costs sum up to ${cost}, and the library says ${total}`);
+  if (pairs.length !== assigned.length || cost !== total) {
+    throw new Error(`${pairs.length} pairs whose costs sum up to ${cost}, where the library says ${assigned.length} and ${total}`);
+  }
   const had = new Set(pairs.map((pair) => pair.person));
   const used = new Set(pairs.map((pair) => pair.object));
   return {
