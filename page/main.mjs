@@ -135,7 +135,7 @@ function take(reply) {
   const time = seconds(end());
   if (reply.kind === "found") {
     found = reply;
-    showResult(reply);
+    showResult(reply, rosterName());
     say(`${reply.read}. Planned in ${time}.`);
     byId("result-title", HTMLElement).focus();
   } else {
@@ -177,6 +177,11 @@ function drop(event) {
   plan();
 }
 
+/** The file's name without its end, or a word where there is no file. */
+function rosterName() {
+  return file ? file.name.replace(/\.[^.]*$/, "") : "roster";
+}
+
 function copy() {
   const { rows } = /** @type {Found} */ (found);
   /** @param {ClipboardEvent} event */
@@ -195,7 +200,7 @@ function save() {
   const place = URL.createObjectURL(new Blob([BOM + csvOf(rows, roster.separator)], { type: "text/csv" }));
   const link = document.createElement("a");
   link.href = place;
-  link.download = `${file ? file.name.replace(/\.[^.]*$/, "") : "roster"}-plan.csv`;
+  link.download = `${rosterName()}-plan.csv`;
   link.click();
   setTimeout(() => URL.revokeObjectURL(place), 60000);
 }

@@ -34,9 +34,11 @@ function leftOver({ how, count, names }) {
 /**
  * Puts an answer on the page.
  * @param {Found} found
+ * @param {string} name The roster's, for paper
  */
-export function showResult(found) {
+export function showResult(found, name) {
   clearResult();
+  byId("name", HTMLElement).textContent = name;
   const isPlan = found.rows.length > 0;
   byId("result-title", HTMLElement).textContent = isPlan ? found.lines[0] : "There is no plan for all";
   const answer = byId("answer", HTMLElement);

@@ -6,7 +6,8 @@ import { Costs, looksLikeNumber } from "./numbers.mjs";
 import { nameOf, Sheet } from "./sheet.mjs";
 import { quoted } from "./texts.mjs";
 
-export const MOST_BYTES = 2 ** 27;
+// More bytes would need more memory than browsers give.
+export const MOST_BYTES = 2 ** 25;
 export const TITLES = ["person", "object", "cost"];
 
 /**
@@ -39,9 +40,14 @@ export const TITLES = ["person", "object", "cost"];
  * @returns {Roster}
  */
 export function rosterOfBytes(bytes, reading) {
-  if (bytes.length > MOST_BYTES) throw new RosterFault(`longer than ${MOST_BYTES} bytes; the command reads more`);
+  refuseLonger(bytes.length);
   const { text, isGuess } = decoded(bytes);
   return { ...rosterOfText(text, reading), isGuess };
+}
+
+/** @param {number} length */
+function refuseLonger(length) {
+  if (length > MOST_BYTES) throw new RosterFault(`longer than ${MOST_BYTES} bytes; the command reads more`);
 }
 
 /**
@@ -51,6 +57,7 @@ export function rosterOfBytes(bytes, reading) {
  * @returns {Roster}
  */
 export function rosterOfText(text, reading) {
+  refuseLonger(text.length);
   const sheet = new Sheet(text);
   const costs = new Costs(reading.comma);
   const isMatrix = reading.form === "matrix" || reading.form === "" && !mayBeLines(sheet);

@@ -122,6 +122,7 @@ async function tryLooks() {
   assert.notStrictEqual(await colour(), light);
   await browser.ask("Emulation.setEmulatedMedia", { media: "print" });
   assert.strictEqual(await browser.value("getComputedStyle(document.getElementById('ask')).display"), "none");
+  assert.strictEqual(await browser.value("getComputedStyle(document.getElementById('name')).display"), "block");
   assert.strictEqual(await colour(), light);
   await browser.ask("Emulation.setEmulatedMedia", { media: "" });
 }

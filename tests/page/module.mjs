@@ -149,7 +149,7 @@ function tryRefusals(library) {
 
 const [page, howMany, tried] = process.argv.slice(2);
 const library = await Library.load(moduleOf(page));
-if (!process.env.MOCK) tryFaults(library);
+tryFaults(library);
 const codes = Array.from({ length: Number(howMany) }, () => tryOne(library));
 const halls = codes.filter((code) => code === "HALL").length;
 console.log(`page: version ${library.version()}, ${codes.length} problems as a plain search says, ${halls} of them without an assignment`);
