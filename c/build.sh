@@ -4,7 +4,8 @@
 # link of this name stands next to it. Needs the kit, and cc with the binutils that it uses.
 #     c/build.sh [gate] [--target aarch64]
 # With `--target aarch64` it builds the same for 64-bit ARM in c/out/aarch64, by aarch64-linux-gnu-gcc and with the heap of
-# c/heap.c: the kit has one for x86-64 alone.
+# c/heap.c: the kit has one for x86-64 alone. Without it c/out gets module.ll too, the LLVM module of which the archive is
+# made; page/build.sh compiles it for web pages.
 #
 # With the word `gate` it stands on the crates that `rt ci` has just proved, as rt ci's own checks do, and proves the
 # library's crate alone: rt proves the crates below once more after a gate, which leaves them unstamped.
@@ -33,13 +34,33 @@ over_the_crates() {
     done
     words+=(--antt-project "$kit/rattle/logic/antt-project.json" --logic-built "$kit/logic_built" --links nushbaret= "$@")
     mkdir -p "$(dirname "$archive")"
+    keeping_toolchain
     cd "$crate"
-    "$kit/bin/rattle" build "${words[@]}" --crate-type staticlib --toolchain "$kit/toolchain" --backend llvm -o "$archive"
+    "$kit/bin/rattle" build "${words[@]}" --crate-type staticlib --toolchain "$work/toolchain" --backend llvm -o "$archive"
 }
 
-# Shows of rt's lines those that say what it waits for, as they come.
-waits() {
-    grep --line-buffered '^rt: waiting' >&2 || true
+# The kit's compilers in a folder of links, whose clang keeps the module that it is to compile, and its own words.
+keeping_toolchain() {
+    local clang=$kit/toolchain/bin/clang
+    mkdir -p "$work/toolchain/bin"
+    ln -s "$kit/toolchain/lib" "$work/toolchain/"
+    ln -s "$kit"/toolchain/bin/* "$work/toolchain/bin/"
+    rm "$work/toolchain/bin/clang"
+    printf '#!/bin/bash\nprintf "%%s\\n" "$@" > %q\ncp module.bc %q\nexec %q "$@"\n' "$work/words" "$work/module.bc" "$clang" \
+        > "$work/toolchain/bin/clang"
+    chmod +x "$work/toolchain/bin/clang"
+}
+
+# The kept module as text, if its words compile it to the archive's own object once more.
+keep_module() {
+    local words
+    mapfile -t words < "$work/words"
+    mkdir "$work/archive"
+    (cd "$work/archive" && ar x "$archive")
+    (cd "$work" && "$kit/toolchain/bin/clang" "${words[@]}")
+    cmp "$work/module.o" "$work"/archive/* || stop 'the module that was kept gives another object than the archive has'
+    "$kit/toolchain/bin/clang" --no-default-config --target=x86_64-unknown-linux-gnu -O0 -Xclang -disable-llvm-passes -S -emit-llvm \
+        -x ir "$work/module.bc" -o "$out/module.ll"
 }
 
 # Proves the crate, and makes the archive of x86-64 or of ARM.
@@ -49,10 +70,6 @@ prove_and_compile() {
     if [ -z "$is_gate" ]; then
         echo "c/build.sh: proves the library for C, and each crate below that isn't proved yet. This takes some 3 minutes" \
             "after ./prove, and up to an hour on a fresh clone. It waits for any other rt that works in these crates." >&2
-        if [ -z "$tools" ]; then
-            (cd "$crate" && rt lib 2>&1) | tee "$log" | waits || { tail -20 "$log"; exit 1; }
-            return
-        fi
         "$top/prove" nushbaret > "$log" 2>&1 || { tail -20 "$log"; exit 1; }
     fi
     (over_the_crates "${target[@]}" > "$log" 2>&1) || { tail -20 "$log"; exit 1; }
@@ -76,10 +93,12 @@ cc=cc
 type -P "$cc" > /dev/null || stop "$cc isn't here${tools:+: Debian has it in gcc-aarch64-linux-gnu}"
 type -P rt > /dev/null || stop "the Rattle kit isn't on the path (docs/RATTLE.md)"
 kit=$(dirname "$(rt doc)")
-log=$(mktemp)
-trap 'rm -f "$log"' EXIT
+work=$(mktemp -d)
+log=$work/log
+trap 'rm -rf "$work"' EXIT
 prove_and_compile
 mkdir -p "$out"
+[ -n "$tools" ] || keep_module
 
 # One object of the archive and of what it needs of the heap: its other names become local.
 if [ -z "$tools" ]; then

@@ -28,7 +28,7 @@ stop() {
 # The old version, with no digit and no number next to it.
 pattern="(^|[^0-9.])${old//./\\.}($|[^0-9.]|\.($|[^0-9]))"
 wanted=$(echo "$places" | sed 's/ /:/')
-found=$(git grep -cIE "$pattern" -- . ':!CHANGELOG.md' ':!release/SHA256SUMS' ':!release/SOURCE' || true)
+found=$(git grep -cIE "$pattern" -- . ':!CHANGELOG.md' ':!release/SHA256SUMS' ':!release/SOURCE' ':!release/nushbaret.html' || true)
 [ "$found" = "$wanted" ] || stop "$old doesn't stand where it should; lines of each file: $(diff <(echo "$wanted") <(echo "$found"))"
 echo "$places" | while read -r file _; do
     sed -i -E "s/$pattern/\1$new\2/g" "$file"

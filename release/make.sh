@@ -1,13 +1,13 @@
 #!/usr/bin/env bash
 # Packs what has been proved and built, and proves nothing itself: release/make.sh [FOLDER]. FOLDER, which is else release/,
-# gets the program; for x86-64 and for 64-bit ARM a wheel, a tarball in the layout of a prefix, and a Debian package; SOURCE
-# and SHA256SUMS. The program is for x86-64 alone. The same sources and tools give the same bytes, wherever and whenever it
-# runs; it takes some seconds.
+# gets the program; the roster page for browsers; for x86-64 and for 64-bit ARM a wheel, a tarball in the layout of a prefix,
+# and a Debian package; SOURCE and SHA256SUMS. The program is for x86-64 alone. The same sources and tools give the same
+# bytes, wherever and whenever it runs; it takes some seconds.
 #     release/make.sh --source
 # prints what SOURCE would say here.
 #
-# Needs the built program and libraries (./prove, rt run in crates/auction_cli, c/build.sh and c/build.sh --target aarch64, or
-# the gate), and python3, git, binutils, GNU tar and gzip.
+# Needs the built program, libraries and page (./prove, rt run in crates/auction_cli, c/build.sh, c/build.sh --target aarch64
+# and page/build.sh, or the gate), and python3, git, binutils, GNU tar and gzip.
 set -euo pipefail
 export LC_ALL=C SOURCE_DATE_EPOCH=0 PYTHONDONTWRITEBYTECODE=1
 umask 022
@@ -18,6 +18,8 @@ major=${version%%.*}
 machines='x86_64 aarch64'
 # What the C library must be at least for the library.
 library_glibc=2.17
+page=$top/page/out/nushbaret.html
+most_of_page=500000
 
 # choose MACHINE: sets what differs between machines; there is no program where `program` is empty.
 choose() {
@@ -36,7 +38,7 @@ stop() {
 
 # The sum of what the release is made of: the contents of the files that git knows, or of all where there is no git.
 sources() {
-    local paths=(crates c python crates.txt VERSION LICENSE-APACHE LICENSE-CRATES LICENSE-MIT release/make.sh release/parts
+    local paths=(crates c page python crates.txt VERSION LICENSE-APACHE LICENSE-CRATES LICENSE-MIT release/make.sh release/parts
         docs/PYTHON.md docs/ROSTERS.md docs/RULES.md examples)
     cd "$top"
     if [ "$(git rev-parse --show-prefix 2> /dev/null)" = '' ] && git ls-files --error-unmatch VERSION > /dev/null 2>&1; then
@@ -80,6 +82,13 @@ needs_only() {
     [ "$libraries" = libc.so.6 ] || stop "${1#"$top"/} needs other libraries than libc.so.6: $libraries"
     needed=$(needed_glibc "$1")
     [ "$(printf '%s\n' "$needed" "$2" | sort -V | tail -n 1)" = "$2" ] || stop "${1#"$top"/} needs glibc $needed, and $2 is promised"
+}
+
+# Whether the page is there, and is of this version.
+look_at_the_page() {
+    [ -e "$page" ] || stop "${page#"$top"/} isn't there: run page/build.sh first"
+    grep -q "<p>Nushbaret $version\." "$page" || stop "the page isn't of version $version: run page/build.sh"
+    [ "$(stat -c %s "$page")" -le "$most_of_page" ] || stop "the page has more than $most_of_page bytes"
 }
 
 # Whether the program is there, is of this version, and needs no newer C library than is promised.
@@ -216,6 +225,7 @@ for each in $machines; do
     [ -z "$program" ] || look_at_the_program
     look_at_the_library
 done
+look_at_the_page
 mkdir -p "${1:-$top/release}"
 folder=$(cd "${1:-$top/release}" && pwd)
 work=$(mktemp -d)
@@ -227,6 +237,7 @@ for each in $machines; do
     pack "$each"
 done
 install -m 755 "$top/crates/auction_cli/out/auction_cli" "$made/auction_cli"
+install -m 644 "$page" "$made/nushbaret.html"
 (cd "$made" && sha256sum -- * > "$work/SHA256SUMS")
 # What an older release left goes; then all of the new one comes.
 if [ -f "$folder/SHA256SUMS" ]; then

@@ -42,9 +42,9 @@ COMMAND = ("answer", "blocks", "by_counts", "by_rules", "calendar", "changes", "
            "rule_even", "rule_file", "rule_rows", "rule_texts", "rules", "rules_kept", "ruling", "sentences", "sheet_looks",
            "sheets", "texts", "times", "words", "workbook")
 # The other sources, and what their comments are, by how their names end; those of Python are found by its own reader.
-SCRIPTED = (".ci/run", "prove", "bench/**/*", "c/*", "docs/*.py", "programs/**/*", "python/**/*.py", "release/**/*", "tests/**/*")
+SCRIPTED = (".ci/run", "prove", "bench/**/*", "c/*", "docs/*.py", "page/*", "programs/**/*", "python/**/*.py", "release/**/*", "tests/**/*")
 SCRIPTS = {("/run", ".sh"): re.compile(r'^\s*#.*$|"""[\s\S]*?"""', re.M), (".c", ".h"): re.compile(r"/\*.*?\*/", re.DOTALL),
-           (".rs", ".rt.txt"): re.compile(r"^\s*//.*$", re.M)}
+           (".rs", ".rt.txt"): re.compile(r"^\s*//.*$", re.M), (".mjs",): re.compile(r"^\s*//.*$|/\*\*.*?\*/", re.M | re.S)}
 QUOTED = re.compile(r"```.*?```|`[^`\n]*`", re.DOTALL)
 # The crate of examples, and the section of a page that shows some of them.
 EXAMPLES = "crates/calling/src"
@@ -58,9 +58,9 @@ END = re.compile(r"(?<!\be\.g)(?<!\bi\.e)(?<!\bvs)[.!?][)\"'*]*\s+(?=[\"'(*\[]*[
 CODE = re.compile(r"`[^`]*`")
 ITEM = re.compile(r"\A\s*(?:[-*]|\d+\.) ")
 LINK = re.compile(r"\]\(([^)\s]+)\)")
-FILE = re.compile(r"`((?:\.ci|bench|c|crates|docs|examples|programs|release|tests)/[\w./-]+)`")
+FILE = re.compile(r"`((?:\.ci|bench|c|crates|docs|examples|page|programs|release|tests)/[\w./-]+)`")
 # This is no file of a fresh clone: what a build makes, and what release/make.sh does.
-MADE = re.compile(r"/out(/|$)|/NAME|^release/(auction_cli|SOURCE|SHA256SUMS)$")
+MADE = re.compile(r"/out(/|$)|/NAME|^release/(auction_cli|nushbaret.html|SOURCE|SHA256SUMS)$")
 
 
 def lines_of(page):

@@ -375,15 +375,15 @@ class Lines:
 
 
 def _read_matrix(sheet: Sheet, costs: Costs) -> Read:
-    line, title = sheet.title()
+    first, title = sheet.title()
     if looks_like_number(title[0]):
-        sheet.refuse(f"the first line and the first column must have names, and {quoted(title[0])} is a number", line, 1)
+        sheet.refuse(f"the first line and the first column must have names, and {quoted(title[0])} is a number", first, 1)
     if len(title) < 2:
-        sheet.refuse("no object after the first column", line)
+        sheet.refuse("no object after the first column", first)
     persons, objects = Names(sheet, "persons"), Names(sheet, "objects")
     of_persons, of_objects = array("I"), array("I")
     for column, name in enumerate(title[1:], 2):
-        objects.once(name, line, column)
+        objects.once(name, first, column)
     all_objects, all_columns = array("I", range(len(title) - 1)), range(2, len(title) + 1)
     for line, cells in sheet.body(len(title)):
         person = persons.once(cells.pop(0), line, 1)
@@ -396,8 +396,8 @@ def _read_matrix(sheet: Sheet, costs: Costs) -> Read:
         of_persons.extend(array("I", (person,)) * len(own))
         of_objects.extend(own)
     if not persons.list:
-        sheet.refuse("no line after the title", line)
-    corner = sheet.name(title[0], line, 1) if title[0] else TITLES[0]
+        sheet.refuse("no line after the title", first)
+    corner = sheet.name(title[0], first, 1) if title[0] else TITLES[0]
     return (corner, *TITLES[1:]), persons, objects, of_persons, of_objects
 
 

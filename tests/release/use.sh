@@ -1,8 +1,8 @@
 #!/usr/bin/env bash
 # Installs and uses a release: the wheel in a fresh environment, the tarball in a fresh home by README's line, and the package
 # under another root and by dpkg; a roster is planned with each, and with the last two a problem is solved and verified, and
-# c/example.c built as C99 and as C++11, by pkg-config and by CMake, and run. Of what is for ARM, pip takes the wheel by its
-# rules for that machine, and c/example.c is built and run under emulation. tests/release.sh calls it, as
+# c/example.c built as C99 and as C++11, by pkg-config and by CMake, and run. The module of the roster page is run by Node. Of
+# what is for ARM, pip takes the wheel by its rules for that machine, and c/example.c is built and run under emulation. tests/release.sh calls it, as
 # tests/release/use.sh FOLDER WORK: what is wrong is printed and goes to WORK/failed, what was used to WORK/ran, and what the
 # tools for are missing to WORK/without. Where KIT is set, that folder must be out of sight.
 set -uo pipefail
@@ -52,7 +52,7 @@ hidden() {
 # What needs the kit says so in one sentence.
 without_kit() {
     local script
-    for script in prove $(if has cc; then echo c/build.sh; fi); do
+    for script in prove page/build.sh $(if has cc; then echo c/build.sh; fi); do
         "$top/$script" > "$work/log" 2>&1 && fail "$script succeeds without the kit"
         [ "$(cat "$work/log")" = "$script: the Rattle kit isn't on the path (docs/RATTLE.md)" ] || fail "$script without the kit: $(cat "$work/log")"
     done
@@ -311,6 +311,17 @@ manual() {
     ran 'their words'
 }
 
+# The page's module solves drawn problems as a plain search does.
+page() {
+    if has node; then
+        expect 'the page' "page: version $version, 200 problems as a plain search says, .*" \
+            node "$top/tests/page/module.mjs" "$folder/nushbaret.html" 200
+        ran 'the page by Node'
+    else
+        without node
+    fi
+}
+
 completions() {
     local share=$prefix/share name
     ran 'completions of bash'
@@ -340,5 +351,6 @@ tarball
 package
 manual
 completions
+page
 removed
 exit 0

@@ -1,0 +1,90 @@
+#!/usr/bin/env python3
+"""Writes the library's LLVM module, as c/build.sh keeps it, for WebAssembly with addresses of 32 bits: c/retarget.py MODULE.ll > OTHER.ll
+
+What names x86-64 Linux changes: the triple, the layout of data, and the processor and the stack probes in the functions' attributes. The
+heap's three functions are added, from c/heap.ll. Numbers of 64 bits that hold an address stay so; what is read of memory as a pair with an
+address is read in two parts, since LLVM would look for the second one elsewhere. It stops at anything that it doesn't know.
+"""
+import pathlib
+import re
+import sys
+from typing import Match, NoReturn
+
+HERE = pathlib.Path(__file__).resolve().parent
+TRIPLE = "wasm32-unknown-unknown"
+LAYOUT = "e-m:e-p:32:32-p10:8:8-p20:8:8-i64:64-i128:128-n32:64-S128-ni:1:10:20"
+FEATURES = "+bulk-memory,+bulk-memory-opt,+multivalue,+mutable-globals,+nontrapping-fptoint,+sign-ext,+simd128"
+ATTRIBUTES = f'"target-cpu"="lime1" "target-features"="{FEATURES}"'
+OF_X86 = '"probe-stack"="inline-asm" "stack-probe-size"="3072" "target-cpu"="x86-64-v2"'
+HEAP = {"rattle_alloc", "rattle_realloc", "rattle_dealloc"}
+HEAP_LINE = re.compile(r"^declare [^@\n]*@rattle_(?:alloc|realloc|dealloc)\(.*\n", re.M)
+OF_ONE_PLATFORM = re.compile(r'llvm\.x86\.\S*|^module asm .*|\basm (?:sideeffect )?"[^"]+"|thread_local|\bcomdat\b|section "[^"]*"', re.M)
+# The bytes of each type where addresses have 64 bits, and so its alignment.
+BYTES = {"i1": 1, "i8": 1, "i16": 2, "i32": 4, "i64": 8, "i128": 16, "ptr": 8}
+PAIR = re.compile(r"^  (%\S+) = load \{ (\w+), (\w+) \}, ptr (%\S+), align \d+$", re.M)
+SEVERAL = re.compile(r"^.*(?:load|store) ([{\[][^}\]]*[}\]]).*$", re.M)
+
+
+def stop(text: str) -> NoReturn:
+    sys.exit(f"c/retarget.py: {text}")
+
+
+def replaced(pattern: str, line: str, text: str) -> str:
+    """A text with another line in the place of the one that there must be."""
+    text, count = re.subn(pattern, lambda _: line, text, flags=re.M)
+    if count != 1:
+        stop(f"{count} lines like {pattern}, where there must be one")
+    return text
+
+
+def in_parts(found: Match[str]) -> str:
+    """A pair with an address, read in two parts at the places where it lies; any other as it is."""
+    name, first, second, place = found.groups()
+    if "ptr" not in (first, second):
+        return found[0]
+    if first not in BYTES or second not in BYTES:
+        stop(f"a pair of other types: {found[0].strip()}")
+    own = f"%parts.{name[1:]}"
+    return "\n".join((
+        f"  {own}.0 = load {first}, ptr {place}, align {BYTES[first]}",
+        f"  {own}.at = getelementptr i8, ptr {place}, i64 {max(BYTES[first], BYTES[second])}",
+        f"  {own}.1 = load {second}, ptr {own}.at, align {BYTES[second]}",
+        f"  {own}.half = insertvalue {{ {first}, {second} }} poison, {first} {own}.0, 0",
+        f"  {name} = insertvalue {{ {first}, {second} }} {own}.half, {second} {own}.1, 1"))
+
+
+def with_narrow_addresses(text: str) -> str:
+    """A module whose addresses have 32 bits, and lie in 8 bytes as before."""
+    text = PAIR.sub(in_parts, text)
+    left = [found[0].strip() for found in SEVERAL.finditer(text) if "ptr" in found[1]]
+    if left:
+        stop(f"another way to read or write several values at once: {left[0]}")
+    return re.sub(r"= ptrtoaddr (ptr \S+) to i64$", r"= ptrtoint \1 to i64", text, flags=re.M)
+
+
+def refuse_unknown(text: str) -> None:
+    """Stops at what isn't the same on all platforms."""
+    left = sorted({found[0] for found in OF_ONE_PLATFORM.finditer(text)})
+    if left:
+        stop(f"of x86-64 alone: {', '.join(left[:5])}")
+    foreign = {name for name in re.findall(r'^declare [^@\n]*@"?([^"(]*)', text, re.M) if not name.startswith("llvm.")}
+    if foreign - HEAP:
+        stop(f"calls of C that aren't the heap's: {', '.join(sorted(foreign - HEAP))}")
+
+
+def retargeted(text: str) -> str:
+    """The module for WebAssembly."""
+    text = replaced(r"^target triple = .*", f'target triple = "{TRIPLE}"', text)
+    text = replaced(r"^target datalayout = .*", f'target datalayout = "{LAYOUT}"', text)
+    if OF_X86 not in text:
+        stop("the functions' attributes aren't those of x86-64 Linux")
+    text = text.replace(OF_X86, ATTRIBUTES)
+    refuse_unknown(text)
+    heap = (HERE / "heap.ll").read_text(encoding="utf-8").replace(" nounwind {", f" nounwind {ATTRIBUTES} {{")
+    return with_narrow_addresses(HEAP_LINE.sub("", text)) + "\n" + heap
+
+
+if __name__ == "__main__":
+    if len(sys.argv) != 2:
+        stop("the module is to be named")
+    sys.stdout.write(retargeted(pathlib.Path(sys.argv[1]).read_text(encoding="utf-8")))

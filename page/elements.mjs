@@ -1,0 +1,40 @@
+// Elements of the page. All text is set as text, so that no name is read as HTML.
+
+/**
+ * The element of the page with this id, of this kind.
+ * @template {HTMLElement} Kind
+ * @param {string} id
+ * @param {new () => Kind} kind
+ * @returns {Kind}
+ */
+export function byId(id, kind) {
+  const found = document.getElementById(id);
+  if (!(found instanceof kind)) throw new Error(`the page has no ${id}`);
+  return found;
+}
+
+/**
+ * A new element with attributes, and texts or elements in it.
+ * @param {string} name
+ * @param {Record<string, string>} attributes
+ * @param {...(string | Node)} content
+ * @returns {HTMLElement}
+ */
+export function element(name, attributes, ...content) {
+  const made = document.createElement(name);
+  for (const [key, value] of Object.entries(attributes)) made.setAttribute(key, value);
+  made.append(...content);
+  return made;
+}
+
+/**
+ * A table: titles, and a row for each line. Cells are of no language that we know.
+ * @param {string[]} titles
+ * @param {string[][]} rows
+ * @returns {HTMLElement}
+ */
+export function table(titles, rows) {
+  const head = element("tr", {}, ...titles.map((title) => element("th", { scope: "col" }, title)));
+  const body = rows.map((row) => element("tr", {}, ...row.map((cell) => element("td", {}, cell))));
+  return element("table", { class: "plan", lang: "" }, element("thead", {}, head), element("tbody", {}, ...body));
+}

@@ -1,0 +1,99 @@
+// The text of a file's bytes: by its BOM, as UTF-8, or as western text of Windows.
+import { RosterFault } from "./faults.mjs";
+
+const SAVE = "save the sheet as 'CSV UTF-8'";
+const WESTERN = "windows-1252";
+/** @type {[number[], string][]} */
+const BOMS = [[[0xef, 0xbb, 0xbf], "utf-8"], [[0xff, 0xfe], "utf-16le"], [[0xfe, 0xff], "utf-16be"]];
+const UTF_32 = [[0xff, 0xfe, 0, 0], [0, 0, 0xfe, 0xff]];
+// How workbooks begin: .xlsx, and what was before it.
+const WORKBOOKS = [[0x50, 0x4b, 3, 4], [0xd0, 0xcf, 0x11, 0xe0]];
+// Letters and marks above 127 that western texts of Windows have. Other encodings use other bytes for common letters.
+const PLAUSIBLE = new Set([
+  0x8c, 0x9c, 0x80, 0xa2, 0xa3, 0xa5, 0x96, 0x97, 0x91, 0x92, 0x82, 0x93, 0x94, 0x84, 0x8b, 0x9b, 0xab, 0xbb, 0xb0, 0xa7, 0xa0,
+  ...Array.from({ length: 64 }, (_, k) => 0xc0 + k).filter((code) => code !== 0xd7 && code !== 0xf7)]);
+// In DOS these are letters with accents; in Windows they are quotes, which stand between letters in no text.
+const QUOTES = new Set([0x82, 0x84, 0x93, 0x94]);
+
+/**
+ * @param {Uint8Array} bytes
+ * @param {number[]} begin
+ * @returns {boolean}
+ */
+function beginsWith(bytes, begin) {
+  return begin.every((byte, place) => bytes[place] === byte);
+}
+
+/**
+ * @param {number} byte
+ * @returns {boolean}
+ */
+function isSmall(byte) {
+  return byte >= 0x61 && byte <= 0x7a;
+}
+
+/**
+ * Whether a quote stands between letters.
+ * @param {Uint8Array} bytes
+ * @param {number} place
+ * @returns {boolean}
+ */
+function isQuoteInWord(bytes, place) {
+  const before = bytes[place - 1];
+  return QUOTES.has(bytes[place]) && (isSmall(before) || before >= 0x41 && before <= 0x5a) && isSmall(bytes[place + 1]);
+}
+
+/**
+ * Where bytes are no western text of Windows: the first byte that none has, else the first letter around a quote; -1 if nowhere.
+ * @param {Uint8Array} bytes
+ * @returns {number}
+ */
+function placeOfOther(bytes) {
+  const odd = bytes.findIndex((byte) => byte > 127 && !PLAUSIBLE.has(byte));
+  if (odd >= 0) return odd;
+  const quote = bytes.findIndex((_, place) => isQuoteInWord(bytes, place));
+  return quote < 0 ? -1 : quote - 1;
+}
+
+/**
+ * @param {Uint8Array} bytes
+ * @param {string} encoding
+ * @returns {string}
+ */
+function strictly(bytes, encoding) {
+  try {
+    return new TextDecoder(encoding, { fatal: true }).decode(bytes);
+  } catch (fault) {
+    throw new RosterFault(`bytes that are no ${encoding.slice(0, 6).toUpperCase().replace(/-$/, "")}: ${SAVE}`);
+  }
+}
+
+/**
+ * The text of bytes, and whether its encoding is a guess.
+ * @param {Uint8Array} bytes
+ * @returns {{ text: string, isGuess: boolean }}
+ */
+export function decoded(bytes) {
+  if (UTF_32.some((begin) => beginsWith(bytes, begin))) throw new RosterFault(`a text in UTF-32: ${SAVE}`);
+  const marked = BOMS.find(([begin]) => beginsWith(bytes, begin));
+  if (marked) return { text: strictly(bytes, marked[1]), isGuess: false };
+  if (WORKBOOKS.some((begin) => beginsWith(bytes, begin))) {
+    throw new RosterFault(`a workbook, and no text: ${SAVE}, or copy its cells and paste them here`);
+  }
+  try {
+    return { text: strictly(bytes, "utf-8"), isGuess: false };
+  } catch (fault) {
+    return { text: western(bytes), isGuess: true };
+  }
+}
+
+/**
+ * @param {Uint8Array} bytes
+ * @returns {string}
+ */
+function western(bytes) {
+  const place = placeOfOther(bytes);
+  if (place < 0) return new TextDecoder(WESTERN).decode(bytes);
+  const line = bytes.subarray(0, place).reduce((count, byte) => count + Number(byte === 10), 1);
+  throw new RosterFault(`bytes that are no UTF-8 and no western text in Windows-1252: ${SAVE}`, line);
+}

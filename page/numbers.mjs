@@ -1,0 +1,144 @@
+// Costs as a roster writes them, read exactly: whole numbers of units of 10^-decimals.
+import { RosterFault } from "./faults.mjs";
+import { quoted } from "./texts.mjs";
+
+export const MOST_PLACES = 6;
+export const GREATEST_COST = 1e12;
+const MILLION = 10 ** MOST_PLACES;
+const WITH_POWER = /^([+-]?)([0-9]+)(?:[.,]([0-9]*))?[eE]([+-]?[0-9]{1,2})$/;
+
+/**
+ * Whether a cell might be meant as a number, of any make.
+ * @param {string} cell
+ * @returns {boolean}
+ */
+export function looksLikeNumber(cell) {
+  return /^[+-]?[0-9., ']*[0-9][0-9., ']*$/.test(cell);
+}
+
+/**
+ * A whole number of units of 10^-decimals as the roster writes it.
+ * @param {bigint} units
+ * @param {number} decimals
+ * @param {string} point
+ * @returns {string}
+ */
+export function decimalText(units, decimals, point) {
+  const digits = String(units < 0n ? -units : units).padStart(decimals + 1, "0");
+  const whole = digits.slice(0, digits.length - decimals);
+  return (units < 0n ? "-" : "") + whole + (decimals ? point + digits.slice(-decimals) : "");
+}
+
+/**
+ * Units of a roster as it writes costs.
+ * @param {{ decimals: number, comma: boolean }} roster
+ * @param {bigint | number} units
+ * @returns {string}
+ */
+export function shown(roster, units) {
+  return decimalText(BigInt(units), roster.decimals, roster.comma ? "," : ".");
+}
+
+/**
+ * A cell such as 1.2E+03 as a plain number, and any other as it is.
+ * @param {string} cell
+ * @param {boolean} comma
+ * @returns {string}
+ */
+function withoutPower(cell, comma) {
+  const found = cell.includes(comma ? "." : ",") ? null : WITH_POWER.exec(cell);
+  if (found === null) return cell;
+  const [, sign, whole, part = "", power] = found;
+  const digits = whole + part;
+  const place = whole.length + Number(power);
+  const before = place > 0 ? digits.slice(0, place).padEnd(place, "0") : "0";
+  const after = place > 0 ? digits.slice(place) : digits.padStart(digits.length - place, "0");
+  return sign + before + (after ? (comma ? "," : ".") + after : "");
+}
+
+/** Costs as they are read, with as many places as they have until it is known how many are used. */
+export class Costs {
+  /** @param {boolean} comma Whether costs are written with a decimal comma */
+  constructor(comma) {
+    this.comma = comma;
+    const point = comma ? "," : "\\.";
+    // Sign, whole part without leading zeros, decimal places without trailing zeros; at least one digit.
+    this.plain = new RegExp(`^([+-]?)(?=${point}?[0-9])0*([0-9]*)(?:${point}([0-9]*?)0*)?$`);
+    /** @type {boolean[]} */
+    this.isNegative = [];
+    // Of each cost the whole part, and what follows the point in millionths.
+    /** @type {number[]} */
+    this.whole = [];
+    /** @type {number[]} */
+    this.millionths = [];
+    this.places = 0;
+    this.greatest = { whole: 0, millionths: 0, line: 0, column: 0 };
+  }
+
+  /**
+   * Takes a cell, or refuses it.
+   * @param {string} cell
+   * @param {number} line
+   * @param {number} column
+   */
+  take(cell, line, column) {
+    const found = this.plain.exec(cell) || this.plain.exec(withoutPower(cell, this.comma));
+    if (found === null) throw new RosterFault(`${quoted(cell)} is no number${this.hint(cell)}`, line, column);
+    const [, sign, digits, part = ""] = found;
+    if (part.length > MOST_PLACES) {
+      throw new RosterFault(`${quoted(cell)} has more than ${MOST_PLACES} decimal places`, line, column);
+    }
+    this.places = Math.max(this.places, part.length);
+    const whole = Number(digits.slice(0, 20));
+    const millionths = Number(part.padEnd(MOST_PLACES, "0"));
+    this.look({ whole, millionths, line, column });
+    this.isNegative.push(sign === "-");
+    this.whole.push(whole);
+    this.millionths.push(millionths);
+  }
+
+  /**
+   * Keeps the greatest cost, either way.
+   * @param {{ whole: number, millionths: number, line: number, column: number }} cost
+   */
+  look(cost) {
+    const most = this.greatest;
+    if (cost.whole < most.whole || cost.whole === most.whole && cost.millionths <= most.millionths) return;
+    if (cost.whole > GREATEST_COST || cost.whole === GREATEST_COST && cost.millionths > 0) {
+      throw new RosterFault(`a cost beyond ${GREATEST_COST}`, cost.line, cost.column);
+    }
+    this.greatest = cost;
+  }
+
+  /**
+   * How many places are used, and the costs as whole numbers of that unit.
+   * @returns {{ decimals: number, units: number[] }}
+   */
+  scaled() {
+    const decimals = this.places;
+    const unit = 10 ** decimals;
+    const rest = MILLION / unit;
+    const size = this.greatest.whole * unit + Math.floor(this.greatest.millionths / rest);
+    if (size > GREATEST_COST) {
+      const text = `a cost beyond ${Math.floor(GREATEST_COST / unit)} with ${decimals} decimal places`;
+      throw new RosterFault(text, this.greatest.line, this.greatest.column);
+    }
+    const units = this.whole.map((whole, place) => {
+      const own = whole * unit + this.millionths[place] / rest;
+      return this.isNegative[place] && own ? -own : own;
+    });
+    return { decimals, units };
+  }
+
+  /**
+   * What a cell may have been meant as.
+   * @param {string} cell
+   * @returns {string}
+   */
+  hint(cell) {
+    if (this.comma && /^[+-]?[0-9]+\.[0-9]+$/.test(cell)) return " with a decimal comma";
+    if (!this.comma && /^[+-]?[0-9]+,[0-9]+$/.test(cell)) return "; with a decimal comma it may be";
+    const forbids = ["x", "-", "n/a"].includes(cell.toLowerCase());
+    return forbids ? "; what forbids a pair is an empty cell of a matrix, or no line" : "";
+  }
+}

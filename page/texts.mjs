@@ -1,0 +1,95 @@
+// Cells and names as texts: white space, what can be printed, and how a message quotes a cell.
+
+const SPACES = "\\t-\\r\\x1c-\\x20\\x85\\xa0\\u1680\\u2000-\\u200a\\u2028\\u2029\\u202f\\u205f\\u3000";
+const IS_SPACE = new RegExp(`[${SPACES}]`);
+const ALL_SPACE = new RegExp(`[${SPACES}]+`, "g");
+const LINE_BREAKS = new RegExp(`[${SPACES}]*[\\r\\n][${SPACES}]*`, "g");
+const NOT_PRINTABLE = /(?! )[\p{C}\p{Z}]/u;
+const CONTROL = /\p{Cc}/u;
+const MOST_QUOTED = 40;
+
+/**
+ * A cell without the white space around it.
+ * @param {string} cell
+ * @returns {string}
+ */
+export function stripped(cell) {
+  let begin = 0;
+  let end = cell.length;
+  while (begin < end && IS_SPACE.test(cell[begin])) begin++;
+  while (end > begin && IS_SPACE.test(cell[end - 1])) end--;
+  return cell.slice(begin, end);
+}
+
+/**
+ * Whether a text has no control characters and no white space other than blanks.
+ * @param {string} text
+ * @returns {boolean}
+ */
+export function isPrintable(text) {
+  return !NOT_PRINTABLE.test(text);
+}
+
+/**
+ * Whether a text has a control character.
+ * @param {string} text
+ * @returns {boolean}
+ */
+export function hasControl(text) {
+  return CONTROL.test(text);
+}
+
+/**
+ * A text with a blank for each line break and the white space around it.
+ * @param {string} text
+ * @returns {string}
+ */
+export function onOneLine(text) {
+  return text.replace(LINE_BREAKS, " ");
+}
+
+/**
+ * A name without its white space and without a difference between small and capital letters.
+ * @param {string} name
+ * @returns {string}
+ */
+export function bare(name) {
+  return name.replace(ALL_SPACE, "").toUpperCase().toLowerCase();
+}
+
+/**
+ * A letter as a message shows it within quotes.
+ * @param {string} letter
+ * @param {string} quote
+ * @returns {string}
+ */
+function escaped(letter, quote) {
+  const short = { "\n": "\\n", "\r": "\\r", "\t": "\\t", "\\": "\\\\" }[letter];
+  if (short !== undefined) return short;
+  if (letter === quote) return `\\${letter}`;
+  if (isPrintable(letter)) return letter;
+  const code = (letter.codePointAt(0) || 0).toString(16);
+  if (code.length <= 2) return `\\x${code.padStart(2, "0")}`;
+  return code.length <= 4 ? `\\u${code.padStart(4, "0")}` : `\\U${code.padStart(8, "0")}`;
+}
+
+/**
+ * A cell as a message shows it: in quotes, on one line, and not too long.
+ * @param {string} cell
+ * @returns {string}
+ */
+export function quoted(cell) {
+  const letters = Array.from(cell);
+  const shown = letters.length <= MOST_QUOTED ? letters : [...letters.slice(0, MOST_QUOTED - 3), ..."..."];
+  const quote = shown.includes("'") && !shown.includes('"') ? '"' : "'";
+  return quote + shown.map((letter) => escaped(letter, quote)).join("") + quote;
+}
+
+/**
+ * Names in a row, parted by semicolons where one has a comma.
+ * @param {string[]} names
+ * @returns {string}
+ */
+export function joined(names) {
+  return names.join(names.some((name) => name.includes(",")) ? "; " : ", ");
+}
