@@ -162,8 +162,8 @@ def _roster(pairs: List[Named], costs: List[int], days: Mapping[str, Union[str, 
     groups = Groups("day", list(names), {objects[name]: names[str(day)] for name, day in days.items()}, {},
                     {objects[name]: kind for name, kind in (kinds or {}).items()}, kinds is not None)
     order = sorted(range(len(pairs)), key=lambda place: (persons[pairs[place][0]], objects[pairs[place][1]]))
-    return Roster(list(persons), list(objects), persons, objects, array("H", (persons[pairs[place][0]] for place in order)),
-                  array("H", (objects[pairs[place][1]] for place in order)), array("q", (costs[place] for place in order)), 0,
+    return Roster(list(persons), list(objects), persons, objects, array("I", (persons[pairs[place][0]] for place in order)),
+                  array("I", (objects[pairs[place][1]] for place in order)), array("q", (costs[place] for place in order)), 0,
                   ("person", "object", "cost"), ",", False, by_persons=True, groups=groups)
 
 
