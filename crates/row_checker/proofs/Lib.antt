@@ -1,0 +1,4 @@
+pub mod Added
+pub mod Weighing
+pub mod Draining
+pub mod Ending
