@@ -92,16 +92,20 @@ abbrev pub and_then : End → (ℕ → End) → End
 and_then (Stands q) next = next q
 and_then (Stops verdict) next = Stops verdict
 
--- how the tree at a place ends, below these rows, with at most so many splits above a leaf: both halves
--- of a split show that no plan meets the rows
+-- how a split of k terms ends: both halves, each with its row behind the rows, show that no plan meets
+-- them, or the first fault counts. `next` says how the halves end
+abbrev pub split_ends : ℕ → List ℤ → (List LinearRow → ℕ → End) → List LinearRow → ℕ → ℕ → End
+split_ends n numbers next rows p k =
+    or_stop (first_unnamed numbers (p + 3) k n) (λ q. Variable q)
+    (and_then (next (rows ++ low_row (multiples_at numbers (p + 3) k) (number_at numbers (p + 2)) ∷ []) (p + 3 + 2 * k))
+    (λ q. next (rows ++ high_row (multiples_at numbers (p + 3) k) (number_at numbers (p + 2)) ∷ []) q))
+
+-- how the tree at a place ends, below these rows, with at most so many splits above a leaf
 unfoldable pub tree_ends : ℕ → List ℤ → ℕ → List LinearRow → ℕ → End
 tree_ends n numbers zero rows p =
     at_head (head_of numbers p) p (leaf_ends n numbers rows p) (λ k. Stops (TooDeep p))
 tree_ends n numbers (suc deep) rows p =
-    at_head (head_of numbers p) p (leaf_ends n numbers rows p) (λ k.
-    or_stop (first_unnamed numbers (p + 3) k n) (λ q. Variable q)
-    (and_then (tree_ends n numbers deep (rows ++ low_row (multiples_at numbers (p + 3) k) (number_at numbers (p + 2)) ∷ []) (p + 3 + 2 * k))
-    (λ q. tree_ends n numbers deep (rows ++ high_row (multiples_at numbers (p + 3) k) (number_at numbers (p + 2)) ∷ []) q)))
+    at_head (head_of numbers p) p (leaf_ends n numbers rows p) (split_ends n numbers (tree_ends n numbers deep) rows p)
 
 -- nothing follows the tree
 abbrev pub whole : ℕ → End → Verdict

@@ -1,12 +1,13 @@
 // Trees: leaves, and splits above them.
-ghost use Rattle.std.specs.Prelude.{◌≡◌, ℕ, pos, ◌+◌, ◌*◌, ◌-◌, ◌≤◌, ◌<◌, ◌<ℤ◌, ◌^◌, ◌∷◌, [], ◌++◌, Some, None, IsTrue, IsSome, List, length, map, slice_index_or, IfOk, OnOk, MatchBool};
+ghost use Rattle.std.specs.Prelude.{◌≡◌, ℕ, pos, ◌+◌, ◌*◌, ◌-◌, ◌≤◌, ◌<◌, ◌<ℤ◌, ◌^◌, ◌∷◌, [], ◌++◌, Some, None, IsTrue, IsSome, List, length, map, slice_index_or, IfOk, OnOk, MatchBool, ℤ};
+ghost use Rattle.std.specs.Vec.{vec_len};
 ghost use Rattle.row_checker.specs.Rows.{LinearRow, NoPlan, row_in};
 ghost use Rattle.row_checker.specs.Trees.{first_unnamed, head_of, high_row, leaf_ends, low_row, multiples_at, number_at, or_stop, shown_by, tree_ends, verdict_on, whole};
-ghost use Rattle.row_checker.specs.inside.Paths.{IsAt, left_over};
+ghost use Rattle.row_checker.specs.inside.Paths.{IsAt, IsStep, left_over};
 
 use super::leaf::{LeafEnd, leaf_end};
 use super::numbers::{Head, first_unnamed, head_at, multiples_at, number_at};
-use super::row::{Multiple, Row};
+use super::row::Row;
 use super::verdict::{End, Verdict};
 use std::alloc::{AllocError, Global};
 
@@ -69,16 +70,134 @@ fn low_row(
 
 // The row of the high half, made of that of the low one.
 fn high_row(low: Row, most: i64) -> Row
-    requires { most <ℤ pos (2 ^ 63 - 1) }
-    ensures { row_in result ≡ high_row (row_in low).terms most }
+    ensures { most <ℤ pos (2 ^ 63 - 1) → row_in result ≡ high_row (row_in low).terms most }
 {
     Row {
-        least: Some(most + 1),
+        least: Some(most.saturating_add(1)),
         most: None,
         terms: low.terms,
     }
 }
 
-fn verdict_of(end: End) -> bool {
-    matches!(end, End::Stands(_))
+/// How far a step came.
+#[derive(Clone, Copy, PartialEq, Eq)]
+enum Step {
+    /// The node at this place comes next.
+    Goes(usize),
+    /// This is how the node ends, or the tree.
+    Ends(End),
+}
+
+// Goes down into the low half of the split at a place, whose row comes behind the rows, or gives its
+// fault.
+fn go_down(
+    alloc: Global,
+    variables: usize,
+    rows: &mut Vec<Row>,
+    given: usize,
+    numbers: &[i64],
+    place: usize,
+    pairs: usize,
+) -> Result<Step, AllocError>
+    requires split { head_of numbers.now place ≡ Head.Split pairs }
+    requires room { place + 3 + 2 * pairs ≤ length numbers.now }
+    requires given { given ≤ vec_len rows.old }
+    ensures step { IfOk result (λ step. (given' : List LinearRow) (all : End) → length given' ≡ given →
+        IsAt variables numbers.now given' (map row_in rows.old.items) all
+        (tree_ends variables numbers.now (left_over given' (map row_in rows.old.items)) (map row_in rows.old.items) place)
+        → IsStep variables numbers.now given' (map row_in rows.new.items) all place step) }
+    ensures given { given ≤ vec_len rows.new }
+{
+    if rows.len() - given >= MOST_DEPTH {
+        return Ok(Step::Ends(End::Stops(Verdict::TooDeep(place))));
+    }
+    if let Some(unnamed) = first_unnamed(numbers, place + 3, pairs, variables) {
+        return Ok(Step::Ends(End::Stops(Verdict::Variable(unnamed))));
+    }
+    rows.push(low_row(alloc, numbers, place, pairs)?)?;
+    Ok(Step::Goes(place + 3 + 2 * pairs))
+}
+
+// Goes on at a place: down into a split, or to the end of a leaf. The weights are 0, before and after.
+fn judge_node(
+    alloc: Global,
+    weights: &mut [i128],
+    touched: &mut Vec<usize>,
+    rows: &mut Vec<Row>,
+    given: usize,
+    numbers: &[i64],
+    place: usize,
+) -> Result<Step, AllocError>
+    requires zero { (k : ℕ) → slice_index_or weights.old k (pos 0) ≡ pos 0 }
+    requires room { place ≤ length numbers.now }
+    requires given { given ≤ vec_len rows.old }
+    ensures zero { OnOk result ((k : ℕ) → slice_index_or weights.new k (pos 0) ≡ pos 0) }
+    ensures step { IfOk result (λ step. (given' : List LinearRow) (all : End) → length given' ≡ given →
+        IsAt (length weights.old) numbers.now given' (map row_in rows.old.items) all
+        (tree_ends (length weights.old) numbers.now (left_over given' (map row_in rows.old.items)) (map row_in rows.old.items) place)
+        → IsStep (length weights.old) numbers.now given' (map row_in rows.new.items) all place step) }
+    ensures given { given ≤ vec_len rows.new }
+{
+    match head_at(numbers, place) {
+        Head::None => Ok(Step::Ends(End::Stops(Verdict::Shape(place)))),
+        Head::Leaf(pairs) => {
+            let end = judge_leaf(
+                alloc,
+                weights,
+                touched,
+                rows.as_slice(),
+                numbers,
+                place,
+                pairs,
+            )?;
+            Ok(Step::Ends(end))
+        }
+        Head::Split(pairs) => go_down(alloc, weights.len(), rows, given, numbers, place, pairs),
+    }
+}
+
+// Turns the last row, that of a low half, into that of the high half, or takes that of a high half
+// away. Says whether it was a low one.
+fn turn(rows: &mut Vec<Row>) -> Result<bool, AllocError>
+    ensures turned { IfOk result (λ low.
+        (n : ℕ) (numbers : List ℤ) (given : List LinearRow) (all : End) (q : ℕ) →
+        length given < length (map row_in rows.old.items) →
+        IsAt n numbers given (map row_in rows.old.items) all (End.Stands q) →
+        MatchBool low
+        (IsAt n numbers given (map row_in rows.new.items) all
+        (tree_ends n numbers (left_over given (map row_in rows.new.items)) (map row_in rows.new.items) q))
+        (IsAt n numbers given (map row_in rows.new.items) all (End.Stands q))) }
+    ensures len { IfOk result (λ low. 0 < vec_len rows.old →
+        MatchBool low (vec_len rows.new ≡ vec_len rows.old) (vec_len rows.new + 1 ≡ vec_len rows.old)) }
+{
+    let Some(row) = rows.pop() else {
+        return Ok(false);
+    };
+    let Some(most) = row.most else {
+        return Ok(false);
+    };
+    rows.push(high_row(row, most))?;
+    Ok(true)
+}
+
+// Goes up to the next split whose high half is still to come, and makes its row the last one; says
+// whether there is one above the given rows.
+fn climb(rows: &mut Vec<Row>, given: usize) -> Result<bool, AllocError>
+    requires { given ≤ vec_len rows.old }
+    ensures climbed { IfOk result (λ low.
+        (n : ℕ) (numbers : List ℤ) (given' : List LinearRow) (all : End) (q : ℕ) →
+        length given' ≡ given →
+        IsAt n numbers given' (map row_in rows.old.items) all (End.Stands q) →
+        MatchBool low
+        (IsAt n numbers given' (map row_in rows.new.items) all
+        (tree_ends n numbers (left_over given' (map row_in rows.new.items)) (map row_in rows.new.items) q))
+        (End.Stands q ≡ all)) }
+    ensures given { OnOk result (given ≤ vec_len rows.new) }
+{
+    while rows.len() > given {
+        if turn(rows)? {
+            return Ok(true);
+        }
+    }
+    Ok(false)
 }

@@ -1,8 +1,10 @@
 -- Places in a tree: the splits above them, and what is left to show.
-use Rattle.std.specs.Prelude.{◌≡◌, ℕ, ◌-◌, ◌<◌, ◌≤◌, ◌^◌, ℤ, pos, ◌<ℤ◌, List, [], ◌∷◌, ◌++◌, Option, None, Some, All, length}
+use Rattle.std.specs.Prelude.{◌≡◌, ℕ, ◌-◌, ◌<◌, ◌≤◌, ◌^◌, ℤ, pos, ◌<ℤ◌, List, [], ◌∷◌, ◌++◌, Option, None, Some, length}
 use Rattle.row_checker.specs.declared.verdict.End.{End}
 use Rattle.row_checker.specs.declared.verdict.End.TheVariants.{Stands, Stops}
 use Rattle.row_checker.specs.declared.tree.TheConstants.{MOST_DEPTH}
+use Rattle.row_checker.specs.declared.tree.Step.{Step}
+use Rattle.row_checker.specs.declared.tree.Step.TheVariants.{Goes, Ends}
 use Rattle.row_checker.specs.Rows.{LinearRow}
 use Rattle.row_checker.specs.Trees.{and_then, high_row, tree_ends}
 
@@ -36,10 +38,21 @@ abbrev pub IsLess : Option ℤ → Type 0
 IsLess None = Unit {0}
 IsLess (Some t) = t <ℤ pos (2 ^ 63 - 1)
 
+abbrev pub AreLess : List LinearRow → Type 0
+AreLess [] = Unit {0}
+AreLess (row ∷ path) = IsLess row.most × AreLess path
+
 -- the rows are those below some path, and the whole tree ends so if the part below it does
 pub record IsAt (n : ℕ) (numbers : List ℤ) (given rows : List LinearRow) (all end : End) : Type 0 where
   pub path : List LinearRow
   pub are : rows ≡ below given path
   pub deep : length path ≤ MOST_DEPTH
-  pub less : All (λ (row : LinearRow). IsLess row.most) path
+  pub less : AreLess path
   pub ends : whole_ends n numbers given path end ≡ all
+
+-- where a step leads: to the node that comes next, which stands behind the last, or to the end of the
+-- node, below the rows
+abbrev pub IsStep : ℕ → List ℤ → List LinearRow → List LinearRow → End → ℕ → Step → Type 0
+IsStep n numbers given rows all p (Goes q) =
+    (p < q) × (q ≤ length numbers) × IsAt n numbers given rows all (tree_ends n numbers (left_over given rows) rows q)
+IsStep n numbers given rows all p (Ends end) = IsAt n numbers given rows all end
