@@ -3,8 +3,8 @@ use Rattle.std.proofs.Common.{◌≡◌, ℕ, ℤ, pos, zero, suc, ◌+◌, ◌*
 use Rattle.std.specs.Prelude.{◌<ℤ◌}
 use Rattle.row_checker.specs.declared.tree.TheConstants.{MOST_DEPTH}
 use Rattle.row_checker.specs.declared.numbers.Head.TheVariants as head
-use Rattle.row_checker.specs.declared.verdict.Verdict.{Verdict}
-use Rattle.row_checker.specs.declared.verdict.Verdict.TheVariants.{TooDeep, Variable}
+use Rattle.row_checker.specs.declared.verdict.Fault.{Fault}
+use Rattle.row_checker.specs.declared.verdict.Fault.TheVariants.{TooDeep, Variable}
 use Rattle.row_checker.specs.declared.verdict.End.{End}
 use Rattle.row_checker.specs.declared.verdict.End.TheVariants.{Stands, Stops}
 use Rattle.row_checker.specs.Rows.{LinearRow}
@@ -140,12 +140,12 @@ pub at_root : (n : ℕ) (numbers : List ℤ) (given rows path : List LinearRow) 
 at_root n numbers given rows [] all e are ends short = ends
 at_root n numbers given rows (r ∷ path) all e are ends short = absurd (omega (arith, ap length are, below_long given (r ∷ path)))
 
-half_stops : (n : ℕ) (numbers : List ℤ) (given : List LinearRow) (row : LinearRow) (path : List LinearRow) (most : Option ℤ) (verdict : Verdict) →
-    half_ends n numbers given row path most (Stops verdict) ≡ Stops verdict
-half_stops n numbers given row path None verdict = refl
-half_stops n numbers given row path (Some t) verdict = refl
+half_stops : (n : ℕ) (numbers : List ℤ) (given : List LinearRow) (row : LinearRow) (path : List LinearRow) (most : Option ℤ) (fault : Fault) →
+    half_ends n numbers given row path most (Stops fault) ≡ Stops fault
+half_stops n numbers given row path None fault = refl
+half_stops n numbers given row path (Some t) fault = refl
 
 -- a fault is the end of the whole
-pub stops_all : (n : ℕ) (numbers : List ℤ) (given path : List LinearRow) (verdict : Verdict) → whole_ends n numbers given path (Stops verdict) ≡ Stops verdict
-stops_all n numbers given [] verdict = refl
-stops_all n numbers given (row ∷ path) verdict = ap (whole_ends n numbers given path) (half_stops n numbers given row path row.most verdict) ∙ stops_all n numbers given path verdict
+pub stops_all : (n : ℕ) (numbers : List ℤ) (given path : List LinearRow) (fault : Fault) → whole_ends n numbers given path (Stops fault) ≡ Stops fault
+stops_all n numbers given [] fault = refl
+stops_all n numbers given (row ∷ path) fault = ap (whole_ends n numbers given path) (half_stops n numbers given row path row.most fault) ∙ stops_all n numbers given path fault

@@ -5,3 +5,5 @@ pub mod Ending
 pub mod Named
 pub mod Ends
 pub mod Climbing
+pub mod Duality
+pub mod Soundness

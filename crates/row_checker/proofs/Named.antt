@@ -46,6 +46,9 @@ pub record IsSplit (numbers : List ℤ) (p k : ℕ) : Type 0 where
   pub room : p + 3 + 2 * k ≤ length numbers
   pub less : number_at numbers (p + 2) <ℤ pos (2 ^ 63 - 1)
 
+below_max : (z : ℤ) → int_lt z (pos (2 ^ 63 - 1)) ≡ true → z <ℤ pos (2 ^ 63 - 1)
+below_max z t = grind (arith, ints)
+
 pub split_is : (numbers : List ℤ) (p k : ℕ) → head_of numbers p ≡ head.Split k → IsSplit numbers p k
 split_is numbers p k e =
     let j : ℕ = unsigned_abs (number_at numbers (p + 1)) in
@@ -53,7 +56,7 @@ split_is numbers p k e =
     let t : is_split numbers p k ≡ true = subst (λ (i : ℕ). is_split numbers p i ≡ true) h.1 h.0 in
     let a = and_parts _ _ t in
     let b = and_parts _ _ a.1 in
-    record { room = leb-true (p + 3 + 2 * k) (length numbers) b.0; less = let c = b.1 in grind (arith, ints) }
+    record { room = leb-true (p + 3 + 2 * k) (length numbers) b.0; less = below_max (number_at numbers (p + 2)) b.1 }
 
 -- and if it is a leaf of k multiples
 pub leaf_room : (numbers : List ℤ) (p k : ℕ) → head_of numbers p ≡ head.Leaf k → p + 2 + 2 * k ≤ length numbers

@@ -11,7 +11,9 @@ use Rattle.row_checker.specs.declared.leaf.LeafEnd.TheVariants as leaf
 use Rattle.row_checker.specs.declared.numbers.Head.{Head}
 use Rattle.row_checker.specs.declared.numbers.Head.TheVariants as head
 use Rattle.row_checker.specs.declared.verdict.Verdict.{Verdict}
-use Rattle.row_checker.specs.declared.verdict.Verdict.TheVariants.{Shown, NotShown, TooGreat, TooDeep, Shape, Row, Variable}
+use Rattle.row_checker.specs.declared.verdict.Verdict.TheVariants.{Shown, Not}
+use Rattle.row_checker.specs.declared.verdict.Fault.{Fault}
+use Rattle.row_checker.specs.declared.verdict.Fault.TheVariants.{NotShown, TooGreat, TooDeep, Shape, Row, Variable}
 use Rattle.row_checker.specs.declared.verdict.End.{End}
 use Rattle.row_checker.specs.declared.verdict.End.TheVariants.{Stands, Stops}
 use Rattle.row_checker.specs.declared.tree.TheConstants.{MOST_DEPTH}
@@ -67,7 +69,7 @@ abbrev pub high_row : List Multiple → ℤ → LinearRow
 high_row terms t = record { least = Some (t +ℤ pos 1); most = None; terms = terms }
 
 -- the fault, if there is one, or else the end
-abbrev pub or_stop : Option ℕ → (ℕ → Verdict) → End → End
+abbrev pub or_stop : Option ℕ → (ℕ → Fault) → End → End
 or_stop None fault end = end
 or_stop (Some q) fault end = Stops (fault q)
 
@@ -90,7 +92,7 @@ at_head (head.Split k) p leaf_end split_end = split_end k
 -- what follows a part that shows its claim
 abbrev pub and_then : End → (ℕ → End) → End
 and_then (Stands q) next = next q
-and_then (Stops verdict) next = Stops verdict
+and_then (Stops fault) next = Stops fault
 
 -- how a split of k terms ends: both halves, each with its row behind the rows, show that no plan meets
 -- them, or the first fault counts. `next` says how the halves end
@@ -109,8 +111,8 @@ tree_ends n numbers (suc deep) rows p =
 
 -- nothing follows the tree
 abbrev pub whole : ℕ → End → Verdict
-whole long (Stands q) = if q == long then Shown else Shape q
-whole long (Stops verdict) = verdict
+whole long (Stands q) = if q == long then Shown else Not (Shape q)
+whole long (Stops fault) = Not fault
 
 -- what a list of numbers shows
 abbrev pub verdict_on : ℕ → List LinearRow → List ℤ → Verdict

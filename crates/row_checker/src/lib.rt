@@ -10,5 +10,5 @@ mod tree;
 mod verdict;
 
 pub use row::{Multiple, Row};
-pub use tree::MOST_DEPTH;
-pub use verdict::Verdict;
+pub use tree::{MOST_DEPTH, verdict_of};
+pub use verdict::{Fault, Verdict};

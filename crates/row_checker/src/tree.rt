@@ -3,12 +3,12 @@ ghost use Rattle.std.specs.Prelude.{◌≡◌, ℕ, pos, ◌+◌, ◌*◌, ◌-�
 ghost use Rattle.std.specs.Vec.{vec_len};
 ghost use Rattle.row_checker.specs.Rows.{LinearRow, NoPlan, row_in};
 ghost use Rattle.row_checker.specs.Trees.{first_unnamed, head_of, high_row, leaf_ends, low_row, multiples_at, number_at, or_stop, shown_by, tree_ends, verdict_on, whole};
-ghost use Rattle.row_checker.specs.inside.Paths.{IsAt, IsStep, left_over};
+ghost use Rattle.row_checker.specs.inside.Paths.{IsAdvance, IsAt, IsInside, IsStep, left_over};
 
 use super::leaf::{LeafEnd, leaf_end};
 use super::numbers::{Head, first_unnamed, head_at, multiples_at, number_at};
 use super::row::Row;
-use super::verdict::{End, Verdict};
+use super::verdict::{End, Fault, Verdict};
 use std::alloc::{AllocError, Global};
 
 /// The most splits above a leaf.
@@ -20,8 +20,8 @@ fn end_by(end: LeafEnd, place: usize, next: usize) -> End
 {
     match end {
         LeafEnd::Shows => End::Stands(next),
-        LeafEnd::TooGreat => End::Stops(Verdict::TooGreat(place)),
-        LeafEnd::Lacks => End::Stops(Verdict::NotShown(place)),
+        LeafEnd::TooGreat => End::Stops(Fault::TooGreat(place)),
+        LeafEnd::Lacks => End::Stops(Fault::NotShown(place)),
     }
 }
 
@@ -42,7 +42,7 @@ fn judge_leaf(
         end ≡ leaf_ends (length weights.old) numbers.now (map row_in rows.now) place pairs) }
 {
     if let Some(unnamed) = first_unnamed(numbers, place + 2, pairs, rows.len()) {
-        return Ok(End::Stops(Verdict::Row(unnamed)));
+        return Ok(End::Stops(Fault::Row(unnamed)));
     }
     let multiples = multiples_at(alloc, numbers, place + 2, pairs)?;
     let end = leaf_end(weights, touched, rows, multiples.as_slice())?;
@@ -109,10 +109,10 @@ fn go_down(
     ensures given { given ≤ vec_len rows.new }
 {
     if rows.len() - given >= MOST_DEPTH {
-        return Ok(Step::Ends(End::Stops(Verdict::TooDeep(place))));
+        return Ok(Step::Ends(End::Stops(Fault::TooDeep(place))));
     }
     if let Some(unnamed) = first_unnamed(numbers, place + 3, pairs, variables) {
-        return Ok(Step::Ends(End::Stops(Verdict::Variable(unnamed))));
+        return Ok(Step::Ends(End::Stops(Fault::Variable(unnamed))));
     }
     rows.push(low_row(alloc, numbers, place, pairs)?)?;
     Ok(Step::Goes(place + 3 + 2 * pairs))
@@ -139,7 +139,7 @@ fn judge_node(
     ensures given { given ≤ vec_len rows.new }
 {
     match head_at(numbers, place) {
-        Head::None => Ok(Step::Ends(End::Stops(Verdict::Shape(place)))),
+        Head::None => Ok(Step::Ends(End::Stops(Fault::Shape(place)))),
         Head::Leaf(pairs) => {
             let end = judge_leaf(
                 alloc,
@@ -200,4 +200,119 @@ fn climb(rows: &mut Vec<Row>, given: usize) -> Result<bool, AllocError>
         }
     }
     Ok(false)
+}
+
+// What comes after a node that ends so: the next node, or the end of the whole tree.
+fn end_above(rows: &mut Vec<Row>, given: usize, end: End) -> Result<Step, AllocError>
+    requires { given ≤ vec_len rows.old }
+    ensures step { IfOk result (λ next.
+        (n : ℕ) (numbers : List ℤ) (given' : List LinearRow) (all : End) (p : ℕ) →
+        length given' ≡ given →
+        IsInside p (length numbers) end →
+        IsAt n numbers given' (map row_in rows.old.items) all end →
+        IsAdvance n numbers given' (map row_in rows.new.items) all p next) }
+    ensures given { OnOk result (given ≤ vec_len rows.new) }
+{
+    match end {
+        End::Stops(_) => Ok(Step::Ends(end)),
+        End::Stands(next) => {
+            if climb(rows, given)? {
+                Ok(Step::Goes(next))
+            } else {
+                Ok(Step::Ends(End::Stands(next)))
+            }
+        }
+    }
+}
+
+// After a step: on to what comes next, or to the end of the whole tree.
+fn after(rows: &mut Vec<Row>, given: usize, step: Step) -> Result<Step, AllocError>
+    requires { given ≤ vec_len rows.old }
+    ensures step { IfOk result (λ next.
+        (n : ℕ) (numbers : List ℤ) (given' : List LinearRow) (all : End) (p : ℕ) →
+        length given' ≡ given →
+        IsStep n numbers given' (map row_in rows.old.items) all p step →
+        IsAdvance n numbers given' (map row_in rows.new.items) all p next) }
+    ensures given { OnOk result (given ≤ vec_len rows.new) }
+{
+    match step {
+        Step::Goes(next) => Ok(Step::Goes(next)),
+        Step::Ends(end) => end_above(rows, given, end),
+    }
+}
+
+// How the whole tree ends. The weights are 0 at first.
+fn judge_all(
+    alloc: Global,
+    weights: &mut [i128],
+    touched: &mut Vec<usize>,
+    rows: &mut Vec<Row>,
+    numbers: &[i64],
+) -> Result<End, AllocError>
+    requires { (k : ℕ) → slice_index_or weights.old k (pos 0) ≡ pos 0 }
+    ensures { IfOk result (λ end.
+        end ≡ tree_ends (length weights.old) numbers.now MOST_DEPTH (map row_in rows.old.items) 0) }
+{
+    let given = rows.len();
+    let mut place = 0;
+    loop {
+        let step = judge_node(alloc, weights, touched, rows, given, numbers, place)?;
+        match after(rows, given, step)? {
+            Step::Goes(next) => place = next,
+            Step::Ends(end) => return Ok(end),
+        }
+    }
+}
+
+// The verdict on a list of so many numbers whose tree ends so.
+fn whole(end: End, long: usize) -> Verdict
+    ensures { result ≡ whole long end }
+{
+    match end {
+        End::Stands(next) => {
+            if next == long {
+                Verdict::Shown
+            } else {
+                Verdict::Not(Fault::Shape(next))
+            }
+        }
+        End::Stops(fault) => Verdict::Not(fault),
+    }
+}
+
+// What the tree shows of the rows.
+fn judge(
+    alloc: Global,
+    variables: usize,
+    rows: Vec<Row>,
+    numbers: &[i64],
+) -> Result<Verdict, AllocError>
+    ensures { IfOk result (λ v. v ≡ verdict_on variables (map row_in rows.items) numbers.now) }
+{
+    let mut rows = rows;
+    let mut weights = vec![in alloc; 0_i128; variables]?;
+    let mut touched = Vec::new(alloc);
+    let end = judge_all(alloc, weights.as_mut_slice(), &mut touched, &mut rows, numbers)?;
+    Ok(whole(end, numbers.len()))
+}
+
+/// What a tree, as a list of numbers, shows of the rows over so many variables: that no plan meets
+/// them all, or its first fault. It is `Shown` exactly when each leaf shows it.
+///
+/// The time is linear in the numbers and in the terms of the rows that the leaves name. The memory is
+/// 16 bytes a variable, and little more.
+///
+/// # Errors
+/// `AllocError` if memory is refused.
+pub fn verdict_of(
+    alloc: Global,
+    variables: usize,
+    rows: Vec<Row>,
+    numbers: &[i64],
+) -> Result<Verdict, AllocError>
+    ensures verdict { IfOk result (λ v. v ≡ verdict_on variables (map row_in rows.items) numbers.now) }
+    ensures none { IfOk result (λ v. v ≡ Verdict.Shown → NoPlan variables (map row_in rows.items)) }
+{
+    let verdict = judge(alloc, variables, rows, numbers)?;
+    Ok(verdict)
 }

@@ -1,11 +1,9 @@
 // What a tree shows.
 
-/// What a tree shows, or the first of its faults in the order of its numbers. Places count from 0.
+/// The first fault of a tree, in the order of its numbers. Places count from 0.
 #[derive(Clone, Copy, PartialEq, Eq)]
-pub enum Verdict {
-    /// No plan meets all rows.
-    Shown,
-    /// The leaf at this place doesn't show it.
+pub enum Fault {
+    /// The leaf at this place doesn't show that no plan meets all rows.
     NotShown(usize),
     /// In the leaf at this place the absolute values of all products come to 2^127 or more.
     TooGreat(usize),
@@ -24,6 +22,14 @@ pub enum Verdict {
 pub enum End {
     /// It shows that no plan meets the rows above it, and ends before this place.
     Stands(usize),
-    /// It has a fault, or a leaf that doesn't show it.
-    Stops(Verdict),
+    Stops(Fault),
+}
+
+/// What a tree shows.
+#[derive(Clone, Copy, PartialEq, Eq)]
+pub enum Verdict {
+    /// No plan meets all rows.
+    Shown,
+    /// Nothing.
+    Not(Fault),
 }

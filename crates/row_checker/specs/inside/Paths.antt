@@ -50,9 +50,20 @@ pub record IsAt (n : ℕ) (numbers : List ℤ) (given rows : List LinearRow) (al
   pub less : AreLess path
   pub ends : whole_ends n numbers given path end ≡ all
 
+-- a tree that stands ends behind its place
+abbrev pub IsInside : ℕ → ℕ → End → Type 0
+IsInside p long (Stands q) = (p < q) × (q ≤ long)
+IsInside p long (Stops fault) = Unit {0}
+
 -- where a step leads: to the node that comes next, which stands behind the last, or to the end of the
 -- node, below the rows
 abbrev pub IsStep : ℕ → List ℤ → List LinearRow → List LinearRow → End → ℕ → Step → Type 0
 IsStep n numbers given rows all p (Goes q) =
     (p < q) × (q ≤ length numbers) × IsAt n numbers given rows all (tree_ends n numbers (left_over given rows) rows q)
-IsStep n numbers given rows all p (Ends end) = IsAt n numbers given rows all end
+IsStep n numbers given rows all p (Ends end) = IsInside p (length numbers) end × IsAt n numbers given rows all end
+
+-- and where a step leads that climbs as far as it can
+abbrev pub IsAdvance : ℕ → List ℤ → List LinearRow → List LinearRow → End → ℕ → Step → Type 0
+IsAdvance n numbers given rows all p (Goes q) =
+    (p < q) × (q ≤ length numbers) × IsAt n numbers given rows all (tree_ends n numbers (left_over given rows) rows q)
+IsAdvance n numbers given rows all p (Ends end) = end ≡ all
