@@ -1,5 +1,5 @@
 -- Down into the halves of splits, and up again.
-use Rattle.std.proofs.Common.{◌≡◌, ℕ, ℤ, pos, zero, suc, ◌+◌, ◌*◌, ◌-◌, ◌<◌, ◌≤◌, ◌^◌, List, [], ◌∷◌, ◌++◌, None, Some, Option, length, length-append, refl, ap, sym, ◌∙◌, subst, arith}
+use Rattle.std.proofs.Common.{◌≡◌, ℕ, ℤ, pos, suc, ◌+◌, ◌*◌, ◌-◌, ◌<◌, ◌≤◌, ◌^◌, List, [], ◌∷◌, ◌++◌, None, Some, Option, length, length-append, refl, ap, sym, ◌∙◌, subst, arith}
 use Rattle.std.specs.Prelude.{◌<ℤ◌}
 use Rattle.row_checker.specs.declared.tree.TheConstants.{MOST_DEPTH}
 use Rattle.row_checker.specs.declared.numbers.Head.TheVariants as head
@@ -103,7 +103,7 @@ turned n numbers given path row all q t deep less ends most =
       deep = omega arith;
       less = (tt, less);
       ends = ap (λ x. whole_ends n numbers given path (tree_ends n numbers x (below given path ++ high ∷ []) q)) d
-      ∙ ap (λ m. whole_ends n numbers given path (half_ends n numbers given row path m (Stands q))) (sym most) ∙ ends;
+          ∙ ap (λ m. whole_ends n numbers given path (half_ends n numbers given row path m (Stands q))) (sym most) ∙ ends;
     }
 
 pub turns_low : (n : ℕ) (numbers : List ℤ) (given rows init path : List LinearRow) (row : LinearRow) (all : End) (q : ℕ) (t : ℤ) →
@@ -114,10 +114,11 @@ turns_low n numbers given rows init [] row all q t are deep less ends is long mo
 turns_low n numbers given rows init (r ∷ path) row all q t are deep less ends is long most =
     let s = snoc_same init (below given path) row r (sym is ∙ are) in
     let m : r.most ≡ Some t = ap (λ (x : LinearRow). x.most) (sym s.1) ∙ most in
-    let here = turned n numbers given path r all q t deep less.1 ends m in
-    (subst IsLess m less.0,
-    subst (λ l. IsAt n numbers given (l ++ high_row row.terms t ∷ []) all (tree_ends n numbers (left_over given (l ++ high_row row.terms t ∷ [])) (l ++ high_row row.terms t ∷ []) q)) (sym s.0)
-    (subst (λ (x : LinearRow). IsAt n numbers given (below given path ++ high_row x.terms t ∷ []) all (tree_ends n numbers (left_over given (below given path ++ high_row x.terms t ∷ [])) (below given path ++ high_row x.terms t ∷ []) q)) (sym s.1) here))
+    let here = turned n numbers given path r all q t deep less.1 ends m in (
+      subst IsLess m less.0,
+      subst (λ l. IsAt n numbers given (l ++ high_row row.terms t ∷ []) all (tree_ends n numbers (left_over given (l ++ high_row row.terms t ∷ [])) (l ++ high_row row.terms t ∷ []) q)) (sym s.0)
+          (subst (λ (x : LinearRow). IsAt n numbers given (below given path ++ high_row x.terms t ∷ []) all (tree_ends n numbers (left_over given (below given path ++ high_row x.terms t ∷ [])) (below given path ++ high_row x.terms t ∷ []) q)) (sym s.1) here),
+    )
 
 -- the high half is done, and so the split
 pub turns_high : (n : ℕ) (numbers : List ℤ) (given rows init path : List LinearRow) (row : LinearRow) (all : End) (q : ℕ) →

@@ -1,11 +1,10 @@
 -- What a leaf shows, from its sums.
 use Rattle.std.proofs.Common.{◌≡◌, ℕ, ℤ, pos, negsuc, ◌<◌, ◌^◌, ◌-◌, min, List, ◌&&◌, refl, ap, sym, ◌∙◌, arith, SFits}
-use Rattle.std.specs.Prelude.{if◌then◌else◌, int_lt, nat_lt}
+use Rattle.std.specs.Prelude.{if◌then◌else◌, int_lt}
 use Rattle.std.specs.Int.{w128}
 use Rattle.std.proofs.lemmas.Bool.{lt-ltb}
 use Rattle.std.proofs.lemmas.Bool.Decides.{nat_tests}
 use Rattle.row_checker.specs.declared.row.Multiple.{Multiple}
-use Rattle.row_checker.specs.declared.leaf.LeafEnd.{LeafEnd}
 use Rattle.row_checker.specs.declared.leaf.LeafEnd.TheVariants.{Shows, TooGreat, Lacks}
 use Rattle.row_checker.specs.Rows.{LinearRow}
 use Rattle.row_checker.specs.Leaves.{bound, end_of, greatest, has_sides, size, weight}

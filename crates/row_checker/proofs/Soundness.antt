@@ -1,5 +1,5 @@
 -- A tree that stands leaves no plan.
-use Rattle.std.proofs.Common.{◌≡◌, ℕ, ℤ, pos, zero, suc, ◌+◌, ◌*◌, ◌+ℤ◌, ◌≤ℤ◌, List, [], ◌∷◌, ◌++◌, Bool, true, false, ◌&&◌, Option, None, Some, length, refl, ap, sym, ◌∙◌, subst, arith}
+use Rattle.std.proofs.Common.{◌≡◌, ℕ, ℤ, pos, zero, suc, ◌+◌, ◌*◌, ◌+ℤ◌, ◌≤ℤ◌, List, [], ◌∷◌, ◌++◌, Bool, true, false, ◌&&◌, Option, None, Some, length, refl, ap, sym, ◌∙◌, arith}
 use Rattle.std.specs.Prelude.{if◌then◌else◌, int_lt, nat_lt, ◌^◌}
 use Rattle.std.proofs.lemmas.Int.{ints, by_lt_z}
 use Rattle.std.proofs.lemmas.List.Elements.{All-push}
@@ -13,9 +13,9 @@ use Rattle.row_checker.specs.declared.verdict.Fault.TheVariants.{Row, Variable}
 use Rattle.row_checker.specs.declared.tree.TheConstants.{MOST_DEPTH}
 use Rattle.row_checker.specs.declared.verdict.End.{End}
 use Rattle.row_checker.specs.declared.verdict.End.TheVariants.{Stands, Stops}
-use Rattle.row_checker.specs.Rows.{IsPlan, LinearRow, Meets, NoPlan, Plan, total}
+use Rattle.row_checker.specs.Rows.{LinearRow, Meets, NoPlan, total}
 use Rattle.row_checker.specs.Leaves.{bound, end_of, greatest, has_sides, size, weight}
-use Rattle.row_checker.specs.Trees.{and_then, first_unnamed, head_of, high_row, leaf_ends, low_row, multiples_at, number_at, or_stop, shown_by, split_ends, tree_ends, verdict_on, whole}
+use Rattle.row_checker.specs.Trees.{and_then, first_unnamed, head_of, high_row, leaf_ends, low_row, multiples_at, number_at, or_stop, shown_by, tree_ends, verdict_on, whole}
 use Rattle.row_checker.proofs.Duality.{none_meets}
 use Rattle.row_checker.proofs.Ends.{at_leaf, at_none, at_split, too_deep}
 

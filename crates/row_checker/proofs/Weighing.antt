@@ -48,16 +48,16 @@ pub row_weighed : (rows : List LinearRow) (n : ℕ) (before after : List ℤ) (m
     IsWeighing rows n after ms left
 row_weighed rows n before after ms left m w added = record {
   small = λ k lt.
-    let terms = (row_at rows m.of).terms in
-    let a = ap unsigned_abs (added k lt) in
-    let b = abs_sum (get_or before k (pos 0)) (m.times *ℤ coefficient k terms) in
-    let c = coefficient_small m.times k terms in
-    let s = w.small k lt in
-    omega arith;
+      let terms = (row_at rows m.of).terms in
+      let a = ap unsigned_abs (added k lt) in
+      let b = abs_sum (get_or before k (pos 0)) (m.times *ℤ coefficient k terms) in
+      let c = coefficient_small m.times k terms in
+      let s = w.small k lt in
+      omega arith;
   sums = λ k lt.
-    let a = added k lt in
-    let s = w.sums k lt in
-    omega (arith, ints);
+      let a = added k lt in
+      let s = w.sums k lt in
+      omega (arith, ints);
 }
 
 -- the size of a row fits while it is left to add
@@ -70,11 +70,11 @@ pub side_added : (rows : List LinearRow) (before after : ℤ) (ms left : List Mu
     IsBounding rows before ms (m ∷ left) → after ≡ before +ℤ (m.times *ℤ side_or_0 rows m) → IsBounding rows after ms left
 side_added rows before after ms left m w e = record {
   small =
-    let a = ap unsigned_abs e in
-    let b = abs_sum before (m.times *ℤ side_or_0 rows m) in
-    let p = unsigned_abs-mul m.times (side_or_0 rows m) in
-    let s = w.small in
-    omega arith;
+      let a = ap unsigned_abs e in
+      let b = abs_sum before (m.times *ℤ side_or_0 rows m) in
+      let p = unsigned_abs-mul m.times (side_or_0 rows m) in
+      let s = w.small in
+      omega arith;
   sums = let s = w.sums in omega (arith, ints);
 }
 
@@ -102,13 +102,13 @@ pub term_passed : (before ws : List ℤ) (terms : List Multiple) (i : ℕ) (time
     IsAdding before ws times terms (drop i terms) → IsAdding before ws times terms (drop (i + 1) terms)
 term_passed before ws terms i times t d lt at past long h = record {
   small = λ k room.
-    let s = h.small k room in
-    let m = terms_size_more times terms i d lt in
-    omega arith;
+      let s = h.small k room in
+      let m = terms_size_more times terms i d lt in
+      omega arith;
   sums = λ k room.
-    let e = ap (λ v. times *ℤ v) (coefficient_past ws terms i k t d lt at past (omega arith)) in
-    let s = h.sums k room in
-    omega (arith, ints);
+      let e = ap (λ v. times *ℤ v) (coefficient_past ws terms i k t d lt at past (omega arith)) in
+      let s = h.sums k room in
+      omega (arith, ints);
 }
 
 pub term_fits : (before ws : List ℤ) (terms : List Multiple) (i : ℕ) (times w p : ℤ) (t d : Multiple) →

@@ -23,11 +23,7 @@ pub enum LeafEnd {
 fn above(weight: i128) -> u128
     ensures { result ≡ above_0 weight }
 {
-    if weight > 0 {
-        weight.unsigned_abs()
-    } else {
-        0
-    }
+    if weight > 0 { weight.unsigned_abs() } else { 0 }
 }
 
 // The sum of the weights above 0, which are those of these variables, as far as it fits. All weights

@@ -50,12 +50,7 @@ fn judge_leaf(
 }
 
 // The row of the low half of the split at a place.
-fn low_row(
-    alloc: Global,
-    numbers: &[i64],
-    place: usize,
-    pairs: usize,
-) -> Result<Row, AllocError>
+fn low_row(alloc: Global, numbers: &[i64], place: usize, pairs: usize) -> Result<Row, AllocError>
     requires { place + 3 + 2 * pairs ≤ length numbers.now }
     ensures { IfOk result (λ row. row_in row
         ≡ low_row (multiples_at numbers.now (place + 3) pairs) (number_at numbers.now (place + 2))) }
@@ -292,7 +287,13 @@ fn judge(
     let mut rows = rows;
     let mut weights = vec![in alloc; 0_i128; variables]?;
     let mut touched = Vec::new(alloc);
-    let end = judge_all(alloc, weights.as_mut_slice(), &mut touched, &mut rows, numbers)?;
+    let end = judge_all(
+        alloc,
+        weights.as_mut_slice(),
+        &mut touched,
+        &mut rows,
+        numbers,
+    )?;
     Ok(whole(end, numbers.len()))
 }
 

@@ -1,9 +1,9 @@
-use Rattle.std.proofs.Common.{rules, ◌≡◌, ℕ, ℤ, pos, false, ◌+◌, ◌-◌, ◌^◌, min, drop, get_or, set, length, refl, ap, arith, SFits, subst, sym, ◌∙◌}
+use Rattle.std.proofs.Common.{rules, ◌≡◌, pos, ◌+◌, ◌-◌, ◌^◌, min, drop, get_or, set, refl, ap, arith, SFits, subst, sym, ◌∙◌}
 use Rattle.std.specs.Int.{w128}
 use Rattle.std.proofs.lemmas.Int.{to_z-of_z}
 use Rattle.std.proofs.lemmas.List.{drop_all}
 use Rattle.row_checker.specs.Leaves.{above_0}
-use Rattle.row_checker.specs.inside.Weights.{greatest_in, is_among}
+use Rattle.row_checker.specs.inside.Weights.{is_among}
 use Rattle.row_checker.proofs.Draining.{IsDraining, drained_more, passed_more, greatest_of_0}
 use Rattle.row_checker.proofs.leaf.drain.Goals as goal
 use Rattle.row_checker.proofs.leaf.drain.Goals.{then-variable-weights, else-variable-weights}

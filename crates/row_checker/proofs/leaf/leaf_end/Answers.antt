@@ -1,4 +1,4 @@
-use Rattle.std.proofs.Common.{rules, ◌≡◌, ℕ, ℤ, pos, false, List, ◌++◌, min, ◌<◌, ◌^◌, ◌-◌, map, get_or, length, ap, arith, SFits, subst, sym, ◌∙◌, inl, inr}
+use Rattle.std.proofs.Common.{rules, ◌≡◌, ℕ, ℤ, pos, false, List, ◌++◌, min, ◌<◌, ◌^◌, ◌-◌, map, length, ap, arith, SFits, subst, ◌∙◌, inl, inr}
 use Rattle.std.specs.Int.{w128}
 use Rattle.std.specs.Prelude.{if◌then◌else◌, int_lt, ◌&&◌}
 use Rattle.row_checker.specs.declared.leaf.LeafEnd.TheVariants.{Shows, Lacks}
@@ -7,7 +7,7 @@ use Rattle.std.proofs.lemmas.Int.{to_z-of_z}
 use Rattle.std.proofs.lemmas.List.{get_or_past}
 use Rattle.row_checker.specs.Rows.{LinearRow, row_in}
 use Rattle.row_checker.specs.Leaves.{greatest, has_sides, size, touched_by, weight}
-use Rattle.row_checker.specs.inside.Weights.{greatest_in, is_among}
+use Rattle.row_checker.specs.inside.Weights.{is_among}
 use Rattle.row_checker.proofs.Draining.{greatest_is, weight_none}
 use Rattle.row_checker.proofs.Ending.{end_is}
 use Rattle.row_checker.proofs.leaf.leaf_end.Goals as goal

@@ -4,7 +4,7 @@ use Rattle.std.proofs.lemmas.Int.{ints, to_z-of_z}
 use Rattle.std.proofs.lemmas.List.{drop_all, drop_more}
 use Rattle.row_checker.specs.declared.row.Multiple.{Multiple}
 use Rattle.row_checker.specs.Leaves.{coefficient, terms_size, weight}
-use Rattle.row_checker.specs.Rows.{LinearRow, row_at, row_in}
+use Rattle.row_checker.specs.Rows.{LinearRow, row_in}
 use Rattle.row_checker.proofs.Weighing.{IsWeighing, row_fits, row_weighed}
 use Rattle.row_checker.proofs.sums.add_rows.Goals as goal
 
@@ -39,12 +39,12 @@ loop-multiple-preserved c =
 pub loop-multiple-init : goal.loop-multiple-init
 loop-multiple-init c = record {
   small = λ k lt.
-    let z = ap unsigned_abs (c.requires.zero k) in
-    let s = c.requires.small in
-    omega arith;
+      let z = ap unsigned_abs (c.requires.zero k) in
+      let s = c.requires.small in
+      omega arith;
   sums = λ k lt.
-    let z = c.requires.zero k in
-    omega (arith, ints);
+      let z = c.requires.zero k in
+      omega (arith, ints);
 }
 
 pub returns : goal.returns

@@ -1,4 +1,4 @@
-use Rattle.std.proofs.Common.{rules, ◌≡◌, ℤ, pos, ◌+◌, ◌+ℤ◌, ◌*ℤ◌, arith, SFits, w64, get_or, set, drop, refl, length, ◌<◌, ap, ◌∙◌, sym, subst}
+use Rattle.std.proofs.Common.{rules, ◌≡◌, pos, ◌+◌, ◌+ℤ◌, ◌*ℤ◌, arith, SFits, w64, get_or, set, drop, refl, ap, ◌∙◌, sym, subst}
 use Rattle.std.specs.Int.{w128}
 use Rattle.std.proofs.lemmas.Int.{ints, to_z-of_z, fits_signed_from_abs}
 use Rattle.std.proofs.lemmas.List.{drop_all}

@@ -1,6 +1,4 @@
-use Rattle.std.proofs.Common.{ℕ, ◌+◌, ◌^◌, ◌<◌, ◌≡◌, pos, ◌+ℤ◌, ◌*ℤ◌, get_or, drop, length}
-use Rattle.std.specs.Int.RustNames.{unsigned_abs}
-use Rattle.row_checker.specs.Leaves.{coefficient, terms_size}
+use Rattle.std.proofs.Common.{drop}
 use Rattle.row_checker.proofs.Weighing.{IsAdding}
 use Rattle.row_checker.proofs.sums.add_terms.Given as goal
 

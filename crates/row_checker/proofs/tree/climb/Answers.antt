@@ -1,4 +1,4 @@
-use Rattle.std.proofs.Common.{List, map, length, arith}
+use Rattle.std.proofs.Common.{List, map, arith}
 use Rattle.std.proofs.lemmas.List.{length-map}
 use Rattle.row_checker.specs.declared.verdict.End.TheVariants.{Stands}
 use Rattle.row_checker.specs.Rows.{LinearRow, row_in}

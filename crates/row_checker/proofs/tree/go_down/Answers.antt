@@ -1,4 +1,4 @@
-use Rattle.std.proofs.Common.{rules, ◌≡◌, ◌+◌, ◌*◌, ◌-◌, ◌<◌, ◌≤◌, pos, List, None, ◌++◌, [], ◌∷◌, map, length, ap, sym, ◌∙◌, arith, SFits, w64}
+use Rattle.std.proofs.Common.{rules, ◌≡◌, ◌+◌, ◌-◌, ◌<◌, ◌≤◌, List, None, ◌++◌, [], ◌∷◌, map, length, ap, ◌∙◌, arith}
 use Rattle.std.proofs.lemmas.List.{length-map, map-append}
 use Rattle.row_checker.specs.declared.tree.TheConstants.{MOST_DEPTH}
 use Rattle.row_checker.specs.Rows.{LinearRow, row_in}

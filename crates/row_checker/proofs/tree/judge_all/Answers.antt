@@ -1,6 +1,5 @@
-use Rattle.std.proofs.Common.{◌≡◌, ℕ, ◌≤◌, List, map, length, ap, sym, ◌∙◌, subst, arith}
+use Rattle.std.proofs.Common.{◌≡◌, List, map, length, sym, ◌∙◌, subst, arith}
 use Rattle.row_checker.specs.declared.tree.TheConstants.{MOST_DEPTH}
-use Rattle.row_checker.specs.declared.tree.Step.TheVariants.{Ends, Goes}
 use Rattle.row_checker.specs.Rows.{LinearRow, row_in}
 use Rattle.row_checker.specs.Trees.{tree_ends}
 use Rattle.row_checker.specs.inside.Paths.{IsAdvance, IsAt, left_over}
@@ -33,9 +32,14 @@ loop-step-preserved c =
     let adv = c.in_ok-next.ensures.step (length c.loop-step.weights) numbers given all c.loop-step.place (sym inv.0) (c.in_ok-step.ensures.step given all (sym inv.0) at) in
     let after : List LinearRow = map row_in c.after.new.rows.items in
     let goes = subst (IsAdvance (length c.loop-step.weights) numbers given after all c.loop-step.place) c.in-Goes.is adv in
-    let long : length c.judge_node.new.weights ≡ n = c.judge_node.auto.weights ∙ inv.4 in
-    (inv.0, c.in_ok-next.ensures.given, goes.1, c.in_ok-step.ensures.zero, long,
-    subst (λ m. IsAt m numbers given after all (tree_ends m numbers (left_over given after) after c.in-Goes.next)) inv.4 goes.2)
+    let long : length c.judge_node.new.weights ≡ n = c.judge_node.auto.weights ∙ inv.4 in (
+      inv.0,
+      c.in_ok-next.ensures.given,
+      goes.1,
+      c.in_ok-step.ensures.zero,
+      long,
+      subst (λ m. IsAt m numbers given after all (tree_ends m numbers (left_over given after) after c.in-Goes.next)) inv.4 goes.2,
+    )
 
 pub returns-in-Ends : goal.returns-in-Ends
 returns-in-Ends c =

@@ -20,6 +20,7 @@ returns-in_ok-end-in-Leaf-clause-step c = λ given all long at.
     let k = c.in-Leaf.pairs in
     let rows : List LinearRow = map row_in c.args.rows.now.items in
     let head = sym c.head_at.ensures ∙ c.in-Leaf.is in
-    let end : c.in_ok-end-in-Leaf.end ≡ leaf_ends n numbers rows p k = c.in_ok-end-in-Leaf.ensures.end ∙ ap (λ items. leaf_ends n numbers (map row_in items) p k) c.as_slice.ensures.value in
-    (subst (IsInside p (length numbers)) (sym end) (leaf_inside n numbers rows p k (leaf_room numbers p k head)),
-    with_end n numbers given rows all _ _ (at_leaf n numbers (left_over given rows) rows p k head ∙ sym end) at)
+    let end : c.in_ok-end-in-Leaf.end ≡ leaf_ends n numbers rows p k = c.in_ok-end-in-Leaf.ensures.end ∙ ap (λ items. leaf_ends n numbers (map row_in items) p k) c.as_slice.ensures.value in (
+      subst (IsInside p (length numbers)) (sym end) (leaf_inside n numbers rows p k (leaf_room numbers p k head)),
+      with_end n numbers given rows all _ _ (at_leaf n numbers (left_over given rows) rows p k head ∙ sym end) at,
+    )

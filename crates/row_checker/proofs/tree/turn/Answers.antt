@@ -1,4 +1,4 @@
-use Rattle.std.proofs.Common.{rules, ◌≡◌, ℤ, pos, ◌^◌, ◌-◌, List, [], ◌∷◌, ◌++◌, None, Some, map, length, length-append, ap, sym, ◌∙◌, subst, arith, SFits, w64}
+use Rattle.std.proofs.Common.{rules, ◌≡◌, ℤ, pos, ◌^◌, ◌-◌, List, [], ◌∷◌, ◌++◌, None, map, length, length-append, ap, sym, ◌∙◌, subst, arith, SFits, w64}
 use Rattle.std.specs.Prelude.{◌<ℤ◌}
 use Rattle.std.proofs.lemmas.Int.{to_z-of_z}
 use Rattle.std.proofs.lemmas.List.{map-append}
