@@ -10,9 +10,11 @@ import sys
 TOP = pathlib.Path(__file__).resolve().parent.parent.parent
 CALLS = TOP / "crates/nushbaret/src"
 LISTS = TOP / "crates/lent_lists/src"
+ROWS = TOP / "crates/lent_rows/src/info.rt"
 HEADER = re.sub(r"/\*.*?\*/", "", (TOP / "c/nushbaret.h").read_text(), flags=re.S)
 NUMBERS = {"u8": "uint8_t", "u16": "uint16_t", "u32": "uint32_t", "u64": "uint64_t", "usize": "size_t", "i32": "int32_t", "i64": "int64_t",
-           "SplitPrice": "struct nushbaret_price", "Info": "struct nushbaret_info"}
+           "SplitPrice": "struct nushbaret_price", "Info": "struct nushbaret_info",
+           "RowsInfo": "struct nushbaret_rows_info"}
 # What a code's variant is called in the header, where that isn't its own name.
 CALLED = {"Verdict::Length": "ANSWER_LENGTH", "Verdict::PriceRange": "PRICE_RANGE", "HallVerdict::Range": "HALL_RANGE", "HallVerdict::Order": "HALL_ORDER",
           "HallVerdict::Missing": "HALL_MISSING", "HallVerdict::Extra": "HALL_EXTRA", "HallVerdict::Count": "HALL_COUNT"}
@@ -58,13 +60,20 @@ def crate_codes():
                 yield CALLED.get(f"{kind}::{variant}", variant.upper()), int(number)
 
 
+def row_codes():
+    """The codes of rows: `Shown` and `Costs` have one."""
+    called = {"NotShown": "NOT_SHOWN", "TooGreat": "TOO_GREAT", "TooDeep": "TOO_DEEP", "RowVariable": "ROW_VARIABLE", "PlanNumber": "PLAN_NUMBER"}
+    for variant, number in re.findall(r"(?:Fault|Answer)::(\w+)(?:\(_\))? => (\d+),", ROWS.read_text()):
+        yield "SHOWN" if variant == "Costs" else called.get(variant, variant.upper()), int(number)
+
+
 def fields(struct):
     body = re.search(rf"struct {struct} \{{(.*?)\}}", HEADER, flags=re.S)[1]
     return [tuple(line.split()) for line in body.split(";") if line.strip()]
 
 
 def crate_fields(file, struct):
-    text = (LISTS / file).read_text()
+    text = (ROWS if file is ROWS else LISTS / file).read_text()
     body = re.search(rf"#\[repr\(C\)\]\n(?:#\[.*\]\n)*pub struct {struct} \{{(.*?)\n\}}", text, flags=re.S)[1]
     return [(NUMBERS[kind], name) for name, kind in re.findall(r"pub (\w+): (\w+)", body)]
 
@@ -73,7 +82,9 @@ calls, declared = dict(crate_calls()), dict(header_calls())
 compare("calls", sorted(declared), sorted(calls))
 for name in sorted(calls.keys() & declared.keys()):
     compare(name, declared[name], calls[name])
-compare("codes", dict(sorted((name, int(code)) for name, code in re.findall(r"NUSHBARET_(\w+) = (\d+)", HEADER))), dict(sorted(crate_codes())))
+compare("codes", dict(sorted((name, int(code)) for name, code in re.findall(r"NUSHBARET_(?!ROWS_)(\w+) = (\d+)", HEADER))), dict(sorted(crate_codes())))
+compare("codes of rows", dict(sorted((name, int(code)) for name, code in re.findall(r"NUSHBARET_ROWS_(\w+) = (\d+)", HEADER))), dict(sorted(row_codes())))
+compare("nushbaret_rows_info", fields("nushbaret_rows_info"), crate_fields(ROWS, "RowsInfo"))
 compare("nushbaret_price", fields("nushbaret_price"), crate_fields("split_price.rt", "SplitPrice"))
 compare("nushbaret_info", fields("nushbaret_info"), crate_fields("info.rt", "Info"))
 text = (TOP / "crates/assign_core/src/numbers.rt").read_text().replace("_", "")
