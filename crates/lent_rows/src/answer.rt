@@ -4,7 +4,7 @@ ghost use Rattle.row_checker.specs.Rows.{row_in};
 ghost use Rattle.lent_rows.specs.Given.{AreRows, plan_of, rows_in, rows_of};
 ghost use Rattle.lent_rows.specs.Answers.{IsAnswer, IsCost, IsFirstBroken, IsPlanAnswer, IsSoFar, is_fault, tree_answer};
 
-use super::given::{Given, have_lengths};
+use super::given::{Given, count_rows, have_lengths};
 use super::lists::{first_unnamed_variable, first_wrong_number, first_wrong_start};
 use super::plan::{meets, plan_of, total_in};
 use super::rows::rows_of;
@@ -137,7 +137,8 @@ fn found(alloc: Global, given: &Given<'_>) -> Result<Answer, AllocError>
     if let Some(fault) = rows_fault(given) {
         return Ok(fault);
     }
-    let rows = rows_of(alloc, given, given.starts.len().saturating_sub(1))?;
+    let count = count_rows(given);
+    let rows = rows_of(alloc, given, count)?;
     let so_far = answer_so_far(alloc, given, rows.as_slice())?;
     if is_fault(so_far) {
         return Ok(so_far);

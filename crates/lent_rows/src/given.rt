@@ -1,6 +1,6 @@
 // What a caller gives.
 ghost use Rattle.std.specs.Prelude.{◌≡◌};
-ghost use Rattle.lent_rows.specs.Given.{GivenRows, have_lengths};
+ghost use Rattle.lent_rows.specs.Given.{GivenRows, have_lengths, rows_in};
 
 use std::marker::Model;
 
@@ -50,4 +50,11 @@ pub fn have_lengths(given: &Given<'_>) -> bool
         && given.least.len() == rows
         && given.most.len() == rows
         && has_plan
+}
+
+/// The number of rows.
+pub fn count_rows(given: &Given<'_>) -> usize
+    ensures { result ≡ rows_in given.now }
+{
+    given.starts.len().saturating_sub(1)
 }

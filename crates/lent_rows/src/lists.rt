@@ -54,7 +54,11 @@ fn is_start(starts: &[usize], terms: usize, place: usize) -> bool
     ensures { result ≡ is_start starts.now terms place }
 {
     let start = natural_at(starts, place);
-    let before = if place == 0 { 0 } else { natural_at(starts, place - 1) };
+    let before = if place == 0 {
+        0
+    } else {
+        natural_at(starts, place - 1)
+    };
     let is_first = place > 0 || start == 0;
     let is_last = place < starts.len().saturating_sub(1) || start == terms;
     before <= start && is_first && is_last
