@@ -258,7 +258,7 @@ static inline int32_t nushbaret_verify_hall(const struct nushbaret_problem *prob
 }
 
 /* ROWS. n variables, each 0 or 1, and rows of whole numbers: least[r] <= sum of coefficient * variable <= most[r]. A tree
-   shows that no plan, that is no choice of the variables, meets all rows. With the row `costs <= C - 1` behind the others
+   shows that no plan, that is no choice of the variables, meets all rows. With the row `costs <= C - 1` after the others
    this says that no plan which meets them costs less than C.
 
    Row r has the terms from starts[r] up to starts[r + 1] of `variables` and `coefficients`: compressed sparse rows. There
@@ -270,7 +270,7 @@ static inline int32_t nushbaret_verify_hall(const struct nushbaret_problem *prob
        leaf    0, k, and k pairs of a row and a multiplier
        split   1, k, t, and k pairs of a variable and a coefficient; then the node of the half where their sum is at most t,
                then that of the half where it is at least t + 1 (t is below INT64_MAX)
-   A split with d splits above it is row d behind the given ones, for the nodes below it. A multiplier above 0 takes a row's
+   A split with d splits above it is row d after the given ones, for the nodes below it. A multiplier above 0 takes a row's
    lower bound, one below 0 its upper bound. A leaf shows its claim if the greatest weighed sum is below the weighed bound:
    sum over the variables of max(0, weight) < sum of multiplier * bound, where the weight of a variable is the sum of
    multiplier * coefficient. A bound that isn't there shows nothing. docs/FORMATS.md has an example. */

@@ -1,5 +1,5 @@
 #!/usr/bin/env python3
-"""Calls nushbaret_rows over the shared library: a table of rows, plans and trees with each code, and 2,000 drawn ones, each beside a plain
+"""Calls nushbaret_rows over the shared library: a table of rows, plans and trees with each code, and 2,000 drawn ones, each against a plain
 slow program that reads the definitions and, where a tree is shown, looks at all plans. tests/door/rows.py LIBRARY"""
 import ctypes
 import itertools
@@ -58,7 +58,7 @@ def judge_leaf(n, rows, pairs, place):
 
 
 def judge(n, rows, tree, place, depth):
-    """The place behind the tree that stands at a place."""
+    """The place after the tree that stands at a place."""
     head = tree[place:place + 2]
     if len(head) < 2 or head[0] not in (0, 1) or head[1] < 0:
         raise Stop(SHAPE, place)

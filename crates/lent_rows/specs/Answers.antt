@@ -60,7 +60,7 @@ pub record IsShown (g : GivenRows) : Type 0 where
   pub verdict : verdict_on g.n (all_rows g) g.tree ≡ verdict.Shown
   pub none : NoPlan g.n (all_rows g)
 
--- a plan isn't given, or it is good but for its costs
+-- a plan isn't given, or it has no fault
 abbrev pub IsReady : GivenRows → Type 0
 IsReady g = (answer : Answer) × IsSoFar g answer × (is_fault answer ≡ false)
 

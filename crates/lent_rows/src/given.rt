@@ -1,5 +1,5 @@
 // What a caller gives.
-ghost use Rattle.std.specs.Prelude.{◌≡◌};
+ghost use Rattle.std.specs.Prelude.{◌≡◌, ◌<◌, ◌^◌};
 ghost use Rattle.lent_rows.specs.Given.{GivenRows, have_lengths, rows_in};
 
 use std::marker::Model;
@@ -54,7 +54,8 @@ pub fn have_lengths(given: &Given<'_>) -> bool
 
 /// The number of rows.
 pub fn count_rows(given: &Given<'_>) -> usize
-    ensures { result ≡ rows_in given.now }
+    ensures is { result ≡ rows_in given.now }
+    ensures small { result < 2 ^ 63 }
 {
     given.starts.len().saturating_sub(1)
 }

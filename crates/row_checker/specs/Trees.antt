@@ -94,7 +94,7 @@ abbrev pub and_then : End → (ℕ → End) → End
 and_then (Stands q) next = next q
 and_then (Stops fault) next = Stops fault
 
--- how a split of k terms ends: both halves, each with its row behind the rows, show that no plan meets
+-- how a split of k terms ends: both halves, each with its row after the rows, show that no plan meets
 -- them, or the first fault counts. `next` says how the halves end
 abbrev pub split_ends : ℕ → List ℤ → (List LinearRow → ℕ → End) → List LinearRow → ℕ → ℕ → End
 split_ends n numbers next rows p k =

@@ -50,12 +50,12 @@ pub record IsAt (n : ℕ) (numbers : List ℤ) (given rows : List LinearRow) (al
   pub less : AreLess path
   pub ends : whole_ends n numbers given path end ≡ all
 
--- a tree that stands ends behind its place
+-- a tree that stands ends after its place
 abbrev pub IsInside : ℕ → ℕ → End → Type 0
 IsInside p long (Stands q) = (p < q) × (q ≤ long)
 IsInside p long (Stops fault) = Unit {0}
 
--- where a step leads: to the node that comes next, which stands behind the last, or to the end of the
+-- where a step leads: to the node that comes next, which stands after the last, or to the end of the
 -- node, below the rows
 abbrev pub IsStep : ℕ → List ℤ → List LinearRow → List LinearRow → End → ℕ → Step → Type 0
 IsStep n numbers given rows all p (Goes q) =

@@ -8,12 +8,12 @@ use Rattle.lent_rows.proofs.answer.found.Goals as goal
 pub answer_so_far-requires-clause-count : goal.answer_so_far-requires-clause-count
 answer_so_far-requires-clause-count c =
     ap length c.as_slice.ensures.value ∙ sym (length-map c.in_ok-rows.rows.items row_in) ∙ ap length c.in_ok-rows.ensures
-    ∙ rows_long c.args.given.now c.count_rows-count.result ∙ c.count_rows-count.ensures
+    ∙ rows_long c.args.given.now c.count_rows-count.result ∙ c.count_rows-count.ensures.is
 
 pub answer_so_far-requires-clause-last : goal.answer_so_far-requires-clause-last
 answer_so_far-requires-clause-last c = λ some.
     let long : length c.as_slice.result.now ≡ rows_in c.args.given.now =
     ap length c.as_slice.ensures.value ∙ sym (length-map c.in_ok-rows.rows.items row_in) ∙ ap length c.in_ok-rows.ensures
-    ∙ rows_long c.args.given.now c.count_rows-count.result ∙ c.count_rows-count.ensures in
+    ∙ rows_long c.args.given.now c.count_rows-count.result ∙ c.count_rows-count.ensures.is in
     let last = has_last c.args.given.now c.in_default.ensures.lengths some in
     omega arith
