@@ -1,0 +1,5 @@
+pub mod Answers
+pub mod Codes
+pub mod Given
+pub mod Lists
+pub mod Reports
