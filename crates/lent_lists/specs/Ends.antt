@@ -1,6 +1,6 @@
 -- What a solving call returns, and what it writes into the buffers.
 use Rattle.std.specs.Prelude.{◌≡◌, ◌≢◌, ℕ, ℤ, pos, List, [], ◌∷◌, Result, Ok, Err, length, drop, ◌++◌}
-use Rattle.assign_core.specs.Assignment.{IsBest, total}
+use Rattle.assign_core.specs.Assignment.{IsAssignment, IsBest, total}
 use Rattle.assign_core.specs.Hall.{IsHallSet}
 use Rattle.cost_lists.specs.Exact.{IsOptimum}
 use Rattle.cost_lists.specs.ListedCosts.{ListedCosts}
@@ -61,11 +61,12 @@ pub record HoldsBest (l : ListedCosts) (before after : Buffers) : Type 0 where
   pub sum : after.info ≡ record before.info { total = total l.rows after.objects }
   pub persons : after.persons ≡ before.persons
 
--- a Hall set, at the beginning of two buffers
+-- a Hall set, at the beginning of two buffers: there is no assignment
 pub record HoldsHall (l : ListedCosts) (before after : Buffers) : Type 0 where
   pub some : List ℕ
   pub few : List ℕ
   pub proof : IsHallSet l.rows some few
+  pub none : (xs : List ℕ) → ¬ IsAssignment l.rows xs
   pub persons : after.persons ≡ some ++ drop (length some) before.persons
   pub objects : after.objects ≡ few ++ drop (length few) before.objects
   pub counts : after.info ≡ record before.info { persons = length some; objects = length few }

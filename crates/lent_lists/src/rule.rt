@@ -52,10 +52,25 @@ impl Rule<Price> for InPrices {
     }
 }
 
+// Whether each element is right. It reads on after a wrong one, so that several are looked at in one
+// step.
+fn are_right<T: Copy, R: Rule<T>>(rule: R, all: &[T]) -> bool
+    ensures { IsTrue result → All (R.is_right rule) all.now }
+{
+    let mut right = true;
+    for i in 0..all.len() {
+        right = rule.allows(all[i]) & right;
+    }
+    right
+}
+
 /// The place of the first element that breaks the rule.
 pub fn first_wrong<T: Copy, R: Rule<T>>(rule: R, all: &[T]) -> Option<usize>
     ensures { MatchOption result (All (R.is_right rule) all.now) (IsFirstWithout (R.is_right rule) all.now) }
 {
+    if are_right(rule, all) {
+        return None;
+    }
     for i in 0..all.len() {
         if !rule.allows(all[i]) {
             return Some(i);

@@ -10,6 +10,7 @@ use crate::end::{End, code_of_end, refuse};
 use crate::given::Given;
 use crate::info::Info;
 use crate::lists::lists_of;
+use assign_core::hall_set_forbids;
 use cost_lists::{CostLists, Object, Person, Price, exact_means_best};
 use list_solver::{HallSet, Record, Standing};
 use std::alloc::Global;
@@ -64,9 +65,11 @@ fn put_answer(
         (buffers objects.old persons.old prices.old info.old)
         (buffers objects.new persons.new prices.new info.new) result }
 {
-    // These calls show the prover that an assignment with exact prices is optimal.
+    // These calls show the prover that an assignment with exact prices is optimal, and that a Hall
+    // set leaves no assignment.
     let _persons = lists.persons();
     exact_means_best();
+    hall_set_forbids();
     match answer {
         Answer::Best(total) => {
             put_standing(objects, prices, standing);
