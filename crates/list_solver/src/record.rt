@@ -114,6 +114,11 @@ impl Record {
         }
     }
 
+    // The looks of all calls; 0 where they are so many that none were counted.
+    fn looks_so_far(&self) -> u64 {
+        if self.looks > u64::MAX / 2 { 0 } else { self.looks }
+    }
+
     // For the search over rows. A search begins with nothing, or with what somebody has.
     pub fn to_dense(&self, has_nothing: bool) -> DenseRecord {
         let begun = if has_nothing {
@@ -123,7 +128,7 @@ impl Record {
         };
         match dense_stage(self.stage) {
             None => DenseRecord {
-                looks: self.looks,
+                looks: self.looks_so_far(),
                 ..begun
             },
             Some(stage) => DenseRecord {
@@ -132,7 +137,7 @@ impl Record {
                 slackness: self.slackness,
                 bids: self.bids,
                 passes: self.passes,
-                looks: self.looks,
+                looks: self.looks_so_far(),
             },
         }
     }
@@ -146,7 +151,7 @@ impl Record {
         };
         match sparse_stage(self.stage) {
             None => SparseRecord {
-                looks: self.looks,
+                looks: self.looks_so_far(),
                 ..begun
             },
             Some(stage) => SparseRecord {
@@ -157,7 +162,7 @@ impl Record {
                 dummy_bids: self.dummy_bids,
                 has_assignment: self.flags & HAS_ASSIGNMENT != 0,
                 drops_pairs: self.flags & DROPS_PAIRS != 0,
-                looks: self.looks,
+                looks: self.looks_so_far(),
             },
         }
     }
