@@ -248,8 +248,8 @@ def _write(report: Report, lines: List[str]) -> bool:
     contents = [(output, content_of(report, lines, output)) for output in outputs if _is_written(output, report.answer, options)]
     files = [(output.path, content) for output, content in contents if not output.is_standard]
     if report.proved is not None and report.proved.certificate is not None and options.certificate is not None:
-        from ._certificates import text_of
-        files.append((options.certificate, text_of(report.proved.certificate).encode()))
+        from ._certificates import certificate_text
+        files.append((options.certificate, certificate_text(report.proved.certificate).encode()))
     if options.each and report.answer.plan is not None:
         from ._each import files_of
         files += files_of(report.roster, report.answer.plan, report.kept, options.each)

@@ -179,8 +179,8 @@ def _bounds(what: str, numbers: Mapping[str, int], counts: Mapping[str, Count], 
     """How many each name takes."""
     found = dict.fromkeys(numbers.values(), default)
     for name, count in counts.items():
-        least, most = count if isinstance(count, tuple) else (count, count)
-        if name not in numbers or not 0 <= least <= most:
+        least, most = count if isinstance(count, (tuple, list)) else (count, count)
+        if name not in numbers or not (isinstance(least, int) and isinstance(most, int) and 0 <= least <= most):
             raise ValueError(f"{what}: {name!r}: {count!r}" + ("" if name in numbers else ": no cost has this name"))
         found[numbers[name]] = Bounds(least, most)
     return found

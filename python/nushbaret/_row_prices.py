@@ -6,17 +6,19 @@ import copy
 import importlib
 import math
 import time
-from typing import Any, Callable, Dict, Iterator, List, NamedTuple, Optional, Tuple
+from typing import Any, Callable, Dict, Iterator, List, NamedTuple, Optional, Sequence, Tuple
 
 from ._row_blocks import Block, blocks_of, limits_of, matrix_of, side_of
 from ._row_diagrams import TOO_MUCH, Diagram, cheapest, cheapest_with, diagram_of
-from ._row_model import Model
+from ._row_model import Limits, Model
 
 np: Any = importlib.import_module("numpy")
 optimize: Any = importlib.import_module("scipy.optimize")
 
 # Prices are whole multiples of 1 / SCALE.
 SCALE = 960
+# The part of the time in which decision diagrams are made with all rows.
+_EXACT_PART = 0.2
 
 
 class Month(NamedTuple):
@@ -53,7 +55,7 @@ class Pricing:
         self.costs = np.array(model.costs, dtype=np.int64)
         self.matrix = matrix_of(rows, model.variables).astype(np.int64)
         self.least, self.most = side_of(rows)
-        self.diagrams = [_diagram(block, deadline) for block in self.blocks]
+        self.diagrams = _diagrams(self.blocks, deadline)
         self.columns = [self.matrix[:, block.variables].tocsc() for block in self.blocks]
         self.months: List[Dict[bytes, Month]] = [{} for _ in self.blocks]
 
@@ -195,10 +197,21 @@ def _master(uses: Any, costs: Any, counts: List[int], least: Any, most: Any) -> 
     return Master(float(found.fun), prices, float(found.x[columns:].sum()))
 
 
-def _diagram(block: Block, deadline: float) -> Diagram:
-    if time.monotonic() > deadline:
-        raise TooWide
-    found = diagram_of(len(block.variables), block.rows)
-    if found is None:
-        raise TooWide
+def _diagrams(blocks: Sequence[Block], deadline: float) -> List[Diagram]:
+    """The blocks' diagrams. Where one is too wide, or all take too long, the others are without rows that weigh their variables, such as
+    hours: then their least costs are bounds. Raises `TooWide` where these are too wide, too, or the deadline has passed."""
+    now = time.monotonic()
+    exact_until, found, is_exact = now + (deadline - now) * _EXACT_PART, [], True
+    for block in blocks:
+        exact = diagram_of(len(block.variables), block.rows) if is_exact else None
+        is_exact = exact is not None and time.monotonic() < exact_until
+        diagram = exact or diagram_of(len(block.variables), [row for row in block.rows if not _weighs(row)])
+        if diagram is None or time.monotonic() > deadline:
+            raise TooWide
+        found.append(diagram)
     return found
+
+
+def _weighs(row: Limits) -> bool:
+    """Whether a row counts some variables more than others."""
+    return len({abs(factor) for _, factor in row.terms}) > 1

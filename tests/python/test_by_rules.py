@@ -20,6 +20,8 @@ from nushbaret._rule_file import Line, rules_of
 from nushbaret._rules_kept import broken_by, plan_of
 
 MOST_PLANS = 4000
+# More than any of these takes on a busy machine.
+SECONDS = 900
 
 
 def drawn(seed):
@@ -99,7 +101,7 @@ class AllPlans(unittest.TestCase):
             found = [built(roster, rules, month, Wish(past)) for roster, month, rules, past, _ in cases]
             possible = [place for place, cost in enumerate(costs) if cost is not None]
             model, starts = side_by_side([found[place].rows.model() for place in possible])
-            finding = find(model, 120)
+            finding = find(model, SECONDS)
             self.assertEqual(finding.kind, "best")
             self.assertEqual(finding.cost + sum(pair.cost for place in possible for pair in cases[place][3]), sum(costs[place] for place in possible))
             for place, start in zip(possible, starts):
@@ -148,7 +150,7 @@ class Reasons(unittest.TestCase):
             tried += 1
             roster, month, rules, past, _ = case
             found = built(roster, rules, month, Wish(past))
-            finding = find(found.rows.model(), 60)
+            finding = find(found.rows.model(), SECONDS)
             self.assertEqual((finding.kind, finding.is_minimal), ("impossible", True))
             model = found.rows.model()
             self.assertFalse(has_plan(model, [row for row in model.rows if row.text in finding.reasons]))
@@ -166,7 +168,7 @@ class Reasons(unittest.TestCase):
             roster, month, rules, past, options = case
             best = self.fewest(*case)
             tried += best is not None
-            answer, proved = answer_by_rules(Task(roster, month, rules, Wish(past, fullest=True), 60))
+            answer, proved = answer_by_rules(Task(roster, month, rules, Wish(past, fullest=True), SECONDS))
             if best is None:
                 self.assertIsNone(answer.plan)
                 continue
@@ -227,7 +229,7 @@ class Evenness(unittest.TestCase):
             best = most_even(roster, month, rules, past, options)
             if best is None:
                 continue
-            answer, proved = answer_by_rules(Task(roster, month, rules, Wish(past), 60))
+            answer, proved = answer_by_rules(Task(roster, month, rules, Wish(past), SECONDS))
             even = [max(0, one.most - one.least - 1) for one in proved.even]
             self.assertEqual((proved.kind, proved.is_most_even, answer.plan.cost, sum(even)), ("best", True, best[-1], sum(best[:-1])), seed)
             tried += 1

@@ -11,7 +11,7 @@ sys.path.insert(0, str(pathlib.Path(__file__).resolve().parents[2] / "python"))
 
 from optional import np, optimize
 from test_command import Runs, Terminal
-from nushbaret import _row_finding as finding
+from nushbaret import _row_finding as finding, _ruling as ruling
 from nushbaret._row_model import Finding
 
 WISHES = (",Early 2027-03-05,Night 2027-03-05,Early 2027-03-06,Night 2027-03-06,Early 2027-03-07,Night 2027-03-07,Early 2027-03-08,"
@@ -115,6 +115,13 @@ class Words(Files):
 
 @unittest.skipIf(optimize is None or np is None, "needs SciPy")
 class Plans(Files):
+    def setUp(self):
+        super().setUp()
+        # More than any of these takes on a busy machine.
+        longer = mock.patch.object(ruling, "DEFAULT_SECONDS", 900)
+        longer.start()
+        self.addCleanup(longer.stop)
+
     def test_best(self):
         self.expect(0, "least cost: 6, proved: no plan that keeps the rules costs less\n" + PLAN, "", *WORDS)
         status, out, _ = self.run_words(*WORDS, "--max", "-q")

@@ -26,6 +26,7 @@ REFUSED = (
     ({"rules": ["rest"]}, ValueError, "rules: 'rest' is no rule, value and names"),
     ({"tasks": {"Zoe": 3}}, ValueError, "tasks: 'Zoe': 3: no cost has this name"),
     ({"places": {"Early 2027-03-05": (2, 1)}}, ValueError, "places: 'Early 2027-03-05': (2, 1)"),
+    ({"places": {"Early 2027-03-05": "2"}}, ValueError, "places: 'Early 2027-03-05': '2'"),
     ({"fixed": [("Ada", "Late")]}, ValueError, "there is no object 'Late'"),
     ({"rows": [(0, {("Zoe", "Early 2027-03-05"): 1}, 1, "x")]}, ValueError, "there is no person 'Zoe'"),
     ({"rows": [(0, {("Ada", "Early 2027-03-05"): 0.5}, 1, "x")]}, ValueError, "rows: 'x': whole numbers are needed"),
@@ -40,7 +41,7 @@ REFUSED = (
 
 def planned(**given):
     """A plan of the roster above, with something else in its place."""
-    words = {"costs": COSTS, "days": SHIFTS, "rules": RULES, "tasks": TASKS, **given}
+    words = {"costs": COSTS, "days": SHIFTS, "rules": RULES, "tasks": TASKS, "seconds": 900, **given}
     return nushbaret.plan_roster(words.pop("costs"), words.pop("days"), words.pop("rules"), **words)
 
 
