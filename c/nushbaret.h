@@ -59,9 +59,9 @@
 
    WARM STARTS
 
-   The `_from` calls take first prices, m of them or none (first_count 0), and read objects as an earlier plan. Numbers that
-   aren't from 1 to m, or stand there twice, count as nobody's. Without first prices and with all objects 0 they begin as the
-   plain calls do. Prices and plans of similar problems save time; whatever they are, the answer is optimal.
+   The `_from` calls take first prices, m of them or none (first_count 0), and read objects as an earlier plan. Numbers
+   that aren't from 1 to m, or stand there twice, count as nobody's. Without first prices and with all objects 0 they
+   begin as the plain calls do. Prices and plans of similar problems save time; whatever they are, the answer is optimal.
 
    IN PIECES
 
@@ -79,7 +79,8 @@
    NOTHING FOUND
 
    Each answer of a search is checked before a call returns it. A search that found nothing that passes returns
-   NUSHBARET_UNFOUND. Nobody has seen it: not once in 200,000 drawn problems of up to five persons. The problem may have an assignment or none.
+   NUSHBARET_UNFOUND. Nobody has seen it: not once in 200,000 drawn problems of up to five persons. The problem may have
+   an assignment or none.
 
    A WORKED EXAMPLE
 
