@@ -9,8 +9,8 @@
      door neighbours TIMES      N = 1000, six drawn problems each: cold, then from the prices before one row in 200, 50, 30
                                 and 20 was redrawn; seconds
      door poor TIMES            a dense problem from standard input: cold, then from first prices of
-                                it: drawn, drawn up to 10^21, one of 10^21, and the prices of it turned round; seconds
-     door wide                  three equal objects with first prices 0, 0 and 10^21, and prices 1, 5 and 7: seconds
+                                it: drawn, drawn up to 9 * 10^18, one of these, and the prices of it turned round; seconds
+     door wide                  three equal objects with first prices 0, 0 and 9 * 10^18, and prices 1, 5 and 7: seconds
      door rectangle N M EACH MOST TIMES   N persons with EACH pairs of M objects, costs 1..MOST: cold, then from the prices of the
                                 same problem and of ones with redrawn rows, and from useless prices; seconds */
 #define _DEFAULT_SOURCE
@@ -24,16 +24,16 @@
 #include <time.h>
 #include <unistd.h>
 
-extern int64_t plain_dense(size_t n, const int64_t *costs, uint16_t *columns);
-extern int64_t plain_c(size_t n, size_t m, const int64_t *costs, uint16_t *columns);
-extern int64_t plain_sparse(size_t n, size_t pairs, const uint16_t *of_rows, const uint16_t *of_columns,
-    const int64_t *costs, uint16_t *columns);
+extern int64_t plain_dense(size_t n, const int64_t *costs, uint32_t *columns);
+extern int64_t plain_c(size_t n, size_t m, const int64_t *costs, uint32_t *columns);
+extern int64_t plain_sparse(size_t n, size_t pairs, const uint32_t *of_rows, const uint32_t *of_columns,
+    const int64_t *costs, uint32_t *columns);
 
 /* A problem, its answer, the lists of its pairs where it is sparse, and its costs to be changed. */
 struct problem {
     struct nushbaret_problem given;
     struct nushbaret_answer answer;
-    uint16_t *of_persons, *of_objects;
+    uint32_t *of_persons, *of_objects;
     int64_t *costs;
     int64_t total;
 };
@@ -47,12 +47,12 @@ static void *room(size_t bytes) {
 static struct problem problem(size_t n, size_t m, size_t pairs, int is_sparse) {
     struct problem p;
     memset(&p, 0, sizeof p);
-    p.of_persons = (uint16_t *)room(pairs * 2), p.of_objects = (uint16_t *)room(pairs * 2);
+    p.of_persons = (uint32_t *)room(pairs * 4), p.of_objects = (uint32_t *)room(pairs * 4);
     p.costs = (int64_t *)room(pairs * 8);
     p.given.sense = NUSHBARET_MIN, p.given.n = n, p.given.m = m, p.given.count = pairs, p.given.costs = p.costs;
     p.given.persons = is_sparse ? p.of_persons : NULL, p.given.objects = is_sparse ? p.of_objects : NULL;
-    p.answer.objects = (uint16_t *)room(n * 2), p.answer.persons = (uint16_t *)room(n * 2);
-    p.answer.prices = (struct nushbaret_price *)room(m * sizeof *p.answer.prices);
+    p.answer.objects = (uint32_t *)room(n * 4), p.answer.persons = (uint32_t *)room(n * 4);
+    p.answer.prices = (int64_t *)room(m * sizeof *p.answer.prices);
     return p;
 }
 
@@ -63,10 +63,12 @@ static double now(void) {
 }
 
 /* The seconds of a solve, from first prices where they are given. */
-static double proved(struct problem *p, const struct nushbaret_price *first) {
+static double proved(struct problem *p, const int64_t *first) {
     double begin;
     int32_t code;
     p->given.first = first;
+    memset(p->answer.objects, 0, p->given.n * sizeof *p->answer.objects);
+    memset(&p->answer.record, 0, sizeof p->answer.record);
     begin = now();
     code = nushbaret_solve(&p->given, &p->answer);
     begin = now() - begin;
@@ -161,7 +163,7 @@ static struct problem read_text(int is_sparse) {
     for (k = 0; k < pairs; k++) {
         const int64_t *one = triples + 3 * k;
         if (k > 0 && one[-3] == one[0] && one[-2] == one[1]) continue;
-        p.of_persons[p.given.count] = (uint16_t)one[0], p.of_objects[p.given.count] = (uint16_t)one[1];
+        p.of_persons[p.given.count] = (uint32_t)one[0], p.of_objects[p.given.count] = (uint32_t)one[1];
         p.costs[p.given.count++] = one[2];
     }
     free(triples);
@@ -190,7 +192,7 @@ static void tell(const char *what, double seconds, double rust, double c, double
 }
 
 /* From first prices, cold, and a check, in turns: the least of each. */
-static void tell_start(const char *name, struct problem *p, const struct nushbaret_price *first, int times) {
+static void tell_start(const char *name, struct problem *p, const int64_t *first, int times) {
     double cold = 1e9, warm = 1e9, check = 1e9;
     int turn;
     for (turn = 0; turn < times; turn++) {
@@ -210,8 +212,8 @@ static void draw_objects(struct problem *p, size_t person, size_t each) {
     size_t k;
     for (k = 0; k < each; k++) {
         draw(&drawn, 1, width);
-        p->of_persons[person * each + k] = (uint16_t)(person + 1);
-        p->of_objects[person * each + k] = (uint16_t)((int64_t)k * width + drawn);
+        p->of_persons[person * each + k] = (uint32_t)(person + 1);
+        p->of_objects[person * each + k] = (uint32_t)((int64_t)k * width + drawn);
     }
 }
 
@@ -225,8 +227,8 @@ static void draw_rows(struct problem *p, int64_t most, size_t every) {
 }
 
 /* The best prices of a problem whose rows are drawn, with costs up to `most`. */
-static struct nushbaret_price *drawn_prices(struct problem *p, int64_t most) {
-    struct nushbaret_price *first = (struct nushbaret_price *)room(p->given.m * sizeof *first);
+static int64_t *drawn_prices(struct problem *p, int64_t most) {
+    int64_t *first = (int64_t *)room(p->given.m * sizeof *first);
     draw_rows(p, most, 1);
     proved(p, NULL);
     memcpy(first, p->answer.prices, p->given.m * sizeof *first);
@@ -238,7 +240,7 @@ static void starts(int times) {
     static const char *names[] = {"same", "one row", "1 %", "2 %", "5 %", "10 %"};
     size_t k;
     struct problem p = problem(2000, 2000, 2000 * 2000, 0);
-    struct nushbaret_price *first = drawn_prices(&p, 1000);
+    int64_t *first = drawn_prices(&p, 1000);
     for (k = 0; k < sizeof every / sizeof *every; k++) {
         draw_rows(&p, 1000, every[k]);
         tell_start(names[k], &p, first, times);
@@ -255,7 +257,7 @@ static void neighbours(int times) {
         for (k = 0; k < sizeof every / sizeof *every; k++)
             for (drawn = 0; drawn < 6; drawn++) {
                 char name[64];
-                struct nushbaret_price *first = drawn_prices(&p, most[i]);
+                int64_t *first = drawn_prices(&p, most[i]);
                 draw_rows(&p, most[i], every[k]);
                 sprintf(name, "1..%ld every %zu", (long)most[i], every[k]);
                 tell_start(name, &p, first, times);
@@ -264,51 +266,49 @@ static void neighbours(int times) {
 }
 
 /* Useless first prices. `own` are the prices that a cold call found. */
-static struct nushbaret_price poor_price(int kind, size_t n, struct nushbaret_price own, size_t place) {
-    struct nushbaret_price price = {0, 0};
+static int64_t poor_price(int kind, int64_t own, size_t place) {
+    const int64_t most = NUSHBARET_GREATEST_PRICE;
     int64_t drawn[2];
     draw(drawn, 2, 1000);
-    if (kind == 0) price.low = (uint64_t)(drawn[0] * 1000 + drawn[1]) * (n + 1);
-    if (kind == 1) price.high = drawn[0] % 54, price.low = (uint64_t)drawn[1] << 54;
-    if (kind == 2 && place == 0) price.high = 54;
-    if (kind == 3) price.low = ((uint64_t)1 << 55) - (own.low & (((uint64_t)1 << 55) - 1));
-    return price;
+    if (kind == 0) return drawn[0] * 1000 + drawn[1];
+    if (kind == 1) return drawn[0] * (most / 1000) - drawn[1];
+    if (kind == 2) return place == 0 ? most : 0;
+    return own < INT64_C(1) << 40 ? (INT64_C(1) << 40) - own : 0;
 }
 
 static void poor(int times) {
-    static const char *names[] = {"drawn", "drawn up to 10^21", "one of 10^21", "turned round"};
+    static const char *names[] = {"drawn", "drawn up to 9 * 10^18", "one of 9 * 10^18", "turned round"};
     struct problem p = read_text(0);
     size_t j, n = p.given.n;
-    struct nushbaret_price *own = (struct nushbaret_price *)room(n * sizeof *own);
-    struct nushbaret_price *first = (struct nushbaret_price *)room(n * sizeof *first);
+    int64_t *own = (int64_t *)room(n * sizeof *own);
+    int64_t *first = (int64_t *)room(n * sizeof *first);
     int kind;
     proved(&p, NULL);
     memcpy(own, p.answer.prices, n * sizeof *own);
     for (kind = 0; kind < 4; kind++) {
-        for (j = 0; j < n; j++) first[j] = poor_price(kind, n, own[j], j);
+        for (j = 0; j < n; j++) first[j] = poor_price(kind, own[j], j);
         tell_start(names[kind], &p, first, times);
     }
 }
 
 static void wide(void) {
     struct problem p = problem(3, 3, 9, 0);
-    struct nushbaret_price far[3] = {{0, 0}, {0, 0}, {UINT64_C(3875820019684212736), 54}};
-    struct nushbaret_price odd[3] = {{1, 0}, {5, 0}, {7, 0}};
+    int64_t far[3] = {0, 0, NUSHBARET_GREATEST_PRICE};
+    int64_t odd[3] = {1, 5, 7};
     size_t k;
     for (k = 0; k < 9; k++) p.costs[k] = 2;
-    tell("0, 0, 10^21", proved(&p, far), 0, 0, 0);
+    tell("0, 0, 9 * 10^18", proved(&p, far), 0, 0, 0);
     tell("1, 5, 7", proved(&p, odd), 0, 0, 0);
-    for (k = 0; k < 3; k++)
-        if (p.answer.prices[k].low % 4 != 0 || p.answer.prices[k].high != 0 || p.total != 6) exit(5);
+    if (p.total != 6) exit(5);
 }
 
 static void rectangle(size_t n, size_t m, size_t each, int64_t most, int times) {
-    static const char *names[] = {"drawn", "drawn up to 10^21", "one of 10^21", "turned round"};
+    static const char *names[] = {"drawn", "drawn up to 9 * 10^18", "one of 9 * 10^18", "turned round"};
     const size_t every[] = {0, n, 100, 20};
     static const char *shares[] = {"same", "one row", "1 %", "5 %"};
     struct problem p = problem(n, m, n * each, each < m);
-    struct nushbaret_price *own = drawn_prices(&p, most);
-    struct nushbaret_price *first = (struct nushbaret_price *)room(m * sizeof *first);
+    int64_t *own = drawn_prices(&p, most);
+    int64_t *first = (int64_t *)room(m * sizeof *first);
     size_t j, k;
     int kind;
     for (k = 0; k < sizeof every / sizeof *every; k++) {
@@ -316,7 +316,7 @@ static void rectangle(size_t n, size_t m, size_t each, int64_t most, int times) 
         tell_start(shares[k], &p, own, times);
     }
     for (kind = 0; kind < 4; kind++) {
-        for (j = 0; j < m; j++) first[j] = poor_price(kind, m, own[j], j);
+        for (j = 0; j < m; j++) first[j] = poor_price(kind, own[j], j);
         tell_start(names[kind], &p, first, times);
     }
 }
@@ -407,8 +407,8 @@ static void memory(size_t n, size_t m, int64_t most) {
     double solving, checking;
     draw(p.costs, p.given.count, most);
     /* The process that solves writes the answer for the one that checks it. */
-    p.answer.objects = (uint16_t *)shared(n * 2), p.answer.persons = (uint16_t *)shared(n * 2);
-    p.answer.prices = (struct nushbaret_price *)shared(m * sizeof *p.answer.prices);
+    p.answer.objects = (uint32_t *)shared(n * 4), p.answer.persons = (uint32_t *)shared(n * 4);
+    p.answer.prices = (int64_t *)shared(m * sizeof *p.answer.prices);
     solving = share_held(&p, 0), checking = share_held(&p, 1);
     if (nushbaret_verify(&p.given, &p.answer) != NUSHBARET_BEST) exit(5);
     tell("memory", solving, 0, 0, checking);

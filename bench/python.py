@@ -17,8 +17,8 @@ except ImportError:
 
 def bare(costs, n, m):
     """The library's call alone."""
-    objects, persons, halves = array("H", bytes(2 * n)), array("H", bytes(2 * n)), library.Halves(m)
-    library.call("dense", False, n, m, costs, objects, persons, halves)
+    objects, persons, prices = array("I", bytes(4 * n)), array("I", bytes(4 * n)), array("q", bytes(8 * m))
+    library.call("dense", False, n, m, costs, objects, persons, prices)
 
 
 def drawn(n, m, most):

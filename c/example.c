@@ -4,12 +4,12 @@
 
 int main(void) {
     const int64_t costs[6] = {4, 1, 9, 2, 3, 9};
-    uint16_t objects[2], persons[2];
-    struct nushbaret_price prices[3];
-    struct nushbaret_problem problem = {NUSHBARET_MIN, 2, 3, costs, NULL, NULL, 6, NULL};
-    struct nushbaret_answer answer = {objects, persons, prices, {0, 0, 0, 0, 0, 0}};
+    uint32_t objects[2], persons[2];
+    int64_t prices[3];
+    struct nushbaret_problem problem = {NUSHBARET_MIN, 2, 3, costs, NULL, NULL, 6, NULL, 0};
+    struct nushbaret_answer answer = {objects, persons, prices, {0, 0, 0, 0, 0, 0}, {0, 0, 0, 0, 0, 0, 0, 0}};
     if (nushbaret_solve(&problem, &answer) != NUSHBARET_BEST) return 1;
-    printf("cost %lld: person 1 has object %d, person 2 has object %d\n", (long long)answer.info.total, objects[0], objects[1]);
+    printf("cost %lld: person 1 has object %u, person 2 has object %u\n", (long long)answer.info.total, (unsigned)objects[0], (unsigned)objects[1]);
     puts(nushbaret_verify(&problem, &answer) == NUSHBARET_BEST ? "proved optimal" : "not proved");
     return 0;
 }

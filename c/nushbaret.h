@@ -5,6 +5,10 @@
    persons who together list fewer objects than they are. With n = m each object is used; with n < m some stay unused;
    with n > m there is never an assignment. Persons are numbered from 1 to n, objects from 1 to m, places in lists from 0.
 
+   Prices are whole numbers in the unit of the costs, one for each object, from 0 to NUSHBARET_GREATEST_PRICE. They prove
+   an assignment optimal if each person's own object is a best one for it at these prices (the least sum of cost and price,
+   under NUSHBARET_MAX the greatest cost less price), and each object that nobody has costs 0.
+
    There are two ways to call: `nushbaret_solve`, at the end, takes a problem and an answer as structs; the functions
    before it take each list with its length.
 
@@ -12,20 +16,22 @@
 
    - Each pointer is valid for as many values as the count after it says, and aligned as its type requires. No pointer
      is NULL, even where its count is 0. (In struct nushbaret_problem three pointers may be NULL: see there.)
-   - What a call writes (each list that isn't const, and `info`) overlaps nothing else that is passed to it. While the
-     call runs, nobody else reads or writes these, and nobody changes what the call reads.
+   - What a call writes (each list that isn't const, `record` and `info`) overlaps nothing else that is passed to it. While
+     the call runs, nobody else reads or writes these, and nobody changes what the call reads.
+   - What a call reads has a value: for a `_from` call also objects, prices and record.
    - malloc, realloc and free are those of the C library, or any three that belong together and align as C requires.
    - The thread has 32 KB of stack left; calls were seen to take a third of it.
    - No call is made from a signal handler, or in the child of a fork of a process that had several threads.
 
-   That is all: the numbers in the lists, the counts, n, m and the sense may have any value. The code that a call
-   returns says what is wrong with them.
+   That is all: the numbers in the lists, the counts, n, m, the sense, the budget and the record may have any value. The
+   code that a call returns says what is wrong with them.
 
    WHAT A CALL KEEPS
 
    Calls use no global state and start no thread. Any number may run at a time, in threads of the caller, each with
    lists of its own; lists that are only read may be shared. A call prints nothing, keeps no pointer, and frees all
-   memory that it took before it returns, whatever its code is. A call can't be interrupted and has no time limit.
+   memory that it took before it returns, whatever its code is. A call can't be interrupted; a budget ends it early (see
+   IN PIECES).
 
    WHAT STANDS WHERE AFTER A CALL
 
@@ -37,6 +43,7 @@
                          nushbaret_check: nothing
    NUSHBARET_HALL        solving: info->persons and info->objects say how many numbers stand at the beginning of persons
                          and of objects, rising; nushbaret_check_hall: nothing
+   NUSHBARET_STOPPED     objects (0: the person has none yet), prices and record
    NUSHBARET_PERSON, NUSHBARET_OBJECT, NUSHBARET_COST, NUSHBARET_PRICE                  info->place
    NUSHBARET_UNLISTED                                                                   info->person
    NUSHBARET_TWICE, NUSHBARET_PRICE_RANGE, NUSHBARET_OVERPRICED, NUSHBARET_HALL_EXTRA   info->object
@@ -46,16 +53,40 @@
    Of several faults a call returns the first in this order: the codes from NUSHBARET_SENSE to NUSHBARET_PRICE as they
    are numbered; then, in nushbaret_check, those from NUSHBARET_ANSWER_LENGTH to NUSHBARET_SLACK and
    NUSHBARET_OVERPRICED, and in nushbaret_check_hall those from NUSHBARET_HALL_RANGE to NUSHBARET_HALL_COUNT.
-   info->place is the first place with this fault. NUSHBARET_MEMORY comes only where nothing is wrong with the problem:
-   memory was refused that the call can't do without. The checking calls ask for it before they judge an answer.
+   info->place is the first place with this fault. NUSHBARET_MEMORY comes only where nothing is wrong with the problem or
+   with a length: memory was refused that the call can't do without. The checking calls ask for it before they judge the
+   numbers of an answer.
+
+   WARM STARTS
+
+   The `_from` calls take first prices, m of them or none (first_count 0), and read objects as an earlier plan. Numbers that
+   aren't from 1 to m, or stand there twice, count as nobody's. Without first prices and with all objects 0 they begin as the
+   plain calls do. Prices and plans of similar problems save time; whatever they are, the answer is optimal.
+
+   IN PIECES
+
+   A budget is a number of looks at pairs, 0 for no limit. A `_from` call that spends it returns NUSHBARET_STOPPED; the same
+   call, with what it wrote to objects, prices and record, goes on from there. first counts only where record->stage is 0,
+   prices only where it isn't. A call may overrun its budget by a pass over all pairs. Set the record to 0 before the first
+   call of a problem. Whatever objects, prices and record hold, the answer is as good.
+
+       struct nushbaret_record record = {0, 0, 0, 0, 0, 0, 0, 0};   (and all objects are 0)
+       do code = nushbaret_dense_from(NUSHBARET_MIN, n, m, costs, n * m, costs, 0, objects, n, persons, n, prices, m,
+           100000000, &record, &info);
+       while (code == NUSHBARET_STOPPED && go_on());
+
+   NOTHING FOUND
+
+   Each answer of a search is checked before a call returns it. A search that found nothing that passes returns
+   NUSHBARET_UNFOUND. Nobody has seen it: not once in XX drawn problems. The problem may have an assignment or none.
 
    A WORKED EXAMPLE
 
        const int64_t costs[6] = {4, 1, 9, 2, 3, 9};   (person 1 pays 4, 1 and 9 for the three objects, person 2 pays 2, 3 and 9)
-       uint16_t objects[2], persons[2];
-       struct nushbaret_price prices[3];
-       struct nushbaret_problem problem = {NUSHBARET_MIN, 2, 3, costs, NULL, NULL, 6, NULL};
-       struct nushbaret_answer answer = {objects, persons, prices, {0, 0, 0, 0, 0, 0}};
+       uint32_t objects[2], persons[2];
+       int64_t prices[3];
+       struct nushbaret_problem problem = {NUSHBARET_MIN, 2, 3, costs, NULL, NULL, 6, NULL, 0};
+       struct nushbaret_answer answer = {objects, persons, prices, {0, 0, 0, 0, 0, 0}, {0, 0, 0, 0, 0, 0, 0, 0}};
        int32_t code = nushbaret_solve(&problem, &answer);
 
    Now code is NUSHBARET_BEST, objects is {2, 1}: person 1 has object 2, person 2 has object 1; answer.info.total is 3.
@@ -71,15 +102,16 @@
 extern "C" {
 #endif
 
-#define NUSHBARET_VERSION "3.1.0"
+#define NUSHBARET_VERSION "4.0.0"
 
 /* The sense: the least sum of costs, or the greatest. */
 #define NUSHBARET_MIN 0u
 #define NUSHBARET_MAX 1u
 
-/* The most persons, and the most objects; the greatest cost, either way. */
-#define NUSHBARET_MOST_PERSONS 8192
+/* The most persons, and the most objects; the greatest cost, either way; the greatest price. */
+#define NUSHBARET_MOST_PERSONS 4194304
 #define NUSHBARET_GREATEST_COST INT64_C(1000000000000)
+#define NUSHBARET_GREATEST_PRICE INT64_C(9000000000000000000)
 
 /* 'The lowest' is the lowest number with this fault. */
 enum nushbaret_code {
@@ -92,14 +124,14 @@ enum nushbaret_code {
     NUSHBARET_PERSON = 5,        /* of_persons[info->place] isn't from 1 to n */
     NUSHBARET_OBJECT = 6,        /* of_objects[info->place] isn't from 1 to m */
     NUSHBARET_COST = 7,          /* costs[info->place] is beyond NUSHBARET_GREATEST_COST either way */
-    NUSHBARET_PRICE = 8,         /* first[info->place] isn't from 0 to 10^21 */
+    NUSHBARET_PRICE = 8,         /* first[info->place] isn't from 0 to NUSHBARET_GREATEST_PRICE */
     NUSHBARET_MEMORY = 9,        /* memory was refused that the call can't do without */
 
     NUSHBARET_ANSWER_LENGTH = 10, /* there aren't n objects and m prices */
     NUSHBARET_UNLISTED = 11,     /* info->person, the lowest, doesn't list its object */
     NUSHBARET_TWICE = 12,        /* info->object, the lowest, is given twice */
-    NUSHBARET_PRICE_RANGE = 13,  /* the price of info->object, the lowest, isn't from 0 to 10^22 - 1 */
-    NUSHBARET_SLACK = 14,        /* info->person, the lowest, would gain more than 1 with info->object, its lowest */
+    NUSHBARET_PRICE_RANGE = 13,  /* the price of info->object, the lowest, isn't from 0 to NUSHBARET_GREATEST_PRICE */
+    NUSHBARET_SLACK = 14,        /* info->person, the lowest, would be better off with info->object, its lowest one */
 
     NUSHBARET_HALL_RANGE = 15,   /* a person isn't from 1 to n, or an object isn't from 1 to m */
     NUSHBARET_HALL_ORDER = 16,   /* a list doesn't rise */
@@ -107,14 +139,23 @@ enum nushbaret_code {
     NUSHBARET_HALL_EXTRA = 18,   /* info->object, the lowest, is named, and no named person lists it */
     NUSHBARET_HALL_COUNT = 19,   /* there aren't fewer objects than persons */
 
-    NUSHBARET_OVERPRICED = 20    /* nobody has info->object, the lowest, and it costs over 1 more than the cheapest */
+    NUSHBARET_OVERPRICED = 20,   /* nobody has info->object, the lowest, and its price isn't 0 */
+
+    NUSHBARET_STOPPED = 21,      /* the budget is spent: the same call goes on */
+    NUSHBARET_UNFOUND = 22       /* the search found nothing that the checker accepts */
 };
 
-/* A price in two halves: low + 2^64 * high. Prices are in the unit of costs times K + 1, where K is the greater of n and m:
-   with n <= m, a price of m + 1 is as much as a cost of 1. */
-struct nushbaret_price {
-    uint64_t low;
-    int64_t high;
+/* Where a search stands that a budget stopped. All 0: it begins. What the fields mean is the library's own affair, and may
+   change with its version; `looks` counts the looks at pairs. */
+struct nushbaret_record {
+    uint32_t stage;
+    uint32_t shift;
+    int64_t slackness;
+    uint64_t bids;
+    uint64_t passes;
+    uint32_t dummy_bids;
+    uint32_t flags;
+    uint64_t looks;
 };
 
 /* What a call reports in addition to its lists. */
@@ -131,68 +172,71 @@ struct nushbaret_info {
    in objects, n in persons and m in prices. */
 int32_t nushbaret_dense(uint32_t sense, size_t n, size_t m,
     const int64_t *costs, size_t costs_count,
-    uint16_t *objects, size_t objects_count,
-    uint16_t *persons, size_t persons_count,
-    struct nushbaret_price *prices, size_t prices_count,
+    uint32_t *objects, size_t objects_count,
+    uint32_t *persons, size_t persons_count,
+    int64_t *prices, size_t prices_count,
     struct nushbaret_info *info);
 
-/* The same with a warm start: m prices, as those of a similar problem. The search begins at them if they fit, n is at most
-   m, and either n is at least 7/8 of m or there are 64 pairs or more for each object; elsewhere they would save no time.
-   Whatever they are, the answer is optimal. */
+/* The same with a warm start, in pieces, or both: see WARM STARTS and IN PIECES. first has m prices or none; objects and
+   record are read and written, prices too where record->stage isn't 0. */
 int32_t nushbaret_dense_from(uint32_t sense, size_t n, size_t m,
     const int64_t *costs, size_t costs_count,
-    const struct nushbaret_price *first, size_t first_count,
-    uint16_t *objects, size_t objects_count,
-    uint16_t *persons, size_t persons_count,
-    struct nushbaret_price *prices, size_t prices_count,
+    const int64_t *first, size_t first_count,
+    uint32_t *objects, size_t objects_count,
+    uint32_t *persons, size_t persons_count,
+    int64_t *prices, size_t prices_count,
+    uint64_t budget,
+    struct nushbaret_record *record,
     struct nushbaret_info *info);
 
 /* Solves a sparse problem: of_persons[k] lists of_objects[k] at costs[k]. These three lists are of one length. A pair that
-   stands there several times counts once, at its least cost, under either sense. The other lists are as in
-   nushbaret_dense. Where the three lists are empty nobody lists anything: NUSHBARET_HALL. */
+   stands there several times counts once, at its best cost: the least, under NUSHBARET_MAX the greatest. The other lists
+   are as in nushbaret_dense. Where the three lists are empty nobody lists anything: NUSHBARET_HALL. */
 int32_t nushbaret_sparse(uint32_t sense, size_t n, size_t m,
-    const uint16_t *of_persons, size_t of_persons_count,
-    const uint16_t *of_objects, size_t of_objects_count,
+    const uint32_t *of_persons, size_t of_persons_count,
+    const uint32_t *of_objects, size_t of_objects_count,
     const int64_t *costs, size_t costs_count,
-    uint16_t *objects, size_t objects_count,
-    uint16_t *persons, size_t persons_count,
-    struct nushbaret_price *prices, size_t prices_count,
+    uint32_t *objects, size_t objects_count,
+    uint32_t *persons, size_t persons_count,
+    int64_t *prices, size_t prices_count,
     struct nushbaret_info *info);
 
-/* The same with a warm start: m prices. */
+/* The same as nushbaret_dense_from is to nushbaret_dense. */
 int32_t nushbaret_sparse_from(uint32_t sense, size_t n, size_t m,
-    const uint16_t *of_persons, size_t of_persons_count,
-    const uint16_t *of_objects, size_t of_objects_count,
+    const uint32_t *of_persons, size_t of_persons_count,
+    const uint32_t *of_objects, size_t of_objects_count,
     const int64_t *costs, size_t costs_count,
-    const struct nushbaret_price *first, size_t first_count,
-    uint16_t *objects, size_t objects_count,
-    uint16_t *persons, size_t persons_count,
-    struct nushbaret_price *prices, size_t prices_count,
+    const int64_t *first, size_t first_count,
+    uint32_t *objects, size_t objects_count,
+    uint32_t *persons, size_t persons_count,
+    int64_t *prices, size_t prices_count,
+    uint64_t budget,
+    struct nushbaret_record *record,
     struct nushbaret_info *info);
 
 /* Checks an assignment of any origin: NUSHBARET_BEST says that these prices prove these objects optimal. Each person's
-   object is then worth as much to it, at these prices, as any other to within 1 (slackness 1), and each object that nobody
-   has costs at most 1 more than the cheapest. A sparse problem is given as above; a dense one by its costs, with
+   object is then a best one for it at these prices (complementary slackness), and the price of each object that nobody has
+   is 0. A sparse problem is given as above; a dense one by its costs, with
    of_persons_count and of_objects_count 0 (any two addresses but NULL will do). With costs_count 0 too it is a sparse
    problem without pairs, not a dense one whose costs were forgotten. Objects and prices may have any lengths and hold any
    numbers. */
 int32_t nushbaret_check(uint32_t sense, size_t n, size_t m,
-    const uint16_t *of_persons, size_t of_persons_count,
-    const uint16_t *of_objects, size_t of_objects_count,
+    const uint32_t *of_persons, size_t of_persons_count,
+    const uint32_t *of_objects, size_t of_objects_count,
     const int64_t *costs, size_t costs_count,
-    const uint16_t *objects, size_t objects_count,
-    const struct nushbaret_price *prices, size_t prices_count,
+    const uint32_t *objects, size_t objects_count,
+    const int64_t *prices, size_t prices_count,
     struct nushbaret_info *info);
 
 /* Checks persons and objects against a problem, which is given as for nushbaret_check: NUSHBARET_HALL says that they are a
    Hall set, so that there is no assignment. In a problem without pairs any persons without objects are one: mind the
    counts. */
 int32_t nushbaret_check_hall(size_t n, size_t m,
-    const uint16_t *of_persons, size_t of_persons_count,
-    const uint16_t *of_objects, size_t of_objects_count,
+    const uint32_t *of_persons, size_t of_persons_count,
+    const uint32_t *of_objects, size_t of_objects_count,
     const int64_t *costs, size_t costs_count,
-    const uint16_t *persons, size_t persons_count,
-    const uint16_t *objects, size_t objects_count,
+    const uint32_t *persons, size_t persons_count,
+    const uint32_t *objects, size_t objects_count,
     struct nushbaret_info *info);
 
 /* Writes the version of the library and a 0 into the room if they fit, leaves a smaller room as it is, and
@@ -201,39 +245,47 @@ size_t nushbaret_version(uint8_t *room, size_t room_count);
 
 /* A problem. Dense: persons and objects are NULL, and costs has `count` values, n * m of them, row by row. Sparse: persons,
    objects and costs have `count` values each, those that nushbaret_sparse calls of_persons, of_objects and costs. `first`
-   is NULL, or has m prices for a warm start. costs is never NULL. */
+   is NULL, or has m prices for a warm start. `budget` is that of a `_from` call, 0 for no limit. costs is never NULL. */
 struct nushbaret_problem {
     uint32_t sense;
     size_t n, m;
     const int64_t *costs;
-    const uint16_t *persons, *objects;
+    const uint32_t *persons, *objects;
     size_t count;
-    const struct nushbaret_price *first;
+    const int64_t *first;
+    uint64_t budget;
 };
 
-/* Room for an answer, which the caller owns: n objects, n persons, m prices, none of them NULL. */
+/* Room for an answer, which the caller owns: n objects, n persons, m prices, none of them NULL. Set the record to 0 before
+   the first call of a problem. */
 struct nushbaret_answer {
-    uint16_t *objects;
-    uint16_t *persons;
-    struct nushbaret_price *prices;
+    uint32_t *objects;
+    uint32_t *persons;
+    int64_t *prices;
     struct nushbaret_info info;
+    struct nushbaret_record record;
 };
 
-/* Solves a problem as nushbaret_dense or nushbaret_sparse does, with a warm start where prices are given; the code and what
-   it writes are those of that call. */
+/* Solves a problem as nushbaret_dense or nushbaret_sparse does. With first prices, a budget, or a record whose stage isn't
+   0 it calls nushbaret_dense_from or nushbaret_sparse_from instead, which read objects: set these to 0, or to an earlier
+   plan, before the first call. The code and what it writes are those of the call. */
 static inline int32_t nushbaret_solve(const struct nushbaret_problem *problem, struct nushbaret_answer *answer) {
     const size_t n = problem->n, m = problem->m, count = problem->count;
-    if (problem->persons == NULL && problem->first == NULL)
+    const int is_plain = problem->first == NULL && problem->budget == 0 && answer->record.stage == 0;
+    const int64_t *first = problem->first == NULL ? problem->costs : problem->first;
+    const size_t first_count = problem->first == NULL ? 0 : m;
+    if (problem->persons == NULL && is_plain)
         return nushbaret_dense(problem->sense, n, m, problem->costs, count,
             answer->objects, n, answer->persons, n, answer->prices, m, &answer->info);
     if (problem->persons == NULL)
-        return nushbaret_dense_from(problem->sense, n, m, problem->costs, count, problem->first, m,
-            answer->objects, n, answer->persons, n, answer->prices, m, &answer->info);
-    if (problem->first == NULL)
+        return nushbaret_dense_from(problem->sense, n, m, problem->costs, count, first, first_count,
+            answer->objects, n, answer->persons, n, answer->prices, m, problem->budget, &answer->record, &answer->info);
+    if (is_plain)
         return nushbaret_sparse(problem->sense, n, m, problem->persons, count, problem->objects, count,
             problem->costs, count, answer->objects, n, answer->persons, n, answer->prices, m, &answer->info);
     return nushbaret_sparse_from(problem->sense, n, m, problem->persons, count, problem->objects, count,
-        problem->costs, count, problem->first, m, answer->objects, n, answer->persons, n, answer->prices, m, &answer->info);
+        problem->costs, count, first, first_count, answer->objects, n, answer->persons, n, answer->prices, m,
+        problem->budget, &answer->record, &answer->info);
 }
 
 /* Checks the n objects and m prices of an answer, by nushbaret_check: NUSHBARET_BEST says that they prove each other. The

@@ -125,7 +125,7 @@ static void augment(struct state *s, int32_t free_row) {
     } while (row != free_row);
 }
 
-int64_t plain_c(size_t n, size_t m, const int64_t *costs, uint16_t *columns) {
+int64_t plain_c(size_t n, size_t m, const int64_t *costs, uint32_t *columns) {
     struct state s = {n, m, costs, NULL, NULL, NULL, NULL, NULL, NULL, NULL, 0};
     int64_t sum = 0;
     size_t i, j, count;
@@ -142,7 +142,7 @@ int64_t plain_c(size_t n, size_t m, const int64_t *costs, uint16_t *columns) {
     if (m > 1) reduce_rows(&s), reduce_rows(&s);
     count = s.free_count;
     for (i = 0; i < count; i++) augment(&s, s.free_rows[i]);
-    for (i = 0; i < n; i++) sum += row_of(&s, (int32_t)i)[s.columns[i]], columns[i] = (uint16_t)(s.columns[i] + 1);
+    for (i = 0; i < n; i++) sum += row_of(&s, (int32_t)i)[s.columns[i]], columns[i] = (uint32_t)(s.columns[i] + 1);
     free(s.prices), free(s.distances), free(s.columns), free(s.rows), free(s.free_rows), free(s.order), free(s.from);
     return sum;
 }

@@ -53,12 +53,12 @@ pub fn main() -> Result<(), String> {
     Ok(())
 }
 
-fn answered(found: Option<Vec<usize>>, room: &mut [u16], cost: impl Fn(usize, usize) -> i64) -> i64 {
+fn answered(found: Option<Vec<usize>>, room: &mut [u32], cost: impl Fn(usize, usize) -> i64) -> i64 {
     let Some(found) = found else {
         return i64::MIN;
     };
     for (place, column) in room.iter_mut().zip(&found) {
-        *place = *column as u16 + 1;
+        *place = *column as u32 + 1;
     }
     found.iter().enumerate().map(|(row, column)| cost(row, *column)).sum()
 }
@@ -68,7 +68,7 @@ fn answered(found: Option<Vec<usize>>, room: &mut [u16], cost: impl Fn(usize, us
 /// # Safety
 /// There are `n * n` costs, and room for `n` columns.
 #[unsafe(no_mangle)]
-pub unsafe extern "C" fn plain_dense(n: usize, costs: *const i64, columns: *mut u16) -> i64 {
+pub unsafe extern "C" fn plain_dense(n: usize, costs: *const i64, columns: *mut u32) -> i64 {
     let costs = unsafe { std::slice::from_raw_parts(costs, n * n) };
     let room = unsafe { std::slice::from_raw_parts_mut(columns, n) };
     answered(Some(solve_dense(&Dense { n, costs })), room, |row, column| costs[row * n + column])
@@ -83,10 +83,10 @@ pub unsafe extern "C" fn plain_dense(n: usize, costs: *const i64, columns: *mut 
 pub unsafe extern "C" fn plain_sparse(
     n: usize,
     pairs: usize,
-    of_rows: *const u16,
-    of_columns: *const u16,
+    of_rows: *const u32,
+    of_columns: *const u32,
     costs: *const i64,
-    columns: *mut u16,
+    columns: *mut u32,
 ) -> i64 {
     let (of_rows, of_columns, costs) = unsafe {
         let numbers = |list| std::slice::from_raw_parts(list, pairs);
@@ -95,7 +95,7 @@ pub unsafe extern "C" fn plain_sparse(
     let room = unsafe { std::slice::from_raw_parts_mut(columns, n) };
     let mut rows: Vec<Row> = vec![Vec::new(); n];
     for k in 0..pairs {
-        rows[of_rows[k] as usize - 1].push((of_columns[k], costs[k]));
+        rows[of_rows[k] as usize - 1].push((of_columns[k] as u16, costs[k]));
     }
     let cost = |row: usize, column: usize| {
         let listed: &Row = &rows[row];

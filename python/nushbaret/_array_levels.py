@@ -16,6 +16,8 @@ BLOCK = 2**14
 MOST_BITS = 61
 # Beyond these powers of two a factor may be no double.
 MOST_SHIFT = 900
+# Whole numbers below this are doubles.
+_MOST_EXACT = 2**53
 # Fewer pairs than this are as fast one by one.
 MANY = 2**14
 # How far an approximate cost may be off, in units of the next level.
@@ -52,7 +54,7 @@ def is_extreme(problem: Problem) -> bool:
 def as_list(problem: Problem) -> Problem:
     """The problem with lists of Python's."""
     if problem.persons is not None:
-        problem = problem._replace(persons=array("H", problem.persons.tolist()), objects=array("H", problem.objects.tolist()))
+        problem = problem._replace(persons=array("I", problem.persons.tolist()), objects=array("I", problem.objects.tolist()))
     return problem._replace(costs=problem.costs.tolist(), numpy=None, most=None)
 
 
@@ -91,13 +93,9 @@ def _module(asked: proved.Given) -> Any:
 
 
 def whole_prices(numpy: Any, answer: proved.Answer) -> Any:
-    """As `whole_prices`, mostly at once: the library's prices are multiples of the unit, each plus one number."""
-    words = numpy.frombuffer(answer.halves.words, numpy.int64).reshape(-1, 2)
-    low = words[:, 0]
-    if words[:, 1].any() or low.min() < 0:
-        return numpy.array(proved.whole_prices(answer), numpy.int64)
-    whole, rest = numpy.divmod(low - low.min(), answer.m + 1)
-    return numpy.array(proved.whole_prices(answer), numpy.int64) if rest.any() else whole
+    """The prices of an answer, the least 0."""
+    prices = numpy.frombuffer(answer.prices, numpy.int64)
+    return prices - prices.min()
 
 
 def kept(level: "Level", most: int) -> Tuple[Any, Any, Any]:
@@ -122,17 +120,17 @@ def kept(level: "Level", most: int) -> Tuple[Any, Any, Any]:
     places = parts.joined(numpy, numpy.intp, found)
     if len(places) < 8 * asked.n:
         persons, objects = numpy.divmod(places, asked.m)
-        return (persons + 1).astype(numpy.uint16), (objects + 1).astype(numpy.uint16), places
+        return (persons + 1).astype(numpy.uint32), (objects + 1).astype(numpy.uint32), places
     starts = numpy.arange(0, (asked.n + 1) * asked.m, asked.m)
     counts = numpy.diff(numpy.searchsorted(places, starts))
-    persons = numpy.repeat(numpy.arange(1, asked.n + 1, dtype=numpy.uint16), counts)
-    return persons, (places - numpy.repeat(starts[:-1] - 1, counts)).astype(numpy.uint16), places
+    persons = numpy.repeat(numpy.arange(1, asked.n + 1, dtype=numpy.uint32), counts)
+    return persons, (places - numpy.repeat(starts[:-1] - 1, counts)).astype(numpy.uint32), places
 
 
 def changes(level: "Level", pairs: "Pairs") -> Tuple[List[int], List[int]]:
     """Who takes an object, and from which person, where that isn't the person's own; 0 for an unused object."""
     numpy = _module(level.asked)
-    own, owner = numpy.zeros(level.asked.n + 1, numpy.uint16), numpy.zeros(level.asked.m + 1, numpy.uint16)
+    own, owner = numpy.zeros(level.asked.n + 1, numpy.uint32), numpy.zeros(level.asked.m + 1, numpy.uint32)
     own[1:] = level.objects
     owner[own[1:]] = numpy.arange(1, level.asked.n + 1)
     other = own[pairs.persons] != pairs.objects
@@ -208,11 +206,13 @@ class _Doubles:
 
     def objects(self) -> Any:
         """The objects of a best plan; None where only exact numbers of any size can show it."""
-        from . import _levels as levels
+        from . import _levels as levels, _ties as ties
         numpy = self.numpy
         whole = self._plainly() if self.doubles else None
         while True:
             if whole is None:
+                if size_of(self.taken) >= _MOST_EXACT:
+                    return None
                 self._take_off(self.taken, self.shift)
                 whole = self._whole() if self.doubles else None
             if whole is not None:
@@ -226,7 +226,7 @@ class _Doubles:
             asked = proved.Given(self.n, self.m, self.pairs.persons, self.pairs.objects, whole_of(numpy, self.high, shift))
             answer = proved.best_of(asked)
             level = levels.Level(asked, answer.objects, *duals_of(asked, answer, 1), shift, 1)
-            kept_ = levels.kept(level, self.n + levels.MORE)
+            kept_ = levels.kept(level, self.n + ties.more(self.n))
             if levels.is_only_plan(level, kept_):
                 return answer.objects
             self._keep(kept_)

@@ -1,7 +1,7 @@
 """Plans whose worst pair is as good as possible."""
 from typing import Any, Dict, List, Optional
 
-from . import _library as library, _parts as parts, _source as sources
+from . import _library as library, _source as sources
 from ._exact import manner
 from ._infeasible import most_served
 from ._problem import Problem, in_whole_numbers, kept, listed
@@ -80,7 +80,7 @@ def _best_within(pairs: Problem, served: int, source: Source) -> Result:
 
 def _values(pairs: Problem) -> List[int]:
     """The different costs, the best first."""
-    found = parts.whole(len(pairs.costs), lambda: pairs.numpy.unique(pairs.costs) if pairs.numpy else sorted(set(pairs.costs)))
+    found = pairs.numpy.unique(pairs.costs) if pairs.numpy else sorted(set(pairs.costs))
     values: List[int] = found.tolist() if pairs.numpy else found
     return values[::-1] if pairs.maximize else values
 

@@ -144,29 +144,29 @@ def _judged(problem: Problem, pairs: List[Tuple[int, int]], costs: List[int], gi
     A dummy's price is what the dearest pair pays, so nobody who is matched gains by staying out. If that is below 0, the cost of
     staying out is lowered instead, so that no price is below 0."""
     n, m, dummies = proved.sizes_of(problem, len(pairs))
-    unit, sign = m + 1, -1 if problem.maximize else 1
-    prices = proved.scaled(problem, given, unit)
+    sign = -1 if problem.maximize else 1
+    prices = proved.whole_of(problem, given, m + 1)
     if prices is None:
         return None
-    paid = [sign * unit * cost + prices[column] for (_, column), cost in zip(pairs, costs)]
+    paid = [sign * cost + prices[column] for (_, column), cost in zip(pairs, costs)]
     dearest = max(paid)
-    less = max(0, -(dearest // unit))
+    less = max(0, -dearest)
     of_objects = prices
     if proved.is_turned(problem):
         of_objects = [0] * problem.n_rows
         for (row, _), held in zip(pairs, paid):
             of_objects[row] = dearest - held
-    if max(of_objects) >= 2**126 or dearest + less * unit >= 2**126 or less > library.GREATEST_COST:
+    of_dummies = [dearest + less] * dummies
+    if max(of_objects + of_dummies) > library.GREATEST_PRICE or less > library.GREATEST_COST:
         return None
-    halves = library.Halves(prices=of_objects + [dearest + less * unit] * dummies)
     asked = proved.given(problem, len(pairs), -sign * less)
-    code, info = library.call("check", problem.maximize, *asked, _objects(problem, pairs, n, m - dummies), halves)
+    code, info = library.call("check", problem.maximize, *asked, _objects(problem, pairs, n, m - dummies), array("q", of_objects + of_dummies))
     return _in_words(problem, pairs, prices, code, info)
 
 
 def _objects(problem: Problem, pairs: List[Tuple[int, int]], n: int, most: int) -> Any:
     """An object for each person, from 1 on; those who stay out have dummies."""
-    objects = array("H", bytes(2 * n))
+    objects = array("I", bytes(4 * n))
     for row, column in pairs:
         if proved.is_turned(problem):
             objects[column] = row + 1
@@ -186,23 +186,23 @@ def _in_words(problem: Problem, pairs: List[Tuple[int, int]], prices: List[int],
             row, column = column, row
         return _better_off(problem, row, column)
     if code == "OVERPRICED":
-        return _overpriced(problem, prices, info.object - 1, 1)
+        return _overpriced(problem, prices, info.object - 1)
     if code in ("PRICE_RANGE", "COST"):
         return None
     if code != "BEST":
         return proved.refuse(code, info)
     # Where rows are more the library has seen the prices of the matched columns alone.
     used = {column for _, column in pairs}
-    overpriced = [column for column, price in enumerate(prices) if price > 1 and column not in used]
-    return _overpriced(problem, prices, overpriced[0], 1) if overpriced else Verdict()
+    overpriced = [column for column, price in enumerate(prices) if price and column not in used]
+    return _overpriced(problem, prices, overpriced[0]) if overpriced else Verdict()
 
 
 def _better_off(problem: Problem, row: int, column: int) -> Verdict:
     return Verdict(f"row {problem.row_name(row)} would be better off with column {problem.column_name(column)}, at these prices", row, column)
 
 
-def _overpriced(problem: Problem, prices: List[int], unused: int, more: int) -> Verdict:
-    cheaper = next(column for column, price in enumerate(prices) if price + more < prices[unused])
+def _overpriced(problem: Problem, prices: List[int], unused: int) -> Verdict:
+    cheaper = next(column for column, price in enumerate(prices) if price < prices[unused])
     return Verdict(f"column {problem.column_name(unused)} stays unused, and column {problem.column_name(cheaper)} is cheaper", None, cheaper)
 
 
@@ -240,7 +240,7 @@ def _judged_exactly(problem: Problem, pairs: List[Tuple[int, int]], costs: List[
     row = next((row for row, more in slack.items() if more), None)
     if row is not None:
         return _better_off(problem, row, rows[row].column)  # type: ignore[union-attr]
-    return _overpriced(problem, prices, next(column for column, more in overpriced.items() if more), 0)
+    return _overpriced(problem, prices, next(column for column, more in overpriced.items() if more))
 
 
 def _unit_of_all(problem: Problem) -> Unit:
@@ -319,8 +319,8 @@ def check(costs: Any, columns: Any, prices: Any, rows: Any = None, maximize: boo
 
     Notes
     -----
-    Within its range the proved library checks, with prices rounded to a part in n + 1 of the costs' unit, which loses nothing. Beyond it
-    Python compares exactly: the plan is proved if what all rows pay above their best adds up to less than the unit of the costs.
+    Within its range the proved library checks, at prices that are whole in the unit of the costs: others are rounded so that what they
+    prove they still prove. Beyond it Python compares exactly: the plan is proved if what all rows pay above their best adds up to less than the unit of the costs.
 
     >>> import nushbaret
     >>> nushbaret.check([[1, 2], [3, 5]], columns=[1, 0], prices=[1, 0])

@@ -314,7 +314,7 @@ def assign_counts(costs: Any, row_counts: Any = None, column_counts: Any = None,
     Notes
     -----
     Rows and columns become as many nodes as they count at most, and what counts once needs two more where a plan would break it; the
-    library takes 8192 nodes of each side. It proves each plan of nodes best, and each shortage. How nodes stand for counts is tested,
+    library takes 4194304 nodes of each side. It proves each plan of nodes best, and each shortage. How nodes stand for counts is tested,
     not proved.
 
     >>> import nushbaret

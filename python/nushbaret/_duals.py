@@ -4,7 +4,7 @@ The duals of the first level are off by less than a unit for each pair. From the
 bounds how much the price of its row's own column may be above that of its column. The plan, rounding and the unit of the costs together
 take less than 5 n units along any path, so pairs whose reduced cost is above 6 n + 16 units need no look."""
 from collections import deque
-from typing import Any, Dict, List, NamedTuple, Optional, Sequence, Tuple
+from typing import Dict, List, NamedTuple, Optional, Sequence
 
 from . import _levels as levels, _proved as proved
 from ._numbers import Unit, in_unit, of_places, unit_of

@@ -18,8 +18,10 @@ Pair = Tuple[int, int]
 # A row and a group of which it takes at most one column.
 Unit = Tuple[int, int]
 NO_PAIR = -1
-# So many nodes are left for gadgets that only a plan shows to be needed, where not all can be made at once.
-LATER = MOST_PERSONS // 8
+# All gadgets that spare pairs are made at once where the nodes are at most so many; else those that a plan is likely to need, up to
+# fewer nodes.
+AT_ONCE = 8192
+LIKELY = 7168
 
 
 class Bounds(NamedTuple):
@@ -294,9 +296,9 @@ def _at_once(builder: _Builder, counted: Counted) -> List[Unit]:
     """The units whose gadgets are made before a plan shows that they are needed. Where there are too many, those come first that a plan
     is likely to use: which cost less than their row and their column do on average."""
     units = list(builder.spare())
-    if builder.most(len(units)) <= MOST_PERSONS:
+    if builder.most(len(units)) <= AT_ONCE:
         return units
-    room = max(0, MOST_PERSONS - LATER - builder.most(1))
+    room = max(0, LIKELY - builder.most(1))
     of_rows, of_columns = _averages(counted.rows, counted.costs), _averages(counted.columns, counted.costs)
     likely: Dict[Unit, int] = {}
     for unit, column, cost in zip(counted.units(), counted.columns, counted.costs):

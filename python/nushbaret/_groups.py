@@ -23,7 +23,7 @@ def read_counts(path: str, roster: Roster, of_objects: bool) -> Counts:
     """Reads how many each object, or each person, takes: a title line, and lines of a name and one whole number, or two: at least and at
     most. Of two, where both have a title, either may be left empty: then there is no least or no greatest number.
 
-    Raises `RosterFault` for the first name that the roster doesn't have or that stands twice, number that is none from 0 to 8192, or least
+    Raises `RosterFault` for the first name that the roster doesn't have or that stands twice, number that is none from 0 to 4194304, or least
     number that is greater than the most.
     """
     sheet = Sheet(path, reading=roster.reading)

@@ -86,7 +86,7 @@ AT_ONCE = 2**16
 
 def lists_of_nodes(count: int, nodes: Any, others: Any) -> Lists:
     """What each of `count` nodes lists, from 0: node nodes[k] lists others[k], both from 1."""
-    lists = [array("H") for _ in range(count)]
+    lists = [array("I") for _ in range(count)]
     for start in range(0, len(nodes), AT_ONCE):
         some, more = nodes[start:start + AT_ONCE].tolist(), others[start:start + AT_ONCE].tolist()
         for node, other in zip(some, more):
@@ -214,10 +214,10 @@ def _part(first: int, left: Set[int], lists: Lists, who: Dict[int, List[int]]) -
 def prove_short(group: Group, lists: Union[Lists, Dict[int, List[int]]]) -> None:
     """Lets the library check that these nodes list just these others, which are fewer."""
     place = {item: number for number, item in enumerate(group.few, 1)}
-    own = array("H", [number for number, node in enumerate(group.many, 1) for _ in lists[node]])
-    others = array("H", [place[item] for node in group.many for item in lists[node]])
+    own = array("I", [number for number, node in enumerate(group.many, 1) for _ in lists[node]])
+    others = array("I", [place[item] for node in group.many for item in lists[node]])
     many, few = len(group.many), len(group.few)
     code, _ = library.call("check_hall", None, many, max(many, few), own, others, array("q", bytes(8 * len(own))),
-                           array("H", range(1, many + 1)), array("H", range(1, few + 1)))
+                           array("I", range(1, many + 1)), array("I", range(1, few + 1)))
     if code != "HALL":
         raise RuntimeError(f"a group was found to be short, and the library says otherwise: {code}")

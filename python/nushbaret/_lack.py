@@ -128,7 +128,7 @@ class _RowsFlow(_Flow):
 
     def __init__(self, counted: Counted):
         super().__init__(counted)
-        self.lists = [array("H") for _ in counted.row_bounds]
+        self.lists = [array("I") for _ in counted.row_bounds]
         for row, column in zip(counted.rows, counted.columns):
             self.lists[row].append(column)
 
@@ -185,7 +185,7 @@ class _ColumnsFlow(_Flow):
 
     def __init__(self, counted: Counted):
         super().__init__(counted)
-        self.listed = [array("H") for _ in counted.column_bounds]
+        self.listed = [array("I") for _ in counted.column_bounds]
         for row, column in zip(counted.rows, counted.columns):
             self.listed[column].append(row)
 

@@ -26,7 +26,6 @@ from ._problem import Problem
 
 # Rounded costs have so many bits.
 BITS = 39
-MORE = ties.MORE
 # From so many pairs on an array is worth making.
 FEW_PAIRS = 64
 
@@ -51,10 +50,10 @@ class Pairs(NamedTuple):
     places: Any
 
 
-def solved(problem: Problem, served: Optional[int], prices: Any) -> Union[proved.Answer, proved.Short]:
+def solved(problem: Problem, served: Optional[int], start: Optional[proved.Start]) -> Union[proved.Answer, proved.Short]:
     """The best plan of so many pairs, for costs of any size; its answer has no prices."""
     with quiet(problem):
-        return _solved(prepared(problem), served, prices)
+        return _solved(prepared(problem), served, start)
 
 
 def quiet(problem: Problem) -> Any:
@@ -62,19 +61,19 @@ def quiet(problem: Problem) -> Any:
     return problem.numpy.errstate(all="ignore") if problem.numpy else contextlib.nullcontext()
 
 
-def _solved(problem: Problem, served: Optional[int], prices: Any) -> Union[proved.Answer, proved.Short]:
+def _solved(problem: Problem, served: Optional[int], start: Optional[proved.Start]) -> Union[proved.Answer, proved.Short]:
     tied = ties.of_problem(problem) if served is None else None
     objects = None if tied is None else ties.best(tied)
     if objects is not None:
         n, m = sorted((problem.n_rows, problem.n_columns))
         return proved.Answer(n, m, None, objects, None)
-    priced = None if served is not None or tied or prices is not None else pricing.first_level(problem, BITS, _most_left(problem))
-    found = priced.level if priced else first_level(problem, served, prices)
+    priced = None if served is not None or tied or start is not None else pricing.first_level(problem, BITS, _most_left(problem))
+    found = priced.level if priced else first_level(problem, served, start)
     if isinstance(found, proved.Short):
         return found
     objects = None if tied is None else ties.after_level(tied, found)
     if objects is None:
-        pairs = priced.pairs if priced else kept(found, found.asked.n + MORE)
+        pairs = priced.pairs if priced else kept(found, found.asked.n + ties.more(found.asked.n))
         objects = found.objects if is_only_plan(found, pairs) else finer(problem, found, pairs)
     return proved.Answer(found.asked.n, found.asked.m, None, objects, None)
 
@@ -87,13 +86,14 @@ def after_first(problem: Problem, level: Level) -> Any:
         objects = ties.after_level(tied, level)
     if objects is not None:
         return objects
-    pairs = kept(level, level.asked.n + MORE)
+    pairs = kept(level, level.asked.n + ties.more(level.asked.n))
     return level.objects if is_only_plan(level, pairs) else finer(problem, level, pairs)
 
 
 def _most_left(problem: Problem) -> int:
     """Up to how many units of reduced cost pairs are left."""
-    return min(problem.n_rows, problem.n_columns) + MORE
+    n = min(problem.n_rows, problem.n_columns)
+    return n + ties.more(n)
 
 
 def prepared(problem: Problem) -> Problem:
@@ -103,11 +103,11 @@ def prepared(problem: Problem) -> Problem:
     return arrays.as_list(problem) if problem.numpy and len(problem.costs) and arrays.is_extreme(problem) else problem
 
 
-def first_level(problem: Problem, served: Optional[int], prices: Any = None) -> Union[Level, proved.Short]:
+def first_level(problem: Problem, served: Optional[int], start: Optional[proved.Start] = None) -> Union[Level, proved.Short]:
     """The level of the first unit."""
     coarse, shift = _rounded(problem)
     asked = proved.given(coarse, served)
-    first = None if prices is None else proved.first_prices(coarse, prices, served)
+    first = None if start is None else proved.first_of(coarse, start, served)
     answer = proved.answer(coarse, asked, first)
     if answer is None:
         raise RuntimeError("costs were rounded to the library's range, and it says otherwise")
@@ -137,11 +137,11 @@ def kept(level: Level, most: int) -> Pairs:
     if not isinstance(asked.costs, (array, library.Lent)):
         return Pairs(*arrays.kept(level, most))
     costs = reading.plain(asked.costs)
-    persons, objects, places = array("H"), array("H"), array("q")
+    persons, objects, places = array("I"), array("I"), array("q")
     if len(asked.persons):
         places.extend(place for place, (person, item, cost) in enumerate(zip(asked.persons, asked.objects, costs))
                       if sign * cost - level.of_persons[person] - level.of_objects[item] <= most)
-        return Pairs(array("H", [asked.persons[place] for place in places]), array("H", [asked.objects[place] for place in places]), places)
+        return Pairs(array("I", [asked.persons[place] for place in places]), array("I", [asked.objects[place] for place in places]), places)
     for person in range(asked.n):
         begin, bound = person * asked.m, level.of_persons[person + 1] + most
         own = [item for item, cost in enumerate(costs[begin:begin + asked.m], 1) if sign * cost - level.of_objects[item] <= bound]
@@ -286,9 +286,9 @@ def finer(problem: Problem, level: Level, pairs: Pairs) -> Any:
     if left is None:
         return level.objects
     if numpy and len(left) >= FEW_PAIRS and max(max(left), -min(left)) < 2**61:
-        as_arrays = Pairs(numpy.array(persons, numpy.uint16), numpy.array(objects, numpy.uint16), None)
+        as_arrays = Pairs(numpy.array(persons, numpy.uint32), numpy.array(objects, numpy.uint32), None)
         return arrays.finish(numpy, level.asked.n, level.asked.m, as_arrays, numpy.array(left, numpy.int64))
-    return finish(level.asked.n, level.asked.m, array("H", persons), array("H", objects), left)
+    return finish(level.asked.n, level.asked.m, array("I", persons), array("I", objects), left)
 
 
 def taken_off(level: Level) -> Tuple[List[int], List[int]]:

@@ -6,7 +6,7 @@ import pathlib
 import threading
 import time
 from array import array
-from typing import TYPE_CHECKING, Any, Callable, Dict, List, Optional, Tuple, Union
+from typing import TYPE_CHECKING, Any, Callable, Dict, List, Optional, Sequence, Tuple, Union
 
 # An array of whole numbers; before Python 3.12 `array` takes no type while a program runs.
 if TYPE_CHECKING:
@@ -14,10 +14,10 @@ if TYPE_CHECKING:
 else:
     Numbers = array
 
-VERSION = "3.1.0"
-MOST_PERSONS = 8192
+VERSION = "4.0.0"
+MOST_PERSONS = 4194304
 GREATEST_COST = 10**12
-GREATEST_FIRST_PRICE = 10**21
+GREATEST_PRICE = 9 * 10**18
 
 CODES = (
     "BEST", "HALL",
@@ -25,6 +25,7 @@ CODES = (
     "ANSWER_LENGTH", "UNLISTED", "TWICE", "PRICE_RANGE", "SLACK",
     "HALL_RANGE", "HALL_ORDER", "HALL_MISSING", "HALL_EXTRA", "HALL_COUNT",
     "OVERPRICED",
+    "STOPPED", "UNFOUND",
 )
 
 NAME = "libnushbaret.so"
@@ -46,6 +47,20 @@ class Info(ctypes.Structure):
 
     _fields_ = [(name, ctypes.c_int64 if name == "total" else ctypes.c_uint64)
                 for name in ("total", "place", "persons", "objects", "person", "object")]
+
+
+class Unfound(RuntimeError):
+    """The library's search found no best plan, and no proof that there is none. Nobody has seen it."""
+
+    def __init__(self) -> None:
+        super().__init__("the library found no plan that its checker accepts, and no proof that there is none: please report this problem")
+
+
+class Record(ctypes.Structure):
+    """Where a search stands that is done in pieces; all 0: it begins."""
+
+    _fields_ = [("stage", ctypes.c_uint32), ("shift", ctypes.c_uint32), ("slackness", ctypes.c_int64), ("bids", ctypes.c_uint64),
+                ("passes", ctypes.c_uint64), ("dummy_bids", ctypes.c_uint32), ("flags", ctypes.c_uint32), ("looks", ctypes.c_uint64)]
 
 
 _INFO = ctypes.sizeof(Info)
@@ -77,7 +92,8 @@ def _load() -> None:
     for name, lists in _LISTS.items():
         call = getattr(library, f"nushbaret_{name}")
         sense = [] if name == "check_hall" else [ctypes.c_uint32]
-        call.argtypes = sense + [ctypes.c_size_t] * 2 + [ctypes.c_void_p, ctypes.c_size_t] * lists + [ctypes.c_void_p]
+        piece = [ctypes.c_uint64, ctypes.c_void_p] if name.endswith("_from") else []
+        call.argtypes = sense + [ctypes.c_size_t] * 2 + [ctypes.c_void_p, ctypes.c_size_t] * lists + piece + [ctypes.c_void_p]
         call.restype = ctypes.c_int32
         _calls[name] = call
     with contextlib.suppress(MemoryError):
@@ -113,32 +129,11 @@ def _lend(values: Any) -> Tuple[Union[int, bytes], int]:
         place, count = values.buffer_info()
     elif isinstance(values, Lent):
         place, count = values.place, values.count
-    elif isinstance(values, Halves):
-        place, count = values.words.buffer_info()[0], len(values)
     elif values.nbytes <= _FEW_BYTES:
         return values.tobytes(), values.size
     else:
         place, count = values.__array_interface__["data"][0], values.size
     return (place, count) if count else (_SPARE.buffer_info()[0], 0)
-
-
-class Halves:
-    """Prices as the library has them: two words each."""
-
-    def __init__(self, count: int = 0, prices: Optional[List[int]] = None):
-        if prices is None:
-            self.words = array("Q", bytes(16 * count))
-        else:
-            self.words = array("Q", [word for price in prices for word in (price & 0xFFFFFFFFFFFFFFFF, price >> 64)])
-
-    def __len__(self) -> int:
-        return len(self.words) // 2
-
-    def prices(self) -> List[int]:
-        low, high = self.words[0::2].tolist(), self.words[1::2]
-        if not any(high):
-            return low
-        return [part + (upper << 64) for part, upper in zip(low, high)]
 
 
 def _loaded() -> Dict[str, Any]:
@@ -150,30 +145,49 @@ def _loaded() -> Dict[str, Any]:
     return _calls
 
 
-def call(name: str, sense: Optional[bool], n: int, m: int, *lists: Any) -> Tuple[str, Info]:
-    """The name of the code, and its record. `sense` is None for `check_hall`; MemoryError where memory is refused, and TimeoutError
-    where the time of `limited` is over."""
+def call(name: str, sense: Optional[bool], n: int, m: int, *lists: Any, piece: Sequence[int] = ()) -> Tuple[str, Info]:
+    """The name of the code, and its record. `sense` is None for `check_hall`; `piece` is a budget, and the address of the record that says
+    where a search stands. MemoryError where memory is refused, and `Unfound` where a search finds nothing."""
     info = Info()
-    in_thread = _end() is not None or n * max(map(len, lists)) >= LONG and threading.current_thread() is threading.main_thread()
-    if in_thread:
-        lists = tuple(map(_owned, lists))
     words: List[Any] = [n, m] if sense is None else [1 if sense else 0, n, m]
     for values in lists:
         words += _lend(values)
-    function = _loaded()[name]
-    words.append(ctypes.addressof(info))
-    code = CODES[waited_for(lambda: int(function(*words)), lists, info) if in_thread else function(*words)]
+    code = CODES[_loaded()[name](*words, *piece, ctypes.addressof(info))]
     if code == "MEMORY":
         raise MemoryError("the library was refused memory")
+    if code == "UNFOUND":
+        raise Unfound
     return code, info
 
 
-# The alarm of a thread's call.
+def searched(sense: bool, n: int, m: int, lists: Sequence[Any], first: Optional[Numbers], written: Sequence[Numbers]) -> Tuple[str, Info]:
+    """What a solving call says to `lists`: the costs of a dense problem, or the persons, objects and costs of listed pairs. It begins at the
+    `first` prices, if there are any, and at what objects `written` holds, which are objects, persons and prices.
+
+    A search that may take long is done in pieces, so that Ctrl-C ends it, and TimeoutError is raised where the time of `limited` is over.
+    After each piece its `progress` is called with how many persons are served."""
+    name, pairs = "dense" if len(lists) == 1 else "sparse", len(lists[-1])
+    progress: Optional[Callable[[int, int], Any]] = getattr(_limits, "progress", None)
+    if first is None and _end() is None and progress is None and n * pairs < LONG:
+        return call(name, sense, n, m, *lists, *written)
+    record, code, info = Record(), "STOPPED", Info()
+    budget = PIECE + PASSES * pairs
+    while code == "STOPPED":
+        look_at_time()
+        start = _SPARE[:0] if first is None else first
+        code, info = call(name + "_from", sense, n, m, *lists, start, *written, piece=(budget, ctypes.addressof(record)))
+        if progress is not None and code in ("BEST", "STOPPED"):
+            progress(n - written[0].count(0), n)
+    return code, info
+
+
+# The alarm of a thread's call, and what is called with its progress.
 _limits = threading.local()
-# A call whose persons times pairs are so many may take long. It gets a thread of its own, so that Ctrl-C ends the wait for it.
+# A search whose persons times pairs are so many may take long. It is done in pieces of so many looks at pairs, and some more for each
+# pair, since each piece reads all of them.
 LONG = 2**27
-_SLICE = 0.2
-_AT_ONCE = 2**22
+PIECE = 2 * 10**7
+PASSES = 4
 _LONGEST_WAIT = 10.0**5
 _TIME_IS_OVER = "the time is over; nothing of the caller's was changed"
 
@@ -238,25 +252,29 @@ def started(thread: threading.Thread) -> None:
 
 
 class limited:
-    """Within, calls and the steps of Python raise TimeoutError after so many seconds; never where that is None."""
+    """Within, calls and the steps of Python raise TimeoutError after so many seconds; never where that is None. After each piece of a
+    search `progress` is called with the persons served so far, and their number."""
 
-    def __init__(self, timeout: Optional[float]):
+    def __init__(self, timeout: Optional[float], progress: Optional[Callable[[int, int], Any]] = None):
         if timeout is not None and not hasattr(timeout, "__float__"):
             raise TypeError(f"timeout is {timeout!r}: it must be a number of seconds")
         if timeout is not None and not timeout >= 0:
             raise ValueError(f"timeout is {timeout!r}: it must be a number of seconds, 0 or more")
-        self.timeout = timeout
+        if progress is not None and not callable(progress):
+            raise TypeError(f"progress is {progress!r}: it must be a call of two numbers, how many are served and how many there are")
+        self.timeout, self.progress = timeout, progress
 
     def __enter__(self) -> None:
         before: Optional[_Alarm] = getattr(_limits, "alarm", None)
         # What rings just as a block ends may leave its alarm here.
         self.before = None if before is None or before.rang else before
         self.alarm: Optional[_Alarm] = None
+        if self.timeout == 0:
+            raise TimeoutError(_TIME_IS_OVER)
+        self.outer_progress, _limits.progress = getattr(_limits, "progress", None), self.progress
         if self.timeout is None:
             return
         end = time.monotonic() + self.timeout
-        if self.timeout == 0:
-            raise TimeoutError(_TIME_IS_OVER)
         if self.before is None or end < self.before.end:
             self.alarm = _Alarm(end)
             try:
@@ -277,7 +295,7 @@ class limited:
             raise TimeoutError(_TIME_IS_OVER) from None
 
     def _leave(self) -> None:
-        _limits.alarm = self.before
+        _limits.alarm, _limits.progress = self.before, self.outer_progress
         if self.alarm is not None:
             self.alarm.stop()
 
@@ -293,43 +311,6 @@ def look_at_time() -> None:
     end = _end()
     if end is not None and time.monotonic() >= end:
         raise TimeoutError(_TIME_IS_OVER)
-
-
-def _owned(values: Any) -> Any:
-    """A list that nobody else changes while the library reads it: a copy of one that is lent by the caller."""
-    if isinstance(values, Lent):
-        return array("q", bytes(values.held))
-    if not hasattr(values, "flags") or values.flags.owndata:
-        return values
-    # In parts, so that Ctrl-C is heeded in between.
-    own = type(values)(values.shape, values.dtype)
-    for begin in range(0, len(values), _AT_ONCE):
-        own[begin:begin + _AT_ONCE] = values[begin:begin + _AT_ONCE]
-    return own
-
-
-def waited_for(work: Callable[[], Any], *lists: Any) -> Any:
-    """What some work returns that a thread does. Where the wait ends early, the thread goes on, and keeps its lists until it ends."""
-    look_at_time()
-    found: List[Any] = []
-    faults: List[BaseException] = []
-    done = threading.Event()
-
-    def run(*kept: Any) -> None:
-        try:
-            found.append(work())
-        except BaseException as fault:
-            faults.append(fault)
-        finally:
-            done.set()
-
-    started(threading.Thread(target=run, args=lists, daemon=True))
-    end = _end()
-    while not done.wait(_SLICE if end is None else min(_SLICE, max(end - time.monotonic(), 0))):
-        look_at_time()
-    if faults:
-        raise faults[0]
-    return found[0]
 
 
 class Whole:
@@ -361,10 +342,10 @@ class Room(Whole):
     where some are forbidden."""
 
     def __init__(self, numpy: Any, n: int, m: int, home: Optional[List["Room"]]):
-        self.memory, self.shape, self.home = array("Q", bytes(_INFO + 16 * m + 4 * n + 8 - 4 * n % 8)), (n, m), home
-        self.rows, self.objects = numpy.arange(n), numpy.frombuffer(self.memory, numpy.uint16, n, _INFO + 16 * m)
+        self.memory, self.shape, self.home = array("Q", bytes(_INFO + 8 * m + 8 * n)), (n, m), home
+        self.rows, self.objects = numpy.arange(n), numpy.frombuffer(self.memory, numpy.uint32, n, _INFO + 8 * m)
         info = self.memory.buffer_info()[0]
-        prices, objects, persons = info + _INFO, info + _INFO + 16 * m, info + _INFO + 16 * m + 2 * n
+        prices, objects, persons = info + _INFO, info + _INFO + 8 * m, info + _INFO + 8 * m + 4 * n
         sense, count, address = ctypes.c_uint32.from_param, ctypes.c_size_t.from_param, ctypes.c_void_p.from_param
         many, few = count(m), count(n)
         self.minimized, self.maximized, self.sizes = sense(0), sense(1), (few, many)
@@ -372,8 +353,7 @@ class Room(Whole):
         self.call = _calls["dense, made ready"]
         # Where the costs of each row begin, less 1.
         self.before = range(-1, n * m - 1, m)
-        self.halves = Halves()
-        self.halves.words = numpy.frombuffer(self.memory, numpy.uint64, 2 * m, _INFO)
+        self.prices = numpy.frombuffer(self.memory, numpy.int64, m, _INFO)
         self.total = ctypes.c_int64.from_buffer(self.memory)
         self.is_rounded = self.is_turned = self.of_list = False
         self.places = 0
@@ -397,7 +377,7 @@ class Room(Whole):
         """The persons and the objects of all pairs."""
         if self.every is None:
             n, m = self.shape
-            kind = numpy.uint16
+            kind = numpy.uint32
             self.every = numpy.repeat(numpy.arange(1, n + 1, dtype=kind), m), numpy.tile(numpy.arange(1, m + 1, dtype=kind), n)
         persons, objects = self.every
         return persons, objects

@@ -62,8 +62,8 @@ def nodes_without(nodes: Nodes, fixed: Collection[Pair]) -> Nodes:
         places = {number: place for place, number in enumerate(left)}
         sides.append((numbers, left, places))
     kept = bytes(row in sides[0][2] and column in sides[1][2] for row, column in zip(nodes.rows, nodes.columns))
-    own = [array("H", compress(numbers, kept)) for numbers, _, _ in sides]
-    rows, columns = (array("H", map(places.__getitem__, numbers)) for numbers, (_, _, places) in zip(own, sides))
+    own = [array("I", compress(numbers, kept)) for numbers, _, _ in sides]
+    rows, columns = (array("I", map(places.__getitem__, numbers)) for numbers, (_, _, places) in zip(own, sides))
     return Nodes(sides[0][1], sides[1][1], rows, columns, array("q", compress(nodes.costs, kept)), Edges(*own), nodes.by_rows, nodes.is_full)
 
 
@@ -88,7 +88,7 @@ def solved(nodes: Nodes, costs: Numbers, fullest: bool) -> Any:
 
 
 def _from_one(numbers: Numbers) -> Numbers:
-    return array("H", [number + 1 for number in numbers])
+    return array("I", [number + 1 for number in numbers])
 
 
 # All best plans: one with the fewest changes, and who could change places.

@@ -1,11 +1,7 @@
 """Steps over long arrays of NumPy's, a part at a time: a part stays in the processor's cache, and Ctrl-C is heeded in between."""
 from typing import Any, Callable, Iterator, List
 
-from . import _library as library
-
 PART = 2**16
-# To sort so many numbers takes long.
-MANY = 2**18
 
 Work = Callable[[slice], Any]
 
@@ -35,11 +31,6 @@ def joined(numpy: Any, kind: Any, arrays: List[Any]) -> Any:
         found[begin:begin + len(array)] = array
         begin += len(array)
     return found
-
-
-def whole(count: int, work: Callable[[], Any]) -> Any:
-    """What a step gives that has to look at all of so many numbers at once, as a sort does. Ctrl-C is heeded meanwhile."""
-    return work() if count < MANY else library.waited_for(work)
 
 
 def in_order(numpy: Any, values: Any) -> Any:

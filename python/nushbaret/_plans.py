@@ -251,7 +251,7 @@ class Ranking:
 
     def _left(self, part: _Part, free: List[int]) -> Problem:
         """The pairs that a part leaves to its free rows and columns."""
-        persons, objects = array("H"), array("H")
+        persons, objects = array("I"), array("I")
         costs: List[int] = []
         number = dict(zip(free, range(1, len(free) + 1)))
         seen: Any = None
@@ -264,7 +264,7 @@ class Ranking:
             kept = [0 if column in banned else held for column, held in zip(columns, own)] if banned else own
             objects.extend(compress(kept, kept))
             costs.extend(compress(values, kept))
-            persons.extend(array("H", (row - part.first + 1,)) * (len(objects) - len(persons)))
+            persons.extend(array("I", (row - part.first + 1,)) * (len(objects) - len(persons)))
         return Problem(self.n_rows - part.first, len(free), False, _packed(costs), persons, objects)
 
     def _prove_empty(self, part: _Part, row: int, choices: Iterable[Choice], found: _Search) -> None:
@@ -286,7 +286,7 @@ class Ranking:
         pairs = self.n_rows - self.whole.columns.count(self.n_columns)
         worth_rows = [self.rows_out and dual < out for dual in rows]
         worth_columns = [self.columns_out and dual < 0 for dual in columns]
-        persons, objects, costs = array("H"), array("H"), array("q")
+        persons, objects, costs = array("I"), array("I"), array("q")
         for row, own in enumerate(self.whole.columns):
             for column, cost in zip(*self.lists[row]):
                 if cost == rows[row] + columns[column]:

@@ -43,7 +43,7 @@ def first_level(problem: Problem, bits: int, most: int) -> Optional[Priced]:
         cheaper, left = matrix.priced(level, most)
         if not len(cheaper):
             return Priced(level, left)
-        chosen, prices = numpy.union1d(chosen, cheaper), answer.halves
+        chosen, prices = numpy.union1d(chosen, cheaper), proved.First(answer.prices, answer.objects)
         if len(chosen) > MOST_SHARE * problem.costs.size:
             return None
     return None
@@ -81,7 +81,7 @@ class _Matrix:
         numpy = self.numpy
         persons, objects = numpy.divmod(places, self.m)
         costs = self._whole(self.costs[persons, objects])
-        asked = proved.Given(self.n, self.m, (persons + 1).astype(numpy.uint16), (objects + 1).astype(numpy.uint16), costs)
+        asked = proved.Given(self.n, self.m, (persons + 1).astype(numpy.uint32), (objects + 1).astype(numpy.uint32), costs)
         found = proved.found(asked, self.sign < 0, prices)
         return found if isinstance(found, proved.Answer) else None
 
@@ -107,9 +107,9 @@ class _Matrix:
             near = (block <= bounds + most).ravel().nonzero()[0]
             below = near[(block.ravel()[near] - bounds.ravel()[near // self.m]) < 0]
             rows = near // self.m
-            found.persons.append((rows + (begin + 1)).astype(numpy.uint16))
-            found.objects.append((near - rows * self.m + 1).astype(numpy.uint16))
+            found.persons.append((rows + (begin + 1)).astype(numpy.uint32))
+            found.objects.append((near - rows * self.m + 1).astype(numpy.uint32))
             found.places.append(near + begin * self.m)
             cheaper.append(below + begin * self.m)
-        kinds = numpy.uint16, numpy.uint16, numpy.intp
+        kinds = numpy.uint32, numpy.uint32, numpy.intp
         return numpy.concatenate(cheaper), Pairs(*(parts.joined(numpy, kind, arrays) for kind, arrays in zip(kinds, found)))

@@ -216,7 +216,7 @@ def costs_of_pairs(problem: Problem, rows: Any, columns: Any) -> List[Any]:
 def _listed_of_pairs(problem: Problem, rows: Any, columns: Any) -> Iterable[Tuple[int, Any]]:
     """The persons and costs of listed pairs that are among some pairs, no two of one row."""
     if problem.numpy:
-        own = problem.numpy.zeros(problem.n_rows + 1, problem.numpy.uint16)
+        own = problem.numpy.zeros(problem.n_rows + 1, problem.numpy.uint32)
         own[problem.numpy.asarray(rows, problem.numpy.intp) + 1] = problem.numpy.asarray(columns, problem.numpy.intp) + 1
         persons, objects = problem.persons, problem.objects
         places = parts.places_where(problem.numpy, len(persons), lambda part: own[persons[part]] == objects[part])
@@ -253,7 +253,7 @@ def in_whole_numbers(problem: Problem) -> Problem:
     costs: Any = [in_unit(ratio, unit) for ratio in ratios]
     persons, objects = problem.persons, problem.objects
     if problem.numpy and persons is not None:
-        persons, objects = array("H", persons.tolist()), array("H", objects.tolist())
+        persons, objects = array("I", persons.tolist()), array("I", objects.tolist())
     return problem._replace(costs=costs, persons=persons, objects=objects, unit=unit, raw=False, numpy=None)
 
 
@@ -286,11 +286,11 @@ def listed(problem: Problem) -> Problem:
         return problem
     n_rows, n_columns, numpy = problem.n_rows, problem.n_columns, problem.numpy
     if numpy:
-        persons = numpy.repeat(numpy.arange(1, n_rows + 1, dtype=numpy.uint16), n_columns)
-        return problem._replace(persons=persons, objects=numpy.tile(numpy.arange(1, n_columns + 1, dtype=numpy.uint16), n_rows))
-    persons, objects = array("H"), array("H", range(1, n_columns + 1)) * n_rows
+        persons = numpy.repeat(numpy.arange(1, n_rows + 1, dtype=numpy.uint32), n_columns)
+        return problem._replace(persons=persons, objects=numpy.tile(numpy.arange(1, n_columns + 1, dtype=numpy.uint32), n_rows))
+    persons, objects = array("I"), array("I", range(1, n_columns + 1)) * n_rows
     for row in range(1, n_rows + 1):
-        persons.extend(array("H", [row]) * n_columns)
+        persons.extend(array("I", [row]) * n_columns)
     costs = problem.costs if isinstance(problem.costs, (array, list)) else array("q", bytes(problem.costs.held))
     return problem._replace(costs=costs, persons=persons, objects=objects)
 
@@ -343,11 +343,11 @@ def _without_forbidden(n_rows: int, n_columns: int, read: exact.Costs) -> Tuple[
         allowed[numpy.asarray(read.forbidden, numpy.intp)] = False
         places = numpy.flatnonzero(allowed)
         persons, objects = numpy.divmod(places, n_columns)
-        return read.numbers[places], (persons + 1).astype(numpy.uint16), (objects + 1).astype(numpy.uint16)
+        return read.numbers[places], (persons + 1).astype(numpy.uint32), (objects + 1).astype(numpy.uint32)
     forbidden = set(map(int, read.forbidden))
     places = [place for place in range(n_rows * n_columns) if place not in forbidden]
-    persons = array("H", [place // n_columns + 1 for place in places])
-    objects = array("H", [place % n_columns + 1 for place in places])
+    persons = array("I", [place // n_columns + 1 for place in places])
+    objects = array("I", [place % n_columns + 1 for place in places])
     return _chosen(read.numbers, places), persons, objects
 
 
@@ -363,8 +363,8 @@ def _numbered(values: Any, most: int, what: str) -> Any:
         if values.dtype.kind != "O" and not getattr(values, "mask", numpy.False_).any():
             if values.size and not (0 <= int(values.min()) and int(values.max()) < most):
                 _all_below(values.tolist(), most, what)
-            # All have room for one more as numbers of 16 bits.
-            return numpy.asarray(values).astype(numpy.uint16) + numpy.uint16(1)
+            # All have room for one more as numbers of 32 bits.
+            return numpy.asarray(values).astype(numpy.uint32) + numpy.uint32(1)
         values = values.tolist()
     values = _listed(values, what)
     try:
@@ -372,7 +372,7 @@ def _numbered(values: Any, most: int, what: str) -> Any:
     except TypeError:
         numbers = [exact.whole_number(value, f"{what}[{place}]") for place, value in enumerate(values)]
     _all_below(numbers, most, what)
-    return array("H", [number + 1 for number in numbers])
+    return array("I", [number + 1 for number in numbers])
 
 
 def _listed(values: Any, what: str) -> List[Any]:
@@ -416,15 +416,16 @@ def of_pairs(n_rows: Any, n_columns: Any, rows: Any, columns: Any, costs: Any, m
     numpy = read.numpy or (arrays if not read.raw else None)
     lists = [persons, objects, read.numbers]
     if numpy:
-        lists = [numpy.asarray(values, kind) for values, kind in zip(lists, ("uint16", "uint16", "float64" if read.raw else "int64"))]
+        lists = [numpy.asarray(values, kind) for values, kind in zip(lists, ("uint32", "uint32", "float64" if read.raw else "int64"))]
     elif exact.numpy_of(persons) or exact.numpy_of(objects):
-        lists[:2] = array("H", map(int, persons)), array("H", map(int, objects))
+        lists[:2] = array("I", map(int, persons)), array("I", map(int, objects))
     problem = Problem(n_rows, n_columns, manner.maximize, lists[2], lists[0], lists[1], read.unit, read.raw, manner.doubles, numpy,
                       arrays, read.fractions)
     if len(read.forbidden):
         forbidden = set(map(int, read.forbidden))
         problem = kept(problem, [place for place in range(len(persons)) if place not in forbidden])
-    return once(problem) if problem.raw else problem
+    # The library would take the greatest cost of a pair under maximize.
+    return once(problem) if problem.raw or manner.maximize else problem
 
 
 def once(problem: Problem) -> Problem:
@@ -450,14 +451,14 @@ def _places_once(problem: Problem) -> Any:
     keys = (problem.persons.astype(numpy.int64) - 1) * problem.n_columns + problem.objects - 1
     if (keys[1:] > keys[:-1]).all() or _are_different(numpy, keys, problem.n_rows * problem.n_columns):
         return None
-    order = parts.whole(len(keys), lambda: numpy.lexsort((problem.costs, keys)))
+    order = numpy.lexsort((problem.costs, keys))
     return numpy.sort(order[numpy.diff(keys[order], prepend=-1) > 0])
 
 
 def _are_different(numpy: Any, keys: Any, most: int) -> bool:
     """Whether no two of some numbers from 0 below a bound are the same."""
     if most > 64 * len(keys):
-        ordered = parts.whole(len(keys), lambda: numpy.sort(keys))
+        ordered = numpy.sort(keys)
         return bool((ordered[1:] > ordered[:-1]).all())
     seen = numpy.zeros(most, bool)
     seen[keys] = True

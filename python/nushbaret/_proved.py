@@ -9,7 +9,7 @@ from fractions import Fraction
 from typing import Any, List, NamedTuple, NoReturn, Optional, Sequence, Tuple, Union
 
 from . import _library as library, _naming as naming, _printing as printing
-from ._library import GREATEST_FIRST_PRICE, MOST_PERSONS, Halves
+from ._library import GREATEST_PRICE, MOST_PERSONS, Numbers
 from ._numbers import ratio_of
 from ._problem import Problem, TooLarge, listed, lists_of, plain
 
@@ -26,14 +26,14 @@ class Given(NamedTuple):
 
 
 class Answer(NamedTuple):
-    """A best assignment: an object for each person, from 1 on, and prices in the unit of costs times m + 1. Where levels found it, there
-    are no prices and no total."""
+    """A best assignment: an object for each person, from 1 on, and prices in the unit of the costs. Where levels found it, there are no
+    prices and no total."""
 
     n: int
     m: int
     total: Optional[int]
     objects: Any
-    halves: Any
+    prices: Any
 
 
 class Short(NamedTuple):
@@ -43,7 +43,22 @@ class Short(NamedTuple):
     objects: Any
 
 
-NONE = array("H")
+class Start(NamedTuple):
+    """Where a search begins: prices of columns in the unit of the costs, and the pairs of an earlier plan."""
+
+    prices: List[Fraction]
+    rows: Sequence[int] = ()
+    columns: Sequence[int] = ()
+
+
+class First(NamedTuple):
+    """The same for the library: prices of objects, and an object for each person, from 1 on; 0 for nobody's."""
+
+    prices: Numbers
+    objects: Numbers
+
+
+NONE = array("I")
 
 
 def is_turned(problem: Problem) -> bool:
@@ -96,9 +111,9 @@ def given(problem: Problem, served: Optional[int] = None, out: int = 0) -> Given
 
 def _dummies(n: int, m: int, dummies: int, out: int) -> Tuple[Any, Any, Any]:
     """Persons, objects and costs of the pairs with dummies."""
-    everybody, objects = array("H", range(1, n + 1)), array("H")
+    everybody, objects = array("I", range(1, n + 1)), array("I")
     for item in range(m - dummies + 1, m + 1):
-        objects.extend(array("H", (item,)) * n)
+        objects.extend(array("I", (item,)) * n)
     return everybody * dummies, objects, array("q", (out,)) * len(objects)
 
 
@@ -111,32 +126,28 @@ def refuse(code: str, info: library.Info) -> NoReturn:
     raise RuntimeError(f"the library refused its lists: {code} at {info.place}")
 
 
-def answer(problem: Problem, asked: Given, first: Optional[Halves] = None) -> Union[Answer, Short, None]:
-    """The library's answer, an Answer or a Short; None where a cost is beyond its range. `first` are prices to start from."""
-    n, m = asked.n, asked.m
-    objects, persons, halves = array("H", bytes(2 * n)), array("H", bytes(2 * n)), Halves(m)
+def answer(problem: Problem, asked: Given, first: Optional[First] = None) -> Union[Answer, Short, None]:
+    """The library's answer, an Answer or a Short; None where a cost is beyond its range. `first` is where to begin."""
     is_dense = problem.persons is None and not len(asked.persons)
-    lists = [asked.costs] if is_dense else [asked.persons, asked.objects, asked.costs]
-    name = "dense" if is_dense else "sparse"
-    if first is not None:
-        name, lists = name + "_from", lists + [first]
-    code, info = library.call(name, problem.maximize, n, m, *lists, objects, persons, halves)
-    if code == "BEST":
-        return Answer(n, m, info.total, objects, halves)
-    if code == "HALL":
-        return Short(persons[:info.persons], objects[:info.objects])
-    return None if code == "COST" else refuse(code, info)
+    lists = (asked.costs,) if is_dense else (asked.persons, asked.objects, asked.costs)
+    code, info, answer_ = _searched(asked, problem.maximize, lists, first)
+    return None if code == "COST" else answer_ or refuse(code, info)
 
 
-def found(asked: Given, maximize: bool, first: Optional[Halves] = None) -> Union[Answer, Short]:
+def found(asked: Given, maximize: bool, first: Optional[First] = None) -> Union[Answer, Short]:
     """The library's answer to listed pairs, whose costs are in its range."""
+    code, info, answer_ = _searched(asked, maximize, (asked.persons, asked.objects, asked.costs), first)
+    return answer_ or refuse(code, info)
+
+
+def _searched(asked: Given, maximize: bool, lists: Sequence[Any], first: Optional[First]) -> Tuple[str, library.Info, Union[Answer, Short, None]]:
+    """What the library says to lists, and its answer if it has one."""
     n, m = asked.n, asked.m
-    objects, persons, halves = array("H", bytes(2 * n)), array("H", bytes(2 * n)), Halves(m)
-    lists = [asked.persons, asked.objects, asked.costs] + ([] if first is None else [first])
-    code, info = library.call("sparse" if first is None else "sparse_from", maximize, n, m, *lists, objects, persons, halves)
+    objects, persons, prices = first.objects[:] if first else array("I", bytes(4 * n)), array("I", bytes(4 * n)), array("q", bytes(8 * m))
+    code, info = library.searched(maximize, n, m, lists, first and first.prices, (objects, persons, prices))
     if code == "BEST":
-        return Answer(n, m, info.total, objects, halves)
-    return Short(persons[:info.persons], objects[:info.objects]) if code == "HALL" else refuse(code, info)
+        return code, info, Answer(n, m, info.total, objects, prices)
+    return code, info, Short(persons[:info.persons], objects[:info.objects]) if code == "HALL" else None
 
 
 def best_of(asked: Given) -> Answer:
@@ -150,7 +161,7 @@ def best_of(asked: Given) -> Answer:
 def no_pairs(problem: Problem) -> Answer:
     """The answer without any pair: all stay out, at prices of 0."""
     n, most = sorted((problem.n_rows, problem.n_columns))
-    return Answer(n, most + n, 0, array("H", (most + 1,)) * n, Halves(most + n))
+    return Answer(n, most + n, 0, array("I", (most + 1,)) * n, array("q", bytes(8 * (most + n))))
 
 
 def pairs_of(problem: Problem, found: Answer) -> Tuple[List[int], List[int]]:
@@ -200,17 +211,10 @@ def duals_of(problem: Problem, found: Answer, prices: List[int], pairs: Sequence
 
 
 def whole_prices(found: Answer) -> List[int]:
-    """Prices without any slack, in whole costs, from prices with slackness 1 in the library's unit.
-
-    There are fewer prices than residues modulo the unit, so one residue belongs to no price. Counted from the residue after it, no
-    remainder is the unit less 1. So two remainders and the slackness differ by less than the unit, and the slack in whole costs is
-    less than 1: there is none. The least price is 0. An unowned object's is at most 1 above the least, so it is 0 too."""
-    prices, unit = found.halves.prices(), found.m + 1
-    rests = {price % unit for price in prices}
-    missing = next(rest for rest in range(unit) if rest not in rests)
-    whole = [(price - missing - 1) // unit for price in prices]
-    lowest = min(whole)
-    return [price - lowest for price in whole]
+    """The prices of an answer, the least 0."""
+    prices: List[int] = found.prices.tolist()
+    lowest = min(prices)
+    return [price - lowest for price in prices] if lowest else prices
 
 
 def rents(duals: Duals) -> List[int]:
@@ -246,28 +250,34 @@ def exact_prices(problem: Problem, prices: Any, what: str = "prices") -> List[Fr
     return [exact_price(price, problem.column_name(column)) for column, price in enumerate(prices)]
 
 
-def scaled(problem: Problem, prices: List[Fraction], unit: int) -> Optional[List[int]]:
-    """Prices as whole numbers in the library's unit, the least 0; None where they are too far apart for it."""
-    scale = unit * problem.unit.denominator
-    whole = [round(price * scale) for price in prices]
+def whole_of(problem: Problem, prices: List[Fraction], parts: int = 1) -> Optional[List[int]]:
+    """Prices as whole numbers of the unit of the costs, the least 0; None where they are too far apart for the library. They are rounded
+    to so many `parts` of the unit first, and then down, from a point that none of them is at: with more parts than prices there is one. So
+    an order of sums of costs and prices that holds to within a part holds of the rounded ones exactly."""
+    scale = parts * problem.unit.denominator
+    fine = [round(price * scale) for price in prices]
+    rests = {price % parts for price in fine}
+    missing = next((rest for rest in range(parts) if rest not in rests), -1)
+    whole = [(price - missing - 1) // parts for price in fine]
     lowest = min(whole, default=0)
     whole = [price - lowest for price in whole]
-    return None if max(whole, default=0) > GREATEST_FIRST_PRICE else whole
+    return None if max(whole, default=0) > GREATEST_PRICE else whole
 
 
-def first_prices(problem: Problem, prices: List[Fraction], served: Optional[int]) -> Optional[Halves]:
-    """Prices to start from, for the library; those of dummies are 0. None where they are too far apart to be of use."""
-    _, m, dummies = sizes_of(problem, served)
-    first = scaled(problem, prices, m + 1)
-    if first is None:
+def first_of(problem: Problem, start: Start, served: Optional[int]) -> Optional[First]:
+    """Where the library's search begins; prices of dummies are 0. None where prices are too far apart to be of use."""
+    n, _, dummies = sizes_of(problem, served)
+    prices, turned, objects = whole_of(problem, start.prices), is_turned(problem), array("I", bytes(4 * n))
+    if prices is None:
         return None
-    if is_turned(problem):
-        first = _of_rows(problem, first, m + 1)
-    return Halves(prices=first + [0] * dummies)
+    for row, column in zip(start.rows, start.columns):
+        if row < problem.n_rows and column < problem.n_columns:
+            objects[column if turned else row] = (row if turned else column) + 1
+    return First(array("q", (_of_rows(problem, prices) if turned else prices) + [0] * dummies), objects)
 
 
-def _of_rows(problem: Problem, prices: List[int], unit: int) -> List[int]:
+def _of_rows(problem: Problem, prices: List[int]) -> List[int]:
     """Prices to start from in the turned problem, the least 0: what rows gain at prices of the columns."""
-    paid = [min((unit * int(cost) + prices[column] for column, cost in zip(*held)), default=None) for held in lists_of(problem)]
+    paid = [min((int(cost) + prices[column] for column, cost in zip(*held)), default=None) for held in lists_of(problem)]
     most = max((price for price in paid if price is not None), default=0)
-    return [0 if price is None else min(most - price, GREATEST_FIRST_PRICE) for price in paid]
+    return [0 if price is None else min(most - price, GREATEST_PRICE) for price in paid]

@@ -173,7 +173,7 @@ class Result(Lasting):
         """Whole duals in a unit. Where levels found the plan these take the costs again."""
         unit = self._shape.unit
         prices: List[int] = []
-        if self._pairs[0] and self._answer.halves is None:
+        if self._pairs[0] and self._answer.prices is None:
             prices, unit = self._exact_prices()
         elif self._pairs[0]:
             prices = proved.whole_prices(self._answer)

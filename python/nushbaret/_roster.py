@@ -324,7 +324,7 @@ class Lines:
     def __init__(self, sheet: Sheet, costs: Costs) -> None:
         self._sheet, self._costs = sheet, costs
         self.persons, self.objects = Names(sheet, "persons"), Names(sheet, "objects")
-        self.of_persons, self.of_objects = array("H"), array("H")
+        self.of_persons, self.of_objects = array("I"), array("I")
         self._pairs = array("q")
 
     def take_all(self, lines: Sequence[int], persons: Sequence[str], objects: Sequence[str], costs: Sequence[str]) -> bool:
@@ -368,19 +368,19 @@ def _read_matrix(sheet: Sheet, costs: Costs) -> Read:
     if len(title) < 2:
         sheet.refuse("no object after the first column", first)
     persons, objects = Names(sheet, "persons"), Names(sheet, "objects")
-    of_persons, of_objects = array("H"), array("H")
+    of_persons, of_objects = array("I"), array("I")
     for column, name in enumerate(title[1:], 2):
         objects.once(name, first, column)
-    all_objects, all_columns = array("H", range(len(title) - 1)), range(2, len(title) + 1)
+    all_objects, all_columns = array("I", range(len(title) - 1)), range(2, len(title) + 1)
     for line, cells in sheet.body(len(title)):
         person = persons.once(cells.pop(0), line, 1)
         own = all_objects
         columns: Sequence[int] = all_columns
         if "" in cells:
-            own, columns = array("H", compress(all_objects, cells)), list(compress(all_columns, cells))
+            own, columns = array("I", compress(all_objects, cells)), list(compress(all_columns, cells))
             cells = list(filter(None, cells))
         costs.take_all(cells, repeat(line), columns)
-        of_persons.extend(array("H", (person,)) * len(own))
+        of_persons.extend(array("I", (person,)) * len(own))
         of_objects.extend(own)
     if not persons.list:
         sheet.refuse("no line after the title", first)

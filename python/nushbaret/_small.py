@@ -6,7 +6,7 @@ from collections import deque
 from typing import Any, Dict, List, Optional, Tuple
 
 from . import _array_levels as arrays, _exact as exact, _levels as levels, _library as library, _printing as printing, _proved as proved
-from ._library import GREATEST_COST, MOST_PERSONS
+from ._library import GREATEST_COST
 from ._naming import is_frame
 from ._numbers import of_places
 from ._problem import Problem
@@ -14,6 +14,9 @@ from ._result import Found
 
 # Beyond these powers of two the double that rounds is none.
 MOST_SHIFT = 850
+# Matrices of more rows or columns aren't small, and those whose search may take more steps aren't either.
+MOST_SIDE = 8192
+MOST_STEPS = 2**27
 # With more costs the library's second call would take longer than to look at reduced costs.
 SMALL = 2**14
 
@@ -35,7 +38,7 @@ class SmallArrays:
         self.kinds.update(dict.fromkeys([self.float64, numpy.dtype("f4"), numpy.dtype("f2")], self.float64))
         self.add, self.subtract, self.copy_to, self.of_bytes = numpy.add, numpy.subtract, numpy.copyto, numpy.frombuffer
         # Numbers from 0 on come out of an array that has -1, 0, 1 ..
-        self.from_zero = numpy.arange(-1, MOST_PERSONS).take
+        self.from_zero = numpy.arange(-1, MOST_SIDE).take
         self.adders: Dict[int, Tuple[Any, Any]] = {}
 
     def assignment(self, costs: Any, maximize: bool) -> Optional[Tuple[Any, Any]]:
@@ -236,7 +239,7 @@ class SmallArrays:
         lists = (held.persons, held.objects) if held else (proved.NONE, proved.NONE)
         asked = proved.Given(n, m, *lists, (held or room).numbers.ravel())
         sign = -1 if maximize else 1
-        duals = arrays.duals_of(asked, proved.Answer(n, m, None, room.objects, room.halves), sign)
+        duals = arrays.duals_of(asked, proved.Answer(n, m, None, room.objects, room.prices), sign)
         level = levels.Level(asked, room.objects, *duals, shift, sign)
         persons, objects = lists if held else (None, None)
         problem = Problem(n, m, maximize, costs.ravel(), persons, objects, raw=True, doubles=not printed, numpy=self.numpy)
@@ -267,8 +270,8 @@ class SmallArrays:
 
 
 def _is_small(n: int, m: int) -> bool:
-    """Whether a matrix isn't empty, and so small that a call needs no thread."""
-    return 0 < n * m * min(n, m) < library.LONG and max(n, m) <= MOST_PERSONS
+    """Whether a matrix isn't empty, and so small that one call solves it soon."""
+    return 0 < n * m * min(n, m) < MOST_STEPS and max(n, m) <= MOST_SIDE
 
 
 def _greatest(costs: Any) -> float:
@@ -307,12 +310,10 @@ def _listed_pairs_of(room: library.Room) -> Tuple[List[int], List[int]]:
 def _answer_of(room: library.Room) -> proved.Answer:
     """The answer in a room, with prices where costs weren't rounded."""
     n, m = room.shape
-    objects = array("H", room.objects.tobytes())
+    objects = array("I", room.objects.tobytes())
     if room.is_rounded:
         return proved.Answer(n, m, None, objects, None)
-    halves = library.Halves()
-    halves.words = array("Q", room.halves.words.tobytes())
-    return proved.Answer(n, m, room.total.value, objects, halves)
+    return proved.Answer(n, m, room.total.value, objects, array("q", room.prices.tobytes()))
 
 
 def _is_long(cost: float) -> bool:

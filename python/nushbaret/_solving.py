@@ -1,6 +1,5 @@
 """The solving calls."""
-from fractions import Fraction
-from typing import Any, List, Optional, Sequence, Tuple, Union, overload
+from typing import Any, Callable, List, Optional, Sequence, Tuple, Union, overload
 
 from . import _exact as exact, _levels as levels, _library as library, _problem as reading, _proved as proved, _source as sources
 from ._infeasible import infeasible, most_served
@@ -11,7 +10,9 @@ from ._source import Held, Source
 
 Start = Union[Result, Sequence[Any], None]
 Found = Union[proved.Answer, proved.Short]
-Prices = Optional[List[Fraction]]
+Began = Optional[proved.Start]
+# What is called with the rows served so far, and how many there are.
+Progress = Optional[Callable[[int, int], Any]]
 
 
 def solve_served(problem: Problem, served: int, source: Optional[Source] = None) -> Optional[Result]:
@@ -20,22 +21,22 @@ def solve_served(problem: Problem, served: int, source: Optional[Source] = None)
     return None if isinstance(answer, proved.Short) else Result(source or Held(problem), problem, answer)
 
 
-def solved(problem: Problem, prices: Prices = None, served: Optional[int] = None) -> Found:
+def solved(problem: Problem, start: Began = None, served: Optional[int] = None) -> Found:
     """The answer to the problem of so many pairs, an Answer or a Short: the library's, or by levels where costs are beyond its range."""
     if served == 0 or not min(problem.n_rows, problem.n_columns):
         return proved.no_pairs(problem)
     if not problem.raw and not isinstance(problem.costs, list):
         asked = proved.given(problem, served)
-        answer = proved.answer(problem, asked, None if prices is None else proved.first_prices(problem, prices, served))
+        answer = proved.answer(problem, asked, None if start is None else proved.first_of(problem, start, served))
         if answer is not None:
             return answer
-    return levels.solved(problem, served, prices)
+    return levels.solved(problem, served, start)
 
 
-def _most(problem: Problem, prices: Prices) -> proved.Answer:
+def _most(problem: Problem, start: Began) -> proved.Answer:
     """The best of the fullest plans. The library also proves that no plan has one pair more."""
     served = most_served(problem)
-    answer = solved(problem, prices, served)
+    answer = solved(problem, start, served)
     if isinstance(answer, proved.Short):
         raise RuntimeError(f"{served} pairs were found to be possible, and the library says otherwise")
     prove_most(problem, served)
@@ -49,26 +50,27 @@ def prove_most(problem: Problem, served: int) -> None:
 
 
 def _answer(problem: Problem, start: Start, partial: bool) -> proved.Answer:
-    prices = None if start is None else start_prices(problem, start)
-    answer = solved(problem, prices)
+    began = None if start is None else began_at(problem, start)
+    answer = solved(problem, began)
     if not isinstance(answer, proved.Short):
         return answer
     if not partial:
         raise infeasible(problem)
-    return _most(problem, prices)
+    return _most(problem, began)
 
 
-def start_prices(problem: Problem, start: Start) -> Prices:
-    """Prices of columns to start from, from a result or from the caller. None where those of a result need costs that were changed since."""
+def began_at(problem: Problem, start: Start) -> Began:
+    """Where a search begins, from a result or from prices of the caller's. None where those of a result need costs that were changed
+    since."""
     if not isinstance(start, Result):
         if not hasattr(start, "__iter__"):
             raise TypeError(f"start is {start!r}: it must be a result, or a list of prices")
-        return proved.exact_prices(problem, start, "start")
+        return proved.Start(proved.exact_prices(problem, start, "start"))
     try:
         prices = start._exact_rents
     except ValueError:
         return None
-    return proved.exact_prices(problem, prices)
+    return proved.Start(proved.exact_prices(problem, prices), *start._pairs)
 
 
 def solve_problem(problem: Problem, start: Start = None, partial: bool = False, source: Optional[Source] = None) -> Result:
@@ -76,14 +78,14 @@ def solve_problem(problem: Problem, start: Start = None, partial: bool = False, 
     return Result(source or Held(problem), problem, _answer(problem, start, partial))
 
 
-def solve_source(source: Source, start: Start = None, partial: bool = False, timeout: Optional[float] = None) -> Result:
+def solve_source(source: Source, start: Start = None, partial: bool = False, timeout: Optional[float] = None, progress: Progress = None) -> Result:
     """The result of what a call was given."""
-    with library.limited(timeout):
+    with library.limited(timeout, progress):
         return solve_problem(source.read(), start, partial, source)
 
 
 def solve(costs: Any, maximize: bool = False, decimals: Optional[int] = None, start: Start = None,
-          partial: bool = False, missing: str = "refuse", timeout: Optional[float] = None) -> Result:
+          partial: bool = False, missing: str = "refuse", timeout: Optional[float] = None, progress: Progress = None) -> Result:
     """A best assignment of the rows and columns of a matrix, with exact duals that prove it.
 
     Each row gets a column, no column twice. With unequal numbers as many pairs as possible are made, and some rows or columns
@@ -94,7 +96,7 @@ def solve(costs: Any, maximize: bool = False, decimals: Optional[int] = None, st
     costs : matrix
         A list of rows, a NumPy array, a DataFrame of pandas, a sparse matrix of SciPy's, or a buffer of two dimensions. Whole numbers,
         floats, Decimals or Fractions; a float of any size is the decimal that it prints as. None or infinity (under maximize -infinity) forbids
-        a pair. At most 8192 rows and columns.
+        a pair. At most 4194304 rows and columns.
     maximize : bool, optional
         Whether to find the greatest sum, not the least.
     decimals : int, optional
@@ -107,8 +109,11 @@ def solve(costs: Any, maximize: bool = False, decimals: Optional[int] = None, st
     missing : {"refuse", "forbid"}, optional
         Whether NaN, and what the mask of an array covers, is refused, or forbids its pair.
     timeout : float, optional
-        After so many seconds TimeoutError is raised, in reading too. The library's work goes on in a thread of its own until it ends,
-        and nothing of the caller's is changed.
+        After so many seconds TimeoutError is raised, in reading too. Nothing of the caller's is changed, and nothing goes on.
+    progress : callable, optional
+        Is called as progress(served, all) after each piece of a search, some tenth of a second: so many of all rows have a column
+        then, or of columns a row where these are fewer. Where levels or dummies take several searches, each counts from 0. What it
+        raises ends the call.
 
     Returns
     -------
@@ -128,6 +133,8 @@ def solve(costs: Any, maximize: bool = False, decimals: Optional[int] = None, st
         If memory is refused.
     LibraryNotFound
         If the shared library is missing. An OSError.
+    RuntimeError
+        If the library's search finds nothing that its checker accepts. Nobody has seen it.
 
     Notes
     -----
@@ -137,28 +144,29 @@ def solve(costs: Any, maximize: bool = False, decimals: Optional[int] = None, st
     >>> nushbaret.solve([[0.1 + 0.2, 2.5], [3, 1e15]]).cost
     Decimal('5.5')
     """
-    if decimals is None and start is None and timeout is None and missing == "refuse":
+    if decimals is None and start is None and timeout is None and progress is None and missing == "refuse":
         arrays = small_arrays()
         found = arrays and arrays.found(costs, bool(maximize))
         if found:
             return Result._of(Source(costs, None, None, None, exact.Manner(found.shape.maximize)), found)
-    return solve_source(Source(sources.lasting(costs), None, None, None, exact.manner(maximize, decimals, missing)), start, partial, timeout)
+    source = Source(sources.lasting(costs), None, None, None, exact.manner(maximize, decimals, missing))
+    return solve_source(source, start, partial, timeout, progress)
 
 
 def solve_sparse(n_rows: Any, n_columns: Optional[int] = None, rows: Any = None, columns: Any = None, costs: Any = None,
                  maximize: bool = False, decimals: Optional[int] = None, start: Start = None, partial: bool = False,
-                 missing: str = "refuse", timeout: Optional[float] = None) -> Result:
+                 missing: str = "refuse", timeout: Optional[float] = None, progress: Progress = None) -> Result:
     """A best assignment where only the listed pairs may be used.
 
     Parameters
     ----------
     n_rows, n_columns : int
-        How many rows and columns there are, 0 to 8192 each. Or one sparse matrix of SciPy's instead of these and of the three
+        How many rows and columns there are, 0 to 4194304 each. Or one sparse matrix of SciPy's instead of these and of the three
         lists; its stored entries are the pairs, also those that are 0. Entries of one place add up, as in SciPy.
     rows, columns, costs : lists or NumPy arrays of one length
         Row rows[k] may have column columns[k] at costs[k]; numbers from 0. A pair that is given several times counts once, at its
         least cost, also under maximize. Costs are as those of `solve`.
-    maximize, decimals, start, partial, missing, timeout
+    maximize, decimals, start, partial, missing, timeout, progress
         As in `solve`.
 
     Returns
@@ -184,21 +192,21 @@ def solve_sparse(n_rows: Any, n_columns: Optional[int] = None, rows: Any = None,
         raise TypeError("n_rows, n_columns, rows, columns and costs are needed, or one sparse matrix")
     else:
         source = Source(sources.listed(costs), sources.listed(rows), sources.listed(columns), (n_rows, n_columns), manner)
-    return solve_source(source, start, partial, timeout)
+    return solve_source(source, start, partial, timeout, progress)
 
 
 @overload
 def linear_sum_assignment(cost_matrix: Sequence[Sequence[Any]], maximize: bool = ..., *, missing: str = ...,
-                          timeout: Optional[float] = ...) -> Tuple[List[int], List[int]]: ...
+                          timeout: Optional[float] = ..., progress: Progress = ...) -> Tuple[List[int], List[int]]: ...
 
 
 @overload
 def linear_sum_assignment(cost_matrix: Any, maximize: bool = ..., *, missing: str = ...,
-                          timeout: Optional[float] = ...) -> Tuple[Any, Any]: ...
+                          timeout: Optional[float] = ..., progress: Progress = ...) -> Tuple[Any, Any]: ...
 
 
 def linear_sum_assignment(cost_matrix: Any, maximize: bool = False, *, missing: str = "refuse",
-                          timeout: Optional[float] = None) -> Tuple[Any, Any]:
+                          timeout: Optional[float] = None, progress: Progress = None) -> Tuple[Any, Any]:
     """The call of scipy.optimize, with its results and errors. The plan is best for exactly these costs; a float is its double.
 
     Parameters
@@ -207,7 +215,7 @@ def linear_sum_assignment(cost_matrix: Any, maximize: bool = False, *, missing: 
         Any that SciPy takes, and None to forbid a pair, as infinity does (under maximize -infinity).
     maximize : bool, optional
         Whether to find the greatest sum.
-    missing, timeout
+    missing, timeout, progress
         As in `solve`; but without "forbid" a mask isn't seen, as in SciPy.
 
     Returns
@@ -226,11 +234,11 @@ def linear_sum_assignment(cost_matrix: Any, maximize: bool = False, *, missing: 
     >>> nushbaret.linear_sum_assignment([[0.3, 0.1, 1e15], [0.1, 0.3, 1e15], [1e15, 1e15, 0.5]])
     ([0, 1, 2], [1, 0, 2])
     """
-    arrays = small_arrays() if timeout is None and missing == "refuse" else None
+    arrays = small_arrays() if timeout is None and progress is None and missing == "refuse" else None
     found = arrays and (arrays.assignment(cost_matrix, maximize) or arrays.of_rows(cost_matrix, maximize))
     if found:
         return found
-    with library.limited(timeout):
+    with library.limited(timeout, progress):
         problem = reading.of_matrix(cost_matrix, exact.manner(maximize, None, missing, True))
         return rows_and_columns(problem, _answer(problem, None, False))
 
@@ -244,9 +252,15 @@ def solve_without(result: Result, row: Any, column: Any, timeout: Optional[float
         raise IndexError(f"row {row}, column {column}: there are {shape.n_rows} rows and {shape.n_columns} columns")
     with library.limited(timeout):
         less = reading.without_pair(result._checked(), row, column)
-        answer = solved(less, None, len(result._pairs[0]))
+        answer = solved(less, _less(result, row, column), len(result._pairs[0]))
     if isinstance(answer, proved.Short):
         raise infeasible(less)
     source: Any = result._source
     source = source._replace(less=source.less + ((row, column),)) if isinstance(source, Source) else Held(less)
     return Result(source, less, answer)
+
+
+def _less(result: Result, row: int, column: int) -> proved.Start:
+    """Where the search without a pair begins: at the result's prices and other pairs."""
+    pairs = [pair for pair in zip(*result._pairs) if pair != (row, column)]
+    return proved.Start(result._exact_rents, [own for own, _ in pairs], [own for _, own in pairs])

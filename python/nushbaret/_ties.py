@@ -12,7 +12,7 @@ import sys
 from fractions import Fraction
 from typing import TYPE_CHECKING, Any, List, NamedTuple, Optional, Sequence, Tuple
 
-from . import _array_levels as arrays, _parts as parts, _proved as proved
+from . import _array_levels as arrays, _proved as proved
 from ._exact import size_of
 from ._library import GREATEST_COST
 from ._numbers import in_unit, ratio_of, unit_of
@@ -21,8 +21,6 @@ from ._problem import Problem
 if TYPE_CHECKING:
     from ._levels import Level
 
-# What is taken of a float for the decimal that it prints as may be off by this part of a unit, for each of 8192 pairs.
-MORE = 2
 # In so many rows costs are looked at. A share of this size has to be near the least one of its row, without that one.
 _ROWS = 16
 _SHARE = 1 / 8
@@ -33,6 +31,12 @@ _FEW_VALUES = 8
 # Into so many slots the way from the least to the greatest value is divided, so that most costs are found without a search.
 _SLOTS = 2**16
 _BITS = 64
+
+
+def more(pairs: int) -> int:
+    """How many units the costs of so many pairs may be off together, where floats are taken for the decimals that they print as: each is
+    less than 2**-13 of a unit off, in two plans."""
+    return 2 + pairs // 4096
 
 
 class Matrix(NamedTuple):
@@ -154,7 +158,7 @@ def _sample(matrix: Matrix) -> Any:
 
 def _all_values(matrix: Matrix) -> Optional[Values]:
     """All different costs; None where they are too many."""
-    found = parts.whole(matrix.costs.size, lambda: matrix.numpy.unique(matrix.costs))
+    found = matrix.numpy.unique(matrix.costs)
     return None if len(found) > _MOST_VALUES else _values_of(matrix, found)
 
 
@@ -244,7 +248,7 @@ def after_level(matrix: Matrix, level: "Level") -> Optional[Any]:
     of_persons, of_objects = level.of_persons[1:], level.of_objects[1:]
     taken = numpy.minimum(of_objects + (2 * n + 2), 0) if n < m else of_objects
     scaled_persons, scaled_objects = _scaled(numpy, of_persons, unit), _scaled(numpy, taken, unit)
-    rounded, bounds = level.asked.costs.reshape(n, m), of_persons + (n + MORE)
+    rounded, bounds = level.asked.costs.reshape(n, m), of_persons + (n + more(n))
     for rows in matrix.blocks():
         block, far = whole[rows], level.sign * rounded[rows] - of_objects > bounds[rows, None]
         block -= scaled_persons[rows, None]

@@ -10,12 +10,16 @@ import sys
 TOP = pathlib.Path(__file__).resolve().parent.parent.parent
 CALLS = TOP / "crates/nushbaret/src"
 LISTS = TOP / "crates/lent_lists/src"
+SOLVER = TOP / "crates/list_solver/src"
 HEADER = re.sub(r"/\*.*?\*/", "", (TOP / "c/nushbaret.h").read_text(), flags=re.S)
-NUMBERS = {"u8": "uint8_t", "u16": "uint16_t", "u32": "uint32_t", "u64": "uint64_t", "usize": "size_t", "i32": "int32_t", "i64": "int64_t",
-           "SplitPrice": "struct nushbaret_price", "Info": "struct nushbaret_info"}
+NUMBERS = {"u8": "uint8_t", "u32": "uint32_t", "u64": "uint64_t", "usize": "size_t", "i32": "int32_t", "i64": "int64_t",
+           "Person": "uint32_t", "Object": "uint32_t", "Cost": "int64_t", "Price": "int64_t",
+           "Record": "struct nushbaret_record", "Info": "struct nushbaret_info"}
 # What a code's variant is called in the header, where that isn't its own name.
 CALLED = {"Verdict::Length": "ANSWER_LENGTH", "Verdict::PriceRange": "PRICE_RANGE", "HallVerdict::Range": "HALL_RANGE", "HallVerdict::Order": "HALL_ORDER",
           "HallVerdict::Missing": "HALL_MISSING", "HallVerdict::Extra": "HALL_EXTRA", "HallVerdict::Count": "HALL_COUNT"}
+# What a parameter is called in the header, where the crate can't call it so: clauses have the word for other things.
+PARAMETERS = {"progress": "record"}
 BUILT = pathlib.Path(sys.argv[1]) if sys.argv[1:] else TOP / "c/out"
 differ = []
 
@@ -34,7 +38,7 @@ def parameters(text):
             yield f"{'' if many[1] else 'const '}{NUMBERS[many[2]]} *{name}"
             yield f"size_t {name}_count"
         elif one:
-            yield f"{NUMBERS[one[1]]} *{name}"
+            yield f"{NUMBERS[one[1]]} *{PARAMETERS.get(name, name)}"
         elif kind != "Global":
             yield f"{NUMBERS[kind]} {name}"
 
@@ -53,7 +57,7 @@ def header_calls():
 def crate_codes():
     for file in ["end.rt", "check.rt"]:
         text = (LISTS / file).read_text()
-        for kind, variant, number in re.findall(r"(Fault|End|HallVerdict|VerdictAmong|Verdict)::(\w+)(?:\([^)]*\))?\)? => (?:\{[^}]*?\n\s*)?(\d+)[,\n]", text):
+        for kind, variant, number in re.findall(r"(Fault|End|HallVerdict|Verdict)::(\w+)(?:\([^)]*\))?\)? => (?:\{[^}]*?\n\s*)?(\d+)[,\n]", text):
             if variant != "Yes":
                 yield CALLED.get(f"{kind}::{variant}", variant.upper()), int(number)
 
@@ -64,7 +68,7 @@ def fields(struct):
 
 
 def crate_fields(file, struct):
-    text = (LISTS / file).read_text()
+    text = file.read_text()
     body = re.search(rf"#\[repr\(C\)\]\n(?:#\[.*\]\n)*pub struct {struct} \{{(.*?)\n\}}", text, flags=re.S)[1]
     return [(NUMBERS[kind], name) for name, kind in re.findall(r"pub (\w+): (\w+)", body)]
 
@@ -74,11 +78,13 @@ compare("calls", sorted(declared), sorted(calls))
 for name in sorted(calls.keys() & declared.keys()):
     compare(name, declared[name], calls[name])
 compare("codes", dict(sorted((name, int(code)) for name, code in re.findall(r"NUSHBARET_(\w+) = (\d+)", HEADER))), dict(sorted(crate_codes())))
-compare("nushbaret_price", fields("nushbaret_price"), crate_fields("split_price.rt", "SplitPrice"))
-compare("nushbaret_info", fields("nushbaret_info"), crate_fields("info.rt", "Info"))
-text = (TOP / "crates/assign_core/src/numbers.rt").read_text().replace("_", "")
-for name in ["MOST_PERSONS", "GREATEST_COST"]:
-    compare(name, int(re.search(rf"NUSHBARET_{name} (?:INT64_C\()?(\d+)", HEADER)[1]), int(re.search(rf"{name.replace('_', '')}: \w+ = (\d+)", text)[1]))
+compare("nushbaret_record", fields("nushbaret_record"), crate_fields(SOLVER / "record.rt", "Record"))
+compare("nushbaret_info", fields("nushbaret_info"), crate_fields(LISTS / "info.rt", "Info"))
+for crate, name, named in [("cost_lists", "MOST_PERSONS", "GREATEST_NUMBER"), ("assign_core", "GREATEST_COST", "GREATEST_COST"),
+                           ("cost_lists", "GREATEST_PRICE", "GREATEST_PRICE")]:
+    text = (TOP / "crates" / crate / "src/numbers.rt").read_text().replace("_", "")
+    value = re.search(rf"{named.replace('_', '')}: \w+ = (\d+)(?: << (\d+))?", text)
+    compare(name, int(re.search(rf"NUSHBARET_{name} (?:INT64_C\()?(\d+)", HEADER)[1]), int(value[1]) << int(value[2] or 0))
 judged = (LISTS / "judge.rt").read_text()
 for name in ["MIN", "MAX"]:
     number = re.search(rf"#define NUSHBARET_{name} (\d+)u", HEADER)[1]

@@ -243,12 +243,12 @@ class Plans(Runs):
         self.file("r.csv", SQUARE)
         for content, text in (("a,b\nnoon,1\n", "c.csv, line 2, column 1: the roster has no object 'noon'"),
                               ("a,b\nlate,1\nlate,1\n", "c.csv, line 3, column 1: the name 'late' a second time"),
-                              ("a,b\nlate,-1\n", "c.csv, line 2, column 2: '-1' is no whole number from 0 to 8192"),
+                              ("a,b\nlate,-1\n", "c.csv, line 2, column 2: '-1' is no whole number from 0 to 4194304"),
                               ("a,b\nlate,1.5\n", "c.csv, line 2, column 2: '1.5' is no whole number"),
-                              ("a,b\nlate,8193\n", "c.csv, line 2, column 2: '8193' is no whole number"),
+                              ("a,b\nlate,4194305\n", "c.csv, line 2, column 2: '4194305' is no whole number"),
                               ("late,2\n", "c.csv, line 1, column 2: a title line must come first"),
                               ("late\n", "c.csv, line 1: each line must have a name and how many it takes"),
-                              ("a,b,c\nlate,1,x\n", "c.csv, line 2, column 3: 'x' is no whole number from 0 to 8192"),
+                              ("a,b,c\nlate,1,x\n", "c.csv, line 2, column 3: 'x' is no whole number from 0 to 4194304"),
                               ("a,b,c\nlate,2,1\n", "c.csv, line 2, column 3: at least 2 and at most 1: the second number can't be less"),
                               ("a,b\nlate,1,2,3\n", "c.csv, line 2: 4 cells, where a name and one or two numbers are needed")):
             self.file("c.csv", content)

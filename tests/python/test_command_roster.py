@@ -12,6 +12,7 @@ from unittest import mock
 
 sys.path.insert(0, str(pathlib.Path(__file__).resolve().parents[2] / "python"))
 
+from nushbaret import _roster
 from nushbaret._roster import alike, form_of, read_plan, read_roster
 from nushbaret._sheets import RosterFault, Sheet
 
@@ -259,9 +260,11 @@ class Refusals(Folder):
 
     def test_too_many(self):
         lines = "".join(f"p{number},x,1\n" for number in range(8193))
-        self.refusal("a,b,c\n" + lines, 8194, 1, "more than 8192 persons")
-        self.assertEqual(len(self.roster("a,b,c\n" + lines[:lines.index("p8192")]).persons), 8192)
-        self.refusal("," + ",".join(f"x{number}" for number in range(8193)) + "\n", 1, 8194, "more than 8192 objects")
+        with mock.patch.object(_roster, "MOST_PERSONS", 8192):
+            self.refusal("a,b,c\n" + lines, 8194, 1, "more than 8192 persons")
+            self.assertEqual(len(self.roster("a,b,c\n" + lines[:lines.index("p8192")]).persons), 8192)
+            self.refusal("," + ",".join(f"x{number}" for number in range(8193)) + "\n", 1, 8194, "more than 8192 objects")
+        self.assertEqual(len(self.roster("a,b,c\n" + lines).persons), 8193)
 
 
 class Plans(Folder):

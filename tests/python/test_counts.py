@@ -122,7 +122,7 @@ class Plans(unittest.TestCase):
         self.assertEqual(len({(row, column // 3) for row, column in result.pairs}), 1800)
         some = [row[:21] for row in costs[:60]]
         wanted = nushbaret.assign_counts(some, (4, 5), (10, 13)).cost
-        with mock.patch.object(gadgets, "MOST_PERSONS", 1200), mock.patch.object(gadgets, "LATER", 400):
+        with mock.patch.multiple(gadgets, MOST_PERSONS=1200, AT_ONCE=1200, LIKELY=800):
             self.assertEqual(nushbaret.assign_counts(some, (4, 5), (10, 13)).cost, wanted)
 
 
@@ -270,9 +270,10 @@ class Words(unittest.TestCase):
         for row_counts, column_counts, text in (
                 ((0, 90), (0, 2), "9000 columns that rows may take, 200 rows that columns may take and 0 rules of at most one need 9000"),
                 ((40, 80), (40, 80), "8000 columns that rows may take, 8000 rows that columns may take and 0 rules of at most one need 12000")):
-            with self.assertRaises(ValueError) as caught:
-                nushbaret.assign_counts(costs, row_counts, column_counts)
-            self.assertEqual(str(pickle.loads(pickle.dumps(caught.exception))), f"{text} nodes, and 8192 {helps}")
+            with mock.patch.object(gadgets, "MOST_PERSONS", 8192):
+                with self.assertRaises(ValueError) as caught:
+                    nushbaret.assign_counts(costs, row_counts, column_counts)
+                self.assertEqual(str(pickle.loads(pickle.dumps(caught.exception))), f"{text} nodes, and 8192 {helps}")
 
     @unittest.skipUnless(numpy, "needs NumPy")
     def test_arrays(self):

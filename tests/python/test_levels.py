@@ -8,7 +8,7 @@ from fractions import Fraction
 from unittest import mock
 
 import nushbaret
-from nushbaret import _duals, _levels, _library as library, _pricing, _small, _ties
+from nushbaret import _duals, _levels, _pricing, _small, _ties
 from drawn import KINDS, best, doubles, drawing, exactly, hungarian, proves
 from optional import np
 
@@ -284,7 +284,7 @@ class Priced(unittest.TestCase):
     def test_beside_hungarian(self):
         draw, rounds, whole = drawing(69), 0, 0
         with mock.patch.object(_pricing, "LARGE", 1), mock.patch.object(_pricing, "CHEAPEST", 1), mock.patch.object(_pricing, "MOST_SHARE", 1), \
-                mock.patch.object(_small, "SMALL", 0), mock.patch.object(library, "LONG", 0), \
+                mock.patch.multiple(_small, SMALL=0, MOST_STEPS=0), \
                 mock.patch.object(_ties, "of_problem", return_value=None):
             for turn in range(240):
                 kind = list(KINDS)[turn % len(KINDS)]
@@ -331,7 +331,7 @@ class Steps(unittest.TestCase):
             if not problem.raw:
                 continue
             level = _levels.first_level(problem, None)
-            pairs = _levels.kept(level, level.asked.n + _levels.MORE)
+            pairs = _levels.kept(level, level.asked.n + _ties.more(level.asked.n))
             left = set(zip(map(int, pairs.persons), map(int, pairs.objects)))
             exact = exactly(costs, False)
             exact = exact if n_rows <= n_columns else [list(column) for column in zip(*exact)]

@@ -116,7 +116,7 @@ class Arrays(unittest.TestCase):
         for costs, kind, words in ((np.zeros(3), ValueError, "expected a matrix"), (np.eye(2).astype(str), TypeError, "Cannot cast array data"),
                                    (np.array([[1, np.nan]]), ValueError, "nan at row 0, column 1"),
                                    (np.array([[1, -np.inf]]), ValueError, "contains invalid numeric entries"),
-                                   (np.zeros((8193, 1)), ValueError, "8193 rows"), (np.zeros((1, 1), complex), TypeError, "Cannot cast")):
+                                   (np.zeros((4194305, 1)), ValueError, "4194305 rows"), (np.zeros((1, 1), complex), TypeError, "Cannot cast")):
             with self.assertRaisesRegex(kind, words):
                 nushbaret.solve(costs)
         with self.assertRaises(nushbaret.Infeasible) as caught:

@@ -12,9 +12,9 @@ def asked(run):
     """The names, sizes and numbers of pairs of the library's calls that something makes."""
     calls, call, room_for = [], library.call, library.room_for
 
-    def noted(name, sense, n, m, *lists):
+    def noted(name, sense, n, m, *lists, **words):
         calls.append((name, n, m, len(lists[0])))
-        return call(name, sense, n, m, *lists)
+        return call(name, sense, n, m, *lists, **words)
 
     def noting_room(numpy, n, m):
         room = room_for(numpy, n, m)
@@ -72,15 +72,16 @@ class Asked(unittest.TestCase):
             self.assertEqual(len(nushbaret.solve(form, partial=True).rows), served)
 
     def test_longest_sides(self):
-        most = nushbaret.MOST_PERSONS
+        most = 70000
         wide = [[(7919 * column + 11 * row) % most for column in range(most)] for row in range(2)]
         result = nushbaret.solve(wide)
         self.assertEqual((result.cost, len(result.unmatched_columns), bool(result.verify())), (0, most - 2, True))
         tall = [list(column) for column in zip(*wide)]
         turned = nushbaret.solve(tall)
         self.assertEqual((turned.cost, len(turned.unmatched_rows), bool(turned.verify())), (0, most - 2, True))
-        self.assertEqual(nushbaret.solve_sparse(1, most, [0], [most - 1], [5]).columns, [most - 1])
-        self.assertEqual(nushbaret.solve_sparse(most, 1, [most - 1], [0], [5]).rows, [most - 1])
+        for side in most, nushbaret.MOST_PERSONS:
+            self.assertEqual(nushbaret.solve_sparse(1, side, [0], [side - 1], [5]).columns, [side - 1])
+            self.assertEqual(nushbaret.solve_sparse(side, 1, [side - 1], [0], [5]).rows, [side - 1])
         if np:
             rows, columns = nushbaret.linear_sum_assignment(np.array(tall))
             self.assertEqual((rows.tolist(), columns.tolist()), (turned.rows, turned.columns))

@@ -1,5 +1,6 @@
 """What the package refuses, with the words that name the place; costs of every kind; limits; the library's constants."""
 import ast
+import ctypes
 import math
 import os
 import pathlib
@@ -10,9 +11,10 @@ import unittest
 from array import array
 from decimal import Decimal
 from fractions import Fraction
+from unittest import mock
 
 import nushbaret
-from nushbaret import _library as library
+from nushbaret import _library as library, _proved as proved
 
 TOP = pathlib.Path(__file__).resolve().parent.parent.parent
 MOST = nushbaret.GREATEST_COST
@@ -35,8 +37,8 @@ class Refused(unittest.TestCase):
         self.refused(ValueError, "contains invalid numeric entries: -inf", solve, [[-math.inf]])
         self.refused(ValueError, "contains invalid numeric entries: inf", solve, [[math.inf]], maximize=True)
         self.refused(ValueError, "invalid numeric entries", solve, [[Decimal("sNaN")]])
-        self.refused(ValueError, "8193 columns: at most 8192", solve, [[0] * 8193])
-        self.refused(ValueError, "8193 rows", solve, [[0]] * 8193)
+        self.refused(ValueError, "4194305 columns: at most 4194304", solve, [[0] * 4194305])
+        self.refused(ValueError, "4194305 rows", solve, [[0]] * 4194305)
         self.refused(TypeError, "rows and columns of listed pairs are given together", solve([[1]]).verify, [1], rows=[0])
 
     def test_ranges(self):
@@ -112,7 +114,7 @@ class Refused(unittest.TestCase):
         self.assertEqual(solve(1, 1, [0, 0], [0, 0], [MOST + 5, MOST + 3], maximize=True).cost, MOST + 3)
         self.assertEqual(solve(1, 1, [0, 0], [0, 0], [Fraction(5, 7), Decimal("0.5")], maximize=True).cost, Fraction(1, 2))
         self.refused(ValueError, "-1 rows", solve, -1, 2, [], [], [])
-        self.refused(ValueError, "8193 rows", solve, 8193, 2, [], [], [])
+        self.refused(ValueError, "4194305 rows", solve, 4194305, 2, [], [], [])
         self.refused(nushbaret.Infeasible, "row 0 may have no column (the first of 2 groups)", solve, 2, 2, [], [], [])
         self.assertEqual(solve(1, 1, [0, 0], [0, 0], [5, 3], maximize=True).cost, 3)
 
@@ -155,7 +157,7 @@ class Limits(unittest.TestCase):
         rows = list(range(4097))
         result = nushbaret.solve_sparse(4097, 4096, rows[:4096], rows[:4096], [1] * 4096)
         self.assertEqual((result.cost, result.unmatched_rows), (4096, [4096]))
-        with self.assertRaisesRegex(ValueError, "of which 1 can be paired, make 8193"):
+        with mock.patch.object(proved, "MOST_PERSONS", 8192), self.assertRaisesRegex(ValueError, "of which 1 can be paired, make 8193"):
             nushbaret.solve_sparse(4097, 4097, [0] * 4097, rows, [1] * 4097, partial=True)
 
     @unittest.skipUnless(sys.platform == "linux", "limits of memory are Linux's here")
@@ -181,10 +183,11 @@ class Library(unittest.TestCase):
         self.assertIn(f"NUSHBARET_MOST_PERSONS {library.MOST_PERSONS}\n", header)
         self.assertIn(f"NUSHBARET_GREATEST_COST INT64_C({library.GREATEST_COST})\n", header)
         self.assertIn(f'NUSHBARET_VERSION "{library.VERSION}"', header)
-        fields = re.search(r"struct nushbaret_info \{(.*?)\n\}", header, re.S)[1]
-        self.assertEqual(re.findall(r"int64_t (\w+);", fields), [name for name, _ in library.Info._fields_])
-        numbers = (TOP / "crates/assign_core/src/numbers.rt").read_text().replace("_", "")
-        self.assertIn(str(library.GREATEST_FIRST_PRICE), numbers)
+        self.assertIn(f"NUSHBARET_GREATEST_PRICE INT64_C({library.GREATEST_PRICE})\n", header)
+        for struct, held in ("info", library.Info), ("record", library.Record):
+            fields = re.search(rf"struct nushbaret_{struct} \{{(.*?)\n\}}", header, re.S)[1]
+            kinds = [(name, f"{'u' * (kind(-1).value > 0)}int{8 * ctypes.sizeof(kind)}_t") for name, kind in held._fields_]
+            self.assertEqual([(name, kind) for kind, name in re.findall(r"(\w+) (\w+);", fields)], kinds)
 
     def test_no_library(self):
         code = ("import pathlib, nushbaret, nushbaret._library as library\nlibrary.PLACES = (pathlib.Path('/nowhere.so'),)\n"

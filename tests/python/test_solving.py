@@ -2,11 +2,11 @@
 import pickle
 import threading
 import unittest
+from array import array
 from decimal import Decimal
 from fractions import Fraction
 
 import nushbaret
-from nushbaret import _library as library, _proved as proved
 from drawn import best, drawing, matrix, proves
 
 
@@ -148,24 +148,37 @@ class Drawn(unittest.TestCase):
 
 
 class Duals(unittest.TestCase):
-    def test_prices_of_any_slack_that_proves_give_whole_duals(self):
-        """Prices needn't be multiples of the unit: here multiples are raised by 0 or 1, as slackness 1 allows, and all by one number."""
-        draw, settled = drawing(8), 0
+    def results(self, seed):
+        """Drawn problems that have pairs, with their results."""
+        draw = drawing(seed)
         for _ in range(300):
             n_rows, n_columns = draw.randint(1, 5), draw.randint(1, 5)
             costs, maximize = matrix(draw, n_rows, n_columns, 9, draw.choice([0.6, 1.0])), draw.random() < 0.5
             result = nushbaret.solve(costs, maximize, partial=True)
-            if not result.rows:
-                continue
-            answer = result._answer
-            unit, shift = answer.m + 1, draw.randint(0, 2 * answer.m + 2)
-            exact = proved.whole_prices(answer)
-            prices = [unit * price + shift + draw.randint(0, 1) for price in exact]
-            settled += len(set(prices)) > 1
-            result.__dict__["_answer"] = answer._replace(halves=library.Halves(prices=prices))
-            self.assertTrue(proves(costs, result, maximize))
-            self.assertTrue(result.verify(costs))
-        self.assertGreater(settled, 100)
+            if result.rows:
+                yield draw, costs, maximize, result
+
+    def test_prices_that_are_all_raised_give_the_same_duals(self):
+        """In a square all of the library's prices may be above 0."""
+        different = 0
+        for _, costs, maximize, result in self.results(8):
+            other = nushbaret.solve(costs, maximize, partial=True)
+            answer = other._answer
+            other.__dict__["_answer"] = answer._replace(prices=array("q", [price + 7 for price in answer.prices]))
+            self.assertEqual((other.row_duals, other.column_duals, other.prices), (result.row_duals, result.column_duals, result.prices))
+            self.assertTrue(proves(costs, other, maximize))
+            different += len(set(answer.prices)) > 1
+        self.assertGreater(different, 100)
+
+    def test_prices_that_are_not_whole(self):
+        """All prices may be raised by any number, and be a little off: they prove what they prove."""
+        for draw, costs, maximize, result in self.results(9):
+            columns = [None] * len(costs)
+            for row, column in result.pairs:
+                columns[row] = column
+            shift = draw.choice([0.5, draw.random(), -draw.random(), 1e3 / 7])
+            prices = [price + shift + draw.randint(-1, 1) * 1e-9 for price in result.prices]
+            self.assertTrue(nushbaret.check(costs, columns, prices, maximize=maximize), (costs, columns, prices, maximize))
 
 
 class Results(unittest.TestCase):

@@ -11,6 +11,7 @@ from unittest import mock
 
 import nushbaret
 from nushbaret import _levels, _library as library
+from drawn import drawing, matrix
 
 TOP = os.path.dirname(os.path.dirname(nushbaret.__file__))
 
@@ -33,16 +34,13 @@ print(nushbaret.solve([[1, 2], [3, 5]]).cost, view[n - 1, n - 1] == (n - 1) ** 2
 """
 
 
-def slow_call(seconds):
-    """The library's calls, each of which takes so much longer."""
-    plain = dict(library._loaded())
-
-    def slowed(function):
-        def call(*words):
-            time.sleep(seconds)
-            return function(*words)
-        return call
-    return mock.patch.dict(library._calls, {name: slowed(function) for name, function in plain.items() if name in library._LISTS})
+def endless_call():
+    """The library's calls, none of whose searches ends: each piece of one stops at its budget."""
+    def stops(*words):
+        time.sleep(0.001)
+        return library.CODES.index("STOPPED")
+    library._loaded()
+    return mock.patch.dict(library._calls, {name: stops for name in ("dense_from", "sparse_from")})
 
 
 class Interrupts(unittest.TestCase):
@@ -61,29 +59,78 @@ class Interrupts(unittest.TestCase):
         process.stdout.close()
 
     @unittest.skipUnless(os.name == "posix", "signals are sent as POSIX has them")
-    def test_ctrl_c_while_the_library_works(self):
-        """The wait ends long before the library's work does."""
+    def test_ctrl_c_between_pieces(self):
         # A shell starts programs in the background without it.
         self.addCleanup(signal.signal, signal.SIGINT, signal.signal(signal.SIGINT, signal.default_int_handler))
         size = 520
         view = memoryview(array("q", bytes(8 * size * size))).cast("B").cast("q", (size, size))
-        with slow_call(5):
+        with endless_call():
             threading.Timer(0.1, lambda: os.kill(os.getpid(), signal.SIGINT)).start()
-            begun = time.monotonic()
             with self.assertRaises(KeyboardInterrupt):
                 nushbaret.solve(view)
-            self.assertLess(time.monotonic() - begun, 4)
+        self.assertEqual(nushbaret.solve(view).cost, 0)
 
-    def test_small_calls_have_no_thread(self):
-        with mock.patch.object(library, "waited_for", side_effect=AssertionError):
+    def test_small_searches_are_done_in_one_piece(self):
+        with endless_call():
             self.assertEqual(nushbaret.solve([[i * j for j in range(30)] for i in range(30)]).cost, sum(i * (29 - i) for i in range(30)))
 
-    def test_lists_of_the_thread_are_its_own(self):
-        held = array("q", range(1, 5))
-        lent = library.Lent(memoryview(held))
-        own = library._owned(lent)
-        held[0] = 9
-        self.assertEqual(own.tolist(), [1, 2, 3, 4])
+
+class Pieces(unittest.TestCase):
+    def test_any_size_of_pieces(self):
+        """A search in pieces finds what one in a single piece does."""
+        draw, pieces = drawing(71), 0
+        for _ in range(60):
+            n_rows, n_columns, maximize = draw.randint(1, 40), draw.randint(1, 40), draw.random() < 0.5
+            costs = matrix(draw, n_rows, n_columns, draw.choice([9, 10**12]), draw.choice([0.5, 1.0]))
+            wanted = nushbaret.solve(costs, maximize, partial=True)
+            calls, call = [], library.call
+            with mock.patch.multiple(library, LONG=0, PIECE=draw.choice([1, 10, 1000]), PASSES=0, call=lambda *words, **named: (
+                    calls.append(words[0]), call(*words, **named))[1]):
+                result = nushbaret.solve(costs, maximize, partial=True)
+                self.assertEqual((result.cost, bool(result.verify(costs))), (wanted.cost, True))
+            pieces += len(calls)
+        self.assertGreater(pieces, 300)
+
+
+class Progress(unittest.TestCase):
+    COSTS = [[(7 * row * column + 3 * row) % 31 for column in range(40)] for row in range(30)]
+
+    def noted(self, solve, **words):
+        """What progress is called with in a search in small pieces, and what that returns."""
+        noted = []
+        with mock.patch.multiple(library, PIECE=1, PASSES=0):
+            found = solve(progress=lambda served, rows: noted.append((served, rows)), **words)
+        return noted, found
+
+    def test_what_it_is_called_with(self):
+        lists = [(row, column, cost) for row, costs in enumerate(self.COSTS) for column, cost in enumerate(costs)]
+        calls = (lambda **words: nushbaret.solve(self.COSTS, **words).cost, lambda **words: nushbaret.linear_sum_assignment(self.COSTS, **words),
+                 lambda **words: nushbaret.solve([list(column) for column in zip(*self.COSTS)], **words).cost,
+                 lambda **words: nushbaret.solve_sparse(30, 40, *zip(*lists), **words).cost,
+                 lambda **words: nushbaret.solve([[cost + 1e15 / 3 for cost in row] for row in self.COSTS], **words).columns)
+        for call in calls:
+            noted, found = self.noted(call)
+            self.assertEqual(found, call())
+            self.assertEqual((noted[-1], {rows for _, rows in noted}), ((30, 30), {30}))
+            self.assertTrue(all(0 <= served <= 30 for served, _ in noted))
+            self.assertGreater(len(noted), 1)
+            self.assertEqual(self.noted(call, timeout=1000)[1], found)
+
+    def test_it_may_end_the_call(self):
+        def stop(served, rows):
+            nushbaret.solve([[1, 2], [3, 5]])
+            raise KeyError(served)
+
+        with self.assertRaises(KeyError):
+            nushbaret.solve(self.COSTS, progress=stop)
+        self.assertEqual(nushbaret.solve(self.COSTS).cost, nushbaret.solve(self.COSTS, progress=silent).cost)
+        for wrong in 5, "bar":
+            with self.assertRaisesRegex(TypeError, f"progress is {wrong!r}: it must be a call of two numbers"):
+                nushbaret.solve(self.COSTS, progress=wrong)
+
+
+def silent(served, rows):
+    """Does nothing."""
 
 
 class Timeouts(unittest.TestCase):
@@ -103,13 +150,13 @@ class Timeouts(unittest.TestCase):
             nushbaret.solve(self.COSTS).without(0, 0, timeout=0)
 
     def test_while_the_library_works(self):
-        result = nushbaret.solve(self.COSTS)
-        with slow_call(5):
-            begun = time.monotonic()
-            with self.assertRaises(TimeoutError):
-                nushbaret.solve(self.COSTS, timeout=0.1)
-            self.assertLess(time.monotonic() - begun, 4)
-        self.assertEqual(nushbaret.solve(self.COSTS).cost, result.cost)
+        """Between two pieces, and no thread goes on."""
+        result, threads = nushbaret.solve(self.COSTS), threading.active_count()
+        with endless_call():
+            for call in nushbaret.solve, nushbaret.linear_sum_assignment, nushbaret.bottleneck:
+                with self.assertRaises(TimeoutError):
+                    call(self.COSTS, timeout=0.05)
+        self.assertEqual((nushbaret.solve(self.COSTS).cost, threading.active_count()), (result.cost, threads))
 
     def test_in_other_threads(self):
         """A limit is that of its own thread."""
@@ -198,8 +245,6 @@ class Timeouts(unittest.TestCase):
         with mock.patch.object(threading.Thread, "start", side_effect=RuntimeError("can't start new thread")):
             with self.assertRaisesRegex(MemoryError, "no thread could be started: can't start new thread"):
                 nushbaret.solve(self.COSTS, timeout=100)
-            with mock.patch.object(library, "LONG", 1), self.assertRaisesRegex(MemoryError, "no thread"):
-                nushbaret.solve([[1, 2], [3, 5]])
         self.assertEqual(nushbaret.solve(self.COSTS, timeout=100).cost, nushbaret.solve(self.COSTS).cost)
 
     def test_refusals(self):

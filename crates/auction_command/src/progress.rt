@@ -4,8 +4,8 @@ ghost use Rattle.std.specs.Prelude.{◌≡◌};
 
 use assign_core::{Person, Prices};
 use async_workers::{Gate, Note, Standing};
-use augmenting_paths::Observer;
 use bidder::{Ask, Offer};
+use exact_paths::Observer;
 use rounds::{LEAST_PAIRS, Offering, make_offers};
 use scaled_values::{Scaled, next_eps};
 use std::alloc::AllocError;
@@ -40,10 +40,12 @@ pub enum News {
     /// sessions of a worker.
     Sessions(u64, u128, Progress),
     /// Shortest paths: the number of persons who have an object, and the number of all persons.
-    /// Shown when bids and searches begin, and then after some thousand of their steps. The first
-    /// number falls only to 0: when first prices are left for others, and when an auction before
-    /// the searches begins a phase or ends.
+    /// Shown when a search begins, and then after each of its pieces, which take some hundredths of
+    /// a second. The first number may fall, as where an auction begins a phase.
     Paths(u16, u16),
+    /// A round begins after shortest paths that found no proof, which is not known to happen. Shown
+    /// as `Round`.
+    RoundAfterPaths(Progress),
 }
 
 /// Callbacks for the progress of a run. A method may be called often, and by several threads at
@@ -159,9 +161,19 @@ impl<'a, V: Watch> WatchedPaths<'a, V> {
     }
 }
 
+// The least number of looks at pairs between two that are shown, and how often each pair is looked
+// at.
+const LOOKS: u64 = 1 << 24;
+
+const LOOKS_A_PAIR: u64 = 8;
+
 impl<V: Watch> Observer for WatchedPaths<'_, V> {
     fn assigned(&self, persons: u16) {
         self.watch.show(News::Paths(persons, self.persons));
+    }
+
+    fn looks(&self, pairs: usize) -> u64 {
+        (pairs as u64).saturating_mul(LOOKS_A_PAIR).max(LOOKS)
     }
 }
 
@@ -172,35 +184,43 @@ const OFFERS_A_LOOK: u64 = 256;
 #[derive(Drop)]
 pub struct WatchedOffers<'a, R, V> {
     rt: &'a R,
-    search: WatchedSearch<'a, V>,
+    watch: &'a V,
+    // Whether shortest paths found no proof before.
+    after_paths: bool,
+    // The number of persons who wait in this round, and whether it shall be shown.
+    waiting: usize,
+    is_due: bool,
     // The phase last shown, and the offers since.
     phase: u16,
     offers: u64,
 }
 
 impl<'a, R, V: Watch> WatchedOffers<'a, R, V> {
-    pub fn new(rt: &'a R, scaled: &Scaled, watch: &'a V) -> WatchedOffers<'a, R, V> {
+    pub fn new(rt: &'a R, watch: &'a V, after_paths: bool) -> WatchedOffers<'a, R, V> {
         WatchedOffers {
             rt,
-            search: WatchedSearch::new(scaled, watch),
+            watch,
+            after_paths,
+            waiting: 0,
+            is_due: false,
             phase: 0,
             offers: 0,
         }
     }
 
-    // Whether a round with this many offers shall be shown.
-    fn is_due(&mut self, phase: u16, waiting: usize) -> bool {
-        self.offers = self.offers.wrapping_add(waiting as u64);
-        self.phase != phase || self.offers >= OFFERS_A_LOOK
-    }
-
-    // Shows a round with this many offers.
-    fn show(&mut self, ask: Ask, waiting: usize) {
+    // Shows the round.
+    fn show(&mut self, scaled: &Scaled, ask: Ask) {
+        self.is_due = false;
         self.phase = ask.phase;
         self.offers = 0;
-        let assigned = (self.search.persons as usize).saturating_sub(waiting) as u16;
-        let progress = self.search.progress(ask.phase, ask.eps, assigned);
-        self.search.watch.show(News::Round(progress));
+        let search = WatchedSearch::new(scaled, self.watch);
+        let assigned = (search.persons as usize).saturating_sub(self.waiting) as u16;
+        let progress = search.progress(ask.phase, ask.eps, assigned);
+        self.watch.show(if self.after_paths {
+            News::RoundAfterPaths(progress)
+        } else {
+            News::Round(progress)
+        });
     }
 }
 
@@ -210,9 +230,9 @@ impl<R: Threads + Sync, V: Watch> Offering for WatchedOffers<'_, R, V> {
     ghost ready = { IsSync R.row };
 
     fn begin(&mut self, ask: Ask, waiting: usize) {
-        if self.is_due(ask.phase, waiting) {
-            self.show(ask, waiting);
-        }
+        self.offers = self.offers.wrapping_add(waiting as u64);
+        self.waiting = waiting;
+        self.is_due = self.phase != ask.phase || self.offers >= OFFERS_A_LOOK;
     }
 
     fn make(
@@ -223,6 +243,9 @@ impl<R: Threads + Sync, V: Watch> Offering for WatchedOffers<'_, R, V> {
         persons: &[Person],
         offers: &mut Vec<Offer>,
     ) -> Result<(), AllocError> {
+        if self.is_due {
+            self.show(scaled, ask);
+        }
         make_offers(self.rt, LEAST_PAIRS, scaled, prices, ask, persons, offers)
     }
 }

@@ -40,7 +40,7 @@ const MOST_COLUMNS: usize = 79;
 fn auction_in(news: News) -> Option<Progress> {
     match news {
         News::Round(it) | News::Sessions(_, _, it) => Some(it),
-        News::Bytes(_) | News::Paths(_, _) => None,
+        News::Bytes(_) | News::Paths(_, _) | News::RoundAfterPaths(_) => None,
     }
 }
 
@@ -89,6 +89,12 @@ fn write_paths<W: fmt::Write>(
     write_persons(f, assigned, persons)
 }
 
+fn write_round_after_paths<W: fmt::Write>(f: &mut fmt::Formatter<W>, it: &Progress) -> fmt::Result {
+    f.write_str("rounds after shortest paths, ")?;
+    write_phase(f, it)?;
+    write_persons(f, it.assigned, it.persons)
+}
+
 // The figures of a line, fewer of an auction if there is no room for all.
 #[derive(Clone, Copy)]
 struct Figures {
@@ -109,6 +115,7 @@ impl fmt::Display for Figures {
             News::Round(it) => write_round(f, &it),
             News::Sessions(sessions, accepted, it) => write_sessions(f, sessions, accepted, &it),
             News::Paths(assigned, persons) => write_paths(f, assigned, persons),
+            News::RoundAfterPaths(it) => write_round_after_paths(f, &it),
         }
     }
 }

@@ -15,16 +15,15 @@ ghost use Rattle.auction_command.specs.inside.Solve.{FailsToBegin, HasNoStart, P
 use crate::progress::{CountedReader, Unwatched, Watch, WatchedGate, WatchedOffers, WatchedPaths};
 use assign_core::{MOST_PERSONS, Outcome, Person, Price, Prices, Problem, Sense, SolveFault};
 use async_workers::{Gate, solve_workers_from};
-use augmenting_paths::{Wishes, copy_rows};
 use command_line::{Method, Mode, SolveOpts};
-use dual_checker::{CostRows, confirms};
+use dual_checker::confirms;
+use exact_paths::solve_paths;
 use orlib_reader::{InputFault, read_dense, read_sparse};
 use report::{
     Report, ReportFault, StartFault, WriteFault, read_report, start_prices, write_report,
 };
 use rounds::solve_rounds_by;
 use scaled_values::{Scaled, scale};
-use shortest_paths::solve_paths;
 use std::alloc::{AllocError, Global};
 use std::fmt;
 use std::io::{Read, Write};
@@ -226,7 +225,7 @@ fn solve_in_mode<T: Threads + Wait + Sync, G: Gate + Sync, V: Watch + Sync>(
 {
     match options.mode {
         Mode::Rounds => {
-            let mut offering = WatchedOffers::new(context.rt, &scaled, context.watch);
+            let mut offering = WatchedOffers::new(context.rt, context.watch, false);
             solve_rounds_by(&mut offering, context.alloc, scaled, prices)
         }
         Mode::Workers => {
@@ -279,25 +278,26 @@ fn telling(prices: &Prices) -> Option<&[Price]> {
 
 // The outcome of shortest paths from these first prices. Their own crate checks what a search
 // finds. It needs no benefits.
-fn solve_by_paths<V: Watch>(
-    alloc: Global,
+fn solve_by_paths<T: Threads + Sync, G, V: Watch>(
+    context: &Context<'_, T, G, V>,
     problem: &Problem,
     sense: Sense,
     prices: &Prices,
-    watch: &V,
 ) -> Result<Outcome, AllocError>
     ensures proof { IfOk result (IsProof (problem_under sense problem.now)) }
     ensures decided { IfOk result (IsDecided (problem_under sense problem.now)) }
 {
-    let n = problem.n();
-    let rows = CostRows::first(problem, n, n);
-    let copy = copy_rows(alloc, &rows, sense)?;
-    let observer = WatchedPaths::new(n, watch);
-    let wishes = Wishes {
-        prices: telling(prices),
-        observer: &observer,
-    };
-    solve_paths(alloc, &rows, sense, copy, wishes)
+    let observer = WatchedPaths::new(problem.n(), context.watch);
+    let mut offering = WatchedOffers::new(context.rt, context.watch, true);
+    let first = telling(prices);
+    solve_paths(
+        context.alloc,
+        problem,
+        sense,
+        first,
+        &observer,
+        &mut offering,
+    )
 }
 
 // The end that belongs to an outcome.
@@ -348,7 +348,7 @@ fn report_auction<T: Threads + Wait + Sync, G: Gate + Sync, V: Watch + Sync, W: 
 }
 
 // Solves a problem by shortest paths from these prices, and writes the report.
-fn report_paths<T, G, V: Watch, W: Write>(
+fn report_paths<T: Threads + Sync, G, V: Watch, W: Write>(
     context: &Context<'_, T, G, V>,
     problem: &Problem,
     prices: &Prices,
@@ -360,7 +360,7 @@ fn report_paths<T, G, V: Watch, W: Write>(
 {
     // This call shows the prover that it is a problem.
     let _persons = problem.n();
-    match solve_by_paths(context.alloc, problem, options.sense, prices, context.watch) {
+    match solve_by_paths(context, problem, options.sense, prices) {
         Ok(outcome) => put_report(context.watch, problem, w, options, &outcome),
         Err(_) => Err(CliFault::Memory),
     }

@@ -1,6 +1,6 @@
 // One call of each solver.
 ghost use Rattle.std.specs.Prelude.{◌≡◌, ◌*◌, ◌<◌, All, IfOk, length, pos, replicate};
-ghost use Rattle.assign_core.specs.Dense.{rows_cut};
+ghost use Rattle.assign_core.specs.Dense.{dense_rows};
 ghost use Rattle.assign_core.specs.Outcomes as core;
 ghost use Rattle.assign_core.specs.Rows.{IsCost, IsSize};
 ghost use Rattle.rounds.specs.Outcomes.{IsOfRounds, IsProof};
@@ -8,11 +8,9 @@ ghost use Rattle.calling.specs.Solving.{problem_under};
 
 use assign_core::{Cost, Outcome, Problem, Sense};
 use async_workers::{OpenGate, solve_workers};
-use augmenting_paths::{Unobserved, Wishes, copy_dense, copy_rows};
-use dual_checker::CostRows;
-use rounds::{solve_rounds, solve_rounds_alone};
+use exact_paths::{Unobserved, solve_paths};
+use rounds::{Alone, solve_rounds, solve_rounds_alone};
 use scaled_values::scale;
-use shortest_paths::solve_paths;
 use std::alloc::{AllocError, Global};
 use std::sync::{Arc, Wait};
 use std::thread::Threads;
@@ -25,42 +23,27 @@ pub fn solve_problem(alloc: Global, problem: &Problem, sense: Sense) -> Result<O
     ensures proof { IfOk result (core.IsProof sense problem.now) }
     ensures decided { IfOk result (core.IsDecided problem.now) }
 {
-    let n = problem.n();
-    let rows = CostRows::first(problem, n, n);
-    let copy = copy_rows(alloc, &rows, sense)?;
-    let wishes = Wishes {
-        prices: None,
-        observer: &Unobserved,
-    };
-    solve_paths(alloc, &rows, sense, copy, wishes)
+    solve_paths(alloc, problem, sense, None, &Unobserved, &mut Alone)
 }
 
-/// Solves the problem of `n` persons among `m` objects at these costs, row by row, and takes no
-/// problem for it.
+/// Solves the problem of `n` persons and `n` objects at these costs, row by row.
 ///
 /// # Errors
 /// `AllocError` if memory is refused.
 pub fn solve_costs(
     alloc: Global,
     n: u16,
-    m: u16,
     sense: Sense,
     costs: &[Cost],
 ) -> Result<Outcome, AllocError>
-    requires persons { IsSize n }
-    requires objects { IsSize m }
-    requires count { length costs.now ≡ n * m }
+    requires size { IsSize n }
+    requires count { length costs.now ≡ n * n }
     requires costs { All IsCost costs.now }
-    ensures proof { IfOk result (core.IsProofAmong sense m (rows_cut m n costs.now)) }
-    ensures decided { IfOk result (core.IsDecided (rows_cut m n costs.now)) }
+    ensures proof { IfOk result (core.IsProof sense (dense_rows n costs.now)) }
+    ensures decided { IfOk result (core.IsDecided (dense_rows n costs.now)) }
 {
-    let rows = CostRows::dense(n, m, costs);
-    let copy = copy_dense(alloc, n, m, sense, costs)?;
-    let wishes = Wishes {
-        prices: None,
-        observer: &Unobserved,
-    };
-    solve_paths(alloc, &rows, sense, copy, wishes)
+    let problem = Problem::dense(alloc, n, costs)?;
+    solve_problem(alloc, &problem, sense)
 }
 
 /// Solves by rounds in the calling thread.

@@ -62,11 +62,11 @@ fn by_auction<R: Threads + Wait + Sync>(rt: &R, alloc: Global) -> Result<[u16; 3
     Ok([alone, threads, first_object(&workers)])
 }
 
-// What paths give to the first person, of two objects and of three.
+// What paths give to the first person, at least cost and at greatest.
 fn by_paths(alloc: Global) -> Result<[u16; 2], AllocError> {
-    let square = first_object(&solve_costs(alloc, 2, 2, Sense::Min, &[1, 2, 3, 5])?);
-    let among = first_object(&solve_costs(alloc, 2, 3, Sense::Min, &[1, 5, 9, 3, 5, 4])?);
-    Ok([square, among])
+    let least = first_object(&solve_costs(alloc, 2, Sense::Min, &[1, 2, 3, 5])?);
+    let greatest = first_object(&solve_costs(alloc, 2, Sense::Max, &[1, 2, 3, 5])?);
+    Ok([least, greatest])
 }
 
 #[test]

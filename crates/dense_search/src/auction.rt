@@ -20,7 +20,7 @@ const BIDS_A_PERSON: u64 = 50;
 // How often in a phase dummies take cheap objects.
 const CROWDINGS: usize = 8;
 
-fn unserved_persons(alloc: Global, market: &Market<'_>) -> Result<VecDeque<u32>, AllocError> {
+fn unserved_persons(alloc: Global, market: &Market<'_, i64>) -> Result<VecDeque<u32>, AllocError> {
     let mut queue = VecDeque::new(alloc);
     for (k, object) in market.objects.iter().enumerate() {
         if *object == NOBODY {
@@ -31,9 +31,9 @@ fn unserved_persons(alloc: Global, market: &Market<'_>) -> Result<VecDeque<u32>,
 }
 
 // One bid: the person who lost its object by it, or nobody.
-fn bid<R: Reading>(
-    matrix: &Matrix<'_, R>,
-    market: &mut Market<'_>,
+fn bid<R: Reading<i64>>(
+    matrix: &Matrix<'_, i64, R>,
+    market: &mut Market<'_, i64>,
     person: u32,
     slackness: i64,
 ) -> u32 {
@@ -48,10 +48,10 @@ fn bid<R: Reading>(
 }
 
 // Bids until each person has an object.
-fn bid_in_turn<R: Reading>(
+fn bid_in_turn<R: Reading<i64>>(
     alloc: Global,
-    matrix: &Matrix<'_, R>,
-    market: &mut Market<'_>,
+    matrix: &Matrix<'_, i64, R>,
+    market: &mut Market<'_, i64>,
     record: &mut Record,
     looks: &mut Looks,
 ) -> Result<Ended, AllocError> {
@@ -75,14 +75,14 @@ fn bid_in_turn<R: Reading>(
 }
 
 // The price below which as many objects lie as there are more objects than persons.
-fn crowd_price(alloc: Global, market: &Market<'_>) -> Result<i64, AllocError> {
+fn crowd_price(alloc: Global, market: &Market<'_, i64>) -> Result<i64, AllocError> {
     let mut prices = market.prices.to_vec(alloc)?;
     prices.as_mut_slice().sort_unstable();
     let more = prices.len().saturating_sub(market.objects.len());
     Ok(prices.get(more).copied().unwrap_or(0))
 }
 
-fn has_dear_unowned(market: &Market<'_>, limit: i64) -> bool {
+fn has_dear_unowned(market: &Market<'_, i64>, limit: i64) -> bool {
     for (price, owner) in market.prices.iter().zip(&market.owners) {
         if *owner == NOBODY && *price > limit {
             return true;
@@ -93,7 +93,11 @@ fn has_dear_unowned(market: &Market<'_>, limit: i64) -> bool {
 
 // Dummies, as many as there are more objects than persons, take the cheapest objects at the price
 // of the next one, if an unowned object is dearer. Returns whether they did.
-fn crowd_out(alloc: Global, market: &mut Market<'_>, slackness: i64) -> Result<bool, AllocError> {
+fn crowd_out(
+    alloc: Global,
+    market: &mut Market<'_, i64>,
+    slackness: i64,
+) -> Result<bool, AllocError> {
     let price = crowd_price(alloc, market)?;
     let dear = price.saturating_add(slackness);
     if !has_dear_unowned(market, dear) {
@@ -113,10 +117,10 @@ fn crowd_out(alloc: Global, market: &mut Market<'_>, slackness: i64) -> Result<b
 }
 
 // A phase of one slackness.
-fn phase<R: Reading>(
+fn phase<R: Reading<i64>>(
     alloc: Global,
-    matrix: &Matrix<'_, R>,
-    market: &mut Market<'_>,
+    matrix: &Matrix<'_, i64, R>,
+    market: &mut Market<'_, i64>,
     record: &mut Record,
     looks: &mut Looks,
 ) -> Result<Ended, AllocError> {
@@ -134,10 +138,10 @@ fn phase<R: Reading>(
 }
 
 // Phases of falling slackness, down to 1 in the unit of the prices.
-pub fn auction<R: Reading>(
+pub fn auction<R: Reading<i64>>(
     alloc: Global,
-    matrix: &Matrix<'_, R>,
-    market: &mut Market<'_>,
+    matrix: &Matrix<'_, i64, R>,
+    market: &mut Market<'_, i64>,
     record: &mut Record,
     looks: &mut Looks,
 ) -> Result<Ended, AllocError> {

@@ -4,17 +4,21 @@
 // 1987).
 use super::market::Market;
 use super::matrix::Matrix;
+use super::number::Number;
 use super::reading::Reading;
 use super::rows::{Two, two_best};
 use sparse_search::{NOBODY, place_at};
 
 // One bid: the person who lost its object by it, or nobody.
-fn bid(market: &mut Market<'_>, two: Two, person: u32) -> u32 {
-    let (gap, owner) = (two.gap(), market.owner(two.object));
-    if gap == 0 && owner != NOBODY {
+fn bid<K: Number>(market: &mut Market<'_, K>, two: Two<K>, person: u32, slackness: K) -> u32 {
+    let (gap, owner) = (two.gap().plus(slackness), market.owner(two.object));
+    if !K::zero().is_below(gap) && owner != NOBODY {
         if two.other != NOBODY && market.owner(two.other) == NOBODY {
             market.give(two.other, person);
         }
+        return NOBODY;
+    }
+    if !market.price(two.object).plus(gap).is_below(K::limit()) {
         return NOBODY;
     }
     if owner != NOBODY {
@@ -26,16 +30,17 @@ fn bid(market: &mut Market<'_>, two: Two, person: u32) -> u32 {
 }
 
 // At most `most` bids of a person and of those who lose their objects in turn. Returns how many.
-fn bid_on<R: Reading>(
-    matrix: &Matrix<'_, R>,
-    market: &mut Market<'_>,
+fn bid_on<K: Number, R: Reading<K>>(
+    matrix: &Matrix<'_, K, R>,
+    market: &mut Market<'_, K>,
     first: u32,
+    slackness: K,
     most: usize,
 ) -> usize {
     let mut person = first;
     for made in 0..most {
         let two = two_best(&matrix.reading, matrix.row(person), market.prices);
-        person = bid(market, two, person);
+        person = bid(market, two, person, slackness);
         if person == NOBODY {
             return made + 1;
         }
@@ -45,12 +50,17 @@ fn bid_on<R: Reading>(
 
 // Bids of each person without an object, and of those who lose theirs, at most `most` in all.
 // Returns their number.
-pub fn bid_all<R: Reading>(matrix: &Matrix<'_, R>, market: &mut Market<'_>, most: usize) -> usize {
+pub fn bid_all<K: Number, R: Reading<K>>(
+    matrix: &Matrix<'_, K, R>,
+    market: &mut Market<'_, K>,
+    slackness: K,
+    most: usize,
+) -> usize {
     let mut left = most;
     for k in 0..matrix.persons {
         let person = place_at(k);
         if market.object(person) == NOBODY && left > 0 {
-            left = left.saturating_sub(bid_on(matrix, market, person, left));
+            left = left.saturating_sub(bid_on(matrix, market, person, slackness, left));
         }
     }
     most.saturating_sub(left)

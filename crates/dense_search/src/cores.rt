@@ -37,7 +37,7 @@ fn common_factor(one: u64, other: u64) -> u64 {
     1
 }
 
-fn least_cost<R: Reading>(reading: &R, pairs: &[Pair]) -> i64 {
+fn least_cost<R: Reading<i64>>(reading: &R, pairs: &[Pair]) -> i64 {
     let mut least = i64::MAX;
     for pair in pairs {
         least = least.min(reading.value(pair.cost));
@@ -45,7 +45,7 @@ fn least_cost<R: Reading>(reading: &R, pairs: &[Pair]) -> i64 {
     least
 }
 
-fn unit_of<R: Reading>(reading: &R, pairs: &[Pair]) -> Unit {
+fn unit_of<R: Reading<i64>>(reading: &R, pairs: &[Pair]) -> Unit {
     let least = least_cost(reading, pairs);
     let mut factor = 0u64;
     for pair in pairs {
@@ -61,7 +61,7 @@ fn unit_of<R: Reading>(reading: &R, pairs: &[Pair]) -> Unit {
 }
 
 // The pairs with costs in this unit.
-fn in_unit<R: Reading>(
+fn in_unit<R: Reading<i64>>(
     alloc: Global,
     reading: &R,
     pairs: &[Pair],
@@ -104,10 +104,10 @@ fn left_for(looks: Looks, least: u64) -> u64 {
 }
 
 // Solves a core from the prices and objects of the market, with at least so many looks.
-fn solve_core<R: Reading>(
+fn solve_core<R: Reading<i64>>(
     alloc: Global,
-    matrix: &Matrix<'_, R>,
-    market: &mut Market<'_>,
+    matrix: &Matrix<'_, i64, R>,
+    market: &mut Market<'_, i64>,
     core: &Core,
     looks: &mut Looks,
     least: u64,
@@ -144,10 +144,10 @@ fn solve_core<R: Reading>(
 
 // Solves cores until no pair beats the prices. `Long` if passes don't converge; the record then has
 // the mean of what persons would gain by the better pairs.
-pub fn solve_by_cores<R: Reading>(
+pub fn solve_by_cores<R: Reading<i64>>(
     alloc: Global,
-    matrix: &Matrix<'_, R>,
-    market: &mut Market<'_>,
+    matrix: &Matrix<'_, i64, R>,
+    market: &mut Market<'_, i64>,
     record: &mut Record,
     looks: &mut Looks,
 ) -> Result<Ended, AllocError> {

@@ -18,7 +18,7 @@ pub struct Wanted {
     pub most: usize,
 }
 
-fn gather_block<R: Reading>(
+fn gather_block<R: Reading<i64>>(
     reading: &R,
     costs: &[i64],
     keys: &[i64],
@@ -37,7 +37,7 @@ fn gather_block<R: Reading>(
 }
 
 // The objects of a part of a row that begins at this place.
-fn gather_part<R: Reading>(
+fn gather_part<R: Reading<i64>>(
     reading: &R,
     costs: &[i64],
     keys: &[i64],
@@ -59,7 +59,7 @@ fn gather_part<R: Reading>(
 }
 
 // The objects of a row, begun at a place, so that rows with many equal values give different ones.
-pub fn gather<R: Reading>(
+pub fn gather<R: Reading<i64>>(
     reading: &R,
     row: &[i64],
     keys: &[i64],

@@ -6,9 +6,13 @@
 mod auction;
 mod bids;
 mod cores;
+mod full;
 mod gather;
 mod market;
 mod matrix;
+mod middle;
+mod narrow;
+mod number;
 mod paths;
 mod pick;
 mod prices;

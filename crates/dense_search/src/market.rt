@@ -1,22 +1,23 @@
 // Prices and owners during a search.
+use super::number::{Number, least_of};
 use sparse_search::{NOBODY, at, place_at, put};
 use std::alloc::{AllocError, Global};
 
 // The price and the owner of each object, and the object of each person, by places from 0.
 #[derive(Drop)]
-pub struct Market<'a> {
-    pub prices: &'a mut [i64],
+pub struct Market<'a, K> {
+    pub prices: &'a mut [K],
     pub owners: Vec<u32>,
     pub objects: &'a mut [u32],
 }
 
-impl<'a> Market<'a> {
+impl<'a, K: Number> Market<'a, K> {
     // A market at these prices, with these objects of the persons.
     pub fn new(
         alloc: Global,
-        prices: &'a mut [i64],
+        prices: &'a mut [K],
         objects: &'a mut [u32],
-    ) -> Result<Market<'a>, AllocError> {
+    ) -> Result<Market<'a, K>, AllocError> {
         let owners = vec![in alloc; NOBODY; prices.len()]?;
         let mut market = Market {
             prices,
@@ -42,8 +43,11 @@ impl<'a> Market<'a> {
         }
     }
 
-    pub fn price(&self, object: u32) -> i64 {
-        self.prices.get(object as usize).copied().unwrap_or(0)
+    pub fn price(&self, object: u32) -> K {
+        self.prices
+            .get(object as usize)
+            .copied()
+            .unwrap_or(K::zero())
     }
 
     pub fn owner(&self, object: u32) -> u32 {
@@ -54,14 +58,14 @@ impl<'a> Market<'a> {
         at(self.objects, person)
     }
 
-    pub fn raise(&mut self, object: u32, by: i64) {
+    pub fn raise(&mut self, object: u32, by: K) {
         let at = object as usize;
         if at < self.prices.len() {
-            self.prices[at] = self.prices[at].wrapping_add(by);
+            self.prices[at] = self.prices[at].plus(by);
         }
     }
 
-    pub fn set_price(&mut self, object: u32, price: i64) {
+    pub fn set_price(&mut self, object: u32, price: K) {
         let at = object as usize;
         if at < self.prices.len() {
             self.prices[at] = price;
@@ -120,7 +124,7 @@ impl<'a> Market<'a> {
     pub fn has_dear_unowned(&self) -> bool {
         let least = self.least_price();
         for (price, owner) in self.prices.iter().zip(&self.owners) {
-            if *owner == NOBODY && *price > least {
+            if *owner == NOBODY && least.is_below(*price) {
                 return true;
             }
         }
@@ -128,7 +132,8 @@ impl<'a> Market<'a> {
     }
 
     // The least price.
-    pub fn least_price(&self) -> i64 {
-        self.prices.iter().copied().min().unwrap_or(0)
+    pub fn least_price(&self) -> K {
+        let first = self.prices.first().copied().unwrap_or(K::zero());
+        least_of(self.prices, first)
     }
 }

@@ -1,5 +1,6 @@
 // A dense problem: each person lists each object.
-use super::reading::{Magnified, Reading};
+use super::number::Number;
+use super::reading::{AsCosts, Magnified, Reading};
 use assign_core::Sense;
 
 /// Persons and objects are given by their places from 0. The costs of a person stand side by side,
@@ -13,7 +14,7 @@ pub struct DenseProblem<'a> {
 }
 
 impl<'a> DenseProblem<'a> {
-    pub fn read_as<R: Reading>(self, reading: R) -> Matrix<'a, R> {
+    pub fn read_as<R: Reading<i64>>(self, reading: R) -> Matrix<'a, i64, R> {
         Matrix {
             persons: self.persons,
             objects: self.objects,
@@ -25,34 +26,46 @@ impl<'a> DenseProblem<'a> {
 
 // The costs with the way in which they are read.
 #[derive(Drop)]
-pub struct Matrix<'a, R> {
+pub struct Matrix<'a, K, R> {
     pub persons: usize,
     pub objects: usize,
-    pub costs: &'a [i64],
+    pub costs: &'a [K],
     pub reading: R,
 }
 
-impl<'a, R: Reading> Matrix<'a, R> {
+impl<'a, K: Number, R: Reading<K>> Matrix<'a, K, R> {
     // What a person lists; nothing for a place without a person.
-    pub fn row(&self, person: u32) -> &'a [i64] {
+    pub fn row(&self, person: u32) -> &'a [K] {
         let from = (person as usize).wrapping_mul(self.objects);
         let to = from.wrapping_add(self.objects);
         self.costs.get(from..to).unwrap_or(&[])
     }
 
     // A person's cost of an object, as it is read.
-    pub fn value(&self, person: u32, object: u32) -> i64 {
+    pub fn value(&self, person: u32, object: u32) -> K {
         let cost = self.row(person).get(object as usize).copied();
-        self.reading.value(cost.unwrap_or(0))
+        self.reading.value(cost.unwrap_or(K::zero()))
     }
 
     // The number of pairs.
     pub fn pairs(&self) -> usize {
         self.costs.len()
     }
+}
+
+impl<'a, R: Reading<i64>> Matrix<'a, i64, R> {
+    // A copy of the costs, as they are read.
+    pub fn over<'b>(&self, costs: &'b [i32]) -> Matrix<'b, i32, AsCosts> {
+        Matrix {
+            persons: self.persons,
+            objects: self.objects,
+            costs,
+            reading: AsCosts,
+        }
+    }
 
     // The same costs times a power of 2.
-    pub fn magnified(&self, shift: u32) -> Matrix<'_, Magnified<'_, R>> {
+    pub fn magnified(&self, shift: u32) -> Matrix<'_, i64, Magnified<'_, R>> {
         Matrix {
             persons: self.persons,
             objects: self.objects,

@@ -1,6 +1,8 @@
 // Searches for all persons without an object, as far as their pace promises an early end.
+use super::full::FullSearch;
 use super::market::Market;
 use super::matrix::Matrix;
+use super::number::Number;
 use super::reading::Reading;
 use super::record::Ended;
 use super::settling::lower_prices;
@@ -30,10 +32,10 @@ impl Allowance {
 
 // Serves each person without an object, as long as the searches keep to the allowance. At least
 // one search ends, so that calls of any budget get on.
-pub fn serve_all<R: Reading>(
+pub fn serve_all<K: Number, R: Reading<K>>(
     alloc: Global,
-    matrix: &Matrix<'_, R>,
-    market: &mut Market<'_>,
+    matrix: &Matrix<'_, K, R>,
+    market: &mut Market<'_, K>,
     allowed: Allowance,
     looks: &mut Looks,
 ) -> Result<Ended, AllocError> {
@@ -57,6 +59,9 @@ pub fn serve_all<R: Reading>(
             if looks.is_spent() {
                 return Ok(Ended::Stopped);
             }
+            if search.is_beyond {
+                return Ok(Ended::Blocked);
+            }
             if left > few && !pace.goes_on(*looks, allowed.searches_for(left)) {
                 return Ok(Ended::Long);
             }
@@ -65,11 +70,40 @@ pub fn serve_all<R: Reading>(
     Ok(Ended::Served)
 }
 
-// Brings the prices of unowned objects down to the least one.
-pub fn lower_unowned<R: Reading>(
+// Serves each person without an object by scans of whole rows, as long as the looks allow.
+pub fn serve_by_rows<K: Number, R: Reading<K>>(
     alloc: Global,
-    matrix: &Matrix<'_, R>,
-    market: &mut Market<'_>,
+    matrix: &Matrix<'_, K, R>,
+    market: &mut Market<'_, K>,
+    most: u64,
+    looks: &mut Looks,
+) -> Result<Ended, AllocError> {
+    let mut search = FullSearch::new(alloc);
+    let mut left = market.unserved();
+    let mut pace = Pace::begin(left, *looks, most);
+    for k in 0..matrix.persons {
+        let person = place_at(k);
+        if market.object(person) == NOBODY {
+            if looks.is_spent() {
+                return Ok(Ended::Stopped);
+            }
+            if search.is_beyond || !search.serve(matrix, market, person, looks)? {
+                return Ok(Ended::Blocked);
+            }
+            left = left.saturating_sub(1);
+            if left > 0 && !pace.goes_on(*looks, left) {
+                return Ok(Ended::Long);
+            }
+        }
+    }
+    Ok(Ended::Served)
+}
+
+// Brings the prices of unowned objects down to the least one.
+pub fn lower_unowned<R: Reading<i64>>(
+    alloc: Global,
+    matrix: &Matrix<'_, i64, R>,
+    market: &mut Market<'_, i64>,
     looks: &mut Looks,
 ) -> Result<Ended, AllocError> {
     if market.has_dear_unowned() {

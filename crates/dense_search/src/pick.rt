@@ -49,7 +49,7 @@ impl Measure {
 
     // Gathers the cheapest objects of a row whose least value is known. The width is that of the
     // row before, and follows the number that is found.
-    fn gather<R: Reading>(
+    fn gather<R: Reading<i64>>(
         &mut self,
         reading: &R,
         row: &[i64],
@@ -75,7 +75,7 @@ impl Measure {
     }
 
     // The cheapest objects of a row.
-    fn look<R: Reading>(
+    fn look<R: Reading<i64>>(
         &mut self,
         reading: &R,
         row: &[i64],
@@ -131,7 +131,10 @@ fn add_row(row: &[i64], sums: &mut [i64]) {
 }
 
 // The means of the columns, negated.
-fn means_of<R: Reading>(alloc: Global, matrix: &Matrix<'_, R>) -> Result<Vec<i64>, AllocError> {
+fn means_of<R: Reading<i64>>(
+    alloc: Global,
+    matrix: &Matrix<'_, i64, R>,
+) -> Result<Vec<i64>, AllocError> {
     let mut sums = vec![in alloc; 0i64; matrix.objects]?;
     let mut count = 0i64;
     for k in 0..matrix.persons / STRIDE + 1 {
@@ -149,7 +152,7 @@ fn means_of<R: Reading>(alloc: Global, matrix: &Matrix<'_, R>) -> Result<Vec<i64
 }
 
 // An object of its own for each person.
-fn diagonal<R: Reading>(matrix: &Matrix<'_, R>, person: usize) -> u32 {
+fn diagonal<R: Reading<i64>>(matrix: &Matrix<'_, i64, R>, person: usize) -> u32 {
     place_at(person.wrapping_mul(matrix.objects) / matrix.persons.max(1))
 }
 
@@ -165,16 +168,16 @@ fn none_picked(alloc: Global, objects: usize) -> Result<Picked, AllocError> {
 }
 
 // A place in a row to begin at, so that rows with many equal values give different objects.
-fn begin_at<R: Reading>(matrix: &Matrix<'_, R>, person: usize) -> usize {
+fn begin_at<R: Reading<i64>>(matrix: &Matrix<'_, i64, R>, person: usize) -> usize {
     scatter(person) % matrix.objects.max(1)
 }
 
 // The cheapest pairs of each person by the prices; its own pair, which is a best one; and one of
 // the diagonal, so that there is an assignment.
-pub fn pick_by_prices<R: Reading>(
+pub fn pick_by_prices<R: Reading<i64>>(
     alloc: Global,
-    matrix: &Matrix<'_, R>,
-    market: &Market<'_>,
+    matrix: &Matrix<'_, i64, R>,
+    market: &Market<'_, i64>,
 ) -> Result<Core, AllocError> {
     let mut measure = Measure::new(alloc, market.prices.to_vec(alloc)?, MOST_BY_PRICES);
     let mut picked = none_picked(alloc, matrix.objects)?;
@@ -200,9 +203,9 @@ pub fn pick_by_prices<R: Reading>(
 
 // The cheapest pairs of each person by costs less the means of the columns, which are the right
 // ones where costs are nearly sums of two parts.
-pub fn pick_by_means<R: Reading>(
+pub fn pick_by_means<R: Reading<i64>>(
     alloc: Global,
-    matrix: &Matrix<'_, R>,
+    matrix: &Matrix<'_, i64, R>,
 ) -> Result<Core, AllocError> {
     let mut measure = Measure::new(alloc, means_of(alloc, matrix)?, MOST_BY_MEANS);
     let mut picked = none_picked(alloc, matrix.objects)?;

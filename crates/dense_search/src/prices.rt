@@ -1,32 +1,36 @@
 // First and last prices.
 use super::matrix::Matrix;
+use super::number::Number;
 use super::reading::Reading;
 use sparse_search::place_at;
 
 // The greatest first price.
 const GREATEST_PRICE: i64 = 1 << 60;
 
-fn lower<R: Reading>(reading: &R, row: &[i64], least: &mut [i64]) {
+fn lower<K: Number, R: Reading<K>>(reading: &R, row: &[K], least: &mut [K]) {
     for (cost, least) in row.iter().zip(least.iter_mut()) {
-        *least = reading.value(*cost).min(*least);
+        let value = reading.value(*cost);
+        if value.is_below(*least) {
+            *least = value;
+        }
     }
 }
 
-fn negate(prices: &mut [i64]) {
+fn negate<K: Number>(prices: &mut [K]) {
     for price in prices.iter_mut() {
-        *price = price.wrapping_neg();
+        *price = K::zero().minus(*price);
     }
 }
 
-fn fill(prices: &mut [i64], value: i64) {
+fn fill<K: Number>(prices: &mut [K], value: K) {
     for price in prices.iter_mut() {
         *price = value;
     }
 }
 
 // The negated least cost of each object.
-fn least_of_columns<R: Reading>(matrix: &Matrix<'_, R>, prices: &mut [i64]) {
-    fill(prices, i64::MAX);
+fn least_of_columns<K: Number, R: Reading<K>>(matrix: &Matrix<'_, K, R>, prices: &mut [K]) {
+    fill(prices, K::far());
     for k in 0..matrix.persons {
         lower(&matrix.reading, matrix.row(place_at(k)), prices);
     }
@@ -36,9 +40,9 @@ fn least_of_columns<R: Reading>(matrix: &Matrix<'_, R>, prices: &mut [i64]) {
 // Prices without first prices. With more objects than persons they are equal: bids and searches
 // raise only prices of owned objects, and these stay owned, so unowned objects stay cheapest.
 // Returns the looks at pairs.
-pub fn begin<R: Reading>(matrix: &Matrix<'_, R>, prices: &mut [i64]) -> usize {
+pub fn begin<K: Number, R: Reading<K>>(matrix: &Matrix<'_, K, R>, prices: &mut [K]) -> usize {
     if matrix.persons < matrix.objects {
-        fill(prices, 0);
+        fill(prices, K::zero());
         return 0;
     }
     least_of_columns(matrix, prices);

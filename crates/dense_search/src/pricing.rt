@@ -90,10 +90,10 @@ impl Better {
 }
 
 // The pairs that beat the prices: of each person those with less value than the pair that it has.
-pub fn better_pairs<R: Reading>(
+pub fn better_pairs<R: Reading<i64>>(
     alloc: Global,
-    matrix: &Matrix<'_, R>,
-    market: &Market<'_>,
+    matrix: &Matrix<'_, i64, R>,
+    market: &Market<'_, i64>,
 ) -> Result<Better, AllocError> {
     let mut better = Better::none(alloc)?;
     let mut found = Vec::new(alloc);

@@ -1,15 +1,15 @@
-// How listed costs are read: as numbers of which the least is best. Nothing is copied.
+// How listed costs are read: as numbers of which the least is best.
 
-pub trait Reading: Drop {
-    fn value(&self, cost: i64) -> i64;
+pub trait Reading<K>: Drop {
+    fn value(&self, cost: K) -> K;
 }
 
 // Costs to minimise.
 #[derive(Drop)]
 pub struct AsCosts;
 
-impl Reading for AsCosts {
-    fn value(&self, cost: i64) -> i64 {
+impl<K> Reading<K> for AsCosts {
+    fn value(&self, cost: K) -> K {
         cost
     }
 }
@@ -18,7 +18,7 @@ impl Reading for AsCosts {
 #[derive(Drop)]
 pub struct AsGains;
 
-impl Reading for AsGains {
+impl Reading<i64> for AsGains {
     fn value(&self, cost: i64) -> i64 {
         !cost
     }
@@ -31,7 +31,7 @@ pub struct Magnified<'a, R> {
     pub shift: u32,
 }
 
-impl<R: Reading> Reading for Magnified<'_, R> {
+impl<R: Reading<i64>> Reading<i64> for Magnified<'_, R> {
     fn value(&self, cost: i64) -> i64 {
         self.reading.value(cost).wrapping_shl(self.shift)
     }

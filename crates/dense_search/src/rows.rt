@@ -1,45 +1,48 @@
 // Scans of rows. The value of an object is the sum of its cost, as it is read, and its key, mostly
 // its price.
+use super::number::Number;
 use super::reading::Reading;
 use sparse_search::{NOBODY, place_at};
 
 // The number of objects that are compared at once.
 pub const BLOCK: usize = 32;
 
-// More than any value.
-pub const FAR: i64 = 1 << 61;
-
 // Whether an object has a value below the limit. Compilers make vectors of this loop, which keeps
 // the signs of the differences.
-pub fn is_any_below<R: Reading>(reading: &R, costs: &[i64], keys: &[i64], limit: i64) -> bool {
-    let mut signs = 0i64;
+pub fn is_any_below<K: Number, R: Reading<K>>(
+    reading: &R,
+    costs: &[K],
+    keys: &[K],
+    limit: K,
+) -> bool {
+    let mut signs = K::zero();
     for (cost, key) in costs.iter().zip(keys) {
-        signs |= reading.value(*cost).wrapping_add(*key).wrapping_sub(limit);
+        signs = signs.joined(reading.value(*cost).plus(*key).minus(limit));
     }
-    signs < 0
+    signs.is_below(K::zero())
 }
 
 // The two best objects of a person, with their values.
 #[derive(Clone, Copy)]
-pub struct Two {
-    pub best: i64,
+pub struct Two<K> {
+    pub best: K,
     pub object: u32,
-    pub second: i64,
+    pub second: K,
     pub other: u32,
 }
 
-impl Two {
-    fn none() -> Two {
+impl<K: Number> Two<K> {
+    fn none() -> Two<K> {
         Two {
-            best: FAR,
+            best: K::far(),
             object: NOBODY,
-            second: FAR,
+            second: K::far(),
             other: NOBODY,
         }
     }
 
-    fn with(self, object: u32, value: i64) -> Two {
-        if value < self.best {
+    fn with(self, object: u32, value: K) -> Two<K> {
+        if value.is_below(self.best) {
             Two {
                 best: value,
                 object,
@@ -56,27 +59,27 @@ impl Two {
     }
 
     // How much worse the second best is; 0 if there is one object.
-    pub fn gap(self) -> i64 {
+    pub fn gap(self) -> K {
         if self.other == NOBODY {
-            0
+            K::zero()
         } else {
-            self.second.wrapping_sub(self.best)
+            self.second.minus(self.best)
         }
     }
 }
 
 // The two best with the objects of a block that begins at this place.
-fn two_with_block<R: Reading>(
-    two: Two,
+fn two_with_block<K: Number, R: Reading<K>>(
+    two: Two<K>,
     reading: &R,
-    costs: &[i64],
-    keys: &[i64],
+    costs: &[K],
+    keys: &[K],
     at: usize,
-) -> Two {
+) -> Two<K> {
     let mut two = two;
     for (k, (cost, key)) in costs.iter().zip(keys).enumerate() {
-        let value = reading.value(*cost).wrapping_add(*key);
-        if value < two.second {
+        let value = reading.value(*cost).plus(*key);
+        if value.is_below(two.second) {
             two = two.with(place_at(at.wrapping_add(k)), value);
         }
     }
@@ -84,7 +87,7 @@ fn two_with_block<R: Reading>(
 }
 
 // The two best objects of a row.
-pub fn two_best<R: Reading>(reading: &R, row: &[i64], keys: &[i64]) -> Two {
+pub fn two_best<K: Number, R: Reading<K>>(reading: &R, row: &[K], keys: &[K]) -> Two<K> {
     let mut two = Two::none();
     let mut at = 0usize;
     for (costs, keys) in row.chunks(BLOCK).zip(keys.chunks(BLOCK)) {

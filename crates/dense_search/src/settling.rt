@@ -7,7 +7,7 @@ use sparse_search::{NOBODY, place_at};
 use std::alloc::{AllocError, Global};
 
 // A person leaves an object that isn't best, and takes a best one that nobody owns.
-fn settle<R: Reading>(matrix: &Matrix<'_, R>, market: &mut Market<'_>, person: u32) {
+fn settle<R: Reading<i64>>(matrix: &Matrix<'_, i64, R>, market: &mut Market<'_, i64>, person: u32) {
     let two = two_best(&matrix.reading, matrix.row(person), market.prices);
     let object = market.object(person);
     if object != NOBODY {
@@ -27,7 +27,10 @@ fn settle<R: Reading>(matrix: &Matrix<'_, R>, market: &mut Market<'_>, person: u
 }
 
 // Settles all persons. Returns the looks at pairs.
-pub fn settle_all<R: Reading>(matrix: &Matrix<'_, R>, market: &mut Market<'_>) -> usize {
+pub fn settle_all<R: Reading<i64>>(
+    matrix: &Matrix<'_, i64, R>,
+    market: &mut Market<'_, i64>,
+) -> usize {
     for k in 0..matrix.persons {
         settle(matrix, market, place_at(k));
     }
@@ -36,7 +39,7 @@ pub fn settle_all<R: Reading>(matrix: &Matrix<'_, R>, market: &mut Market<'_>) -
 
 // Raises the bounds to the prices at which a person with this value for its object would take the
 // others.
-fn raise_bounds<R: Reading>(reading: &R, row: &[i64], value: i64, bounds: &mut [i64]) {
+fn raise_bounds<R: Reading<i64>>(reading: &R, row: &[i64], value: i64, bounds: &mut [i64]) {
     for (cost, bound) in row.iter().zip(bounds.iter_mut()) {
         *bound = value.wrapping_sub(reading.value(*cost)).max(*bound);
     }
@@ -44,10 +47,10 @@ fn raise_bounds<R: Reading>(reading: &R, row: &[i64], value: i64, bounds: &mut [
 
 // Lowers the prices of unowned objects as far as nobody prefers them, and not below the least
 // price. Returns the looks at pairs.
-pub fn lower_prices<R: Reading>(
+pub fn lower_prices<R: Reading<i64>>(
     alloc: Global,
-    matrix: &Matrix<'_, R>,
-    market: &mut Market<'_>,
+    matrix: &Matrix<'_, i64, R>,
+    market: &mut Market<'_, i64>,
 ) -> Result<usize, AllocError> {
     let mut bounds = vec![in alloc; market.least_price(); matrix.objects]?;
     for k in 0..matrix.persons {

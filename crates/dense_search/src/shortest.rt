@@ -2,36 +2,39 @@
 // Edmonds and Karp 1972, Tomizawa 1971).
 use super::market::Market;
 use super::matrix::Matrix;
+use super::number::Number;
 use super::reading::Reading;
-use super::rows::{BLOCK, FAR, is_any_below};
+use super::rows::{BLOCK, is_any_below};
 use super::tree::{Label, Scanned, Tree};
 use sparse_search::{Looks, NOBODY, put};
 use std::alloc::{AllocError, Global};
 
-// The prices of objects, or `FAR` where an object is passed, and the paths.
+// The prices of objects, or what is far where an object is passed, and the paths.
 #[derive(Drop)]
-pub struct Search {
-    keys: Vec<i64>,
-    tree: Tree,
+pub struct Search<K> {
+    keys: Vec<K>,
+    tree: Tree<K>,
     // The objects that nobody owned as the searches began.
     unowned: Vec<u32>,
+    // Whether a price has left the room for sums.
+    pub is_beyond: bool,
 }
 
 // Reaches objects from a person, as far as they are nearer than the best end.
-fn scan_row<R: Reading>(
-    tree: &mut Tree,
-    market: &Market<'_>,
+fn scan_row<K: Number, R: Reading<K>>(
+    tree: &mut Tree<K>,
+    market: &Market<'_, K>,
     reading: &R,
-    row: &[i64],
-    keys: &[i64],
-    one: Scanned,
+    row: &[K],
+    keys: &[K],
+    one: Scanned<K>,
 ) -> Result<(), AllocError> {
     let mut at = 0usize;
     for (costs, keys) in row.chunks(BLOCK).zip(keys.chunks(BLOCK)) {
-        let limit = tree.best.wrapping_sub(one.base);
+        let limit = tree.best.minus(one.base);
         if is_any_below(reading, costs, keys, limit) {
             tree.reach_block(market, reading, costs, keys, at, one)?;
-            if tree.best == tree.level {
+            if !tree.level.is_below(tree.best) {
                 return Ok(());
             }
         }
@@ -40,27 +43,32 @@ fn scan_row<R: Reading>(
     Ok(())
 }
 
-// Raises the prices of passed objects up to the distance of the end.
-fn raise(tree: &Tree, market: &mut Market<'_>) {
+// Raises the prices of passed objects up to the distance of the end. Returns whether one leaves the
+// room for sums.
+fn raise<K: Number>(tree: &Tree<K>, market: &mut Market<'_, K>) -> bool {
+    let mut is_beyond = false;
     for object in &tree.passed {
         let distance = tree.label(*object).distance;
-        if distance < tree.best {
-            market.raise(*object, tree.best.wrapping_sub(distance));
+        if distance.is_below(tree.best) {
+            market.raise(*object, tree.best.minus(distance));
+            is_beyond = is_beyond || !market.price(*object).is_below(K::limit());
         }
     }
+    is_beyond
 }
 
-impl Search {
-    pub fn new(alloc: Global, market: &Market<'_>) -> Result<Search, AllocError> {
+impl<K: Number> Search<K> {
+    pub fn new(alloc: Global, market: &Market<'_, K>) -> Result<Search<K>, AllocError> {
         Ok(Search {
             keys: market.prices.to_vec(alloc)?,
             tree: Tree::new(alloc, market.prices.len())?,
             unowned: market.unowned(alloc)?,
+            is_beyond: false,
         })
     }
 
     // Shows the passed objects again, at their prices.
-    fn show(&mut self, market: &Market<'_>) {
+    fn show(&mut self, market: &Market<'_, K>) {
         for object in &self.tree.passed {
             let at = *object as usize;
             if at < self.keys.len() {
@@ -74,32 +82,29 @@ impl Search {
         for object in self.tree.passed.iter().skip(from) {
             let at = *object as usize;
             if at < self.keys.len() {
-                self.keys[at] = FAR;
+                self.keys[at] = K::hidden();
             }
         }
     }
 
     // The nearest unowned object seen from the first person bounds the search. Where most objects
     // are unowned a scan finds it as fast.
-    fn look_at_unowned<R: Reading>(
+    fn look_at_unowned<R: Reading<K>>(
         &mut self,
-        matrix: &Matrix<'_, R>,
-        market: &Market<'_>,
+        matrix: &Matrix<'_, K, R>,
+        market: &Market<'_, K>,
         person: u32,
     ) -> Result<(), AllocError> {
         if self.unowned.len() > matrix.objects / 4 {
             return Ok(());
         }
         let row = matrix.row(person);
-        let mut best = FAR;
+        let mut best = K::far();
         let mut end = NOBODY;
         for object in &self.unowned {
-            let cost = row.get(*object as usize).copied().unwrap_or(FAR);
-            let value = matrix
-                .reading
-                .value(cost)
-                .wrapping_add(market.price(*object));
-            if value < best && market.owner(*object) == NOBODY {
+            let cost = row.get(*object as usize).copied().unwrap_or(K::far());
+            let value = matrix.reading.value(cost).plus(market.price(*object));
+            if value.is_below(best) && market.owner(*object) == NOBODY {
                 best = value;
                 end = *object;
             }
@@ -111,11 +116,11 @@ impl Search {
         self.tree.reach(market, end as usize, came)
     }
 
-    fn scan<R: Reading>(
+    fn scan<R: Reading<K>>(
         &mut self,
-        matrix: &Matrix<'_, R>,
-        market: &Market<'_>,
-        one: Scanned,
+        matrix: &Matrix<'_, K, R>,
+        market: &Market<'_, K>,
+        one: Scanned<K>,
         looks: &mut Looks,
     ) -> Result<(), AllocError> {
         let hidden = self.tree.passed.len();
@@ -129,7 +134,7 @@ impl Search {
 
     // Whether an object waits whose owner is to be scanned in this turn.
     fn goes_on(&mut self, turn: usize) -> Result<bool, AllocError> {
-        if self.tree.best == self.tree.level {
+        if !self.tree.level.is_below(self.tree.best) {
             return Ok(false);
         }
         let hidden = self.tree.passed.len();
@@ -141,29 +146,27 @@ impl Search {
     }
 
     // The owner of the object that was passed in this turn.
-    fn owner_in<R: Reading>(
+    fn owner_in<R: Reading<K>>(
         &self,
-        matrix: &Matrix<'_, R>,
-        market: &Market<'_>,
+        matrix: &Matrix<'_, K, R>,
+        market: &Market<'_, K>,
         turn: usize,
-    ) -> Scanned {
+    ) -> Scanned<K> {
         let object = self.tree.passed.get(turn).copied().unwrap_or(NOBODY);
         let person = market.owner(object);
-        let own = matrix
-            .value(person, object)
-            .wrapping_add(market.price(object));
+        let own = matrix.value(person, object).plus(market.price(object));
         let distance = self.tree.label(object).distance;
         Scanned {
             person,
-            base: distance.wrapping_sub(own),
+            base: distance.minus(own),
         }
     }
 
     // Scans the owners of passed objects, until no path can be shorter than the best one.
-    fn follow<R: Reading>(
+    fn follow<R: Reading<K>>(
         &mut self,
-        matrix: &Matrix<'_, R>,
-        market: &Market<'_>,
+        matrix: &Matrix<'_, K, R>,
+        market: &Market<'_, K>,
         looks: &mut Looks,
     ) -> Result<(), AllocError> {
         for turn in 0..matrix.objects {
@@ -178,7 +181,7 @@ impl Search {
 
     // Gives each person on the way back from the end the object that was reached from it. The last
     // person had no object; or an object was reached from nobody, and becomes unowned.
-    fn walk_back(&self, market: &mut Market<'_>) {
+    fn walk_back(&self, market: &mut Market<'_, K>) {
         let mut object = self.tree.end;
         for _ in 0..self.tree.labels.len() {
             let person = self.tree.label(object).from;
@@ -196,10 +199,10 @@ impl Search {
     }
 
     // Changes prices and owners by what was found. Returns whether an end was found.
-    fn finish(&mut self, market: &mut Market<'_>) -> bool {
+    fn finish(&mut self, market: &mut Market<'_, K>) -> bool {
         let is_found = self.tree.end != NOBODY;
         if is_found {
-            raise(&self.tree, market);
+            self.is_beyond = raise(&self.tree, market) || self.is_beyond;
             self.walk_back(market);
         }
         self.show(market);
@@ -208,15 +211,23 @@ impl Search {
     }
 
     // Gives one more person an object, if it reaches an unowned one.
-    pub fn serve<R: Reading>(
+    pub fn serve<R: Reading<K>>(
         &mut self,
-        matrix: &Matrix<'_, R>,
-        market: &mut Market<'_>,
+        matrix: &Matrix<'_, K, R>,
+        market: &mut Market<'_, K>,
         person: u32,
         looks: &mut Looks,
     ) -> Result<bool, AllocError> {
         self.look_at_unowned(matrix, market, person)?;
-        self.scan(matrix, market, Scanned { person, base: 0 }, looks)?;
+        self.scan(
+            matrix,
+            market,
+            Scanned {
+                person,
+                base: K::zero(),
+            },
+            looks,
+        )?;
         self.follow(matrix, market, looks)?;
         Ok(self.finish(market))
     }
@@ -224,15 +235,15 @@ impl Search {
     // A search from a dummy, to whom all objects cost nothing: an unowned object whose price is
     // above the least one gets an owner, or the least price rises to its price. Returns whether
     // there was such an object.
-    pub fn lower_one<R: Reading>(
+    pub fn lower_one<R: Reading<K>>(
         &mut self,
-        matrix: &Matrix<'_, R>,
-        market: &mut Market<'_>,
+        matrix: &Matrix<'_, K, R>,
+        market: &mut Market<'_, K>,
         looks: &mut Looks,
     ) -> Result<bool, AllocError> {
         self.tree.floor = market.least_price();
         for k in 0..self.keys.len() {
-            if self.keys[k] < self.tree.best {
+            if self.keys[k].is_below(self.tree.best) {
                 let came = Label {
                     distance: self.keys[k],
                     from: NOBODY,

@@ -4,6 +4,8 @@ use super::bids::bid_all;
 use super::cores::solve_by_cores;
 use super::market::Market;
 use super::matrix::{DenseProblem, Matrix};
+use super::middle::search_copy;
+use super::narrow::{narrow_costs, widen};
 use super::paths::{Allowance, lower_unowned, serve_all};
 use super::prices::{begin, begin_at_zero, cut, magnify, reduce};
 use super::reading::{AsCosts, AsGains, Reading};
@@ -22,6 +24,9 @@ const STAGES: usize = 12;
 // Searches alone serve problems with fewer pairs.
 const SMALL: usize = 1 << 14;
 
+// Problems with more pairs aren't copied: a core is faster.
+const MOST_NARROW: usize = 1 << 21;
+
 // Problems with fewer pairs are mostly served by searches.
 const MIDDLE: usize = 1 << 19;
 
@@ -37,18 +42,24 @@ const RETRY_PASSES: u64 = 32;
 const FIRST_DIVISOR: i64 = 5;
 
 // The first bids of a person. A core's are cheaper, and only large problems come to one.
-fn first_bids<R: Reading>(matrix: &Matrix<'_, R>) -> usize {
+fn first_bids<R: Reading<i64>>(matrix: &Matrix<'_, i64, R>) -> usize {
     if matrix.pairs() < MIDDLE { 2 } else { 1 }
 }
 
 // The looks after which a core is as fast as searches.
-fn most_looks<R: Reading>(matrix: &Matrix<'_, R>) -> u64 {
+fn most_looks<R: Reading<i64>>(matrix: &Matrix<'_, i64, R>) -> u64 {
     if matrix.pairs() < SMALL {
         return u64::MAX;
     }
     let persons = (matrix.persons as u64).saturating_mul(CORE_LOOKS);
     let passes = (matrix.pairs() as u64).saturating_mul(CORE_PASSES);
     persons.saturating_add(passes)
+}
+
+// Whether searches over a copy in 32 bits are fastest. With many more objects than persons few pairs
+// are looked at, and a copy takes longer than these.
+fn is_middle<R: Reading<i64>>(matrix: &Matrix<'_, i64, R>) -> bool {
+    matrix.pairs() <= MOST_NARROW && matrix.persons > matrix.objects / 8 * 5
 }
 
 // What a step of a search leads to.
@@ -76,7 +87,7 @@ struct Kept {
 }
 
 impl Kept {
-    fn of(alloc: Global, market: &Market<'_>) -> Result<Kept, AllocError> {
+    fn of(alloc: Global, market: &Market<'_, i64>) -> Result<Kept, AllocError> {
         Ok(Kept {
             prices: market.prices.to_vec(alloc)?,
             objects: market.objects.to_vec(alloc)?,
@@ -84,7 +95,7 @@ impl Kept {
     }
 
     // Changes places with those of the market.
-    fn swap(&mut self, market: &mut Market<'_>) {
+    fn swap(&mut self, market: &mut Market<'_, i64>) {
         swap_prices(market.prices, self.prices.as_mut_slice());
         swap_objects(market.objects, self.objects.as_mut_slice());
         market.enter_objects();
@@ -110,40 +121,72 @@ fn swap_objects(some: &mut [u32], others: &mut [u32]) {
 // A search at work: what its stages change.
 #[derive(Drop)]
 struct Work<'a> {
-    market: Market<'a>,
+    market: Market<'a, i64>,
     record: Record,
     looks: Looks,
     // Whether this call went on from what another one left, so that an end is to be confirmed.
     is_resumed: bool,
     // Where the first searches ended, while a core is solved; then where the core ended.
     kept: Option<Kept>,
+    // Whether the costs may be searched over a copy in 32 bits. A budget is kept without one.
+    is_narrow: bool,
 }
 
 impl<'a> Work<'a> {
     // First bids of each person without an object, as far as the looks allow. Returns whether more
     // are to come.
-    fn bid_first<R: Reading>(&mut self, matrix: &Matrix<'_, R>) -> bool {
+    fn bid_first<R: Reading<i64>>(&mut self, matrix: &Matrix<'_, i64, R>) -> bool {
         let all = matrix.persons.saturating_mul(first_bids(matrix)) as u64;
         let left = all.saturating_sub(self.record.bids) as usize;
         let room = self.looks.limit.saturating_sub(self.looks.done) as usize;
         let most = left.min(room / matrix.objects.max(1));
-        let made = bid_all(matrix, &mut self.market, most);
+        let made = bid_all(matrix, &mut self.market, 0, most);
         self.record.bids = self.record.bids.saturating_add(made as u64);
         self.looks.add(made.saturating_mul(matrix.objects));
         made > 0 && made == most && most < left
     }
 
-    fn begin_cold<R: Reading>(&mut self, matrix: &Matrix<'_, R>) -> Step {
+    fn begin_cold<R: Reading<i64>>(
+        &mut self,
+        alloc: Global,
+        matrix: &Matrix<'_, i64, R>,
+    ) -> Result<Step, AllocError> {
         self.market.release_all();
+        if self.is_narrow && is_middle(matrix) {
+            self.is_narrow = false;
+            if let Some(costs) = narrow_costs(alloc, matrix)? {
+                let ended = self.search_narrow(alloc, &matrix.over(costs.as_slice()))?;
+                return self.after_searches(alloc, matrix, ended, Stage::Cold);
+            }
+        }
         let looks = begin(matrix, self.market.prices);
         self.looks.add(looks);
         self.record.bids = 0;
-        Step::To(Stage::Paths)
+        Ok(Step::To(Stage::Paths))
+    }
+
+    // Bids and searches over a copy of the costs. `Long` if sums leave 32 bits.
+    fn search_narrow(
+        &mut self,
+        alloc: Global,
+        matrix: &Matrix<'_, i32, AsCosts>,
+    ) -> Result<Ended, AllocError> {
+        let mut prices = vec![in alloc; 0i32; matrix.objects]?;
+        let mut looks = self.looks;
+        let objects = &mut *self.market.objects;
+        let ended = search_copy(alloc, matrix, prices.as_mut_slice(), objects, &mut looks)?;
+        self.looks = looks;
+        widen(prices.as_slice(), self.market.prices);
+        self.market.enter_objects();
+        match ended {
+            Ended::Served => Ok(ended),
+            _ => Ok(Ended::Long),
+        }
     }
 
     // First prices of which many persons' best objects are others' too save nothing, and so do those
     // of many more objects than persons, since a search without any looks at few pairs twice.
-    fn begin_warm<R: Reading>(&mut self, matrix: &Matrix<'_, R>) -> Step {
+    fn begin_warm<R: Reading<i64>>(&mut self, matrix: &Matrix<'_, i64, R>) -> Step {
         if matrix.persons < matrix.objects / 8 * 7 {
             return Step::To(Stage::Cold);
         }
@@ -158,20 +201,20 @@ impl<'a> Work<'a> {
         Step::To(Stage::Paths)
     }
 
-    fn serve<R: Reading>(
+    fn serve<R: Reading<i64>>(
         &mut self,
         alloc: Global,
-        matrix: &Matrix<'_, R>,
+        matrix: &Matrix<'_, i64, R>,
         allowed: Allowance,
     ) -> Result<Ended, AllocError> {
         serve_all(alloc, matrix, &mut self.market, allowed, &mut self.looks)
     }
 
     // Each person has an object: unowned objects come down to the least price.
-    fn lower<R: Reading>(
+    fn lower<R: Reading<i64>>(
         &mut self,
         alloc: Global,
-        matrix: &Matrix<'_, R>,
+        matrix: &Matrix<'_, i64, R>,
     ) -> Result<Step, AllocError> {
         let is_square = matrix.persons == matrix.objects;
         if is_square || !self.market.has_dear_unowned() {
@@ -181,10 +224,10 @@ impl<'a> Work<'a> {
         Ok(after(ended, Step::End(Outcome::Best), Stage::Finish))
     }
 
-    fn after_searches<R: Reading>(
+    fn after_searches<R: Reading<i64>>(
         &mut self,
         alloc: Global,
-        matrix: &Matrix<'_, R>,
+        matrix: &Matrix<'_, i64, R>,
         ended: Ended,
         long: Stage,
     ) -> Result<Step, AllocError> {
@@ -194,10 +237,10 @@ impl<'a> Work<'a> {
         }
     }
 
-    fn search_paths<R: Reading>(
+    fn search_paths<R: Reading<i64>>(
         &mut self,
         alloc: Global,
-        matrix: &Matrix<'_, R>,
+        matrix: &Matrix<'_, i64, R>,
     ) -> Result<Step, AllocError> {
         if self.bid_first(matrix) {
             return Ok(Step::End(Outcome::Stopped));
@@ -213,10 +256,10 @@ impl<'a> Work<'a> {
         self.after_searches(alloc, matrix, ended, Stage::Core)
     }
 
-    fn solve_cores<R: Reading>(
+    fn solve_cores<R: Reading<i64>>(
         &mut self,
         alloc: Global,
-        matrix: &Matrix<'_, R>,
+        matrix: &Matrix<'_, i64, R>,
     ) -> Result<Step, AllocError> {
         let record = &mut self.record;
         let ended = solve_by_cores(alloc, matrix, &mut self.market, record, &mut self.looks)?;
@@ -236,10 +279,10 @@ impl<'a> Work<'a> {
 
     // Searches on from where the first ones ended; if these take too long, the core's prices are
     // those of the auction.
-    fn retry<R: Reading>(
+    fn retry<R: Reading<i64>>(
         &mut self,
         alloc: Global,
-        matrix: &Matrix<'_, R>,
+        matrix: &Matrix<'_, i64, R>,
     ) -> Result<Step, AllocError> {
         if !self.swap_kept() {
             let looks = settle_all(matrix, &mut self.market);
@@ -257,10 +300,10 @@ impl<'a> Work<'a> {
     }
 
     // The auction, in whose unit costs count 2^9 times.
-    fn bid_in_phases<R: Reading>(
+    fn bid_in_phases<R: Reading<i64>>(
         &mut self,
         alloc: Global,
-        matrix: &Matrix<'_, R>,
+        matrix: &Matrix<'_, i64, R>,
     ) -> Result<Step, AllocError> {
         if self.record.shift == 0 {
             self.record.shift = SHIFT;
@@ -277,16 +320,16 @@ impl<'a> Work<'a> {
     }
 
     // Searches to the end, in the unit of the prices.
-    fn finish<R: Reading>(
+    fn finish<R: Reading<i64>>(
         &mut self,
         alloc: Global,
-        matrix: &Matrix<'_, R>,
+        matrix: &Matrix<'_, i64, R>,
     ) -> Result<Step, AllocError> {
         let matrix = &matrix.magnified(self.record.shift);
         let looks = settle_all(matrix, &mut self.market);
         self.looks.add(looks);
         let unserved = self.market.unserved();
-        let made = bid_all(matrix, &mut self.market, unserved);
+        let made = bid_all(matrix, &mut self.market, 0, unserved);
         self.looks.add(made.saturating_mul(matrix.objects));
         let allowed = Allowance {
             most: u64::MAX,
@@ -300,13 +343,13 @@ impl<'a> Work<'a> {
         Ok(after(ended, Step::End(Outcome::Best), Stage::Finish))
     }
 
-    fn step<R: Reading>(
+    fn step<R: Reading<i64>>(
         &mut self,
         alloc: Global,
-        matrix: &Matrix<'_, R>,
+        matrix: &Matrix<'_, i64, R>,
     ) -> Result<Step, AllocError> {
         match self.record.stage {
-            Stage::Cold => Ok(self.begin_cold(matrix)),
+            Stage::Cold => self.begin_cold(alloc, matrix),
             Stage::Warm => Ok(self.begin_warm(matrix)),
             Stage::Paths => self.search_paths(alloc, matrix),
             Stage::Core => self.solve_cores(alloc, matrix),
@@ -326,7 +369,7 @@ impl<'a> Work<'a> {
 
     // Whether an end holds in a call that went on from what another one left: what that was, nobody
     // vouches for. If it doesn't, searches go on from there.
-    fn is_confirmed<R: Reading>(&mut self, matrix: &Matrix<'_, R>) -> bool {
+    fn is_confirmed<R: Reading<i64>>(&mut self, matrix: &Matrix<'_, i64, R>) -> bool {
         if !self.is_resumed {
             return true;
         }
@@ -337,10 +380,10 @@ impl<'a> Work<'a> {
     }
 
     // Stage by stage up to an end.
-    fn go_on<R: Reading>(
+    fn go_on<R: Reading<i64>>(
         &mut self,
         alloc: Global,
-        matrix: &Matrix<'_, R>,
+        matrix: &Matrix<'_, i64, R>,
     ) -> Result<Outcome, AllocError> {
         for _ in 0..STAGES {
             match self.step(alloc, matrix)? {
@@ -364,9 +407,9 @@ impl<'a> Work<'a> {
     }
 }
 
-fn run_as<R: Reading>(
+fn run_as<R: Reading<i64>>(
     alloc: Global,
-    matrix: &Matrix<'_, R>,
+    matrix: &Matrix<'_, i64, R>,
     prices: &mut [i64],
     objects: &mut [u32],
     record: &mut Record,
@@ -382,6 +425,7 @@ fn run_as<R: Reading>(
         record: record.sound(),
         is_resumed: record.is_begun(),
         kept: None,
+        is_narrow: limit == u64::MAX,
         looks: Looks {
             done: record.looks,
             limit,

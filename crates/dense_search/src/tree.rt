@@ -1,33 +1,37 @@
 // The paths of a search: how far each reached object is, and from whom it was reached.
 use super::market::Market;
+use super::number::Number;
 use super::reading::Reading;
-use super::rows::FAR;
 use sparse_search::{NOBODY, place_at};
 use std::alloc::{AllocError, Global};
 use std::collections::BinaryHeap;
 
 // The distance of an object, and the person from whom it was reached.
 #[derive(Clone, Copy)]
-pub struct Label {
-    pub distance: i64,
+pub struct Label<K> {
+    pub distance: K,
     pub from: u32,
 }
 
-const UNREACHED: Label = Label {
-    distance: FAR,
-    from: NOBODY,
-};
+impl<K: Number> Label<K> {
+    fn unreached() -> Label<K> {
+        Label {
+            distance: K::far(),
+            from: NOBODY,
+        }
+    }
+}
 
 // A scanned person: an object's distance is the sum of its value for the person and `base`.
 #[derive(Clone, Copy)]
-pub struct Scanned {
+pub struct Scanned<K> {
     pub person: u32,
-    pub base: i64,
+    pub base: K,
 }
 
 #[derive(Drop)]
-pub struct Tree {
-    pub labels: Vec<Label>,
+pub struct Tree<K> {
+    pub labels: Vec<Label<K>>,
     // The reached objects, whose labels are reset after the search.
     reached: Vec<u32>,
     // The objects of known distance, the nearest first. Their owners are scanned in this order.
@@ -35,41 +39,41 @@ pub struct Tree {
     // Other owned objects with their distances negated. One that got nearer is in it again.
     heap: BinaryHeap<(i64, u32)>,
     // The distance of the last passed object.
-    pub level: i64,
+    pub level: K,
     // The nearest end of a path so far, and its distance.
     pub end: u32,
-    pub best: i64,
+    pub best: K,
     // Unowned objects end a path if their price is above this one.
-    pub floor: i64,
+    pub floor: K,
 }
 
-impl Tree {
-    pub fn new(alloc: Global, objects: usize) -> Result<Tree, AllocError> {
+impl<K: Number> Tree<K> {
+    pub fn new(alloc: Global, objects: usize) -> Result<Tree<K>, AllocError> {
         Ok(Tree {
-            labels: vec![in alloc; UNREACHED; objects]?,
+            labels: vec![in alloc; Label::unreached(); objects]?,
             reached: Vec::new(alloc),
             passed: Vec::new(alloc),
             heap: BinaryHeap::new(alloc),
-            level: i64::MIN,
+            level: K::nowhere(),
             end: NOBODY,
-            best: FAR,
-            floor: i64::MIN,
+            best: K::far(),
+            floor: K::nowhere(),
         })
     }
 
-    pub fn label(&self, object: u32) -> Label {
+    pub fn label(&self, object: u32) -> Label<K> {
         self.labels
             .get(object as usize)
             .copied()
-            .unwrap_or(UNREACHED)
+            .unwrap_or(Label::unreached())
     }
 
     // Notes a distance if it is less than the one known before.
-    fn is_nearer(&mut self, at: usize, came: Label) -> Result<bool, AllocError> {
-        if at >= self.labels.len() || came.distance >= self.labels[at].distance {
+    fn is_nearer(&mut self, at: usize, came: Label<K>) -> Result<bool, AllocError> {
+        if at >= self.labels.len() || !came.distance.is_below(self.labels[at].distance) {
             return Ok(false);
         }
-        if self.labels[at].distance == FAR {
+        if !self.labels[at].distance.is_below(K::far()) {
             self.reached.push(place_at(at))?;
         }
         self.labels[at] = came;
@@ -77,59 +81,75 @@ impl Tree {
     }
 
     // Reaches an object nearer than the best end.
-    pub fn reach(&mut self, market: &Market<'_>, at: usize, came: Label) -> Result<(), AllocError> {
+    pub fn reach(
+        &mut self,
+        market: &Market<'_, K>,
+        at: usize,
+        came: Label<K>,
+    ) -> Result<(), AllocError> {
         if !self.is_nearer(at, came)? {
             return Ok(());
         }
         let object = place_at(at);
-        if market.owner(object) == NOBODY && market.price(object) > self.floor {
+        if market.owner(object) == NOBODY && self.floor.is_below(market.price(object)) {
             self.best = came.distance;
             self.end = object;
-        } else if came.distance == self.level {
+        } else if !self.level.is_below(came.distance) {
             self.passed.push(object)?;
         } else {
-            self.heap.push((came.distance.wrapping_neg(), object))?;
+            let distance = came.distance.wide();
+            self.heap.push((distance.wrapping_neg(), object))?;
         }
         Ok(())
     }
 
-    // The objects of a block, which begins at this place, that are nearer than the best end.
-    pub fn reach_block<R: Reading>(
+    // Reaches an object from a person, if it is nearer than the best end.
+    fn reach_at(
         &mut self,
-        market: &Market<'_>,
-        reading: &R,
-        costs: &[i64],
-        keys: &[i64],
+        market: &Market<'_, K>,
         at: usize,
-        one: Scanned,
+        distance: K,
+        from: u32,
     ) -> Result<(), AllocError> {
-        for (k, (cost, key)) in costs.iter().zip(keys).enumerate() {
-            let value = reading.value(*cost).wrapping_add(*key);
-            let distance = value.wrapping_add(one.base);
-            if distance < self.best {
-                let came = Label {
-                    distance,
-                    from: one.person,
-                };
-                self.reach(market, at.wrapping_add(k), came)?;
-            }
+        if !distance.is_below(self.best) {
+            return Ok(());
+        }
+        self.reach(market, at, Label { distance, from })
+    }
+
+    // The objects of a block, which begins at this place, that are nearer than the best end.
+    pub fn reach_block<R: Reading<K>>(
+        &mut self,
+        market: &Market<'_, K>,
+        reading: &R,
+        costs: &[K],
+        keys: &[K],
+        at: usize,
+        one: Scanned<K>,
+    ) -> Result<(), AllocError> {
+        let mut place = at;
+        for (cost, key) in costs.iter().zip(keys) {
+            let distance = reading.value(*cost).plus(*key).plus(one.base);
+            self.reach_at(market, place, distance, one.person)?;
+            place = place.wrapping_add(1);
         }
         Ok(())
     }
 
     // Passes the nearest object that waits in the heap, if it is nearer than the best end.
-    pub fn pass_next(&mut self, keys: &[i64]) -> Result<(), AllocError> {
+    pub fn pass_next(&mut self, keys: &[K]) -> Result<(), AllocError> {
         for _ in 0..self.heap.len() {
             let Some((negated, object)) = self.heap.pop() else {
                 return Ok(());
             };
             let distance = negated.wrapping_neg();
-            if distance >= self.best {
+            if distance >= self.best.wide() {
                 return Ok(());
             }
-            let is_hidden = keys.get(object as usize).copied().unwrap_or(FAR) == FAR;
-            if !is_hidden && self.label(object).distance == distance {
-                self.level = distance;
+            let key = keys.get(object as usize).copied().unwrap_or(K::far());
+            let label = self.label(object);
+            if key.is_below(K::far()) && label.distance.wide() == distance {
+                self.level = label.distance;
                 self.passed.push(object)?;
                 return Ok(());
             }
@@ -142,14 +162,14 @@ impl Tree {
         for object in &self.reached {
             let at = *object as usize;
             if at < self.labels.len() {
-                self.labels[at] = UNREACHED;
+                self.labels[at] = Label::unreached();
             }
         }
         self.reached.clear();
         self.passed.clear();
         self.heap.clear();
-        self.level = i64::MIN;
+        self.level = K::nowhere();
         self.end = NOBODY;
-        self.best = FAR;
+        self.best = K::far();
     }
 }

@@ -1,5 +1,5 @@
 -- Each verdict excludes the others.
-use Rattle.std.proofs.Common.{◌≡◌, ℕ, ℤ, pos, List, [], length, map, nat_eq, All, arith, ap, ◌∙◌, sym, refl, subst, IsSome, inl, inr}
+use Rattle.std.proofs.Common.{◌≡◌, ℕ, ℤ, pos, List, [], length, map, nat_eq, All, arith, ap, ◌∙◌, sym, refl, subst, IsSome}
 use Rattle.std.proofs.lemmas.Int.{ints}
 use Rattle.std.proofs.lemmas.List.{length-map}
 use Rattle.std.specs.List.{IsDistinct}
@@ -8,15 +8,14 @@ use Rattle.assign_core.specs.Rows.{Listing, listed_in, row_of}
 use Rattle.assign_core.specs.Assignment.{AreListed}
 use Rattle.assign_core.specs.Benefits.{benefit_row}
 use Rattle.assign_core.specs.Prices.{IsPrice}
-use Rattle.assign_core.specs.Slackness.{AllSlack, AreLow, HasSlack}
+use Rattle.assign_core.specs.Slackness.{AllSlack, HasSlack}
 use Rattle.assign_core.proofs.Listed.{length_zip}
 use Rattle.assign_core.proofs.NumberedLemmas.{All-numbered}
 use Rattle.assign_core.proofs.Zips.{pair_number}
 use Rattle.dual_checker.specs.declared.verdict.Verdict.TheVariants.{Length, Unlisted, Twice, PriceRange, Slack, Yes}
-use Rattle.dual_checker.specs.Faults.{IsFirst, AreLong, IsUnlisted, IsGivenTwice, IsOutOfRange, BreaksSlackOf, IsShort, IsOverpriced, own_object}
+use Rattle.dual_checker.specs.Faults.{IsFirst, AreLong, IsUnlisted, IsGivenTwice, IsOutOfRange, BreaksSlackOf, IsShort, own_object}
 use Rattle.dual_checker.specs.declared.verdict.Verdict.{Verdict}
-use Rattle.dual_checker.specs.declared.among.VerdictAmong.TheVariants.{Usual, Overpriced}
-use Rattle.dual_checker.specs.Verdicts.{IsFault, IsSlackAssignment, IsVerdict, IsVerdictAmong, VerdictsDiffer, VerdictsAmongDiffer}
+use Rattle.dual_checker.specs.Verdicts.{IsFault, IsSlackAssignment, IsVerdict, VerdictsDiffer}
 use Rattle.dual_checker.proofs.Firsts.{firsts_agree}
 use Rattle.dual_checker.proofs.Givings.{once_at_most}
 use Rattle.dual_checker.proofs.Worths.{slack_unbroken}
@@ -39,11 +38,6 @@ not_short sense m rows xs prices i h f =
     let e : length (map (benefit_row sense m) rows) ≡ length rows = simp length-map in
     let slack = pair_number (HasSlack (pos 1) prices) (map (benefit_row sense m) rows) xs i [] 0 h f.number.first (let b = f.number.last in omega arith) in
     slack_unbroken (pos 1) prices (row_of (map (benefit_row sense m) rows) i) (own_object xs i) f.here.0 slack f.here.1
-
-not_overpriced : (m : ℕ) (prices : List ℤ) (xs : List ℕ) (j : ℕ) → AreLow m prices xs → IsFirst (IsOverpriced m prices xs) m j → ⊥
-not_overpriced m prices xs j low f =
-    let over = f.here.1.2 in
-    elim (low j f.here.1.0 f.number f.here.1.1) [ inl c ↦ f.here.0 c | inr le ↦ absurd (omega (arith, ints)) ]
 
 pub faults_differ : (sense : Sense) (m : ℕ) (rows : List Listing) (xs : List ℕ) (prices : List ℤ) (v w : Verdict) →
     IsFault sense m rows xs prices v → IsFault sense m rows xs prices w → v ≡ w
@@ -108,28 +102,3 @@ verdict_of s r x p Yes h = record { assigned = h.assigned; priced = h.priced; in
 
 pub differ : VerdictsDiffer
 differ s r x p v w a b = faults_differ s (length r) r x p v w (fault_of s r x p v a) (fault_of s r x p w b)
-
--- the same among m objects
-usual_fault : (sense : Sense) (m : ℕ) (rows : List Listing) (xs : List ℕ) (prices : List ℤ) (v : Verdict) →
-    IsVerdictAmong sense m rows xs prices (Usual v) → IsFault sense m rows xs prices v
-usual_fault s m r x p Length h = h
-usual_fault s m r x p (Unlisted i) h = h
-usual_fault s m r x p (Twice j) h = h
-usual_fault s m r x p (PriceRange j) h = h
-usual_fault s m r x p (Slack i k) h = h
-usual_fault s m r x p Yes h = record { assigned = h.assigned; priced = h.priced; in_range = h.in_range; slack = h.slack }
-
-overpriced_apart : (sense : Sense) (m : ℕ) (rows : List Listing) (xs : List ℕ) (prices : List ℤ) (v : Verdict) (j : ℕ) →
-    IsVerdictAmong sense m rows xs prices (Usual v) → IsVerdictAmong sense m rows xs prices (Overpriced j) → ⊥
-overpriced_apart s m r x p Length j a b = a (long s m r x p b.0)
-overpriced_apart s m r x p (Unlisted i) j a b = not_unlisted r x i b.0.assigned.listed a.1
-overpriced_apart s m r x p (Twice i) j a b = not_twice x _ i b.0.assigned.apart a.2
-overpriced_apart s m r x p (PriceRange i) j a b = not_out p _ i b.0.priced b.0.in_range a.2
-overpriced_apart s m r x p (Slack i k) j a b = not_short s m r x p i b.0.slack a.3
-overpriced_apart s m r x p Yes j a b = not_overpriced m p x j a.low b.1
-
-pub differ_among : VerdictsAmongDiffer
-differ_among s m r x p (Usual v) (Usual w) a b = ap Usual (faults_differ s m r x p v w (usual_fault s m r x p v a) (usual_fault s m r x p w b))
-differ_among s m r x p (Usual v) (Overpriced j) a b = absurd (overpriced_apart s m r x p v j a b)
-differ_among s m r x p (Overpriced j) (Usual v) a b = absurd (overpriced_apart s m r x p v j b a)
-differ_among s m r x p (Overpriced i) (Overpriced j) a b = ap Overpriced (firsts_agree _ _ i j a.1 b.1)

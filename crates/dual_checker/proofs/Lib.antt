@@ -5,11 +5,8 @@ pub mod Tallies
 pub mod Worths
 pub mod Differences
 pub mod Fronts
-pub mod Overpriced
 pub mod HallMarking
 pub mod HallFirsts
 pub mod HallDifferences
 pub mod HallFaults
-pub mod Reading
 pub mod RoundedSums
-pub mod RowPlaces

@@ -11,11 +11,9 @@ use Rattle.assign_core.specs.declared.numbers.TheConstants.{MOST_PERSONS}
 use Rattle.assign_core.specs.declared.sense.Sense.{Sense}
 use Rattle.assign_core.specs.declared.sense.Sense.TheVariants.{Min, Max}
 use Rattle.assign_core.specs.Rows.{Listing, IsCost, IsRow, listed_or_zero}
-use Rattle.assign_core.specs.Dense.{row_from}
 use Rattle.assign_core.specs.Benefits.{benefit, benefit_row}
 use Rattle.assign_core.specs.Prices.{price_of}
 use Rattle.assign_core.specs.Slackness.{HasSlack, IsWorth}
-use Rattle.assign_core.proofs.DenseRows.{length-row_from, row_from-index}
 use Rattle.assign_core.proofs.Duality.{benefit_value}
 use Rattle.assign_core.proofs.NumberedLemmas.{numbered-next}
 use Rattle.assign_core.proofs.Products.{distributes, opposite, steps_below}
@@ -78,24 +76,6 @@ least_more P i before after sum h low under is k below = elim (cases_lt k i) [
   | inl less ↦ let e = h k less in omega (arith, ints)
   | inr most ↦ let same : k ≡ i = omega arith in let e = ap P same in omega (arith, ints)
 ]
-
--- the sums by place are those of the row
-pub sums_of_full : (sense : Sense) (rounded costs : List ℤ) (least : ℤ) →
-    ((k : ℕ) → k < length costs → least ≤ℤ (minimised sense (get_or costs k (pos 0)) +ℤ get_or rounded k (pos 0))) → IsLeastSum sense rounded (row_from 1 costs) least
-sums_of_full sense rounded costs least h k d lt =
-    let below : k < length costs = let e = length-row_from 1 costs in omega arith in
-    let at = row_from-index 1 k costs d (pos 0) below in
-    let object : 1 + k ≡ k + 1 = omega arith in
-    let rounded = ap (price_of rounded) object ∙ numbered-next rounded k (pos 0) in
-    let here = h k below in
-    rw at (rw rounded here)
-
--- the costs of a full row are in range
-pub costs_of_full : (m : ℕ) (costs : List ℤ) → IsRow m (row_from 1 costs) → All IsCost costs
-costs_of_full m costs r = All-from_get_or IsCost costs (pos 0) (λ k lt.
-    let below : k < length (row_from 1 costs) = let e = length-row_from 1 costs in omega arith in
-    let at = row_from-index 1 k costs (0, pos 0) (pos 0) lt in
-    subst (λ e. IsCost e.1) at (r.costs k (0, pos 0) below))
 
 -- a rounded price in the unit of prices
 pub record IsWhole (price : ℤ) : Type 0 where

@@ -46,7 +46,3 @@ BreaksSlackOf sense m rows xs prices i k = BreaksSlack (pos 1) prices (row_of (m
 -- some object breaks the slackness 1 of person i
 abbrev pub IsShort : Sense → ℕ → List Listing → List ℕ → List ℤ → ℕ → Type 0
 IsShort sense m rows xs prices i = (k : ℕ) × BreaksSlackOf sense m rows xs prices i k
-
--- object j is unowned, and its price is over 1 above that of another of m objects
-abbrev pub IsOverpriced : ℕ → List ℤ → List ℕ → ℕ → Type 0
-IsOverpriced m prices xs j = ¬ Contains xs j × ((k : ℕ) × IsNumber m k × ((price_of prices k +ℤ pos 1) <ℤ price_of prices j))

@@ -4,6 +4,4 @@ pub mod Verdicts
 pub mod HallMarks
 pub mod HallVerdicts
 pub mod Confirmed
-pub mod Listings
-pub mod CostRow
 pub mod inside

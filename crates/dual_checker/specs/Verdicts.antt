@@ -5,12 +5,10 @@ use Rattle.assign_core.specs.Rows.{Listing}
 use Rattle.assign_core.specs.Assignment.{AreListed, IsAssignment}
 use Rattle.assign_core.specs.Benefits.{benefit_row}
 use Rattle.assign_core.specs.Prices.{IsPrice}
-use Rattle.assign_core.specs.Slackness.{AllSlack, IsCertificate, IsCertificateAmong}
+use Rattle.assign_core.specs.Slackness.{AllSlack, IsCertificate}
 use Rattle.dual_checker.specs.declared.verdict.Verdict.{Verdict}
 use Rattle.dual_checker.specs.declared.verdict.Verdict.TheVariants.{Length, Unlisted, Twice, PriceRange, Slack, Yes}
-use Rattle.dual_checker.specs.declared.among.VerdictAmong.{VerdictAmong}
-use Rattle.dual_checker.specs.declared.among.VerdictAmong.TheVariants.{Usual, Overpriced}
-use Rattle.dual_checker.specs.Faults.{IsFirst, AreLong, IsUnlisted, IsGivenTwice, IsOutOfRange, BreaksSlackOf, IsShort, IsOverpriced}
+use Rattle.dual_checker.specs.Faults.{IsFirst, AreLong, IsUnlisted, IsGivenTwice, IsOutOfRange, BreaksSlackOf, IsShort}
 
 -- an assignment among m objects, and prices in range at which each person has slackness 1
 pub record IsSlackAssignment (sense : Sense) (m : ℕ) (rows : List Listing) (xs : List ℕ) (prices : List ℤ) : Type 0 where
@@ -36,19 +34,7 @@ abbrev pub IsVerdict : Sense → List Listing → List ℕ → List ℤ → Verd
 IsVerdict sense rows xs prices Yes = IsCertificate sense rows xs prices
 IsVerdict sense rows xs prices fault = IsFault sense (length rows) rows xs prices fault
 
--- among m objects: the first fault, the last of which is an unowned object whose price is too high,
--- or Yes if the lists are a certificate
-abbrev pub IsVerdictAmong : Sense → ℕ → List Listing → List ℕ → List ℤ → VerdictAmong → Type 0
-IsVerdictAmong sense m rows xs prices (Usual Yes) = IsCertificateAmong sense m rows xs prices
-IsVerdictAmong sense m rows xs prices (Usual fault) = IsFault sense m rows xs prices fault
-IsVerdictAmong sense m rows xs prices (Overpriced j) = IsSlackAssignment sense m rows xs prices × IsFirst (IsOverpriced m prices xs) m j
-
 -- at most one verdict holds of a problem, a sense and two lists
 abbrev pub VerdictsDiffer : Type 0
 VerdictsDiffer = (sense : Sense) (rows : List Listing) (xs : List ℕ) (prices : List ℤ) (v w : Verdict) →
     IsVerdict sense rows xs prices v → IsVerdict sense rows xs prices w → v ≡ w
-
--- the same among m objects
-abbrev pub VerdictsAmongDiffer : Type 0
-VerdictsAmongDiffer = (sense : Sense) (m : ℕ) (rows : List Listing) (xs : List ℕ) (prices : List ℤ) (v w : VerdictAmong) →
-    IsVerdictAmong sense m rows xs prices v → IsVerdictAmong sense m rows xs prices w → v ≡ w

@@ -1,3 +1,1 @@
-pub mod Sources
-pub mod Places
 pub mod Rounded

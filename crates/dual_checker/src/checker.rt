@@ -5,7 +5,6 @@ ghost use Rattle.assign_core.specs.Slackness.{IsCertificate};
 ghost use Rattle.dual_checker.specs.Counts.{AreCounts};
 ghost use Rattle.dual_checker.specs.Verdicts.{IsFault, IsVerdict};
 
-use super::cost_rows::CostRows;
 use super::counts::first_given_twice;
 use super::listed::first_unlisted;
 use super::priced::first_out_of_range;
@@ -20,22 +19,22 @@ use std::alloc::{AllocError, Global};
 pub fn first_fault(
     counts: &mut [u16],
     rounded: &mut [i64],
-    rows: &CostRows<'_>,
+    problem: &Problem,
     sense: Sense,
     objects: &[Object],
     prices: &[Price],
 ) -> Verdict
-    requires counts { counts.old ≡ replicate rows.now.m 0 }
-    requires rounded { length rounded.old ≡ rows.now.m }
-    ensures fault { IsFault sense rows.now.m rows.now.rows objects.now prices.now result }
+    requires counts { counts.old ≡ replicate (length problem.now) 0 }
+    requires rounded { length rounded.old ≡ (length problem.now) }
+    ensures fault { IsFault sense (length problem.now) problem.now objects.now prices.now result }
     ensures counts { result ≡ Verdict.Yes → AreCounts counts.new objects.now }
-    ensures long { length counts.new ≡ rows.now.m }
+    ensures long { length counts.new ≡ (length problem.now) }
 {
-    let (n, m) = (rows.persons() as usize, rows.objects() as usize);
-    if objects.len() != n || prices.len() != m {
+    let n = problem.n() as usize;
+    if objects.len() != n || prices.len() != n {
         return Verdict::Length;
     }
-    if let Some(person) = first_unlisted(rows, objects) {
+    if let Some(person) = first_unlisted(problem, objects) {
         return Verdict::Unlisted(person);
     }
     if let Some(object) = first_given_twice(counts, objects) {
@@ -45,7 +44,7 @@ pub fn first_fault(
         return Verdict::PriceRange(object);
     }
     set_rounded(rounded, prices);
-    if let Some((person, object)) = first_short(rows, sense, objects, prices, rounded) {
+    if let Some((person, object)) = first_short(problem, sense, objects, prices, rounded) {
         return Verdict::Slack(person, object);
     }
     Verdict::Yes
@@ -81,9 +80,8 @@ pub fn check(
     ensures best { IfOk result (λ v. v ≡ Verdict.Yes → IsBest sense problem.now objects.now) }
 {
     let n = problem.n();
-    let rows = CostRows::first(problem, n, n);
     let mut counts = vec![in alloc; 0u16; n as usize]?;
     let mut rounded = vec![in alloc; 0i64; n as usize]?;
     let (counts, rounded) = (counts.as_mut_slice(), rounded.as_mut_slice());
-    Ok(first_fault(counts, rounded, &rows, sense, objects, prices))
+    Ok(first_fault(counts, rounded, problem, sense, objects, prices))
 }

@@ -1,15 +1,13 @@
 // Outcomes of any origin, accepted if they are proofs.
 ghost use Rattle.std.specs.Prelude.{◌≡◌, ◌↔◌, IsTrue, IfOk, IfSome};
 ghost use Rattle.assign_core.specs.declared.sense.Sense.{Sense};
-ghost use Rattle.assign_core.specs.Slackness.{IsCertificate, IsCertificateAmong};
+ghost use Rattle.assign_core.specs.Slackness.{IsCertificate};
 ghost use Rattle.assign_core.specs.Hall.{IsHallSet};
-ghost use Rattle.assign_core.specs.Outcomes.{IsProof, IsProofAmong};
+ghost use Rattle.assign_core.specs.Outcomes.{IsProof};
 ghost use Rattle.dual_checker.specs.Confirmed.{IsConfirmed};
 
-use super::among::{VerdictAmong, check_among};
 use super::checker::check;
-use super::cost_rows::CostRows;
-use super::hall::{check_hall, check_hall_among};
+use super::hall::check_hall;
 use super::hall_verdict::HallVerdict;
 use super::verdict::Verdict;
 use assign_core::{
@@ -81,37 +79,6 @@ pub fn confirm_best(
     Ok(Some(Outcome::Best(Certificate { assignment, prices })))
 }
 
-/// These objects of persons 1 to `n` and these prices of objects 1 to `m` as an outcome, if they
-/// are a certificate under this sense by `check_among`. `None` exactly where they aren't.
-///
-/// The lists may have any length and hold any numbers. They are not copied.
-///
-/// # Errors
-/// `AllocError` if memory is refused. The lists are then dropped.
-pub fn confirm_best_among(
-    alloc: Global,
-    rows: &CostRows<'_>,
-    sense: Sense,
-    objects: Vec<Object>,
-    prices: Vec<Price>,
-) -> Result<Option<Outcome>, AllocError>
-    ensures lists { IfOk result (IsConfirmed
-        (IsCertificateAmong sense rows.now.m rows.now.rows objects.items prices.items)
-        (Outcome.Best (record { assignment = objects.items; prices = prices.items }))) }
-    ensures proof { IfOk result
-        (λ found. IfSome found (IsProofAmong sense rows.now.m rows.now.rows)) }
-{
-    let verdict = check_among(alloc, rows, sense, objects.as_slice(), prices.as_slice())?;
-    if verdict != VerdictAmong::Usual(Verdict::Yes) {
-        return Ok(None);
-    }
-    // This call shows the prover that there are few enough prices for a table.
-    let _few = rows.objects();
-    let prices = Prices::new(alloc, prices)?;
-    let assignment = Assignment::new(objects);
-    Ok(Some(Outcome::Best(Certificate { assignment, prices })))
-}
-
 /// These persons and objects as an outcome, if they are a Hall set. `None` exactly where they
 /// aren't.
 ///
@@ -142,32 +109,6 @@ pub fn confirm_hall(
         → IsProof sense problem.now outcome)) }
 {
     let verdict = check_hall(alloc, problem, persons.as_slice(), objects.as_slice())?;
-    if verdict != HallVerdict::Yes {
-        return Ok(None);
-    }
-    Ok(Some(Outcome::Hall(HallSet::new(persons, objects))))
-}
-
-/// These persons and objects as an outcome, if they are a Hall set by `check_hall_among`. `None`
-/// exactly where they aren't.
-///
-/// The lists may have any length and hold any numbers. They are not copied.
-///
-/// # Errors
-/// `AllocError` if memory is refused. The lists are then dropped.
-pub fn confirm_hall_among(
-    alloc: Global,
-    rows: &CostRows<'_>,
-    persons: Vec<Person>,
-    objects: Vec<Object>,
-) -> Result<Option<Outcome>, AllocError>
-    ensures lists { IfOk result (IsConfirmed
-        (IsHallSet rows.now.rows persons.items objects.items)
-        (Outcome.Hall (record { persons = persons.items; objects = objects.items }))) }
-    ensures proof { IfOk result (λ found. IfSome found (λ outcome. (sense : Sense)
-        → IsProofAmong sense rows.now.m rows.now.rows outcome)) }
-{
-    let verdict = check_hall_among(alloc, rows, persons.as_slice(), objects.as_slice())?;
     if verdict != HallVerdict::Yes {
         return Ok(None);
     }

@@ -4,7 +4,6 @@ ghost use Rattle.assign_core.specs.Assignment.{IsAssignment};
 ghost use Rattle.assign_core.specs.Hall.{IsHallSet};
 ghost use Rattle.dual_checker.specs.HallVerdicts.{IsHallVerdict};
 
-use super::cost_rows::CostRows;
 use super::hall_lists::{are_in_range, are_rising};
 use super::hall_marks::{first_missing, first_unmarked, mark_listed, mark_objects};
 use super::hall_verdict::HallVerdict;
@@ -15,25 +14,25 @@ use std::alloc::{AllocError, Global};
 fn first_hall_fault(
     named: &mut [bool],
     listed: &mut [bool],
-    rows: &CostRows<'_>,
+    problem: &Problem,
     persons: &[Person],
     objects: &[Object],
 ) -> HallVerdict
-    requires named { named.old ≡ replicate rows.now.m false }
-    requires listed { listed.old ≡ replicate rows.now.m false }
-    ensures { IsHallVerdict rows.now.m rows.now.rows persons.now objects.now result }
+    requires named { named.old ≡ replicate (length problem.now) false }
+    requires listed { listed.old ≡ replicate (length problem.now) false }
+    ensures { IsHallVerdict (length problem.now) problem.now persons.now objects.now result }
 {
-    if !are_in_range(rows, persons, objects) {
+    if !are_in_range(problem, persons, objects) {
         return HallVerdict::Range;
     }
     if !are_rising(persons, objects) {
         return HallVerdict::Order;
     }
     mark_objects(named, objects);
-    if let Some((person, object)) = first_missing(rows, persons, named) {
+    if let Some((person, object)) = first_missing(problem, persons, named) {
         return HallVerdict::Missing(person, object);
     }
-    mark_listed(listed, rows, persons);
+    mark_listed(listed, problem, persons);
     if let Some(object) = first_unmarked(objects, listed) {
         return HallVerdict::Extra(object);
     }
@@ -41,31 +40,6 @@ fn first_hall_fault(
         return HallVerdict::Count;
     }
     HallVerdict::Yes
-}
-
-/// Whether these persons and objects are a Hall set of the rows; if not, the first fault in the
-/// order of `HallVerdict`, by its lowest number, as `check_hall` gives it.
-///
-/// # Errors
-/// `AllocError` if memory is refused, before the lists are read.
-pub fn check_hall_among(
-    alloc: Global,
-    rows: &CostRows<'_>,
-    persons: &[Person],
-    objects: &[Object],
-) -> Result<HallVerdict, AllocError>
-    ensures verdict { IfOk result (λ v.
-        IsHallVerdict rows.now.m rows.now.rows persons.now objects.now v) }
-    ensures yes { IfOk result (λ v.
-        (v ≡ HallVerdict.Yes) ↔ IsHallSet rows.now.rows persons.now objects.now) }
-    ensures none { IfOk result (λ v.
-        v ≡ HallVerdict.Yes → (xs : List ℕ) → IsAssignment rows.now.rows xs → ⊥) }
-{
-    let m = rows.objects() as usize;
-    let mut named = vec![in alloc; false; m]?;
-    let mut listed = vec![in alloc; false; m]?;
-    let (named, listed) = (named.as_mut_slice(), listed.as_mut_slice());
-    Ok(first_hall_fault(named, listed, rows, persons, objects))
 }
 
 /// Whether these persons and objects are a Hall set of the problem; if not, the first fault in the
@@ -99,6 +73,9 @@ pub fn check_hall(
     ensures none { IfOk result (λ v.
         v ≡ HallVerdict.Yes → (xs : List ℕ) → IsAssignment problem.now xs → ⊥) }
 {
-    let n = problem.n();
-    check_hall_among(alloc, &CostRows::first(problem, n, n), persons, objects)
+    let n = problem.n() as usize;
+    let mut named = vec![in alloc; false; n]?;
+    let mut listed = vec![in alloc; false; n]?;
+    let (named, listed) = (named.as_mut_slice(), listed.as_mut_slice());
+    Ok(first_hall_fault(named, listed, problem, persons, objects))
 }

@@ -5,8 +5,7 @@ ghost use Rattle.assign_core.specs.Numbered.{IsNumber};
 ghost use Rattle.dual_checker.specs.HallVerdicts.{AreInRange};
 ghost use Rattle.dual_checker.specs.HallVerdicts.{AreRising};
 
-use super::cost_rows::CostRows;
-use assign_core::{Numbered, Object, Person};
+use assign_core::{Numbered, Object, Person, Problem};
 
 // Whether all have numbers from 1 to n.
 fn are_within<T: Numbered>(n: u16, all: &[T]) -> bool
@@ -30,11 +29,11 @@ fn rise<T: Numbered>(all: &[T]) -> bool
     true
 }
 
-// Whether all numbers are those of persons and objects of these rows.
-pub fn are_in_range(rows: &CostRows<'_>, persons: &[Person], objects: &[Object]) -> bool
-    ensures { IsTrue result ↔ AreInRange rows.now.m rows.now.rows persons.now objects.now }
+// Whether all numbers are those of persons and objects of this problem.
+pub fn are_in_range(problem: &Problem, persons: &[Person], objects: &[Object]) -> bool
+    ensures { IsTrue result ↔ AreInRange (length problem.now) problem.now persons.now objects.now }
 {
-    are_within(rows.persons(), persons) && are_within(rows.objects(), objects)
+    are_within(problem.n(), persons) && are_within(problem.n(), objects)
 }
 
 // Whether both lists strictly rise.

@@ -8,9 +8,7 @@ ghost use Rattle.dual_checker.specs.Faults.{IsFirst};
 ghost use Rattle.dual_checker.specs.HallMarks.{AddsMarks};
 ghost use Rattle.dual_checker.specs.HallVerdicts.{HasNeighbours, Lacks, ListsUnnamed};
 
-use super::cost_row::{listed, pair_at};
-use super::cost_rows::CostRows;
-use assign_core::{Object, Person};
+use assign_core::{Object, Person, Problem};
 
 // Marks these objects.
 pub fn mark_objects(marks: &mut [bool], objects: &[Object])
@@ -23,40 +21,42 @@ pub fn mark_objects(marks: &mut [bool], objects: &[Object])
 }
 
 // Marks the objects that a person lists.
-fn mark_row(marks: &mut [bool], rows: &CostRows<'_>, person: Person)
-    requires person { IsNumber (length rows.now.rows) person }
-    requires long { length marks.old ≡ rows.now.m }
-    ensures { AddsMarks marks.old (IsListed rows.now.rows person) marks.new }
+fn mark_row(marks: &mut [bool], problem: &Problem, person: Person)
+    requires person { IsNumber (length problem.now) person }
+    requires long { length marks.old ≡ (length problem.now) }
+    ensures { AddsMarks marks.old (IsListed problem.now person) marks.new }
 {
-    let row = rows.row(person);
-    for i in 0..listed(row) {
-        let (object, _) = pair_at(row, i);
+    let row = problem.row(person);
+    for i in 0..row.len() {
+        let pair = row[i];
+        let (object, _) = pair;
         marks[object.place()] = true;
     }
 }
 
 // Marks the objects that these persons list.
-pub fn mark_listed(marks: &mut [bool], rows: &CostRows<'_>, persons: &[Person])
-    requires persons { All (IsNumber (length rows.now.rows)) persons.now }
-    requires long { length marks.old ≡ rows.now.m }
-    ensures { AddsMarks marks.old (IsNeighbour rows.now.rows persons.now) marks.new }
+pub fn mark_listed(marks: &mut [bool], problem: &Problem, persons: &[Person])
+    requires persons { All (IsNumber (length problem.now)) persons.now }
+    requires long { length marks.old ≡ (length problem.now) }
+    ensures { AddsMarks marks.old (IsNeighbour problem.now persons.now) marks.new }
 {
     for person in persons {
-        mark_row(marks, rows, *person);
+        mark_row(marks, problem, *person);
     }
 }
 
 // The lowest object without a mark that a person lists.
-fn first_unnamed(rows: &CostRows<'_>, person: Person, named: &[bool]) -> Option<Object>
-    requires person { IsNumber (length rows.now.rows) person }
-    requires long { length named.now ≡ rows.now.m }
-    ensures { MatchOption result ((j : ℕ) → IsListed rows.now.rows person j → IsMarked named.now j)
+fn first_unnamed(problem: &Problem, person: Person, named: &[bool]) -> Option<Object>
+    requires person { IsNumber (length problem.now) person }
+    requires long { length named.now ≡ (length problem.now) }
+    ensures { MatchOption result ((j : ℕ) → IsListed problem.now person j → IsMarked named.now j)
         (λ j. IsFirst
-        (ListsUnnamed rows.now.rows (IsMarked named.now) person) rows.now.m j) }
+        (ListsUnnamed problem.now (IsMarked named.now) person) (length problem.now) j) }
 {
-    let row = rows.row(person);
-    for i in 0..listed(row) {
-        let (object, _) = pair_at(row, i);
+    let row = problem.row(person);
+    for i in 0..row.len() {
+        let pair = row[i];
+        let (object, _) = pair;
         if !named[object.place()] {
             return Some(object);
         }
@@ -67,19 +67,19 @@ fn first_unnamed(rows: &CostRows<'_>, person: Person, named: &[bool]) -> Option<
 // The lowest of these persons that lists an object without a mark, and the lowest object of this
 // kind.
 pub fn first_missing(
-    rows: &CostRows<'_>,
+    problem: &Problem,
     persons: &[Person],
     named: &[bool],
 ) -> Option<(Person, Object)>
-    requires persons { All (IsNumber (length rows.now.rows)) persons.now }
+    requires persons { All (IsNumber (length problem.now)) persons.now }
     requires rise { IsStrictlyIncreasing persons.now }
-    requires long { length named.now ≡ rows.now.m }
-    ensures { MatchOption result (HasNeighbours rows.now.rows persons.now (IsMarked named.now))
-        (λ p. IsFirst (Lacks rows.now.rows persons.now (IsMarked named.now)) (length rows.now.rows) p.0
-        × IsFirst (ListsUnnamed rows.now.rows (IsMarked named.now) p.0) rows.now.m p.1) }
+    requires long { length named.now ≡ (length problem.now) }
+    ensures { MatchOption result (HasNeighbours problem.now persons.now (IsMarked named.now))
+        (λ p. IsFirst (Lacks problem.now persons.now (IsMarked named.now)) (length problem.now) p.0
+        × IsFirst (ListsUnnamed problem.now (IsMarked named.now) p.0) (length problem.now) p.1) }
 {
     for person in persons {
-        if let Some(object) = first_unnamed(rows, *person, named) {
+        if let Some(object) = first_unnamed(problem, *person, named) {
             return Some((*person, object));
         }
     }

@@ -2,14 +2,11 @@
 ghost use Rattle.std.specs.Prelude.{◌≡◌, pos, ◌+◌, ◌+ℤ◌, ◌*ℤ◌, ◌≤ℤ◌, length, All, IsTrue};
 ghost use Rattle.assign_core.specs.Numbered.{IsNumber};
 ghost use Rattle.assign_core.specs.Rows.{IsCost, IsRow, IsSize, listed_or_zero};
-ghost use Rattle.assign_core.specs.Dense.{row_from};
 ghost use Rattle.assign_core.specs.Benefits.{benefit_row};
 ghost use Rattle.assign_core.specs.Prices.{IsPrice};
 ghost use Rattle.assign_core.specs.Slackness.{HasSlack};
-ghost use Rattle.dual_checker.specs.CostRow.{IsFull, listing_of};
 ghost use Rattle.dual_checker.specs.inside.Rounded.{AreRounded, IsRounded, IsLeastSum, minimised};
 
-use super::cost_row::CostRow;
 use super::rounded::MOST_ROUNDED;
 use super::slack::price_at;
 use assign_core::{Cost, MOST_PERSONS, Object, Price, Sense};
@@ -26,22 +23,8 @@ fn sum_of(sense: Sense, cost: Cost, rounded: i64) -> i64
     }
 }
 
-// The least sum of a cost and its object's rounded price, in a full row.
-fn least_full(costs: &[Cost], sense: Sense, rounded: &[i64]) -> i64
-    requires long { length costs.now ≡ length rounded.now }
-    requires costs { All IsCost costs.now }
-    requires rounded { All IsRounded rounded.now }
-    ensures { IsLeastSum sense rounded.now (row_from 1 costs.now) result }
-{
-    let mut least = i64::MAX;
-    for i in 0..costs.len() {
-        least = least.min(sum_of(sense, costs[i], rounded[i]));
-    }
-    least
-}
-
-// The same of listed pairs.
-fn least_listed(pairs: &[(Object, Cost)], sense: Sense, rounded: &[i64]) -> i64
+// The least sum of a cost and its object's rounded price.
+fn least_sum(pairs: &[(Object, Cost)], sense: Sense, rounded: &[i64]) -> i64
     requires row { IsRow (length rounded.now) pairs.now }
     requires rounded { All IsRounded rounded.now }
     ensures { IsLeastSum sense rounded.now pairs.now result }
@@ -51,19 +34,6 @@ fn least_listed(pairs: &[(Object, Cost)], sense: Sense, rounded: &[i64]) -> i64
         least = least.min(sum_of(sense, *cost, rounded[object.place()]));
     }
     least
-}
-
-// The same of any row.
-fn least_sum(row: CostRow<'_>, sense: Sense, rounded: &[i64]) -> i64
-    requires row { IsRow (length rounded.now) (listing_of row) }
-    requires full { IsFull (length rounded.now) row }
-    requires rounded { All IsRounded rounded.now }
-    ensures { IsLeastSum sense rounded.now (listing_of row.entry) result }
-{
-    match row {
-        CostRow::Full(costs) => least_full(costs, sense, rounded),
-        CostRow::Pairs(pairs) => least_listed(pairs, sense, rounded),
-    }
 }
 
 // A rounded price among `n` objects, as a price.
@@ -79,7 +49,7 @@ fn as_price(rounded: i64, n: u16) -> Price
 // Whether 64-bit sums show that no object of a row has a value over 1 above that of a person's own
 // object, which has this cost. If not, some object may have one.
 pub fn shows_slack(
-    row: CostRow<'_>,
+    row: &[(Object, Cost)],
     sense: Sense,
     prices: &[Price],
     rounded: &[i64],
@@ -87,13 +57,12 @@ pub fn shows_slack(
     cost: Cost,
 ) -> bool
     requires size { IsSize (length prices.now) }
-    requires row { IsRow (length prices.now) (listing_of row) }
-    requires full { IsFull (length prices.now) row }
+    requires row { IsRow (length prices.now) row.now }
     requires in_range { All IsPrice prices.now }
     requires rounded { AreRounded rounded.now prices.now }
     requires number { IsNumber (length prices.now) own }
-    requires cost { cost ≡ listed_or_zero (listing_of row) own }
-    ensures { let benefits = benefit_row sense (length prices.now) (listing_of row.entry) in
+    requires cost { cost ≡ listed_or_zero row.now own }
+    ensures { let benefits = benefit_row sense (length prices.now) row.now in
         IsTrue result → HasSlack (pos 1) prices.now benefits own }
 {
     let own_rounded = rounded[own.place()];

@@ -19,8 +19,8 @@ pub fn draw(seed: &mut u64, end: u32) -> u32 {
         .min(1_000_000) as u32
 }
 
-// A cost of one of the kinds: few small ones, near a limit of the widths in bits, or all equal.
-fn drawn_cost(seed: &mut u64, kind: u32) -> Cost {
+/// A cost of one of the kinds: few small ones, near a limit of the widths in bits, or all equal.
+pub fn drawn_cost(seed: &mut u64, kind: u32) -> Cost {
     let step = Cost::from(draw(seed, 7));
     let side = if draw(seed, 2) == 0 { 1 } else { -1 };
     let base: Cost = match kind {

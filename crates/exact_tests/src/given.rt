@@ -7,6 +7,7 @@ ghost use Rattle.cost_lists.specs.ListedCosts.{IsCount};
 use crate::problem::Problem;
 use assign_core::{Cost, GREATEST_COST};
 use cost_lists::{CostLists, GREATEST_NUMBER, Pairs};
+use std::test::Fail;
 
 fn is_count(n: u32) -> bool
     ensures { IsTrue result ↔ IsCount n }
@@ -70,4 +71,12 @@ pub fn lent(problem: &Problem) -> Option<CostLists<'_>> {
         costs,
     };
     Some(CostLists::sparse(problem.sense, n, m, pairs))
+}
+
+/// The costs of a problem in the limits.
+pub fn costs_of(problem: &Problem) -> Result<CostLists<'_>, Fail> {
+    match lent(problem) {
+        Some(lists) => Ok(lists),
+        None => Err("the problem is out of the limits".into()),
+    }
 }

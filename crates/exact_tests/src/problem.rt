@@ -14,6 +14,46 @@ pub struct Problem {
     pub costs: Vec<Cost>,
 }
 
+/// A dense problem of these costs.
+pub fn dense(
+    alloc: Global,
+    sense: Sense,
+    n: u32,
+    m: u32,
+    costs: &[Cost],
+) -> Result<Problem, AllocError> {
+    Ok(Problem {
+        sense,
+        n,
+        m,
+        is_dense: true,
+        persons: Vec::new(alloc),
+        objects: Vec::new(alloc),
+        costs: costs.to_vec(alloc)?,
+    })
+}
+
+/// A problem of these pairs.
+pub fn sparse(
+    alloc: Global,
+    sense: Sense,
+    n: u32,
+    m: u32,
+    persons: &[u32],
+    objects: &[u32],
+    costs: &[Cost],
+) -> Result<Problem, AllocError> {
+    Ok(Problem {
+        sense,
+        n,
+        m,
+        is_dense: false,
+        persons: persons.to_vec(alloc)?,
+        objects: objects.to_vec(alloc)?,
+        costs: costs.to_vec(alloc)?,
+    })
+}
+
 // The better one of two costs.
 fn better(sense: Sense, cost: Cost, other: Option<Cost>) -> Cost {
     match (sense, other) {

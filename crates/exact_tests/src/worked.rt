@@ -1,58 +1,9 @@
 // Verdicts, costs and totals worked out by hand.
-use crate::given::lent;
-use crate::problem::Problem;
-use assign_core::{Cost, Sense};
-use cost_lists::CostLists;
+use crate::given::costs_of;
+use crate::problem::{dense, sparse};
+use assign_core::Sense;
 use exact_checker::{HallVerdict, Verdict, check, check_hall, confirm_best, confirm_hall};
-use std::alloc::{AllocError, Global};
 use std::test::Fail;
-
-// A dense problem of these costs.
-fn dense(
-    alloc: Global,
-    sense: Sense,
-    n: u32,
-    m: u32,
-    costs: &[Cost],
-) -> Result<Problem, AllocError> {
-    Ok(Problem {
-        sense,
-        n,
-        m,
-        is_dense: true,
-        persons: Vec::new(alloc),
-        objects: Vec::new(alloc),
-        costs: costs.to_vec(alloc)?,
-    })
-}
-
-// A problem of these pairs.
-fn sparse(
-    alloc: Global,
-    sense: Sense,
-    n: u32,
-    m: u32,
-    persons: &[u32],
-    objects: &[u32],
-    costs: &[Cost],
-) -> Result<Problem, AllocError> {
-    Ok(Problem {
-        sense,
-        n,
-        m,
-        is_dense: false,
-        persons: persons.to_vec(alloc)?,
-        objects: objects.to_vec(alloc)?,
-        costs: costs.to_vec(alloc)?,
-    })
-}
-
-fn costs_of(problem: &Problem) -> Result<CostLists<'_>, Fail> {
-    match lent(problem) {
-        Some(lists) => Ok(lists),
-        None => Err("the problem is out of the limits".into()),
-    }
-}
 
 // Two persons and three objects: person 1 pays 4, 2, 9 and person 2 pays 3, 1, 8. The best
 // assignments cost 5 (objects 1 and 2 of persons 1 and 2, or 2 and 1).

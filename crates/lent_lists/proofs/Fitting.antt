@@ -1,9 +1,7 @@
 -- Answers fit into buffers with one place for each person.
-use Rattle.std.proofs.Common.{◌≡◌, ℕ, zero, suc, ◌<◌, ◌≤◌, ◌+◌, List, [], ◌∷◌, ◌++◌, length, slice_index, drop, map, ap, ◌∙◌, add-one, arith}
+use Rattle.std.proofs.Common.{ℕ, zero, suc, ◌<◌, ◌≤◌, ◌+◌, List, [], ◌∷◌, length, slice_index, ap, add-one, arith}
 use Rattle.std.specs.List.{All}
 use Rattle.std.specs.List.Sorted.{IsStrictlyIncreasing}
-use Rattle.std.proofs.lemmas.List.{append-nil, map-id}
-use Rattle.std.proofs.Math.ListN.{drop_of_length-le}
 use Rattle.assign_core.specs.Numbered.{IsNumber}
 
 -- of rising numbers from 1 on, the one at place k is above k
@@ -23,9 +21,3 @@ few_rise (x ∷ xs) n rise within =
     let number = within (length xs) 0 (omega arith) in
     let most : slice_index (x ∷ xs) (length xs) ≤ n = number.last in
     omega arith
-
--- numbers that fill a buffer
-pub filled : (buffer old xs : List ℕ) → length old ≡ length xs → buffer ≡ map (λ x. x) xs ++ drop (length xs) old → buffer ≡ xs
-filled buffer old xs long is =
-    let none : drop (length xs) old ≡ [] = drop_of_length-le old (omega arith) in
-    is ∙ ap (λ l. map (λ x. x) xs ++ l) none ∙ append-nil (map (λ x. x) xs) ∙ map-id xs

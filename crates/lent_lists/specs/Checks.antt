@@ -1,37 +1,36 @@
 -- What a checking call returns and records.
 use Rattle.std.specs.Prelude.{◌≡◌, ℕ, ℤ, pos, List}
-use Rattle.dual_checker.specs.declared.verdict.Verdict.TheVariants as verdict
-use Rattle.dual_checker.specs.declared.among.VerdictAmong.{VerdictAmong}
-use Rattle.dual_checker.specs.declared.among.VerdictAmong.TheVariants as among
-use Rattle.dual_checker.specs.declared.hall_verdict.HallVerdict.{HallVerdict}
-use Rattle.dual_checker.specs.declared.hall_verdict.HallVerdict.TheVariants as hall
-use Rattle.dual_checker.specs.Verdicts.{IsVerdictAmong}
+use Rattle.exact_checker.specs.declared.hall_verdict.HallVerdict.{HallVerdict}
+use Rattle.exact_checker.specs.declared.hall_verdict.HallVerdict.TheVariants as hall
+use Rattle.exact_checker.specs.declared.verdict.Verdict.{Verdict}
+use Rattle.exact_checker.specs.declared.verdict.Verdict.TheVariants as verdict
+use Rattle.exact_checker.specs.HallVerdicts.{IsHallVerdict}
+use Rattle.exact_checker.specs.Verdicts.{IsVerdict}
 use Rattle.lent_lists.specs.declared.fault.Fault.{Fault}
 use Rattle.lent_lists.specs.declared.info.Info.{Info}
-use Rattle.lent_lists.specs.Given.{GivenLists}
-use Rattle.lent_lists.specs.Faults.{HasFault, IsOfGiven}
 use Rattle.lent_lists.specs.Ends.{fault_code, fault_place}
-use Rattle.dual_checker.specs.HallVerdicts.{IsHallVerdict}
+use Rattle.lent_lists.specs.Faults.{HasFault, IsOfGiven}
+use Rattle.lent_lists.specs.Given.{GivenLists}
 
 -- the code of a verdict on an assignment and prices
-abbrev pub verdict_code : VerdictAmong → ℤ
-verdict_code (among.Usual verdict.Yes) = pos 0
-verdict_code (among.Usual verdict.Length) = pos 10
-verdict_code (among.Usual (verdict.Unlisted i)) = pos 11
-verdict_code (among.Usual (verdict.Twice j)) = pos 12
-verdict_code (among.Usual (verdict.PriceRange j)) = pos 13
-verdict_code (among.Usual (verdict.Slack i j)) = pos 14
-verdict_code (among.Overpriced j) = pos 20
+abbrev pub verdict_code : Verdict → ℤ
+verdict_code verdict.Yes = pos 0
+verdict_code verdict.Length = pos 10
+verdict_code (verdict.Unlisted i) = pos 11
+verdict_code (verdict.Twice j) = pos 12
+verdict_code (verdict.PriceRange j) = pos 13
+verdict_code (verdict.Slack i j) = pos 14
+verdict_code (verdict.Overpriced j) = pos 20
 
 -- the record with the person and the object that a verdict names
-abbrev pub with_verdict : VerdictAmong → Info → Info
-with_verdict (among.Usual verdict.Yes) info = info
-with_verdict (among.Usual verdict.Length) info = info
-with_verdict (among.Usual (verdict.Unlisted i)) info = record info { person = i }
-with_verdict (among.Usual (verdict.Twice j)) info = record info { object = j }
-with_verdict (among.Usual (verdict.PriceRange j)) info = record info { object = j }
-with_verdict (among.Usual (verdict.Slack i j)) info = record info { person = i; object = j }
-with_verdict (among.Overpriced j) info = record info { object = j }
+abbrev pub with_verdict : Verdict → Info → Info
+with_verdict verdict.Yes info = info
+with_verdict verdict.Length info = info
+with_verdict (verdict.Unlisted i) info = record info { person = i }
+with_verdict (verdict.Twice j) info = record info { object = j }
+with_verdict (verdict.PriceRange j) info = record info { object = j }
+with_verdict (verdict.Slack i j) info = record info { person = i; object = j }
+with_verdict (verdict.Overpriced j) info = record info { object = j }
 
 -- the code of a verdict on persons and objects
 abbrev pub hall_code : HallVerdict → ℤ
@@ -60,14 +59,14 @@ pub record IsRefused (g : GivenLists) (before after : Info) (code : ℤ) : Type 
 
 -- the verdict on an assignment and prices, with its code and what it names
 pub record IsJudged (g : GivenLists) (objects : List ℕ) (prices : List ℤ) (before after : Info) (code : ℤ) : Type 0 where
-  pub verdict : VerdictAmong
+  pub verdict : Verdict
   pub is : code ≡ verdict_code verdict
   pub names : after ≡ with_verdict verdict before
-  pub holds : IsOfGiven g (λ sense rows. IsVerdictAmong sense g.m rows objects prices verdict)
+  pub holds : IsOfGiven g (λ l. IsVerdict l objects prices verdict)
 
 -- the verdict on persons and objects, with its code and what it names
 pub record IsHallJudged (g : GivenLists) (persons objects : List ℕ) (before after : Info) (code : ℤ) : Type 0 where
   pub verdict : HallVerdict
   pub is : code ≡ hall_code verdict
   pub names : after ≡ with_hall_verdict verdict before
-  pub holds : IsOfGiven g (λ sense rows. IsHallVerdict g.m rows persons objects verdict)
+  pub holds : IsOfGiven g (λ l. IsHallVerdict l persons objects verdict)

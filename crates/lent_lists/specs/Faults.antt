@@ -1,12 +1,13 @@
 -- The faults of what a caller gives.
 use Rattle.std.specs.Prelude.{◌≡◌, ℕ, ◌<◌, List, None, Some, IsSome, length, All, slice_index_or}
 use Rattle.assign_core.specs.Numbered.{IsNumber}
-use Rattle.assign_core.specs.Rows.{Listing, IsCost, IsSize}
+use Rattle.assign_core.specs.Rows.{IsCost}
 use Rattle.assign_core.specs.declared.sense.Sense.{Sense as Wanted}
+use Rattle.cost_lists.specs.Exact.{IsPriceInLimits}
+use Rattle.cost_lists.specs.ListedCosts.{IsCount, ListedCosts}
 use Rattle.lent_lists.specs.declared.fault.Fault.{Fault}
 use Rattle.lent_lists.specs.declared.fault.Fault.TheVariants.{Sense, Size, Length, Person, Object, Cost, Price, Memory}
-use Rattle.lent_lists.specs.Prices.{IsSplitFirstPrice}
-use Rattle.lent_lists.specs.Given.{GivenLists, sense_of, HasLengths, HasRows}
+use Rattle.lent_lists.specs.Given.{GivenLists, sense_of, HasLengths, lists_in}
 
 -- the element at place k lacks the property, and those before it have it
 pub record IsFirstWithout {A : Type 0} (P : A → Type 0) (xs : List A) (k : ℕ) : Type 0 where
@@ -16,8 +17,8 @@ pub record IsFirstWithout {A : Type 0} (P : A → Type 0) (xs : List A) (k : ℕ
 
 -- a problem may have this many persons and this many objects
 pub record HasSize (g : GivenLists) : Type 0 where
-  pub persons : IsSize g.n
-  pub objects : IsSize g.m
+  pub persons : IsCount g.n
+  pub objects : IsCount g.m
 
 -- a sense, a size, and lists of the right lengths
 pub record HasShape (g : GivenLists) : Type 0 where
@@ -35,7 +36,7 @@ pub record IsWhole (g : GivenLists) : Type 0 where
   pub shape : HasShape g
   pub numbers : AreNumbers g
   pub costs : All IsCost g.costs
-  pub first : All IsSplitFirstPrice g.first
+  pub first : All IsPriceInLimits g.first
 
 -- the first fault in the order of the variants, by the first place that has it
 abbrev pub HasFault : GivenLists → Fault → Type 0
@@ -47,14 +48,12 @@ HasFault g (Object k) =
     HasShape g × All (IsNumber g.n) g.persons × IsFirstWithout (IsNumber g.m) g.objects k
 HasFault g (Cost k) = HasShape g × AreNumbers g × IsFirstWithout IsCost g.costs k
 HasFault g (Price k) =
-    HasShape g × AreNumbers g × All IsCost g.costs × IsFirstWithout IsSplitFirstPrice g.first k
+    HasShape g × AreNumbers g × All IsCost g.costs × IsFirstWithout IsPriceInLimits g.first k
 HasFault g Memory = IsWhole g
 
--- what holds of the given problem, under the requested sense
-pub record IsOfGiven (g : GivenLists) (Holds : Wanted → List Listing → Type 0) : Type 0 where
+-- what holds of the costs of the given problem, under the requested sense
+pub record IsOfGiven (g : GivenLists) (Holds : ListedCosts → Type 0) : Type 0 where
   pub sense : Wanted
   pub wanted : sense_of g.sense ≡ Some sense
   pub whole : IsWhole g
-  pub rows : List Listing
-  pub given : HasRows g.form g rows
-  pub holds : Holds sense rows
+  pub holds : Holds (lists_in sense g)

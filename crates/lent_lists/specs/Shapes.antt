@@ -1,5 +1,6 @@
 -- The sense and the size of what a caller gives.
-use Rattle.std.specs.Prelude.{◌≡◌, Some}
+use Rattle.std.specs.Prelude.{◌≡◌, Some, length}
+use Rattle.list_solver.specs.declared.standing.Standing.{Standing}
 use Rattle.lent_lists.specs.declared.judge.Shape.{Shape}
 use Rattle.lent_lists.specs.Given.{GivenLists, sense_of}
 use Rattle.lent_lists.specs.Faults.{HasShape}
@@ -10,3 +11,8 @@ pub record IsShape (g : GivenLists) (shape : Shape) : Type 0 where
   pub persons : shape.n ≡ g.n
   pub objects : shape.m ≡ g.m
   pub fits : HasShape g
+
+-- an object for each person and a price for each object
+pub record HasStandingLengths (g : GivenLists) (s : Standing) : Type 0 where
+  pub objects : length s.objects.items ≡ g.n
+  pub prices : length s.prices.items ≡ g.m

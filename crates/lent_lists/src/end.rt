@@ -5,22 +5,28 @@ ghost use Rattle.lent_lists.specs.Ends.{end_code, fault_code, fault_place};
 use crate::fault::Fault;
 use crate::info::Info;
 
-/// The kind of answer.
+/// How a search ended.
 #[derive(Clone, Copy, PartialEq, Eq)]
 pub enum End {
-    /// An optimal assignment.
+    /// With an optimal assignment.
     Best,
-    /// A Hall set: no assignment exists.
+    /// With a Hall set: no assignment exists.
     Hall,
+    /// The budget is spent.
+    Stopped,
+    /// With nothing that the checker accepts.
+    Unfound,
 }
 
-/// The code of an answer.
+/// The code of an end.
 pub fn code_of_end(end: End) -> i32
     ensures { result ≡ end_code (Ok end) }
 {
     match end {
         End::Best => 0,
         End::Hall => 1,
+        End::Stopped => 21,
+        End::Unfound => 22,
     }
 }
 

@@ -7,7 +7,7 @@ use std::alloc::AllocError;
 pub enum Fault {
     /// The number of the sense isn't 0 or 1.
     Sense,
-    /// There are no persons, no objects, or more of either than `MOST_PERSONS`.
+    /// There are no persons, no objects, or more of either than `GREATEST_NUMBER`.
     Size,
     /// The length of a list or a buffer is wrong.
     Length,
@@ -17,7 +17,7 @@ pub enum Fault {
     Object(usize),
     /// The place of the first cost whose absolute value is above `GREATEST_COST`.
     Cost(usize),
-    /// The place of the first first price that isn't from 0 to `GREATEST_FIRST_PRICE`.
+    /// The place of the first first price that isn't from 0 to `GREATEST_PRICE`.
     Price(usize),
     /// Memory was refused.
     Memory,

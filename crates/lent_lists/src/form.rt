@@ -3,6 +3,7 @@ ghost use Rattle.std.specs.Prelude.{◌≡◌};
 ghost use Rattle.lent_lists.specs.Given.{either_form};
 
 use assign_core::Cost;
+use cost_lists::{Object, Person};
 
 /// The form of a given problem.
 #[derive(Clone, Copy, PartialEq, Eq)]
@@ -14,7 +15,7 @@ pub enum Form {
 }
 
 /// Dense if there are costs but no list of pairs; otherwise sparse.
-pub fn form_of(persons: &[u16], objects: &[u16], costs: &[Cost]) -> Form
+pub fn form_of(persons: &[Person], objects: &[Object], costs: &[Cost]) -> Form
     ensures { result ≡ either_form persons.now objects.now costs.now }
 {
     if persons.is_empty() && objects.is_empty() && !costs.is_empty() {

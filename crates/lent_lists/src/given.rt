@@ -1,11 +1,11 @@
 // The lists that a caller gives.
 ghost use Rattle.std.specs.Prelude.{◌≡◌, ◌*◌, ◌↔◌, IsTrue};
-ghost use Rattle.assign_core.specs.Rows.{IsSize};
-ghost use Rattle.lent_lists.specs.Given.{GivenLists, HasPairs};
+ghost use Rattle.cost_lists.specs.ListedCosts.{IsCount};
+ghost use Rattle.lent_lists.specs.Given.{GivenLists, HasFirst, HasPairs};
 
 use crate::form::Form;
-use crate::split_price::SplitPrice;
 use assign_core::Cost;
+use cost_lists::{Object, Person, Price};
 use std::marker::Model;
 
 /// A given problem with first prices. None of it has been checked.
@@ -17,14 +17,15 @@ pub struct Given<'a> {
     pub n: usize,
     /// The number of objects.
     pub m: usize,
-    /// The lengths of the further lists and buffers that need one value for each person.
+    /// The lengths of the buffers that need one value for each person.
     pub by_person: &'a [usize],
     /// The lengths of those that need one value for each object.
     pub by_object: &'a [usize],
-    pub persons: &'a [u16],
-    pub objects: &'a [u16],
+    pub persons: &'a [Person],
+    pub objects: &'a [Object],
     pub costs: &'a [Cost],
-    pub first: &'a [SplitPrice],
+    /// A first price for each object, or none.
+    pub first: &'a [Price],
 }
 
 impl<'a> Model for Given<'a> {
@@ -46,8 +47,8 @@ impl<'a> Model for Given<'a> {
 
 // The number of pairs of this many persons and objects.
 fn pairs_of(n: usize, m: usize) -> usize
-    requires persons { IsSize n }
-    requires objects { IsSize m }
+    requires persons { IsCount n }
+    requires objects { IsCount m }
     ensures { result ≡ n * m }
 {
     n * m
@@ -55,8 +56,8 @@ fn pairs_of(n: usize, m: usize) -> usize
 
 /// Whether the lists of pairs and costs have the right lengths.
 pub fn has_pairs(given: &Given<'_>) -> bool
-    requires persons { IsSize given.now.n }
-    requires objects { IsSize given.now.m }
+    requires persons { IsCount given.now.n }
+    requires objects { IsCount given.now.m }
     ensures { IsTrue result ↔ HasPairs given.now.form given.now }
 {
     match given.form {
@@ -69,4 +70,11 @@ pub fn has_pairs(given: &Given<'_>) -> bool
             given.objects.len() == given.persons.len() && given.costs.len() == given.persons.len()
         }
     }
+}
+
+/// Whether there is a first price for each object, or none at all.
+pub fn has_first(given: &Given<'_>) -> bool
+    ensures { IsTrue result ↔ HasFirst given.now }
+{
+    given.first.is_empty() || given.first.len() == given.m
 }

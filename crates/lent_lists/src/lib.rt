@@ -2,6 +2,7 @@
 //! the buffers. A code says which answer.
 #![tactic(auto)]
 
+mod answer;
 mod buffers;
 mod check;
 mod end;
@@ -10,19 +11,15 @@ mod form;
 mod given;
 mod info;
 mod judge;
-mod problem;
-mod rows;
-mod search;
+mod lists;
+mod rule;
 mod solve;
-mod split_price;
-mod total;
+mod standing;
 
-pub use buffers::Buffers;
 pub use check::{hall_verdict_on, report_hall_verdict, report_verdict, verdict_on};
 pub use end::refuse;
 pub use fault::Fault;
 pub use form::{Form, form_of};
 pub use given::Given;
 pub use info::Info;
-pub use solve::solve_given;
-pub use split_price::SplitPrice;
+pub use solve::{solve_from, solve_given};

@@ -2,11 +2,12 @@
 //! do.
 #![tactic(auto)]
 
-mod calls;
+mod check;
+mod dense;
+mod sparse;
 mod version;
 
-pub use calls::{
-    nushbaret_check, nushbaret_check_hall, nushbaret_dense, nushbaret_dense_from, nushbaret_sparse,
-    nushbaret_sparse_from,
-};
+pub use check::{nushbaret_check, nushbaret_check_hall};
+pub use dense::{nushbaret_dense, nushbaret_dense_from};
+pub use sparse::{nushbaret_sparse, nushbaret_sparse_from};
 pub use version::nushbaret_version;

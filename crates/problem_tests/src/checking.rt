@@ -1,5 +1,4 @@
 // Verdicts on small tables, worked by hand.
-mod among;
 mod confirmed;
 mod drawn;
 mod hall;

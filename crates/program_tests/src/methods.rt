@@ -84,7 +84,7 @@ pub const BY_PATHS: [Worked; 11] = [
         b"2 1 2 3 5",
         APART,
         0,
-        "sense min\ncost 5\nassign 1 2 2\nassign 2 1 3\nprice 1 6\nprice 2 3\n",
+        "sense min\ncost 5\nassign 1 2 2\nassign 2 1 3\nprice 1 3\nprice 2 0\n",
     ),
     (
         "solve --prices --method paths --start report",

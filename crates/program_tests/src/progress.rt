@@ -23,7 +23,6 @@ struct Follower {
     phases: AtomicU64,
     slackness: AtomicU64,
     paths: AtomicU64,
-    assigned: AtomicU64,
     overs: AtomicU64,
     wrong: AtomicBool,
 }
@@ -37,7 +36,6 @@ fn new_follower() -> Follower {
         phases: AtomicU64::new(0),
         slackness: AtomicU64::new(0),
         paths: AtomicU64::new(0),
-        assigned: AtomicU64::new(0),
         overs: AtomicU64::new(0),
         wrong: AtomicBool::new(false),
     }
@@ -81,9 +79,7 @@ impl Follower {
 
     fn paths(&self, assigned: u16, persons: u16) {
         self.paths.fetch_add(1, Ordering::SeqCst);
-        let before = self.assigned.swap(u64::from(assigned), Ordering::SeqCst);
-        let fell = assigned > 0 && before > u64::from(assigned);
-        if fell || assigned > persons || seen(&self.overs) > 0 {
+        if assigned > persons || seen(&self.overs) > 0 {
             self.wrong.store(true, Ordering::SeqCst);
         }
     }
@@ -101,6 +97,8 @@ impl Watch for Follower {
                 self.follow(progress);
             }
             News::Paths(assigned, persons) => self.paths(assigned, persons),
+            // Paths find a proof.
+            News::RoundAfterPaths(_) => self.wrong.store(true, Ordering::SeqCst),
         }
     }
 
@@ -350,6 +348,29 @@ fn a_long_auction_says_what_is_faster(rt: HostRuntime) -> Result<(), Fail> {
         let lines = long_auction(rt.alloc(), in_place);
         assert_eq!(rt; lines.as_slice(), wanted.as_bytes());
     }
+    Ok(())
+}
+
+// Rounds after shortest paths aren't advised to be paths.
+#[test]
+fn rounds_after_paths_say_so(rt: HostRuntime) -> Result<(), Fail> {
+    let written = RefCell::new(Vec::new(rt.alloc()));
+    let lines = ProgressLines::new(new_screen(&written, 10_000, 9), false, false);
+    let progress = Progress {
+        phase: 3,
+        phases: 8,
+        slackness: 125,
+        assigned: 812,
+        persons: 1000,
+    };
+    lines.begin(true, false);
+    lines.show(News::RoundAfterPaths(progress));
+    lines.show(News::RoundAfterPaths(progress));
+    drop(lines);
+    let wanted = "progress: rounds after shortest paths, phase 3 of 8, 812 of 1000 persons, 10.0 s
+progress: rounds after shortest paths, phase 3 of 8, 812 of 1000 persons, 20.0 s
+";
+    assert_eq!(rt; written.into_inner().as_slice(), wanted.as_bytes());
     Ok(())
 }
 

@@ -1,18 +1,17 @@
 // Shortest paths: problems of all kinds, compared with a slow search and with rounds. The contract
 // also allows a search that finds nothing; only these tests show that it finds answers.
 mod kinds;
+mod pieces;
 mod starts;
 mod wide;
-mod widths;
 mod worked;
 
 use assign_core::{
     Cost, GREATEST_COST, GREATEST_FIRST_PRICE, MOST_PERSONS, Object, Outcome, Person, Price,
     Problem, Sense,
 };
-use augmenting_paths::{Observer, Unobserved, Wishes, copy_rows, try_paths};
-use dual_checker::CostRows;
-use shortest_paths::solve_paths;
+use exact_paths::{Observer, Unobserved, solve_by_rounds, solve_paths, try_paths};
+use rounds::Alone;
 use std::alloc::{AllocError, Global};
 use test_helpers::{Pair, best_cost, first_prices, next_number, problem_of, scaled_of, size};
 
@@ -59,12 +58,6 @@ fn found_in(problem: &Problem, outcome: &Outcome) -> Finding {
     }
 }
 
-// All rows of a problem.
-fn rows_of(problem: &Problem) -> CostRows<'_> {
-    let n = problem.n();
-    CostRows::first(problem, n, n)
-}
-
 // These prices, if first prices are given.
 fn wished<'a>(first: Option<&[Price]>, prices: &'a [Price]) -> Option<&'a [Price]> {
     first.is_some().then_some(prices)
@@ -79,31 +72,20 @@ fn found(
     first: Option<&[Price]>,
 ) -> Result<Finding, AllocError> {
     let problem = problem_of(alloc, size(n), pairs)?;
-    let rows = rows_of(&problem);
-    let copy = copy_rows(alloc, &rows, sense)?;
     let prices = first_prices(alloc, size(n), first.unwrap_or(&[]))?;
-    let wishes = Wishes {
-        prices: wished(first, prices.as_slice()),
-        observer: &Unobserved,
-    };
-    match try_paths(alloc, &rows, sense, copy, wishes)? {
+    let first = wished(first, prices.as_slice());
+    match try_paths(alloc, &problem, sense, first, &Unobserved)? {
         Some(outcome) => Ok(found_in(&problem, &outcome)),
         None => Ok(Finding::Nothing),
     }
 }
 
 // The solver's outcome, from first prices if they are given, while this observer hears of it.
-fn solved_by<'a, O: Observer>(
+fn solved_by<O: Observer>(
     alloc: Global,
     problem: &Problem,
-    first: Option<&'a [Price]>,
-    observer: &'a O,
+    first: Option<&[Price]>,
+    observer: &O,
 ) -> Result<Outcome, AllocError> {
-    let rows = rows_of(problem);
-    let copy = copy_rows(alloc, &rows, Sense::Min)?;
-    let wishes = Wishes {
-        prices: first,
-        observer,
-    };
-    solve_paths(alloc, &rows, Sense::Min, copy, wishes)
+    solve_paths(alloc, problem, Sense::Min, first, observer, &mut Alone)
 }

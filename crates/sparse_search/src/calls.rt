@@ -121,7 +121,8 @@ fn search_whole(
     }
 }
 
-// Goes on without the pairs that lie in no assignment.
+// Goes on without the pairs that lie in no assignment. The looks at which these are found come on
+// top of the call's own, so that calls of any budget get on.
 fn go_on_in_blocks(
     alloc: Global,
     problem: SparseProblem<'_>,
@@ -134,6 +135,8 @@ fn go_on_in_blocks(
     };
     match blocks_of(alloc, problem, told.objects, &mut looks)? {
         Some(blocks) => {
+            let room = limit.saturating_sub(told.record.looks);
+            let limit = looks.done.saturating_add(room);
             told.record.looks = looks.done;
             told.record.has_assignment = true;
             search_blocks(alloc, problem, &blocks, told, limit)

@@ -2,10 +2,9 @@
 ghost use Rattle.std.specs.Prelude.{◌≡◌, ◌*◌, length, All, IfOk};
 ghost use Rattle.assign_core.specs.Rows.{IsCost, IsSize};
 
-use super::among::both_verdicts;
 use super::plain::{Table, low, plain_verdict, price_at};
-use assign_core::{Cost, GREATEST_COST, Object, Price, Sense};
-use dual_checker::{Verdict, VerdictAmong};
+use assign_core::{Cost, GREATEST_COST, Object, Price, Problem, Sense};
+use dual_checker::{Verdict, check};
 use std::alloc::{AllocError, Global};
 use std::test::Fail;
 use test_helpers::{cost_in_range, draw, draw_wide, drawn_sense, next_number, size};
@@ -30,16 +29,16 @@ fn drawn_costs(alloc: Global, first: u64, count: usize) -> Result<Vec<Cost>, All
     Ok(costs)
 }
 
-// An object of m for each of n persons, mostly different ones. One in sixteen may be out of range,
+// An object for each of n persons, mostly different ones. One in sixteen may be out of range,
 // and one in sixteen is left out.
-fn drawn_objects(alloc: Global, seed: &mut u64, n: u16, m: u16) -> Result<Vec<Object>, AllocError> {
-    let first = draw_wide(seed, u64::from(m));
+fn drawn_objects(alloc: Global, seed: &mut u64, n: u16) -> Result<Vec<Object>, AllocError> {
+    let first = draw_wide(seed, u64::from(n));
     let mut objects = Vec::new(alloc);
     for k in 0..n {
-        let next = first.wrapping_add(u64::from(k)).checked_rem(u64::from(m));
+        let next = first.wrapping_add(u64::from(k)).checked_rem(u64::from(n));
         match draw(seed, 16) {
             0 => {}
-            1 => objects.push(Object(draw(seed, 6).min(m.wrapping_add(1))))?,
+            1 => objects.push(Object(draw(seed, 6).min(n.wrapping_add(1))))?,
             _ => {
                 let place = u16::try_from(next.unwrap_or(0)).unwrap_or(0);
                 objects.push(Object(place.wrapping_add(1)))?;
@@ -68,7 +67,7 @@ fn raised(
     objects: &[Object],
 ) -> Result<Vec<Price>, AllocError> {
     let more = if draw(seed, 20) == 0 { 1 } else { 0 };
-    let mut prices = vec![in alloc; 0; (table.m as usize).wrapping_add(more)]?;
+    let mut prices = vec![in alloc; 0; (table.n as usize).wrapping_add(more)]?;
     for _ in 0..4 {
         let mut person = 0u16;
         for object in objects {
@@ -113,26 +112,25 @@ fn shift(seed: &mut u64, step: Price, prices: &mut [Price]) {
 
 // The numbers of verdicts of each kind: where the first price is at most 1 above a multiple of the
 // step, and then of those elsewhere.
-type Counts = [u32; 14];
+type Counts = [u32; 12];
 
 // The place of a verdict's kind.
-fn kind(verdict: VerdictAmong) -> usize {
+fn kind(verdict: Verdict) -> usize {
     match verdict {
-        VerdictAmong::Usual(Verdict::Length) => 0,
-        VerdictAmong::Usual(Verdict::Unlisted(_)) => 1,
-        VerdictAmong::Usual(Verdict::Twice(_)) => 2,
-        VerdictAmong::Usual(Verdict::PriceRange(_)) => 3,
-        VerdictAmong::Usual(Verdict::Slack(_, _)) => 4,
-        VerdictAmong::Usual(Verdict::Yes) => 5,
-        VerdictAmong::Overpriced(_) => 6,
+        Verdict::Length => 0,
+        Verdict::Unlisted(_) => 1,
+        Verdict::Twice(_) => 2,
+        Verdict::PriceRange(_) => 3,
+        Verdict::Slack(_, _) => 4,
+        Verdict::Yes => 5,
     }
 }
 
 // The place of the plain verdict's kind.
 fn place_of(table: &Table<'_>, objects: &[Object], prices: &[Price]) -> usize {
-    let step = Price::from(table.m) + 1;
+    let step = Price::from(table.n) + 1;
     let rest = price_at(prices, Object(1)).checked_rem(step).unwrap_or(0);
-    let apart = if rest > 1 { 7 } else { 0 };
+    let apart = if rest > 1 { 6 } else { 0 };
     kind(plain_verdict(table, objects, prices)).wrapping_add(apart)
 }
 
@@ -142,71 +140,62 @@ fn count(place: usize, counts: &mut Counts) {
     }
 }
 
-// Whether both calls give the plain verdict on these lists.
+// Whether the call gives the plain verdict on these lists.
 fn are_plain(
     alloc: Global,
     n: u16,
-    m: u16,
     costs: &[Cost],
     sense: Sense,
     objects: &[Object],
     prices: &[Price],
 ) -> Result<bool, AllocError>
-    requires persons { IsSize n }
-    requires objects { IsSize m }
-    requires count { length costs.now ≡ n * m }
+    requires size { IsSize n }
+    requires count { length costs.now ≡ n * n }
     requires costs { All IsCost costs.now }
 {
-    let (problem, list) = both_verdicts(alloc, n, m, costs, sense, objects, prices)?;
-    // The checker follows a verdict through this function only where it sees both of its types.
-    let mut plain = VerdictAmong::Usual(Verdict::Length);
-    if objects.len() == n as usize && prices.len() == m as usize {
-        plain = plain_verdict(&Table { n, m, sense, costs }, objects, prices);
-    }
-    Ok(problem == plain && list == plain)
+    let problem = Problem::dense(alloc, n, costs)?;
+    let verdict = check(alloc, &problem, sense, objects, prices)?;
+    Ok(verdict == plain_verdict(&Table { n, sense, costs }, objects, prices))
 }
 
-// Whether they do on lists that are drawn for these costs.
+// Whether it does on lists that are drawn for these costs.
 fn lists_agree(
     alloc: Global,
     seed: &mut u64,
     n: u16,
-    m: u16,
     costs: &[Cost],
     counts: &mut Counts,
 ) -> Result<bool, AllocError>
-    requires persons { IsSize n }
-    requires objects { IsSize m }
-    requires count { length costs.now ≡ n * m }
+    requires size { IsSize n }
+    requires count { length costs.now ≡ n * n }
     requires costs { All IsCost costs.now }
 {
     let sense = drawn_sense(seed);
-    let table = Table { n, m, sense, costs };
-    let objects = drawn_objects(alloc, seed, n, m)?;
+    let table = Table { n, sense, costs };
+    let objects = drawn_objects(alloc, seed, n)?;
     let objects = objects.as_slice();
     let mut prices = raised(alloc, seed, &table, objects)?;
-    shift(seed, Price::from(m) + 1, prices.as_mut_slice());
+    shift(seed, Price::from(n) + 1, prices.as_mut_slice());
     let prices = prices.as_slice();
     count(place_of(&table, objects, prices), counts);
-    are_plain(alloc, n, m, costs, sense, objects, prices)
+    are_plain(alloc, n, costs, sense, objects, prices)
 }
 
-// Whether they do in one more case: one to three persons, one to four objects.
+// Whether it does in one more case: one to four persons.
 fn case_agrees(alloc: Global, seed: &mut u64, counts: &mut Counts) -> Result<bool, AllocError> {
-    let n = size(draw(seed, 3) + 1);
-    let m = size(draw(seed, 4) + 1);
-    let costs = drawn_costs(alloc, next_number(seed), n as usize * m as usize)?;
+    let n = size(draw(seed, 4) + 1);
+    let costs = drawn_costs(alloc, next_number(seed), n as usize * n as usize)?;
     let costs = costs.as_slice();
-    if costs.len() != n as usize * m as usize {
+    if costs.len() != n as usize * n as usize {
         return Ok(false);
     }
-    lists_agree(alloc, seed, n, m, costs, counts)
+    lists_agree(alloc, seed, n, costs, counts)
 }
 
-// The least of the counts after 3000 cases, if both calls give the plain verdict in each.
+// The least of the counts after 3000 cases, if the call gives the plain verdict in each.
 fn least_count(alloc: Global) -> Result<Option<u32>, AllocError> {
     let mut seed = 1u64;
-    let mut counts: Counts = [0; 14];
+    let mut counts: Counts = [0; 12];
     for _ in 0..3000 {
         if !case_agrees(alloc, &mut seed, &mut counts)? {
             return Ok(None);

@@ -1,12 +1,11 @@
 // The verdicts' rules, read plainly: each in a loop of its own, in 128 bits.
 use assign_core::{Cost, Object, PRICE_END, Person, Price, Sense};
-use dual_checker::{Verdict, VerdictAmong};
+use dual_checker::Verdict;
 
 // Persons who list each object, and their costs row by row.
 #[derive(Clone, Copy)]
 pub struct Table<'a> {
     pub n: u16,
-    pub m: u16,
     pub sense: Sense,
     pub costs: &'a [Cost],
 }
@@ -15,10 +14,10 @@ pub struct Table<'a> {
 pub fn low(table: &Table<'_>, person: u16, object: Object) -> i128 {
     let row = (person as usize)
         .wrapping_sub(1)
-        .wrapping_mul(table.m as usize);
+        .wrapping_mul(table.n as usize);
     let place = row.wrapping_add((object.0 as usize).wrapping_sub(1));
     let cost = i128::from(table.costs.get(place).copied().unwrap_or(0));
-    let scaled = cost.wrapping_mul(i128::from(table.m) + 1);
+    let scaled = cost.wrapping_mul(i128::from(table.n) + 1);
     match table.sense {
         Sense::Min => scaled,
         Sense::Max => scaled.wrapping_neg(),
@@ -31,11 +30,11 @@ pub fn price_at(prices: &[Price], object: Object) -> Price {
     prices.get(place).copied().unwrap_or(0)
 }
 
-fn first_unlisted(m: u16, objects: &[Object]) -> Option<Person> {
+fn first_unlisted(n: u16, objects: &[Object]) -> Option<Person> {
     let mut person = 0u16;
     for object in objects {
         person = person.wrapping_add(1);
-        if object.0 == 0 || object.0 > m {
+        if object.0 == 0 || object.0 > n {
             return Some(Person(person));
         }
     }
@@ -52,8 +51,8 @@ fn count_of(objects: &[Object], object: Object) -> u32 {
     count
 }
 
-fn first_twice(m: u16, objects: &[Object]) -> Option<Object> {
-    for number in 1..=m {
+fn first_twice(n: u16, objects: &[Object]) -> Option<Object> {
+    for number in 1..=n {
         if count_of(objects, Object(number)) > 1 {
             return Some(Object(number));
         }
@@ -61,8 +60,8 @@ fn first_twice(m: u16, objects: &[Object]) -> Option<Object> {
     None
 }
 
-fn first_out_of_range(m: u16, prices: &[Price]) -> Option<Object> {
-    for number in 1..=m {
+fn first_out_of_range(n: u16, prices: &[Price]) -> Option<Object> {
+    for number in 1..=n {
         let price = price_at(prices, Object(number));
         if price < 0 || price >= PRICE_END {
             return Some(Object(number));
@@ -78,7 +77,7 @@ fn first_preferred(
     prices: &[Price],
 ) -> Option<Object> {
     let most = low(table, person, own).wrapping_add(price_at(prices, own));
-    for number in 1..=table.m {
+    for number in 1..=table.n {
         let other = Object(number);
         let sum = low(table, person, other).wrapping_add(price_at(prices, other));
         if sum.wrapping_add(1) < most {
@@ -103,40 +102,22 @@ fn first_slack(
     None
 }
 
-fn first_dear(m: u16, objects: &[Object], prices: &[Price]) -> Option<Object> {
-    let mut least = Price::MAX;
-    for price in prices {
-        least = least.min(*price);
-    }
-    for number in 1..=m {
-        let object = Object(number);
-        let is_dear = price_at(prices, object) > least.saturating_add(1);
-        if is_dear && count_of(objects, object) == 0 {
-            return Some(object);
-        }
-    }
-    None
-}
-
 // The verdict by the rules, in their order.
-pub fn plain_verdict(table: &Table<'_>, objects: &[Object], prices: &[Price]) -> VerdictAmong {
-    if objects.len() != table.n as usize || prices.len() != table.m as usize {
-        return VerdictAmong::Usual(Verdict::Length);
+pub fn plain_verdict(table: &Table<'_>, objects: &[Object], prices: &[Price]) -> Verdict {
+    if objects.len() != table.n as usize || prices.len() != table.n as usize {
+        return Verdict::Length;
     }
-    if let Some(person) = first_unlisted(table.m, objects) {
-        return VerdictAmong::Usual(Verdict::Unlisted(person));
+    if let Some(person) = first_unlisted(table.n, objects) {
+        return Verdict::Unlisted(person);
     }
-    if let Some(object) = first_twice(table.m, objects) {
-        return VerdictAmong::Usual(Verdict::Twice(object));
+    if let Some(object) = first_twice(table.n, objects) {
+        return Verdict::Twice(object);
     }
-    if let Some(object) = first_out_of_range(table.m, prices) {
-        return VerdictAmong::Usual(Verdict::PriceRange(object));
+    if let Some(object) = first_out_of_range(table.n, prices) {
+        return Verdict::PriceRange(object);
     }
     if let Some((person, object)) = first_slack(table, objects, prices) {
-        return VerdictAmong::Usual(Verdict::Slack(person, object));
+        return Verdict::Slack(person, object);
     }
-    match first_dear(table.m, objects, prices) {
-        Some(object) => VerdictAmong::Overpriced(object),
-        None => VerdictAmong::Usual(Verdict::Yes),
-    }
+    Verdict::Yes
 }

@@ -1,37 +1,69 @@
-// First prices that are used, as an observer sees.
+// First prices that save work, as an observer of short pieces sees.
 use super::*;
 use std::sync::atomic::{AtomicU64, Ordering};
 use std::test::Fail;
 
-// The least number of persons with an object that was reported.
+// The number of pieces, each of as many looks as there are pairs.
 #[derive(Drop)]
-struct Least {
-    persons: AtomicU64,
+struct Pieces {
+    count: AtomicU64,
 }
 
-impl Observer for Least {
-    fn assigned(&self, persons: u16) {
-        self.persons.fetch_min(u64::from(persons), Ordering::SeqCst);
+impl Observer for Pieces {
+    fn assigned(&self, _persons: u16) {
+        self.count.fetch_add(1, Ordering::SeqCst);
+    }
+
+    fn looks(&self, pairs: usize) -> u64 {
+        pairs as u64
     }
 }
 
-// The least number reported for a problem of two persons from first prices.
-fn least_told(alloc: Global, pairs: &[Pair], first: &[Price]) -> Result<u64, AllocError> {
-    let problem = problem_of(alloc, size(2), pairs)?;
-    let least = Least {
-        persons: AtomicU64::new(u64::MAX),
+// An outcome, and the number of its pieces.
+fn counted(
+    alloc: Global,
+    problem: &Problem,
+    first: Option<&[Price]>,
+) -> Result<(Outcome, u64), AllocError> {
+    let pieces = Pieces {
+        count: AtomicU64::new(0),
     };
-    let _outcome = solved_by(alloc, &problem, Some(first), &least)?;
-    Ok(least.persons.load(Ordering::SeqCst))
+    let outcome = solved_by(alloc, problem, first, &pieces)?;
+    Ok((outcome, pieces.count.load(Ordering::SeqCst)))
 }
 
-// At a price that is higher by 3, object 1 is as good to person 1 as object 2, so each person gets
-// an object at once; at equal prices both prefer object 1.
+// Drawn costs of all pairs, or of a fifth of them and an assignment's.
+fn drawn_pairs(alloc: Global, n: u16, is_dense: bool) -> Result<Vec<Pair>, AllocError> {
+    let mut seed = u64::from(n);
+    let mut pairs = Vec::new(alloc);
+    for i in 0..n {
+        for j in 0..n {
+            let drawn = next_number(&mut seed);
+            if is_dense || i == j || drawn % 5 == 0 {
+                pairs.push((i + 1, j + 1, (drawn / 8 % 1_000_000) as Cost))?;
+            }
+        }
+    }
+    Ok(pairs)
+}
+
+// How many pieces a search takes without first prices, and from the prices that it found.
+fn pieces_before_and_after(alloc: Global, is_dense: bool) -> Result<(u64, u64), AllocError> {
+    let pairs = drawn_pairs(alloc, 150, is_dense)?;
+    let problem = problem_of(alloc, size(150), pairs.as_slice())?;
+    let (outcome, before) = counted(alloc, &problem, None)?;
+    let after = match &outcome {
+        Outcome::Best(best) => counted(alloc, &problem, Some(best.prices.as_slice()))?.1,
+        Outcome::Hall(_) => before,
+    };
+    Ok((before, after))
+}
+
 #[test]
-fn a_start_that_leaves_nobody_to_search_for(rt: HostRuntime) -> Result<(), Fail> {
-    let pairs = [(1, 1, 1), (1, 2, 2), (2, 1, 3), (2, 2, 5)];
-    for (first, least) in [([5, 2], 2), ([0, 0], 1)] {
-        assert_eq!(rt; least_told(rt.alloc(), &pairs, &first)?, least);
+fn first_prices_save_pieces(rt: HostRuntime) -> Result<(), Fail> {
+    for is_dense in [true, false] {
+        let (before, after) = pieces_before_and_after(rt.alloc(), is_dense)?;
+        assert!(rt; after < before, "{after} of {before}");
     }
     Ok(())
 }

@@ -102,14 +102,39 @@ fn public_calls(rt: HostRuntime) -> Result<(), Fail> {
     Ok(())
 }
 
-// Follows a search: how often it reported a number, the last number, whether it reported 0, and
-// whether it reported an impossible number.
+// What rounds give in place of paths.
+fn solved_by_rounds(
+    alloc: Global,
+    n: u16,
+    pairs: &[Pair],
+    sense: Sense,
+) -> Result<Option<Cost>, AllocError> {
+    let problem = problem_of(alloc, size(n), pairs)?;
+    let outcome = solve_by_rounds(alloc, &problem, sense, &mut Alone)?;
+    Ok(cost_in(&problem, &outcome))
+}
+
+#[test]
+fn rounds_in_place_of_paths(rt: HostRuntime) -> Result<(), Fail> {
+    let pairs = [(1, 1, 1), (1, 2, 2), (2, 1, 3), (2, 2, 5)];
+    for (listed, sense, cost) in [
+        (4, Sense::Min, Some(5)),
+        (4, Sense::Max, Some(6)),
+        (2, Sense::Min, None),
+    ] {
+        let seen = solved_by_rounds(rt.alloc(), 2, &pairs[..listed], sense)?;
+        assert_eq!(rt; seen, cost);
+    }
+    Ok(())
+}
+
+// Follows a search in short pieces: how often it reported a number, the last number, and whether it
+// reported an impossible number.
 #[derive(Drop)]
 struct Follower {
     persons: u16,
     told: AtomicU64,
     last: AtomicU64,
-    nobody: AtomicBool,
     wrong: AtomicBool,
 }
 
@@ -118,7 +143,6 @@ fn new_follower(persons: u16) -> Follower {
         persons,
         told: AtomicU64::new(0),
         last: AtomicU64::new(0),
-        nobody: AtomicBool::new(false),
         wrong: AtomicBool::new(false),
     }
 }
@@ -126,14 +150,14 @@ fn new_follower(persons: u16) -> Follower {
 impl Observer for Follower {
     fn assigned(&self, persons: u16) {
         self.told.fetch_add(1, Ordering::SeqCst);
-        let before = self.last.swap(u64::from(persons), Ordering::SeqCst);
-        let fell = persons > 0 && before > u64::from(persons);
-        if persons == 0 {
-            self.nobody.store(true, Ordering::SeqCst);
-        }
-        if fell || persons > self.persons {
+        self.last.store(u64::from(persons), Ordering::SeqCst);
+        if persons > self.persons {
             self.wrong.store(true, Ordering::SeqCst);
         }
+    }
+
+    fn looks(&self, pairs: usize) -> u64 {
+        pairs as u64
     }
 }
 
@@ -181,31 +205,25 @@ fn numbers_of_assigned_persons(rt: HostRuntime) -> Result<(), Fail> {
     for first in [None, Some(prices.as_slice())] {
         let (cost, [told, last], wrong) = products_followed(rt.alloc(), first)?;
         assert_eq!(rt; cost, Some(295_240));
-        assert!(rt; told > 2 && last > 0 && !wrong);
+        assert!(rt; told > 2 && last == 120 && !wrong);
     }
     Ok(())
 }
 
-// The cost of a problem of two persons from first prices, and whether all persons once had no
-// object.
-fn cost_and_beginning(
-    alloc: Global,
-    pairs: &[Pair],
-    first: &[Price],
-) -> Result<(Option<Cost>, bool), AllocError> {
-    let follower = new_follower(2);
-    let seen = followed(alloc, pairs, Some(first), &follower)?;
-    Ok((seen, follower.nobody.load(Ordering::SeqCst)))
-}
-
-// Both persons prefer object 1, so that the price of the other object falls below 0. The first
-// prices are still used: nothing begins again.
+// Both persons prefer object 1, so that the price of the other object falls below 0.
 #[test]
 fn a_start_whose_prices_fall(rt: HostRuntime) -> Result<(), Fail> {
     let pairs = [(1, 1, 1), (1, 2, 5), (2, 1, 3), (2, 2, 4)];
-    assert_eq!(rt;
-        cost_and_beginning(rt.alloc(), &pairs, &[5, 5])?,
-        (Some(5), false)
-    );
+    assert_eq!(rt; solved(rt.alloc(), 2, &pairs, Some(&[5, 5]))?, Some(5));
+    Ok(())
+}
+
+// A list of another length counts as no first prices.
+#[test]
+fn first_prices_of_another_number(rt: HostRuntime) -> Result<(), Fail> {
+    let pairs = [(1, 1, 1), (1, 2, 2), (2, 1, 3), (2, 2, 5)];
+    for first in [[].as_slice(), &[7], &[7, 0, 9]] {
+        assert_eq!(rt; solved(rt.alloc(), 2, &pairs, Some(first))?, Some(5));
+    }
     Ok(())
 }

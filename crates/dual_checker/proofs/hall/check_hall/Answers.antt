@@ -1,25 +1,20 @@
-use Rattle.std.proofs.Common.{◌≡◌, ◌↔◌, ℕ, List, IfOk}
-use Rattle.assign_core.specs.Assignment.{IsAssignment}
-use Rattle.assign_core.specs.Hall.{IsHallSet}
+use Rattle.std.proofs.Common.{length, subst}
+use Rattle.assign_core.proofs.HallSets.{no_assignment}
 use Rattle.dual_checker.specs.declared.hall_verdict.HallVerdict.TheVariants.{Yes}
 use Rattle.dual_checker.specs.HallVerdicts.{IsHallVerdict}
-use Rattle.dual_checker.proofs.Fronts.{among_whole, of_whole}
+use Rattle.dual_checker.proofs.HallDifferences.{halls_differ}
 use Rattle.dual_checker.proofs.hall.check_hall.Goals as goal
-
-pub first-requires : goal.first-requires
-first-requires c = among_whole c.args.problem.now c.n-n.result c.n-n.result c.n-n.ensures.count c.n-n.ensures.count c.n-n.ensures.problem
-
-pub returns-clause-verdict : goal.returns-clause-verdict
-returns-clause-verdict c =
-    of_whole (λ m r. IfOk c.check_hall_among.result (IsHallVerdict m r c.args.persons.now c.args.objects.now))
-    c.args.problem.now c.n-n.result c.first.result c.n-n.ensures.count c.first.ensures c.check_hall_among.ensures.verdict
 
 pub returns-clause-yes : goal.returns-clause-yes
 returns-clause-yes c =
-    of_whole (λ m r. IfOk c.check_hall_among.result (λ v. (v ≡ Yes) ↔ IsHallSet r c.args.persons.now c.args.objects.now))
-    c.args.problem.now c.n-n.result c.first.result c.n-n.ensures.count c.first.ensures c.check_hall_among.ensures.yes
+    let m = (length c.args.problem.now) in
+    let rows = c.args.problem.now in (
+      (λ e. subst (IsHallVerdict m rows c.args.persons.now c.args.objects.now) e c.first_hall_fault.ensures),
+      (λ h. halls_differ m rows c.args.persons.now c.args.objects.now c.first_hall_fault.result Yes c.n-n.ensures.problem.each c.first_hall_fault.ensures h),
+    )
 
 pub returns-clause-none : goal.returns-clause-none
-returns-clause-none c =
-    of_whole (λ m r. IfOk c.check_hall_among.result (λ v. v ≡ Yes → (xs : List ℕ) → IsAssignment r xs → ⊥))
-    c.args.problem.now c.n-n.result c.first.result c.n-n.ensures.count c.first.ensures c.check_hall_among.ensures.none
+returns-clause-none c = λ e xs a.
+    let m = (length c.args.problem.now) in
+    let rows = c.args.problem.now in
+    no_assignment rows c.args.persons.now c.args.objects.now xs (subst (IsHallVerdict m rows c.args.persons.now c.args.objects.now) e c.first_hall_fault.ensures) a

@@ -4,10 +4,10 @@ use Rattle.dual_checker.proofs.hall.first_hall_fault.Goals as goal
 
 pub returns-in-Some : goal.returns-in-Some
 returns-in-Some c =
-    let rows = c.args.rows.now.rows in
+    let rows = c.args.problem.now in
     let persons = c.args.persons.now in
     let objects = c.args.objects.now in
-    let m = c.args.rows.now.m in
+    let m = (length c.args.problem.now) in
     let missing = c.in-Some.ensures in (
       c.are_in_range.ensures.0 c.if-not-are_in_range.false,
       c.are_rising.ensures.0 c.if-not-are_rising.false,
@@ -17,10 +17,10 @@ returns-in-Some c =
 
 pub returns-in-Some-first_unmarked : goal.returns-in-Some-first_unmarked
 returns-in-Some-first_unmarked c =
-    let rows = c.args.rows.now.rows in
+    let rows = c.args.problem.now in
     let persons = c.args.persons.now in
     let objects = c.args.objects.now in
-    let m = c.args.rows.now.m in
+    let m = (length c.args.problem.now) in
     let range = c.are_in_range.ensures.0 c.if-not-are_in_range.false in (
       range,
       c.are_rising.ensures.0 c.if-not-are_rising.false,
@@ -30,10 +30,10 @@ returns-in-Some-first_unmarked c =
 
 pub returns-then-objects-persons : goal.returns-then-objects-persons
 returns-then-objects-persons c =
-    let rows = c.args.rows.now.rows in
+    let rows = c.args.problem.now in
     let persons = c.args.persons.now in
     let objects = c.args.objects.now in
-    let m = c.args.rows.now.m in
+    let m = (length c.args.problem.now) in
     let near = told_neighbours rows persons objects m c.args.named.now c.mark_objects.new.marks c.requires.named c.mark_objects.ensures c.in_default.ensures in (
       c.are_in_range.ensures.0 c.if-not-are_in_range.false,
       c.are_rising.ensures.0 c.if-not-are_rising.false,
@@ -43,10 +43,10 @@ returns-then-objects-persons c =
 
 pub returns : goal.returns
 returns c =
-    let rows = c.args.rows.now.rows in
+    let rows = c.args.problem.now in
     let persons = c.args.persons.now in
     let objects = c.args.objects.now in
-    let m = c.args.rows.now.m in
+    let m = (length c.args.problem.now) in
     let range = c.are_in_range.ensures.0 c.if-not-are_in_range.false in
     let rise = c.are_rising.ensures.0 c.if-not-are_rising.false in
     let near = told_neighbours rows persons objects m c.args.named.now c.mark_objects.new.marks c.requires.named c.mark_objects.ensures c.in_default.ensures in

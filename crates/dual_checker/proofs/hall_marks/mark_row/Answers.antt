@@ -3,30 +3,25 @@ use Rattle.std.proofs.lemmas.List.{get_or_default}
 use Rattle.assign_core.specs.Numbered.{IsNumber}
 use Rattle.assign_core.specs.Rows.{listed_in}
 use Rattle.assign_core.proofs.NumberedLemmas.{number_within}
-use Rattle.dual_checker.specs.CostRow.{listing_of}
 use Rattle.dual_checker.specs.HallMarks.{AddsMarks}
 use Rattle.dual_checker.proofs.HallFirsts.{row_places}
 use Rattle.dual_checker.proofs.HallMarking.{adds_item, adds_same}
-use Rattle.dual_checker.proofs.RowPlaces.{has_numbers}
 use Rattle.dual_checker.proofs.hall_marks.mark_row.Goals as goal
-
-pub pair_at-object-requires-clause-few : goal.pair_at-object-requires-clause-few
-pair_at-object-requires-clause-few c = has_numbers c.args.rows.now.m c.row-row.result c.row-row.ensures.size c.row-row.ensures.full
 
 pub loop-i-preserved : goal.loop-i-preserved
 loop-i-preserved c =
-    let row = listing_of c.row-row.result in
+    let row = c.row-row.result.now in
     let i = c.loop-i.i in
-    let lt : i < length row = omega (arith, c.loop-i-test.true, c.listed-i-end.ensures) in
-    let x : ℕ = c.pair_at-object.result.0 in
-    let at = ap (λ e. e.0) (c.pair_at-object.ensures ∙ get_or_default row i c.pair_at-object.result (0, pos 0) lt) in
-    let listed = subst (IsNumber c.args.rows.now.m) (sym at) (c.row-row.ensures.rule.within i (0, pos 0) lt) in
+    let lt : i < length row = omega (arith, c.loop-i-test.true) in
+    let x : ℕ = c.index-row-i.result.0 in
+    let at = ap (λ e. e.0) (c.index-row-i.is ∙ get_or_default row i c.index-row-i.result (0, pos 0) lt) in
+    let listed = subst (IsNumber (length c.args.problem.now)) (sym at) (c.row-row.ensures.rule.within i (0, pos 0) lt) in
     let within = number_within _ _ x (omega (arith, c.loop-i.auto.marks, c.requires.long)) listed in
     adds_item (λ k. (get_or row k (0, pos 0)).0) i x c.place.result c.args.marks.now c.loop-i.marks at within c.place.ensures c.loop-i.invariant
 
 pub returns : goal.returns
 returns c =
-    let row = listing_of c.row-row.result in
+    let row = c.row-row.result.now in
     let rising = c.row-row.ensures.rule.rising in
     subst (λ q. AddsMarks c.args.marks.now (λ j. IsSome (listed_in q j)) c.loop-i.marks) c.row-row.ensures.row
-    (adds_same _ (λ j. IsSome (listed_in row j)) c.args.marks.now c.loop-i.marks (λ j. row_places row c.loop-i.i j rising (omega (arith, c.listed-i-end.ensures))) c.loop-i.invariant)
+    (adds_same _ (λ j. IsSome (listed_in row j)) c.args.marks.now c.loop-i.marks (λ j. row_places row c.loop-i.i j rising (omega (arith, c.loop-i-test.false))) c.loop-i.invariant)

@@ -12,7 +12,7 @@ loop-i-init c = λ k h. absurd (omega arith)
 
 pub returns-then-is_none : goal.returns-then-is_none
 returns-then-is_none c =
-    let rows = c.args.rows.now.rows in
+    let rows = c.args.problem.now in
     let xs = c.args.objects.now in
     let i = c.loop-i.i in
     let lt = c.loop-i-test.true in
@@ -22,14 +22,14 @@ returns-then-is_none c =
 
 pub loop-i-preserved : goal.loop-i-preserved
 loop-i-preserved c =
-    let rows = c.args.rows.now.rows in
+    let rows = c.args.problem.now in
     let xs = c.args.objects.now in
     let object = numbered-next xs c.loop-i.i 0 ∙ sym (c.index-objects-i.is ∙ get_or_default xs c.loop-i.i c.index-objects-i.result 0 c.loop-i-test.true) in
     one_more (λ k. IsListed rows k (own_object xs k)) c.loop-i.i c.loop-i.invariant (rw object (search rules))
 
 pub returns : goal.returns
 returns c =
-    let rows = c.args.rows.now.rows in
+    let rows = c.args.problem.now in
     let xs = c.args.objects.now in
     let long = sym c.requires in
     pairs_from (λ row j. IsSome (listed_in row j)) rows xs [] 0 long

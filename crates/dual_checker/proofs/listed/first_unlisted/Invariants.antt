@@ -5,4 +5,4 @@ use Rattle.dual_checker.specs.Faults.{own_object}
 use Rattle.dual_checker.proofs.listed.first_unlisted.Given as goal
 
 abbrev pub invariant-loop-i : goal.invariant-loop-i
-invariant-loop-i l = (k : ℕ) → IsNumber l.i k → IsListed l.rows.rows k (own_object l.objects k)
+invariant-loop-i l = (k : ℕ) → IsNumber l.i k → IsListed l.problem k (own_object l.objects k)

@@ -5,7 +5,6 @@ use Rattle.assign_core.specs.Numbered.{IsNumber}
 use Rattle.assign_core.specs.Prices.{price_of}
 use Rattle.assign_core.specs.Rows.{IsCost}
 use Rattle.assign_core.proofs.RowLemmas.{IsCost-listed}
-use Rattle.dual_checker.specs.CostRow.{listing_of}
 use Rattle.dual_checker.specs.inside.Rounded.{minimised}
 use Rattle.dual_checker.proofs.RoundedSums.{slack_by_sums, from_no_test, from_test}
 use Rattle.dual_checker.proofs.Places.{at_place}
@@ -14,7 +13,7 @@ use Rattle.dual_checker.proofs.sums.shows_slack.Goals as goal
 pub sum_of-requires-clause-cost : goal.sum_of-requires-clause-cost
 sum_of-requires-clause-cost c =
     let f = c.ranges.cost in
-    simp to_z-of_z (subst IsCost (sym c.requires.cost) (IsCost-listed (listing_of c.args.row) c.args.own c.requires.row.costs))
+    simp to_z-of_z (subst IsCost (sym c.requires.cost) (IsCost-listed c.args.row.now c.args.own c.requires.row.costs))
 
 pub returns : goal.returns
 returns c = λ t.
@@ -41,4 +40,4 @@ returns c = λ t.
     let total : c.sum_of.result ≡ minimised c.args.sense c.args.cost +ℤ price_of rounded own = sum ∙ ap (λ f. minimised c.args.sense c.args.cost +ℤ f) read in
     let test = simp to_z-of_z at t in
     let under : (minimised c.args.sense c.args.cost +ℤ price_of rounded own) ≤ℤ c.least_sum.result = subst (λ z. z ≤ℤ c.least_sum.result) total (from_test c.sum_of.result c.least_sum.result test) in
-    slack_by_sums c.args.sense rounded prices (listing_of c.args.row) own c.args.cost c.least_sum.result c.requires.rounded c.requires.row c.requires.cost near c.least_sum.ensures under
+    slack_by_sums c.args.sense rounded prices c.args.row.now own c.args.cost c.least_sum.result c.requires.rounded c.requires.row c.requires.cost near c.least_sum.ensures under

@@ -1,0 +1,46 @@
+// A copy of the costs in 32 bits, where they lie close together.
+use super::matrix::Matrix;
+use super::number::{NARROW, Number};
+use super::reading::Reading;
+use sparse_search::place_at;
+use std::alloc::{AllocError, Global};
+
+// The low 32 bits of a number.
+fn low_half(number: i64) -> i32 {
+    let bits = number.cast_unsigned() & 0xffff_ffff;
+    (bits as u32).cast_signed()
+}
+
+// Copies a row less a number. Returns whether all of it fits.
+fn copy_row<R: Reading<i64>>(reading: &R, row: &[i64], first: i64, copy: &mut [i32]) -> bool {
+    let mut above = 0u64;
+    for (cost, to) in row.iter().zip(copy.iter_mut()) {
+        let number = reading.value(*cost).wrapping_sub(first);
+        above |= number.wrapping_add(NARROW).cast_unsigned();
+        *to = low_half(number);
+    }
+    above < NARROW.cast_unsigned() * 2
+}
+
+// The costs less the first one, row by row, if they lie close enough to it.
+pub fn narrow_costs<R: Reading<i64>>(
+    alloc: Global,
+    matrix: &Matrix<'_, i64, R>,
+) -> Result<Option<Vec<i32>>, AllocError> {
+    let first = matrix.value(0, 0);
+    let mut copy = vec![in alloc; 0i32; matrix.pairs()]?;
+    let parts = copy.chunks_mut(matrix.objects.max(1));
+    for (k, part) in parts.enumerate() {
+        if !copy_row(&matrix.reading, matrix.row(place_at(k)), first, part) {
+            return Ok(None);
+        }
+    }
+    Ok(Some(copy))
+}
+
+// Prices in 64 bits.
+pub fn widen(narrow: &[i32], prices: &mut [i64]) {
+    for (from, to) in narrow.iter().zip(prices.iter_mut()) {
+        *to = from.wide();
+    }
+}

@@ -1,0 +1,19 @@
+//! Optimal assignments with exact prices, and Hall sets, over lent lists of costs: an untrusted
+//! search finds them, and the checker of exact prices decides.
+#![tactic(auto)]
+
+mod dense_lists;
+mod found;
+mod grouped;
+mod judging;
+mod listed_pairs;
+mod places;
+mod record;
+mod solver;
+mod standing;
+mod whole;
+
+pub use found::{Found, HallSet};
+pub use record::Record;
+pub use solver::solve_lists;
+pub use standing::Standing;

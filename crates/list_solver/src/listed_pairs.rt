@@ -1,0 +1,113 @@
+// The search over listed pairs.
+ghost use Rattle.std.specs.Prelude.{◌≡◌, length};
+
+use super::found::{Ended, HallSet};
+use super::grouped::Grouped;
+use super::places::{to_numbers, to_places};
+use super::record::Record;
+use super::standing::Standing;
+use super::whole::all_of_pairs;
+use assign_core::Sense;
+use cost_lists::{Object, Pairs, Person, Price};
+use sparse_search::{Outcome, Record as SparseRecord, SparseProblem, search};
+use std::alloc::{AllocError, Global};
+
+// Prices in the unit of the costs as prices of the search.
+fn divide(prices: &mut [Price], factor: i64) {
+    for price in prices.iter_mut() {
+        *price = price.checked_div(factor).unwrap_or(0);
+    }
+}
+
+// Prices of the search as prices in the unit of the costs.
+fn multiply(prices: &mut [Price], factor: i64) {
+    for price in prices.iter_mut() {
+        *price = price.wrapping_mul(factor);
+    }
+}
+
+fn numbered(set: sparse_search::HallSet) -> HallSet {
+    let sparse_search::HallSet { persons, objects } = set;
+    let (mut persons, mut objects) = (persons, objects);
+    to_numbers(persons.as_mut_slice());
+    to_numbers(objects.as_mut_slice());
+    HallSet { persons, objects }
+}
+
+fn ended_as(outcome: Outcome) -> Ended {
+    match outcome {
+        Outcome::Best => Ended::Best,
+        Outcome::Hall(set) => Ended::Hall(numbered(set)),
+        Outcome::Stopped => Ended::Stopped,
+        Outcome::Lost => Ended::Lost,
+    }
+}
+
+// The search over places, in its own unit.
+fn search_places(
+    alloc: Global,
+    problem: SparseProblem<'_>,
+    prices: &mut Vec<Price>,
+    objects: &mut Vec<Object>,
+    record: &mut SparseRecord,
+    budget: u64,
+) -> Result<Outcome, AllocError>
+    ensures prices { length prices.new.items ≡ length prices.old.items }
+    ensures objects { length objects.new.items ≡ length objects.old.items }
+{
+    to_places(objects.as_mut_slice());
+    let (slice, places) = (prices.as_mut_slice(), objects.as_mut_slice());
+    let outcome = search(alloc, problem, slice, places, record, budget);
+    to_numbers(objects.as_mut_slice());
+    outcome
+}
+
+// One search over rows of pairs.
+fn search_grouped(
+    alloc: Global,
+    grouped: &Grouped,
+    standing: &mut Standing,
+    budget: u64,
+) -> Result<Ended, AllocError>
+    ensures prices { length standing.new.prices.items ≡ length standing.old.prices.items }
+    ensures objects { length standing.new.objects.items ≡ length standing.old.objects.items }
+{
+    let mut record = standing.record.to_sparse(standing.has_nothing());
+    if standing.record.begins_sparse() && grouped.factor != 1 {
+        divide(standing.prices.as_mut_slice(), grouped.factor);
+    }
+    let outcome = search_places(
+        alloc,
+        grouped.problem(),
+        &mut standing.prices,
+        &mut standing.objects,
+        &mut record,
+        budget,
+    );
+    standing.record = Record::of_sparse(&record);
+    let ended = ended_as(outcome?);
+    if matches!(&ended, Ended::Best) && grouped.factor != 1 {
+        multiply(standing.prices.as_mut_slice(), grouped.factor);
+    }
+    Ok(ended)
+}
+
+// Searches over listed pairs of `n` persons and `m` objects.
+pub fn search_pairs(
+    alloc: Global,
+    sense: Sense,
+    n: Person,
+    m: Object,
+    pairs: Pairs<'_>,
+    standing: &mut Standing,
+    budget: u64,
+) -> Result<Ended, AllocError>
+    ensures prices { length standing.new.prices.items ≡ length standing.old.prices.items }
+    ensures objects { length standing.new.objects.items ≡ length standing.old.objects.items }
+{
+    if n > m {
+        return Ok(Ended::Hall(all_of_pairs(alloc, n, m, pairs)?));
+    }
+    let grouped = Grouped::of(alloc, sense, n, m, pairs)?;
+    search_grouped(alloc, &grouped, standing, budget)
+}

@@ -1,0 +1,201 @@
+// Where a search stands between two calls, as numbers.
+use dense_search::{Record as DenseRecord, Stage as DenseStage};
+use sparse_search::{Record as SparseRecord, Stage as SparseStage};
+
+// The numbers of the stages of both searches. Any other number stands for the beginning.
+const COLD: u32 = 1;
+
+const WARM: u32 = 2;
+
+const PATHS: u32 = 3;
+
+const CORE: u32 = 4;
+
+const RETRY: u32 = 5;
+
+const AUCTION: u32 = 6;
+
+const FINISH: u32 = 7;
+
+const MATCHING: u32 = 8;
+
+// The bits of the flags.
+const HAS_ASSIGNMENT: u32 = 1;
+
+const DROPS_PAIRS: u32 = 2;
+
+/// Where a search stands between two calls. Whatever it holds, the checker alone decides about the
+/// next answer.
+#[repr(C)]
+#[derive(Clone, Copy)]
+pub struct Record {
+    /// What the search does next; 0: it begins.
+    pub stage: u32,
+    /// Costs count two to this power, and prices are in this unit.
+    pub shift: u32,
+    /// The slackness of the auction.
+    pub slackness: i64,
+    /// The bids of this phase of the auction.
+    pub bids: u64,
+    /// The passes over all pairs that found pairs better than a core's.
+    pub passes: u64,
+    /// How often dummies bid in this phase.
+    pub dummy_bids: u32,
+    /// 1: an assignment is known to exist; 2: pairs in no assignment are dropped.
+    pub flags: u32,
+    /// The looks at pairs of all calls.
+    pub looks: u64,
+}
+
+fn dense_stage(number: u32) -> Option<DenseStage> {
+    match number {
+        COLD => Some(DenseStage::Cold),
+        WARM => Some(DenseStage::Warm),
+        PATHS => Some(DenseStage::Paths),
+        CORE => Some(DenseStage::Core),
+        RETRY => Some(DenseStage::Retry),
+        AUCTION => Some(DenseStage::Auction),
+        FINISH => Some(DenseStage::Finish),
+        _ => None,
+    }
+}
+
+fn number_of_dense(stage: DenseStage) -> u32 {
+    match stage {
+        DenseStage::Cold => COLD,
+        DenseStage::Warm => WARM,
+        DenseStage::Paths => PATHS,
+        DenseStage::Core => CORE,
+        DenseStage::Retry => RETRY,
+        DenseStage::Auction => AUCTION,
+        DenseStage::Finish => FINISH,
+    }
+}
+
+fn sparse_stage(number: u32) -> Option<SparseStage> {
+    match number {
+        COLD => Some(SparseStage::Cold),
+        WARM => Some(SparseStage::Warm),
+        PATHS => Some(SparseStage::Paths),
+        AUCTION => Some(SparseStage::Auction),
+        FINISH => Some(SparseStage::Finish),
+        MATCHING => Some(SparseStage::Matching),
+        _ => None,
+    }
+}
+
+fn number_of_sparse(stage: SparseStage) -> u32 {
+    match stage {
+        SparseStage::Cold => COLD,
+        SparseStage::Warm => WARM,
+        SparseStage::Paths => PATHS,
+        SparseStage::Auction => AUCTION,
+        SparseStage::Matching => MATCHING,
+        SparseStage::Finish => FINISH,
+    }
+}
+
+fn flag(is_set: bool, bit: u32) -> u32 {
+    if is_set { bit } else { 0 }
+}
+
+impl Record {
+    /// A search that begins.
+    pub fn cold() -> Record {
+        Record {
+            stage: 0,
+            shift: 0,
+            slackness: 0,
+            bids: 0,
+            passes: 0,
+            dummy_bids: 0,
+            flags: 0,
+            looks: 0,
+        }
+    }
+
+    // For the search over rows. A search begins with nothing, or with what somebody has.
+    pub fn to_dense(&self, has_nothing: bool) -> DenseRecord {
+        let begun = if has_nothing {
+            DenseRecord::cold()
+        } else {
+            DenseRecord::warm()
+        };
+        match dense_stage(self.stage) {
+            None => DenseRecord {
+                looks: self.looks,
+                ..begun
+            },
+            Some(stage) => DenseRecord {
+                stage,
+                shift: self.shift,
+                slackness: self.slackness,
+                bids: self.bids,
+                passes: self.passes,
+                looks: self.looks,
+            },
+        }
+    }
+
+    // For the search over listed pairs. A search begins with nothing, or with what somebody has.
+    pub fn to_sparse(&self, has_nothing: bool) -> SparseRecord {
+        let begun = if has_nothing {
+            SparseRecord::cold()
+        } else {
+            SparseRecord::warm()
+        };
+        match sparse_stage(self.stage) {
+            None => SparseRecord {
+                looks: self.looks,
+                ..begun
+            },
+            Some(stage) => SparseRecord {
+                stage,
+                shift: self.shift,
+                slackness: self.slackness,
+                bids: self.bids,
+                dummy_bids: self.dummy_bids,
+                has_assignment: self.flags & HAS_ASSIGNMENT != 0,
+                drops_pairs: self.flags & DROPS_PAIRS != 0,
+                looks: self.looks,
+            },
+        }
+    }
+
+    // Whether the search over listed pairs begins with this record, so that prices are in the unit
+    // of the costs.
+    pub fn begins_sparse(&self) -> bool {
+        match sparse_stage(self.stage) {
+            None | Some(SparseStage::Cold | SparseStage::Warm) => true,
+            Some(_) => false,
+        }
+    }
+
+    pub fn of_dense(record: &DenseRecord) -> Record {
+        Record {
+            stage: number_of_dense(record.stage),
+            shift: record.shift,
+            slackness: record.slackness,
+            bids: record.bids,
+            passes: record.passes,
+            dummy_bids: 0,
+            flags: 0,
+            looks: record.looks,
+        }
+    }
+
+    pub fn of_sparse(record: &SparseRecord) -> Record {
+        let flags = flag(record.has_assignment, HAS_ASSIGNMENT)
+            | flag(record.drops_pairs, DROPS_PAIRS);
+        Record {
+            stage: number_of_sparse(record.stage),
+            shift: record.shift,
+            slackness: record.slackness,
+            bids: record.bids,
+            passes: 0,
+            dummy_bids: record.dummy_bids,
+            flags,
+            looks: record.looks,
+        }
+    }
+}

@@ -1,0 +1,19 @@
+// What a search reads and writes.
+use super::record::Record;
+use cost_lists::{Object, Price};
+
+/// A price for each object, an object for each person (0: nobody's), and where the search stands.
+#[derive(Drop)]
+pub struct Standing {
+    pub prices: Vec<Price>,
+    pub objects: Vec<Object>,
+    pub record: Record,
+}
+
+impl Standing {
+    // Whether all prices are 0 and nobody has an object.
+    pub fn has_nothing(&self) -> bool {
+        self.objects.iter().all(|object| *object == 0)
+            && self.prices.iter().all(|price| *price == 0)
+    }
+}

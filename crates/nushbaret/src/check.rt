@@ -1,0 +1,82 @@
+// The calls that check answers, as `c/nushbaret.h` declares them.
+ghost use Rattle.std.specs.Prelude.{◌⊎◌};
+ghost use Rattle.lent_lists.specs.Checks.{IsHallJudged, IsJudged, IsRefused};
+ghost use Rattle.lent_lists.specs.Given.{either};
+
+use cost_lists::{Object, Person, Price};
+use lent_lists::{
+    Given, Info, form_of, hall_verdict_on, refuse, report_hall_verdict, report_verdict, verdict_on,
+};
+use std::alloc::Global;
+
+/// Checks an assignment with its prices against a problem. The problem is dense if there are costs
+/// but no list of pairs; otherwise it is sparse.
+#[unsafe(no_mangle)]
+pub extern "C" fn nushbaret_check(
+    alloc: Global,
+    sense: u32,
+    n: usize,
+    m: usize,
+    of_persons: &[Person],
+    of_objects: &[Object],
+    costs: &[i64],
+    objects: &[Object],
+    prices: &[Price],
+    info: &mut Info,
+) -> i32
+    ensures { let given = either sense n m of_persons.now of_objects.now costs.now in
+        IsJudged given objects.now prices.now info.old info.new result
+        ⊎ IsRefused given info.old info.new result }
+{
+    let given = Given {
+        form: form_of(of_persons, of_objects, costs),
+        sense,
+        n,
+        m,
+        by_person: &[],
+        by_object: &[],
+        persons: of_persons,
+        objects: of_objects,
+        costs,
+        first: &[],
+    };
+    match verdict_on(alloc, &given, objects, prices) {
+        Ok(verdict) => report_verdict(verdict, info),
+        Err(fault) => refuse(fault, info),
+    }
+}
+
+/// Checks a Hall set against a problem, which is dense or sparse as in `nushbaret_check`.
+#[unsafe(no_mangle)]
+pub extern "C" fn nushbaret_check_hall(
+    alloc: Global,
+    n: usize,
+    m: usize,
+    of_persons: &[Person],
+    of_objects: &[Object],
+    costs: &[i64],
+    persons: &[Person],
+    objects: &[Object],
+    info: &mut Info,
+) -> i32
+    ensures { let given = either 0 n m of_persons.now of_objects.now costs.now in
+        IsHallJudged given persons.now objects.now info.old info.new result
+        ⊎ IsRefused given info.old info.new result }
+{
+    let given = Given {
+        form: form_of(of_persons, of_objects, costs),
+        sense: 0,
+        n,
+        m,
+        by_person: &[],
+        by_object: &[],
+        persons: of_persons,
+        objects: of_objects,
+        costs,
+        first: &[],
+    };
+    match hall_verdict_on(alloc, &given, persons, objects) {
+        Ok(verdict) => report_hall_verdict(verdict, info),
+        Err(fault) => refuse(fault, info),
+    }
+}
