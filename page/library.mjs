@@ -1,11 +1,6 @@
 // The calls of nushbaret.h over the WebAssembly module. No proof covers this file; what a call returns is what the proved call wrote.
 
-// Of which version's header the module is: 3 or 4.
-/** @type {number} */
-const LAYOUT = 4;
-export const MOST_PERSONS = LAYOUT === 3 ? 8192 : 4194304;
-const Numbers = LAYOUT === 3 ? Uint16Array : Uint32Array;
-const WORDS_OF_A_PRICE = LAYOUT === 3 ? 2 : 1;
+export const MOST_PERSONS = 4194304;
 const WORDS_OF_INFO = 6;
 const CODES = [
   "BEST", "HALL", "SENSE", "SIZE", "LENGTH", "PERSON", "OBJECT", "COST", "PRICE", "MEMORY", "ANSWER_LENGTH", "UNLISTED", "TWICE",
@@ -18,21 +13,12 @@ const VERSION_ROOM = 32;
  * @typedef {{ code: string, total: bigint, assigned: number[], blocked: number[] }} Answer `assigned` has an object for each person, and
  *   in a Hall set its objects; `blocked` has its persons
  * @typedef {{ address: number, count: bigint }} Block
- * @typedef {Numbers extends Uint16ArrayConstructor ? Uint16Array : Uint32Array} NumberList
- * @typedef {Uint8Array | Uint16Array | Uint32Array | BigInt64Array} List
+ * @typedef {Uint8Array | Uint32Array | BigInt64Array} List
  * @typedef {Record<string, (...words: (number | bigint)[]) => number>} Calls
  */
 
 /** Memory was refused that a call can't do without. */
 export class NoMemory extends Error {}
-
-/**
- * @param {number[]} values
- * @returns {List}
- */
-function numbersOf(values) {
-  return Numbers.from(values);
-}
 
 /** A module that is loaded. After a trap it must not be called again. */
 export class Library {
@@ -102,7 +88,7 @@ export class Library {
    * @returns {number[]}
    */
   numbers(block, count) {
-    return Array.from(new Numbers(this.memory.buffer, block.address, count));
+    return Array.from(new Uint32Array(this.memory.buffer, block.address, count));
   }
 
   /**
@@ -114,11 +100,11 @@ export class Library {
     const { n, m } = problem;
     const call = problem.persons ? this.calls.nushbaret_sparse : this.calls.nushbaret_dense;
     return this.within((take) => {
-      const lists = [problem.persons, problem.objects].flatMap((list) => list ? [take(numbersOf(list))] : []);
+      const lists = [problem.persons, problem.objects].flatMap((list) => list ? [take(Uint32Array.from(list))] : []);
       lists.push(take(BigInt64Array.from(problem.costs, BigInt)));
-      const objects = take(new Numbers(n));
-      const persons = take(new Numbers(n));
-      const prices = take(new BigInt64Array(m * WORDS_OF_A_PRICE));
+      const objects = take(new Uint32Array(n));
+      const persons = take(new Uint32Array(n));
+      const prices = take(new BigInt64Array(m));
       const info = take(new BigInt64Array(WORDS_OF_INFO));
       const given = [...lists, objects, persons].flatMap((list) => [list.address, list.count]);
       const words = [problem.max ? 1 : 0, BigInt(n), BigInt(m), ...given, prices.address, BigInt(m), info.address];
@@ -138,10 +124,10 @@ export class Library {
    */
   isHall(problem, nPersons, nObjects) {
     /** @param {number} count */
-    const first = (count) => numbersOf(Array.from({ length: count }, (_, k) => k + 1));
+    const first = (count) => Uint32Array.from(Array.from({ length: count }, (_, k) => k + 1));
     return this.within((take) => {
       const costs = new BigInt64Array(problem.persons.length);
-      const lists = [numbersOf(problem.persons), numbersOf(problem.objects), costs, first(nPersons), first(nObjects)].map(take);
+      const lists = [Uint32Array.from(problem.persons), Uint32Array.from(problem.objects), costs, first(nPersons), first(nObjects)].map(take);
       const info = take(new BigInt64Array(WORDS_OF_INFO));
       const words = lists.flatMap((list) => [list.address, list.count]);
       return CODES[this.calls.nushbaret_check_hall(BigInt(problem.n), BigInt(problem.m), ...words, info.address)] === "HALL";
