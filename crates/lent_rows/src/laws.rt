@@ -5,5 +5,4 @@ ghost use Rattle.lent_rows.specs.Costs.{NoneIsCheaper};
 /// meets the rows costs at least the bound and 1. So one that costs just this is a cheapest.
 pub fn none_is_cheaper()
     ensures { NoneIsCheaper }
-{
-}
+{}
