@@ -1,5 +1,5 @@
 -- What a caller gives: rows, a plan or none, and a tree.
-use Rattle.std.specs.Prelude.{◌≡◌, ℕ, zero, suc, ◌+◌, ◌-◌, ◌<◌, ◌==◌, nat_lt, ℤ, List, [], ◌∷◌, ◌++◌, Bool, true, not, ◌&&◌, ◌||◌, None, length, map}
+use Rattle.std.specs.Prelude.{◌≡◌, ℕ, zero, suc, ◌+◌, ◌-◌, ◌==◌, nat_lt, ℤ, List, [], ◌∷◌, ◌++◌, Bool, true, not, ◌&&◌, ◌||◌, None, length, map}
 use Rattle.row_checker.specs.Rows.{LinearRow, Plan}
 use Rattle.lent_rows.specs.Lists.{IsFirstWrong, bound_above, bound_below, is_named, is_start, natural_at, terms_from, whole_at}
 

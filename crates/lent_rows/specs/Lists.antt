@@ -2,7 +2,6 @@
 use Rattle.std.specs.Prelude.{◌≡◌, ℕ, zero, suc, ◌+◌, ◌-◌, ◌<◌, ◌==◌, nat_le, nat_lt, ℤ, pos, negsuc, ◌^◌, List, [], ◌∷◌, ◌++◌, Bool, true, false, ◌&&◌, ◌||◌, Option, None, Some, if◌then◌else◌, length, slice_index_or}
 use Rattle.std.specs.Ordering.{int_eq}
 use Rattle.row_checker.specs.declared.row.Multiple.{Multiple}
-use Rattle.row_checker.specs.Rows.{LinearRow}
 
 -- the number at a place of a list; 0 where there is none
 abbrev pub natural_at : List ℕ → ℕ → ℕ

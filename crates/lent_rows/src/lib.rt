@@ -5,6 +5,7 @@
 mod answer;
 mod given;
 mod info;
+mod laws;
 mod lists;
 mod plan;
 mod rows;
@@ -12,3 +13,4 @@ mod rows;
 pub use answer::{Answer, answer_on};
 pub use given::Given;
 pub use info::{RowsInfo, report};
+pub use laws::none_is_cheaper;
