@@ -173,7 +173,8 @@ def spoil(chance, case):
         elif which in (1, 2, 6):
             case[which][at] = chance.randrange(12)
         else:
-            case[which][at] = chance.choice([case[which][at] + 1, case[which][at] - 1, MIN, MAX, 2**62, -1, 0, 1, 10**6])
+            number = chance.choice([case[which][at] + 1, case[which][at] - 1, MIN, MAX, 2**62, -1, 0, 1, 10**6])
+            case[which][at] = min(MAX, max(MIN, number))
 
 
 TRIANGLE = [3, [0, 2, 4, 6, 9], [0, 1, 1, 2, 0, 2, 0, 1, 2], [1] * 6 + [-1] * 3, [MIN] * 4, [1, 1, 1, -2], [0, 1, 0], [0, 4, 0, -1, 1, -1, 2, -1, 3, -2]]
