@@ -1,4 +1,4 @@
-"""Certificates: changed ones beside a check in fractions, the form in C, and files."""
+"""Certificates: changed ones, held against a check in fractions, the form in C, and files."""
 import itertools
 import pathlib
 import random
