@@ -23,6 +23,8 @@ _MOST_LEAVES = 5000
 _FEW_LEAVES = 40
 # The part of the time in which a proof that the plan is best is looked for, before a lesser one.
 _FIRST_PART = 0.6
+# By so many in a hundred a plan may be above the bound, where one is looked for near it and none is known.
+_NEAR = (1, 4, 16)
 
 
 class Prover:
@@ -139,7 +141,10 @@ class Prover:
         return None if self.channel.cost is None else self.channel.cost - 1
 
     def by_persons(self, pricing: Pricing, best: Bound) -> None:
-        """The bound that the prices show, then plans near it, then trees after the persons' links for what is left between them."""
+        """The bound that the prices show, plans near it, and trees after the persons' links for what is left between them."""
+        for percent in _NEAR:
+            if self.channel.cost is None:
+                self.look_near(pricing, best, best.value // SCALE + abs(best.value) * percent // (100 * SCALE) + 2)
         most = -(-best.value // SCALE) - 1
         if self.channel.cost is not None:
             most = min(most, self.channel.cost - 1)
@@ -148,22 +153,17 @@ class Prover:
                 self.tell(chain(pricing, best, most, self.deadline), most)
             except Open:
                 pass
-        if not self.is_closed():
-            self.look_near(pricing, best)
+        if self.channel.cost is not None and not self.is_closed():
+            self.look_near(pricing, best, self.channel.cost - 1)
         self.close(pricing, best)
 
-    def look_near(self, pricing: Pricing, best: Bound) -> None:
-        """Looks for a plan among the variables that a plan between the bound and the plan known can have."""
-        most = self.channel.cost - 1 if self.channel.cost is not None else best.value // SCALE * 101 // 100 + 2
+    def look_near(self, pricing: Pricing, best: Bound, most: int) -> None:
+        """Looks for a plan that costs `most` at most, among the variables that the prices leave it."""
         reaches = pricing.reaches(best.prices)
         least = (reaches[0] > SCALE * most).astype(float)
         greatest = 1.0 - (reaches[1] > SCALE * most)
-        if (least > greatest).any():
-            return
-        found = tried(self.model.costs, [*self.rows, cost_row(self.model, most)], self.left() / 3, least, greatest)
-        cost = cost_of(self.model, found.plan)
-        if found.plan is not None and cost is not None:
-            self.channel.say_plan(found.plan, cost)
+        if (least <= greatest).all():
+            self.say_found(tried(self.model.costs, [*self.rows, cost_row(self.model, most)], self.left() / 3, least, greatest).plan)
 
     def close(self, pricing: Pricing, best: Bound) -> None:
         """Looks for a proof that the plan known is best; where that isn't found in a part of the time, for one that is half way as far."""
