@@ -171,6 +171,8 @@ def find(model: Model, seconds: float, progress: Optional[Progress] = None, star
         for role in ("plans", "bounds"):
             workers.append(_Worker(told))
             workers[-1].start({**first, "role": role})
+        if search.plan is not None:
+            _tell(workers, {"plan": search.plan, "cost": search.cost})
         _follow(search, workers, told, deadline, progress)
     finally:
         for worker in workers:
