@@ -3,7 +3,7 @@ use Rattle.std.proofs.Common.{◌≡◌, ℕ, ℤ, pos, ◌<◌, ◌↔◌, ◌+
 use Rattle.std.specs.List.{All, Contains}
 use Rattle.std.specs.List.Sorted.{IsStrictlyIncreasing}
 use Rattle.std.proofs.lemmas.Bool.{false≢true}
-use Rattle.std.proofs.lemmas.List.{get_or_default, length-replicate}
+use Rattle.std.proofs.lemmas.List.{get_or_default}
 use Rattle.std.proofs.lemmas.List.Elements.{Contains-get_or}
 use Rattle.assign_core.specs.declared.sense.Sense.{Sense}
 use Rattle.assign_core.specs.Numbered.{IsNumber, IsMarked, numbered}
@@ -18,7 +18,7 @@ use Rattle.dual_checker.specs.Faults.{IsFirst}
 use Rattle.dual_checker.specs.HallMarks.{AddsMarks}
 use Rattle.dual_checker.specs.HallVerdicts.{HasNeighbours, Lacks, ListsUnnamed}
 use Rattle.dual_checker.proofs.HallFirsts.{first_named, first_same}
-use Rattle.dual_checker.proofs.HallMarking.{adds_same, just_added}
+use Rattle.dual_checker.proofs.HallMarking.{adds_same}
 use Rattle.cost_lists.specs.declared.source.Pairs.{Pairs}
 use Rattle.cost_lists.specs.Given.{IsBestGiven, best_given, rows_given}
 use Rattle.cost_lists.specs.Source.{AreCosts, ArePairs, part_of, triples_in}
@@ -164,13 +164,6 @@ module _ (rows : List Listing) (m : ℕ) (persons : List ℕ) (all : ListAll row
 
   pub none_added : (before : List Bool) → length persons ≡ 0 → AddsMarks before (IsNeighbour rows persons) before
   none_added before empty j = ((λ x. inl x), (λ o. elim o [ inl b ↦ b | inr near ↦ absurd (none_near empty j near) ]))
-
--- marks of just these numbers
-pub marks_just : (n : ℕ) (before after : List Bool) (numbers : List ℕ) → before ≡ replicate n false → length after ≡ length before → AddsMarks before (Contains numbers) after → MarksJust after n numbers
-marks_just n before after numbers none long h = record {
-  long = long ∙ ap length none ∙ length-replicate n false;
-  just = just_added n before after (Contains numbers) none h;
-}
 
 pub no_marks : (m : ℕ) (marks : List Bool) → marks ≡ replicate m false → (j : ℕ) → ¬ IsMarked marks j
 no_marks m marks none j x = let no = ap (λ l. numbered l j false) none ∙ numbered-replicate m j false in cc

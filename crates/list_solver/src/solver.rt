@@ -67,8 +67,8 @@ fn begin_anew(standing: &mut Standing)
     };
 }
 
-/// Searches for an optimal assignment with exact prices, or for a Hall set, and stops after about
-/// `budget` looks at pairs, beside the passes over all pairs with which a call begins (0: it doesn't).
+/// Searches for an optimal assignment with exact prices, or for a Hall set. It first passes over all
+/// pairs, and then stops after about `budget` looks at pairs (0: it doesn't).
 ///
 /// A record whose stage is 0 begins: from the prices and the objects of the standing, or with nothing
 /// if all of them are 0. Objects that aren't from 1 to `m`, or are given twice, count as nobody's.
