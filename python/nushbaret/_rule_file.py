@@ -161,7 +161,8 @@ class _Reader:
         numbers = self._roster.person_numbers
         if not line.names:
             return tuple(range(len(self._roster.persons)))
-        names = [line.names] if line.names in numbers else re.split(r"\s*;\s*|\s*\|\s*" if re.search("[;|]", line.names) else r"\s*,\s*", line.names)
+        between = r"\s*[;|]\s*" if re.search("[;|]", line.names) else r"\s*,\s*"
+        names = [line.names] if line.names in numbers else re.split(between, line.names)
         for name in names:
             if name not in numbers:
                 near = like(name, self._roster.persons)

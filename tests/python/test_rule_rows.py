@@ -8,7 +8,6 @@ from collections import Counter
 sys.path.insert(0, str(pathlib.Path(__file__).resolve().parents[2] / "python"))
 
 from drawn_rules import SHAPES, drawn_case
-from nushbaret._answer import Wish
 from nushbaret._roster import PlanLine
 from nushbaret._row_sums import Rows, Work
 from nushbaret._rule_rows import Making, add_rules
