@@ -18,10 +18,11 @@ LIBRARIES = {"x86_64": (TOP.parent / "c" / "out" / NAME, ""), "aarch64": (TOP.pa
 DAY = (2020, 1, 1, 0, 0, 0)
 # What the wheel's tag says of the machine; release/make.sh sets it to what its library is looked at for.
 PLATFORM = sysconfig.get_platform()
-# The page that describes the package, the one of rosters, and the folder of examples: where the archive of sources has each, and in a
-# checkout.
+# The page that describes the package, those of rosters and of their rules, and the folder of examples: where the archive of sources has
+# each, and in a checkout.
 DESCRIPTIONS = (TOP / "PYTHON.md", TOP.parent / "docs" / "PYTHON.md")
 GUIDES = (TOP / "ROSTERS.md", TOP.parent / "docs" / "ROSTERS.md")
+RULES = (TOP / "RULES.md", TOP.parent / "docs" / "RULES.md")
 EXAMPLES = (TOP / "examples", TOP.parent / "examples")
 
 
@@ -64,7 +65,8 @@ def _tag():
 def _metadata():
     fields = [("Metadata-Version", "2.1"), ("Name", "nushbaret"), ("Version", VERSION), ("Summary", _text("description")),
               ("Keywords", ",".join(_listed("keywords"))), ("License", "MIT OR Apache-2.0"), ("Requires-Python", _text("requires-python")),
-              *(("Classifier", text) for text in _listed("classifiers")), ("Description-Content-Type", "text/markdown")]
+              *(("Classifier", text) for text in _listed("classifiers")), ("Provides-Extra", "rules"),
+              *(("Requires-Dist", f"{text}; extra == 'rules'") for text in _listed("rules")), ("Description-Content-Type", "text/markdown")]
     return "".join(f"{name}: {text}\n" for name, text in fields) + "\n" + _description()
 
 
@@ -92,10 +94,11 @@ def _guide():
     _modules_here()
     import nushbaret_guide
 
-    page = next((file for file in GUIDES if file.exists()), None)
-    if page is None:
+    pages = [next((file for file in places if file.exists()), None) for places in (GUIDES, RULES)]
+    if None in pages:
         return {}
-    files = nushbaret_guide.guide_files(page.read_text(encoding="utf-8"), {file.name: file.read_bytes() for file in _examples()})
+    texts = [page.read_text(encoding="utf-8") for page in pages]
+    files = nushbaret_guide.guide_files(*texts, {file.name: file.read_bytes() for file in _examples()})
     return {f"nushbaret/guide/{name}": content for name, content in files.items()}
 
 
@@ -180,7 +183,7 @@ def build_sdist(sdist_directory, config_settings=None):
     """The sources with the library next to them, so that a wheel can be made of them alone."""
     front = f"nushbaret-{VERSION}"
     files = {name: TOP / name for name in ("pyproject.toml", "nushbaret_build.py", "nushbaret_guide.py", "nushbaret_manual.py")}
-    files.update({file.name: file for file in (*DESCRIPTIONS, *GUIDES) if file.exists()})
+    files.update({file.name: file for file in (*DESCRIPTIONS, *GUIDES, *RULES) if file.exists()})
     files.update({f"examples/{file.name}": file for file in _examples()})
     files.update({file.name: file for file in _licenses()})
     files.update({f"nushbaret/{file.relative_to(PACKAGE).as_posix()}": file for file in _sources()})

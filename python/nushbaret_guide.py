@@ -1,4 +1,5 @@
-"""The guide to rosters as it is installed: the text of docs/ROSTERS.md for a command on the path, and the same as a page of HTML."""
+"""The guide to rosters as it is installed: the texts of docs/ROSTERS.md and docs/RULES.md for a command on the path, and the same as a page
+of HTML."""
 import re
 from html import escape
 from typing import Dict, Iterator, List, Tuple
@@ -10,9 +11,14 @@ INLINE = (
     (re.compile(r"\[([^][]+)\]\((#[^()]*)\)"), r'<a href="\2">\1</a>'),
     (re.compile(r"\*\*([^*]+)\*\*"), r"<b>\1</b>"),
 )
+# What the pages of the guide call each other.
+LINKS = {"[RULES.md](RULES.md)": "[Rosters with rules](#rosters-with-rules)",
+         "[ROSTERS.md](ROSTERS.md)": "[Rosters with names](#rosters-with-names-the-command)"}
 STYLE = """
 :root { color-scheme: light dark }
 body { font: 16px/1.5 sans-serif; max-width: 46em; margin: 1em auto; padding: 0 1em }
+table { border-collapse: collapse }
+td, th { border: 1px solid #888; padding: .2em .5em; text-align: left; vertical-align: top }
 pre { overflow-x: auto; padding: .5em; border: 1px solid #888 }
 code, pre { font-size: 14px }
 """
@@ -23,7 +29,14 @@ def guide_text(page: str) -> str:
     found = CHECKOUT.findall(page)
     if len(found) != 1:
         raise SystemExit(f"the page of rosters says {len(found)} times how the command is found in a checkout")
-    page = re.sub(r"^(    .*)$", lambda line: line[1].replace("python3 -m nushbaret ", "nushbaret "), CHECKOUT.sub("\n", INSTALLS.sub("", page)), flags=re.M)
+    return _installed(CHECKOUT.sub("\n", INSTALLS.sub("", page)))
+
+
+def _installed(page: str) -> str:
+    """A page with the command on the path. Its links to the other page of the guide stay."""
+    page = re.sub(r"^(    .*)$", lambda line: line[1].replace("python3 -m nushbaret ", "nushbaret "), page, flags=re.M)
+    for link, text in LINKS.items():
+        page = page.replace(link, text)
     return re.sub(r"\[([^][]+)\]\((?!#|https?:)[^()]*\)", r"\1", page)
 
 
@@ -54,8 +67,10 @@ def _blocks(lines: List[str]) -> Iterator[Tuple[str, List[str]]]:
 
 def _kind(line: str, before: str) -> str:
     """The kind of a line that isn't blank or code."""
-    if line.startswith(("|", "```", "1. ", "* ", ">")):
+    if line.startswith(("```", "1. ", "* ", ">")):
         raise SystemExit(f"the page of rosters has what its guide can't show: {line}")
+    if line.startswith("|"):
+        return "table"
     return "heading" if line.startswith("#") else "list" if line.startswith(("- ", "  ")) else "paragraph"
 
 
@@ -67,10 +82,20 @@ def _block(kind: str, lines: List[str]) -> str:
         level, _, words = text.partition(" ")
         name = re.sub(r"[^\w\- ]", "", words.lower()).replace(" ", "-")
         return f'<h{len(level)} id="{name}">{_inline(words)}</h{len(level)}>'
+    if kind == "table":
+        return _table(text.split("\n"))
     if kind == "list":
         items = re.split(r"^- ", text, flags=re.M)[1:]
         return "<ul>\n" + "\n".join(f"<li>{_inline(item)}</li>" for item in items) + "\n</ul>"
     return f"<p>{_inline(text)}</p>"
+
+
+def _table(lines: List[str]) -> str:
+    """A table, whose second line is a rule."""
+    rows = [[_inline(cell.strip()) for cell in line.strip("|").split("|")] for line in [lines[0], *lines[2:]]]
+    head = " ".join(f"<th>{cell}</th>" for cell in rows[0])
+    body = "".join("<tr>" + " ".join(f"<td>{cell}</td>" for cell in row) + "</tr>\n" for row in rows[1:])
+    return f"<table>\n<tr>{head}</tr>\n{body}</table>"
 
 
 def _inline(text: str) -> str:
@@ -85,8 +110,8 @@ def _marked(text: str) -> str:
     return text
 
 
-def guide_files(page: str, examples: Dict[str, bytes]) -> Dict[str, bytes]:
+def guide_files(page: str, rules: str, examples: Dict[str, bytes]) -> Dict[str, bytes]:
     """What is installed, by its name in the folder of the guide."""
-    text = guide_text(page)
+    text = f"{guide_text(page)}\n{_installed(rules)}"
     return {"rosters.txt": text.encode(), "rosters.html": guide_page(text).encode(),
             **{f"examples/{name}": content for name, content in examples.items()}}

@@ -38,7 +38,7 @@ class Entry(NamedTuple):
 ARGUMENT = Entry("", "ROSTER", "", words.ROSTER, is_file=True)
 # The options that need no roster.
 GENERAL = [Entry("-h", "--help", "", "show this help message and exit"),
-           *(Entry(short, word, "", text) for short, word, text in words.GENERAL)]
+           *(Entry(*own, is_file=bool(own[2])) for own in words.GENERAL)]
 
 
 def option_entries(section: str) -> List[Entry]:

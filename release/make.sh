@@ -39,7 +39,7 @@ stop() {
 # The sum of what the release is made of: the contents of the files that git knows, or of all where there is no git.
 sources() {
     local paths=(crates c page python crates.txt VERSION LICENSE-APACHE LICENSE-CRATES LICENSE-MIT release/make.sh release/parts
-        docs/PYTHON.md docs/ROSTERS.md examples)
+        docs/PYTHON.md docs/ROSTERS.md docs/RULES.md examples)
     cd "$top"
     if [ "$(git rev-parse --show-prefix 2> /dev/null)" = '' ] && git ls-files --error-unmatch VERSION > /dev/null 2>&1; then
         git ls-files -z -- "${paths[@]}"

@@ -73,6 +73,14 @@ run 'example in C++' "$work/example_as_cpp"
 run 'example: build' cc -std=c99 -pedantic "${flags[@]}" "$top/c/example.c" -L"$top/c/out" -lnushbaret -Wl,-rpath,"$top/c/out" -o "$work/example"
 shows 'example' "$work/example"
 
+# The example of rows, and rows, plans and trees with each code, against a plain program.
+run 'rows: build' cc -std=c99 -pedantic "${flags[@]}" "$top/c/example_rows.c" "$archive" -o "$work/example_rows"
+if [ "$("$work/example_rows" 2> /dev/null)" != $'cost -1, and no plan costs less than -1\nno plan' ]; then
+    echo 'example of rows: another answer'
+    failed=$((failed + 1))
+fi
+run 'rows: calls' python3 "$top/tests/door/rows.py" "$top/c/out/libnushbaret.so"
+
 if ! type -P aarch64-linux-gnu-gcc > /dev/null; then
     run 'no compiler for ARM' asks_for_its_compiler
     ran="$ran; not on ARM: no aarch64-linux-gnu-gcc"

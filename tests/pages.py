@@ -36,9 +36,11 @@ UNCOUNTED = (GENERATED, "CHANGELOG.md")
 # The sources whose comments avoid the same words, the beginning of these comments, and code in them.
 COMMENTS = {"crates/*/src/**/*.rt": re.compile(r"\s*//[/!]"), "crates/*/specs/**/*.antt": re.compile(r"\s*--")}
 # The modules of the command for rosters.
-COMMAND = ("answer", "blocks", "by_counts", "calendar", "changes", "command", "costs", "dates", "day_sheets", "days", "each", "encodings",
-           "exchanges", "fair", "files", "gadgets", "groups", "html", "json", "lack", "names", "nodes", "page", "past", "ranked",
-           "read_workbook", "roster", "rules", "sentences", "sheet_looks", "sheets", "texts", "times", "words", "workbook")
+COMMAND = ("answer", "blocks", "by_counts", "by_rules", "calendar", "changes", "check_file", "command", "costs", "dates",
+           "day_sheets", "days", "each", "encodings", "exchanges", "fair", "files", "gadgets", "groups", "html", "json",
+           "lack", "month", "names", "nodes", "page", "past", "ranked", "read_workbook", "roster", "roster_rows",
+           "rule_even", "rule_file", "rule_rows", "rule_texts", "rules", "rules_kept", "ruling", "sentences", "sheet_looks",
+           "sheets", "texts", "times", "words", "workbook")
 # The other sources, and what their comments are, by how their names end; those of Python are found by its own reader.
 SCRIPTED = (".ci/run", "prove", "bench/**/*", "c/*", "docs/*.py", "page/*", "programs/**/*", "python/**/*.py", "release/**/*", "tests/**/*")
 SCRIPTS = {("/run", ".sh"): re.compile(r'^\s*#.*$|"""[\s\S]*?"""', re.M), (".c", ".h"): re.compile(r"/\*.*?\*/", re.DOTALL),

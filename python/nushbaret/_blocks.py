@@ -160,7 +160,7 @@ def labels_of(roster: Roster) -> List[str]:
     groups = roster.groups
     if groups is None:
         return roster.objects
-    short = [_without(name, groups.names[groups.of_objects[number]]) if number in groups.of_objects else name
+    short = [without_group(name, groups.names[groups.of_objects[number]]) if number in groups.of_objects else name
              for number, name in enumerate(roster.objects)]
     seen: Dict[Tuple[int, str], List[int]] = {}
     for number, group in groups.of_objects.items():
@@ -169,7 +169,7 @@ def labels_of(roster: Roster) -> List[str]:
     return [name if number in twice else short[number] for number, name in enumerate(roster.objects)]
 
 
-def _without(name: str, group: str) -> str:
+def without_group(name: str, group: str) -> str:
     """A name without a group's at its begin or end."""
     for rest, is_apart in ((name[len(group):], name.startswith(group)), (name[:-len(group)], name.endswith(group))):
         bare = rest.strip(BETWEEN)

@@ -27,14 +27,14 @@ def answer_by_counts(roster: Roster, wish: Wish) -> Answer:
     groups = [_short(roster, counted, lack, _around(roster, wish.fixed)) for lack in lacks]
     if pairs is None:
         return Answer(None, groups)
-    plan = _plan(roster, wish.fixed, pairs)
+    plan = plan_around(roster, wish.fixed, pairs)
     if wish.kept is not None and wish.change is not None:
         return Answer(plan, groups)
     exchanges = exchanges_of(counted, pairs, bool(lacks))
     swaps = [Swap(those) for those in free_pairs(exchanges)]
     plan = plan._replace(swaps=swaps, is_only_one=not swaps)
     count = max(wish.plans - 1, int(wish.others and not swaps))
-    following = [_plan(roster, wish.fixed, sorted(other.pairs)) for other in islice(plans_after(counted, pairs, bool(lacks)), count)]
+    following = [plan_around(roster, wish.fixed, sorted(other.pairs)) for other in islice(plans_after(counted, pairs, bool(lacks)), count)]
     return Answer(with_following(plan, following, wish.others and not swaps), groups)
 
 
@@ -97,7 +97,7 @@ def _short(roster: Roster, counted: Counted, lack: Lack, around: str) -> Short:
     return Short(persons, sorted(objects), lack.of_columns, lack.wanted, lack.had, around + sentence_of(roster, counted, lack))
 
 
-def _plan(roster: Roster, fixed: Sequence[PlanLine], chosen: Sequence[Tuple[int, int]]) -> Plan:
+def plan_around(roster: Roster, fixed: Sequence[PlanLine], chosen: Sequence[Tuple[int, int]]) -> Plan:
     """A plan of the fixed pairs and of those chosen for the others, each person's in the order of groups."""
     costs, ranks = roster.costs_of(set(chosen)), order_of(roster)
     pairs = [Pair(pair.person, pair.object, pair.cost, True) for pair in fixed]

@@ -1,7 +1,8 @@
 """The command: a roster of names in a CSV file, and its plan.
 
 Status 0: a plan; 1: there is none; 2: the words are refused; 3: something is wrong in a roster, a plan or a list of counts; 4: a file
-can't be read or written, an output exists, the library isn't there, memory was refused, or nushbaret itself failed; 130: Ctrl-C.
+can't be read or written, an output exists, the library isn't there, memory was refused, or nushbaret itself failed; 6: not decided in
+time; 130: Ctrl-C.
 """
 import contextlib
 import io
@@ -19,12 +20,15 @@ from ._problem import TooLarge
 from ._roster import OldPlan, PlanLine, Roster, read_hand_plan, read_old_plan, read_plan, read_roster
 from ._sheets import Reading, RosterFault, heading_of, quoted
 from ._texts import Fair, Hand, Report, as_csv, first_lines, forgotten_line, gone_line, in_encoding_of, printed, read_lines
-from ._words import Options, read_words
+from ._words import Options, WordsFault, read_words
 
 if TYPE_CHECKING:
+    from ._by_rules import Proved
     from ._past import Past
+    from ._ruling import Ruling
 
 PLANNED, NONE, WORDS, REFUSED, DEVICE = range(5)
+UNDECIDED = 6
 INTERRUPTED = 130
 
 
@@ -39,7 +43,7 @@ def main(words: Optional[Sequence[str]] = None) -> int:
     Returns
     -------
     int
-        The status, 0 to 4, or 130 after Ctrl-C. Words that are refused, and `--help`, end by `SystemExit` with status 2 and 0. A fault of
+        The status, 0 to 4 or 6, or 130 after Ctrl-C. Words that are refused, and `--help`, end by `SystemExit` with status 2 and 0. A fault of
         nushbaret itself is raised where NUSHBARET_DEBUG is set.
     """
     for stream in (sys.stdout, sys.stderr):
@@ -50,6 +54,8 @@ def main(words: Optional[Sequence[str]] = None) -> int:
         return _run(options)
     except RosterFault as fault:
         return _refused(fault, REFUSED)
+    except WordsFault as fault:
+        return _refused(fault, WORDS)
     except (OSError, OutputFault) as fault:
         return _refused(_device(fault), DEVICE)
     except MemoryError:
@@ -81,6 +87,8 @@ def _device(fault: Exception) -> str:
 
 
 def _run(options: Options) -> int:
+    if options.certificate is not None and not options.force:
+        refuse_existing(options.certificate)
     for output in options.outputs:
         if not options.force and not output.is_standard:
             refuse_existing(output.path)
@@ -98,8 +106,17 @@ def _run(options: Options) -> int:
     is_content = _write(report, lines)
     skipped = [f"{output.path} isn't written: there is no plan" for output in options.outputs if not _is_written(output, answer, options)]
     skipped += _lines_on_each(report)
+    if options.certificate is not None and (report.proved is None or report.proved.certificate is None):
+        skipped.append(f"{options.certificate} isn't written: nothing was proved")
     _print_lines(lines + ([] if options.quiet else printed(report)) + skipped, is_content)
-    return PLANNED if not answer.groups else NONE
+    return _status(report)
+
+
+def _status(report: Report) -> int:
+    """The status of an answer."""
+    if report.alarms:
+        return NONE
+    return PLANNED if report.answer.plan is not None else UNDECIDED
 
 
 def _report(options: Options, roster: Roster) -> Report:
@@ -111,24 +128,43 @@ def _report(options: Options, roster: Roster) -> Report:
     if past is not None:
         from ._past import with_fixed
         fixed = with_fixed(roster, past, fixed, options.fixed or "")
-    hand = _read_hand(options.compare, roster, fixed) if options.compare else None
+    ruling = _read_rules(options, roster)
+    hand = _read_hand(options.compare, roster, fixed, ruling) if options.compare else None
     pairs = None if kept is None else {(pair.person, pair.object) for pair in kept.known}
     wish = Wish(fixed, options.max, options.as_many_as_can, pairs, change_cost(options, roster), options.others, options.plans)
+    fair: Optional[Fair] = None
+    proved: Optional["Proved"] = None
     try:
-        answer, fair = _answered(roster, wish, options.fair)
+        if ruling is not None:
+            from ._ruling import answered_by
+            answer, proved = answered_by(ruling, roster, wish, options)
+        else:
+            answer, fair = _answered(roster, wish, options.fair)
     except TooLarge as fault:
         raise RosterFault(options.roster, str(fault)) from fault
     if hand is not None and answer.plan is not None:
         from ._rules import lack_of
         hand = hand._replace(best_lack=lack_of(roster, answer.plan.pairs, fixed))
-    return Report(options, roster, answer, kept, hand, fair)
+    return Report(options, roster, answer, kept, hand, fair, proved)
 
 
-def _read_hand(path: str, roster: Roster, fixed: List[PlanLine]) -> Hand:
+def _read_rules(options: Options, roster: Roster) -> Optional["Ruling"]:
+    """The rules of a file, if there is one."""
+    if options.rules is None:
+        return None
+    from ._ruling import read_ruling
+    return read_ruling(options, roster, _say)
+
+
+def _read_hand(path: str, roster: Roster, fixed: List[PlanLine], ruling: Optional["Ruling"]) -> Hand:
     """The plan that is to be compared, and the rules that it breaks."""
     from ._rules import broken_rules, lack_of
     plan, repeated = read_hand_plan(path, roster)
-    return Hand(plan, broken_rules(roster, plan, repeated, fixed), lack_of(roster, plan.known, fixed))
+    broken = broken_rules(roster, plan, repeated, fixed)
+    if ruling is not None:
+        from ._ruling import broken_rules_of
+        broken += broken_rules_of(ruling, roster, [*plan.known, *(PlanLine(*pair, 0) for pair in plan.forbidden)])
+    return Hand(plan, broken, lack_of(roster, plan.known, fixed))
 
 
 def _read_past(options: Options, roster: Roster, kept: Optional[OldPlan]) -> Tuple[Roster, Optional[OldPlan], Optional["Past"]]:
@@ -162,7 +198,7 @@ def _read(options: Options) -> Roster:
     try:
         tasks = read_counts(options.tasks, roster, False) if options.tasks else None
         places = read_counts(options.places, roster, True) if options.places else None
-        roster = with_rules(roster, tasks, places, read_groups(options.groups, roster) if options.groups else None)
+        roster = with_rules(roster, tasks, places, read_groups(options.groups, roster, options.before is not None) if options.groups else None)
         forgotten = [forgotten_line(roster, counts, side) for side, counts in ((1, places), (0, tasks)) if counts is not None]
     finally:
         for line in [*read_lines(options.roster, roster, sys.stderr is not None and sys.stderr.isatty()), *filter(None, forgotten)]:
@@ -211,6 +247,9 @@ def _write(report: Report, lines: List[str]) -> bool:
     outputs = [*options.outputs, *([Output(STANDARD_OUTPUT[0], options.print)] if options.print else [])]
     contents = [(output, content_of(report, lines, output)) for output in outputs if _is_written(output, report.answer, options)]
     files = [(output.path, content) for output, content in contents if not output.is_standard]
+    if report.proved is not None and report.proved.certificate is not None and options.certificate is not None:
+        from ._certificates import certificate_text
+        files.append((options.certificate, certificate_text(report.proved.certificate).encode()))
     if options.each and report.answer.plan is not None:
         from ._each import files_of
         files += files_of(report.roster, report.answer.plan, report.kept, options.each)

@@ -1,7 +1,7 @@
 """A plan by days, as rosters hang on the wall: a column for each group, who has what, and who is where."""
 from html import escape
 from math import ceil
-from typing import Iterator, List, NamedTuple, Optional, Sequence
+from typing import FrozenSet, Iterator, List, NamedTuple, Optional, Sequence, Tuple
 
 from ._answer import Plan
 from ._blocks import Block, Cell, Day, PersonRow, Place, blocks_of
@@ -32,6 +32,7 @@ STYLE = """
 .days td.free { color: var(--soft); text-align: center }
 .days td.fixed { outline: 3px double var(--own); outline-offset: -3px }
 .days .total { text-align: right; font-variant-numeric: tabular-nums }
+.days td.broken { outline: 3px solid var(--alarm); outline-offset: -3px }
 .days tr.totals > * { border-top: 2px solid var(--soft); font-variant-numeric: tabular-nums }
 .days td div { padding-left: .8em; text-indent: -.8em }
 .days em { color: var(--alarm); font-style: normal; font-weight: bold }
@@ -50,18 +51,20 @@ STYLE = """
 
 
 class Shown(NamedTuple):
-    """What is drawn of a block: whether other blocks are there, and whether it shows the plan alone, without what was given and who can have
-    nothing."""
+    """What is drawn of a block: whether other blocks are there, whether it shows the plan alone, without what was given and who can have
+    nothing, and the persons and objects of pairs that break a rule."""
 
     is_part: bool
     plan_only: bool
+    broken: FrozenSet[Tuple[int, int]] = frozenset()
 
 
-def by_days(roster: Roster, plan: Plan, kept: Optional[OldPlan] = None, plan_only: bool = False) -> Iterator[str]:
+def by_days(roster: Roster, plan: Plan, kept: Optional[OldPlan] = None, plan_only: bool = False,
+            broken: FrozenSet[Tuple[int, int]] = frozenset()) -> Iterator[str]:
     """Tables of a plan: for each person what it has on each day, and for each kind of object who is there. Many days stand in several
-    tables."""
+    tables. Pairs that break a rule are framed."""
     blocks = blocks_of(roster, plan, kept)
-    shown = Shown(len(blocks) > 1, plan_only)
+    shown = Shown(len(blocks) > 1, plan_only, broken)
     for block in blocks:
         yield from scrolling(_persons(block, roster.titles[0], roster, shown))
         yield from scrolling(_objects(block, roster.titles[1], roster, shown))
@@ -72,7 +75,7 @@ def _persons(block: Block, title: str, roster: Roster, shown: Shown) -> Iterator
     lines = [[_texts(cell, shown) for cell in row.cells] for row in block.persons]
     yield _head(block, title, roster, shown, "", _size(names, lines, len(block.days)))
     for row in block.persons:
-        cells = "".join(_cell(cell, day, shown) for cell, day in zip(row.cells, block.days))
+        cells = "".join(_cell(row.person, cell, day, shown) for cell, day in zip(row.cells, block.days))
         yield f'<tr><th scope="row">{escape(row.name)}</th>{cells}<td class="total">{_total(row, shown)}</td></tr>\n'
     totals = "".join(f'<td{classes("weekend" if day.is_weekend else "")}>{total}</td>' for total, day in zip(block.totals, block.days))
     yield (f'<tr class="totals"><th scope="row" lang="en">total</th>{totals}<td class="total">{sum(block.totals)}</td></tr>\n'
@@ -117,14 +120,16 @@ def _day(day: Day) -> str:
     return weekday + escape(day.name) + (" " + ours("past") if day.is_past else "")
 
 
-def _cell(cell: Cell, day: Day, shown: Shown) -> str:
+def _cell(person: int, cell: Cell, day: Day, shown: Shown) -> str:
     """What a person has on a day; where that is nothing, that it is free, or that it can have nothing there."""
-    kinds = ["weekend" if day.is_weekend else "", "past" if day.is_past else "", "changed" if cell.is_changed else ""]
+    is_broken = any((person, entry.object) in shown.broken for entry in cell.entries)
+    kinds = ["weekend" if day.is_weekend else "", "past" if day.is_past else "", "changed" if cell.is_changed else "",
+             "broken" if is_broken else ""]
     if not day.has_objects:
         return '<td class="none"></td>'
     fixed = not shown.plan_only and any(entry.is_fixed for entry in cell.entries)
     lines = [escape(entry.label) + _marks(entry.is_fixed and not shown.plan_only, entry.is_new) for entry in cell.entries]
-    lines += [f"<s>{escape(label)}</s>" for label in cell.gone]
+    lines += [f"<s>{escape(label)}</s>" for label in cell.gone] + [ours("breaks a rule")] * is_broken
     if not cell.entries:
         lines.insert(0, ours("off") if cell.is_off and not shown.plan_only else "\u2013")
         kinds.append("free")

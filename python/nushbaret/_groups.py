@@ -6,9 +6,9 @@ from typing import Dict, Iterator, List, NamedTuple, Optional, Protocol, Sequenc
 from ._dates import spellings
 from ._gadgets import Bounds
 from ._library import MOST_PERSONS
-from ._roster import Groups, PlanLine, Roster, known, looks_like_number
+from ._roster import Earlier, Groups, PlanLine, Roster, known, looks_like_number
 from ._sheets import RosterFault, Sheet, quoted, unit_of
-from ._times import columns_of, times_of
+from ._times import Times, columns_of, times_of
 
 
 class Counts(NamedTuple):
@@ -74,8 +74,12 @@ def _count(sheet: Sheet, cell: str, line: int, column: int) -> int:
     return int(cell)
 
 
-def read_groups(path: str, roster: Roster) -> Groups:
-    """Reads groups of objects of which nobody takes two: a title line, and lines of an object and its group; maybe with columns of times.
+KIND = "kind"
+
+
+def read_groups(path: str, roster: Roster, has_earlier: bool = False) -> Groups:
+    """Reads groups of objects of which nobody takes two: a title line, and lines of an object and its group; maybe with columns of times,
+    and one of kinds. With `has_earlier` objects that the roster doesn't have are those of earlier days.
 
     Raises `RosterFault` for the first object that the roster doesn't have or that stands twice, or time that is none.
     """
@@ -85,24 +89,64 @@ def read_groups(path: str, roster: Roster) -> Groups:
         sheet.refuse("each line must have an object and its group", line)
     if title[0] in roster.object_numbers:
         sheet.refuse(f"a title line must come first, and {quoted(title[0])} is an object", line, 1)
-    numbers: Dict[str, int] = {}
-    groups, columns = Groups(title[1], [], {}, {}), columns_of(sheet, title, line)
-    lines: Dict[int, int] = {}
+    reading = _Groups(sheet, roster, title, line, has_earlier)
     for line, cells in sheet.body(len(title)):
-        object_ = known(sheet, roster, cells[0], line, 2, 1)
-        name = sheet.name(cells[1], line, 2)
-        if object_ in lines:
-            where = f"in {groups.names[groups.of_objects[object_]]}, since line {lines[object_]}"
-            sheet.refuse(f"{quoted(cells[0])} a second time: it is {where}", line, 1)
-        lines[object_] = line
-        number = numbers.setdefault(spellings(name)[0], len(groups.names))
-        groups.of_objects[object_] = number
-        groups.names.extend([name] if number == len(groups.names) else [])
-        times = times_of(sheet, cells, columns, line) if columns else None
-        groups.times.update({object_: times} if times else {})
-    if not lines:
+        reading.take(line, cells)
+    if not reading.lines:
         sheet.refuse("no line after the title", line)
-    return groups
+    return reading.found._replace(earlier=tuple(reading.earlier))
+
+
+class _Groups:
+    """The lines of a file of groups, as they are read."""
+
+    def __init__(self, sheet: Sheet, roster: Roster, title: Sequence[str], line: int, has_earlier: bool):
+        self._sheet, self._roster, self._has_earlier = sheet, roster, has_earlier
+        self._columns, self._kind = columns_of(sheet, title, line), _column_of_kinds(sheet, title, line)
+        self.found = Groups(title[1], [], {}, {}, {}, self._kind is not None)
+        self.earlier: List[Earlier] = []
+        self.lines: Dict[int, int] = {}
+        self._numbers: Dict[str, int] = {}
+        self._earlier_lines: Dict[str, int] = {}
+
+    def take(self, line: int, cells: List[str]) -> None:
+        """Takes a line."""
+        sheet, found = self._sheet, self.found
+        if self._has_earlier and sheet.name(cells[0], line, 1) not in self._roster.object_numbers:
+            group, kind, times = self._rest(line, cells)
+            self._take_earlier(Earlier(sheet.name(cells[0], line, 1), spellings(group)[0], kind, times, line))
+            return
+        object_ = known(sheet, self._roster, cells[0], line, 2, 1)
+        group, kind, times = self._rest(line, cells)
+        if object_ in self.lines:
+            where = f"in {found.names[found.of_objects[object_]]}, since line {self.lines[object_]}"
+            sheet.refuse(f"{quoted(cells[0])} a second time: it is {where}", line, 1)
+        self.lines[object_] = line
+        number = self._numbers.setdefault(spellings(group)[0], len(found.names))
+        found.of_objects[object_] = number
+        found.names.extend([group] if number == len(found.names) else [])
+        found.times.update({object_: times} if times else {})
+        found.kinds.update({object_: kind} if kind else {})
+
+    def _rest(self, line: int, cells: List[str]) -> Tuple[str, str, Optional[Times]]:
+        """The group, the kind and the times of a line."""
+        kind = "" if self._kind is None or not cells[self._kind] else self._sheet.name(cells[self._kind], line, self._kind + 1)
+        times = times_of(self._sheet, cells, self._columns, line) if self._columns else None
+        return self._sheet.name(cells[1], line, 2), kind, times
+
+    def _take_earlier(self, one: Earlier) -> None:
+        before = self._earlier_lines.setdefault(one.name, one.line)
+        if before != one.line:
+            self._sheet.refuse(f"{quoted(one.name)} a second time, after line {before}", one.line, 1)
+        self.earlier.append(one)
+
+
+def _column_of_kinds(sheet: Sheet, title: Sequence[str], line: int) -> Optional[int]:
+    """Which cells of a line, from 0, have kinds."""
+    places = [place for place, cell in enumerate(title) if place > 1 and cell.casefold() == KIND]
+    if len(places) > 1:
+        sheet.refuse(f"{len(places)} columns are titled {quoted(KIND)}, where there may be one", line, places[1] + 1)
+    return places[0] if places else None
 
 
 def with_rules(roster: Roster, tasks: Optional[Counts], places: Optional[Counts], groups: Optional[Groups]) -> Roster:

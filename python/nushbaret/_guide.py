@@ -1,4 +1,4 @@
-"""The guide to rosters: where it lies, with the examples that it uses."""
+"""The guide to rosters and their rules: where it lies, with the examples that it uses."""
 import pathlib
 from typing import List
 
@@ -13,11 +13,11 @@ def guide() -> str:
     Raises `OSError` where it isn't installed with the package.
     """
     if INSTALLED.exists():
-        return _shown(INSTALLED / "rosters.txt", INSTALLED / "rosters.html", INSTALLED / "examples")
-    page = CHECKOUT / "docs" / "ROSTERS.md"
-    return _shown(page, page, CHECKOUT / "examples")
+        return _shown([INSTALLED / "rosters.txt"], INSTALLED / "rosters.html", INSTALLED / "examples")
+    pages = [CHECKOUT / "docs" / name for name in ("ROSTERS.md", "RULES.md")]
+    return _shown(pages, pages[0], CHECKOUT / "examples")
 
 
-def _shown(text: pathlib.Path, page: pathlib.Path, examples: pathlib.Path) -> str:
-    lines: List[str] = [text.read_text(encoding="utf-8"), f"This guide as a page: {page}", f"The examples in it: {examples}", ""]
+def _shown(texts: List[pathlib.Path], page: pathlib.Path, examples: pathlib.Path) -> str:
+    lines = [*(text.read_text(encoding="utf-8") for text in texts), f"This guide as a page: {page}", f"The examples in it: {examples}", ""]
     return "\n".join(lines)

@@ -37,6 +37,9 @@ def as_json(report: Report, lines: Sequence[str]) -> str:
     """The answer, with the sentences of groups that are short."""
     roster, answer = report.roster, report.answer
     content: Content = {"format": FORMAT, "sense": "max" if report.options.max else "min"}
+    if report.proved is not None:
+        from ._rule_texts import as_content
+        content["rules"] = as_content(roster, report.proved)
     if answer.groups:
         content["short"] = [_short(roster, short, line) for short, line in zip(answer.groups, lines)]
     if answer.plan is not None:
@@ -61,7 +64,7 @@ def _plan(report: Report, plan: Plan) -> Content:
     if report.fair:
         content["fair"] = {"pair": pairs([report.fair.pair])[0] if report.fair.pair else None, "best_cost": text(report.fair.best.cost),
                            "best_pair": pairs([report.fair.best_pair])[0]}
-    if options.change_cost is None and not options.fair:
+    if options.change_cost is None and not options.fair and report.proved is None:
         content["only_one"] = plan.is_only_one
     if options.others:
         content["swaps"] = [{"persons": _names(roster.persons, swap.persons), "objects": _names(roster.objects, swap.objects)}

@@ -6,7 +6,7 @@ import pathlib
 import threading
 import time
 from array import array
-from typing import TYPE_CHECKING, Any, Callable, Dict, List, Optional, Sequence, Tuple, Union
+from typing import TYPE_CHECKING, Any, Callable, Dict, List, NamedTuple, Optional, Sequence, Tuple, Union
 
 # An array of whole numbers; before Python 3.12 `array` takes no type while a program runs.
 if TYPE_CHECKING:
@@ -170,24 +170,45 @@ def searched(sense: bool, n: int, m: int, lists: Sequence[Any], first: Optional[
     progress: Optional[Callable[[int, int], Any]] = getattr(_limits, "progress", None)
     if first is None and _end() is None and progress is None and n * pairs < LONG:
         return call(name, sense, n, m, *lists, *written)
-    record, code, info = Record(), "STOPPED", Info()
-    budget = PIECE + PASSES * pairs
+    record, code, info, pace = Record(), "STOPPED", Info(), _Pace(PIECES[name], pairs)
     while code == "STOPPED":
         look_at_time()
         start = _SPARE[:0] if first is None else first
-        code, info = call(name + "_from", sense, n, m, *lists, start, *written, piece=(budget, ctypes.addressof(record)))
+        code, info = call(name + "_from", sense, n, m, *lists, start, *written, piece=(pace.budget(), ctypes.addressof(record)))
         if progress is not None and code in ("BEST", "STOPPED"):
             progress(n - written[0].count(0), n)
     return code, info
 
 
+class Piece(NamedTuple):
+    """How many looks at pairs a piece of a search has at least: so many, and so many for each pair, since each piece reads all of them."""
+
+    looks: int
+    passes: int
+
+
+class _Pace:
+    """How long the pieces of a search are. Each has up to a quarter of the looks that all before it had, since a search may lose by many
+    short ones; but no more than the time that is left."""
+
+    def __init__(self, piece: Piece, pairs: int):
+        self.least, self.looks, self.began = piece.looks + piece.passes * pairs, 0, time.monotonic()
+
+    def budget(self) -> int:
+        """The looks of the next piece."""
+        now, end = time.monotonic(), _end()
+        looks = max(self.least, self.looks // 4)
+        if end is not None and self.looks:
+            looks = max(self.least, min(looks, int(self.looks * (end - now) / max(now - self.began, 1e-9))))
+        self.looks += looks
+        return looks
+
+
 # The alarm of a thread's call, and what is called with its progress.
 _limits = threading.local()
-# A search whose persons times pairs are so many may take long. It is done in pieces of so many looks at pairs, and some more for each
-# pair, since each piece reads all of them.
+# A search whose persons times pairs are so many may take long. It is done in pieces of some tenths of a second.
 LONG = 2**27
-PIECE = 2 * 10**7
-PASSES = 4
+PIECES = {"dense": Piece(2 * 10**7, 10), "sparse": Piece(5 * 10**6, 4)}
 _LONGEST_WAIT = 10.0**5
 _TIME_IS_OVER = "the time is over; nothing of the caller's was changed"
 

@@ -4,13 +4,13 @@ from html import escape
 from itertools import product
 from typing import Dict, Iterator, List, NamedTuple, Optional, Sequence, Set, Tuple
 
-from ._answer import Answer, Plan, Short, counted, left_out
+from ._answer import Answer, Pair, Plan, Short, counted, left_out
 from ._days import STYLE as DAYS_STYLE, by_days
 from ._groups import order_of
 from ._html import LIGHT_SHADES, classes, document, name, scrolling, words
 from ._names import MOST_NAMES, joined
 from ._roster import Roster
-from ._texts import Note, Report, first_lines, notes_of, persons_at, with_marks
+from ._texts import Hand, Note, Report, broken_rules, first_lines, notes_of, persons_at, with_marks
 
 MOST_CELLS = 250_000
 # Up to so many cells persons and objects that are in no pair and in no short group are drawn as well.
@@ -133,18 +133,33 @@ def _whole(report: Report) -> Iterator[str]:
     """All that there is to say."""
     roster, answer, marked = report.roster, report.answer, with_marks(report)
     for place, line in enumerate(first_lines(marked)):
-        yield f"<p{classes('short' if place < len(answer.groups) else '')}>{words(line)}</p>\n"
+        yield f"<p{classes('short' if place < report.alarms else '')}>{words(line)}</p>\n"
         if place < len(answer.groups):
             yield from _all_names(marked.roster, answer.groups[place])
     if answer.plan is not None:
         yield from _plan(report, answer.plan)
         yield from _folded(marked.roster, answer.plan)
         yield from _notes(notes_of(marked, answer.plan))
+    elif report.proved is not None:
+        yield from _notes(broken_rules(marked.hand))
+    if report.proved is not None and report.hand is not None and report.hand.broken:
+        yield from _compared(report.roster, report.hand)
     frame = frame_of(roster, answer)
     if len(frame.persons) * len(frame.objects) > MOST_CELLS:
         yield f"<p>The matrix has more than {MOST_CELLS} cells and isn't drawn.</p>\n"
     elif frame.persons and frame.objects:
         yield from _matrix(roster, answer, frame)
+
+
+def _compared(roster: Roster, hand: Hand) -> Iterator[str]:
+    """A plan from elsewhere by days, where pairs that break rules are framed."""
+    pairs = {(pair.person, pair.object): pair.cost for pair in hand.plan.known}
+    pairs.update({(person, object_): 0 for person, object_, _ in hand.plan.forbidden})
+    broken = {(roster.person_numbers[person], roster.object_numbers[object_]) for own in hand.broken for person in own.persons
+              for object_ in own.objects if person in roster.person_numbers and object_ in roster.object_numbers}
+    plan = Plan([Pair(*pair, cost, False) for pair, cost in sorted(pairs.items())], 0, [], [], {})
+    yield f"<p>{words(f'{hand.plan.path}: what breaks a rule is framed')}</p>\n"
+    yield from by_days(roster, plan, None, False, frozenset(broken.intersection(pairs)))
 
 
 def _plan_alone(report: Report) -> Iterator[str]:

@@ -21,7 +21,7 @@ from ._times import Times
 LINES, MATRIX = "lines", "matrix"
 TITLES = ("person", "object", "cost")
 # Of plans in JSON; those before are read too.
-FORMAT = 3
+FORMAT = 4
 # Where a workbook has its plan.
 PLAN_SHEET = "Plan"
 # The column of a plan that says what changed from an earlier one, and its words: for a new pair, and for two that are no pairs of the plan.
@@ -87,14 +87,27 @@ class Names:
 Read = Tuple[Tuple[str, str, str], Names, Names, Numbers, Numbers]
 
 
+class Earlier(NamedTuple):
+    """An object of a day before the roster's: its name, its group, its kind and times as far as the file has them, and the line."""
+
+    name: str
+    group: str
+    kind: str
+    times: Optional[Times]
+    line: int
+
+
 class Groups(NamedTuple):
     """Groups of objects of which nobody takes two: their title, their names in the order of the file, the group of each object that is in
-    one, and when objects begin and end, where the file says it."""
+    one, and when objects begin and end, where the file says it; their kinds, if a column has them; and objects of earlier days."""
 
     title: str
     names: List[str]
     of_objects: Dict[int, int]
     times: Dict[int, Times] = {}
+    kinds: Dict[int, str] = {}
+    has_kinds: bool = False
+    earlier: Sequence[Earlier] = ()
 
 
 class Roster(NamedTuple):
@@ -405,7 +418,7 @@ def read_plan(path: str, roster: Roster) -> List[PlanLine]:
     then for the first pair that the roster forbids; and `OSError` where the file can't be read.
     """
     places = [(_known(path, roster, person, line, 1, 1), _known(path, roster, object_, line, 2, 2), line)
-              for person, object_, line, _ in _named_pairs(path, roster)]
+              for person, object_, line, _ in named_pairs(path, roster)]
     _refuse_twice(path, roster, places)
     costs = roster.costs_of({(person, object_) for person, object_, _ in places})
     for person, object_, line in places:
@@ -444,13 +457,13 @@ def read_old_plan(path: str, roster: Roster, by_counts: bool = True) -> OldPlan:
 
     Raises `RosterFault` for the first name that stands more often than it may, if counts are to be kept, and for a pair that stands twice.
     """
-    return old_plan_of(path, roster, _named_pairs(path, roster), by_counts)
+    return old_plan_of(path, roster, named_pairs(path, roster), by_counts)
 
 
 def read_hand_plan(path: str, roster: Roster) -> Tuple[OldPlan, List[NamedPair]]:
     """Reads a plan from elsewhere, whatever rules it breaks: each pair once, and those that stand again."""
     first: Dict[Tuple[str, str], NamedPair] = {}
-    named = _named_pairs(path, roster)
+    named = named_pairs(path, roster)
     repeated = [pair for pair in named if first.setdefault(pair[:2], pair) is not pair]
     return old_plan_of(path, roster, list(first.values()), False), repeated
 
@@ -475,7 +488,7 @@ def _as_written(names: List[str], numbers: Dict[str, int], name: str) -> str:
     return names[numbers[name]] if name in numbers else name
 
 
-def _named_pairs(path: str, roster: Roster) -> List[NamedPair]:
+def named_pairs(path: str, roster: Roster) -> List[NamedPair]:
     """The pairs of a plan by names."""
     pairs = _plan_of_json(path) if is_json(path) else _plan_of_sheet(path, roster)
     return [NamedPair(_as_written(roster.persons, roster.person_numbers, pair.person),

@@ -1,7 +1,7 @@
 """What the command says: lines for people, and the plan as CSV."""
 import csv
 import io
-from typing import Dict, Iterator, List, NamedTuple, Optional, Sequence, Tuple
+from typing import TYPE_CHECKING, Dict, Iterator, List, NamedTuple, Optional, Sequence, Tuple
 
 from ._answer import MOST_NAMES_SHOWN, PLURALS, Answer, Pair, Plan, counted, left_out, named, sentence
 from ._changes import Lost, OfPerson, by_person, changes_of
@@ -10,6 +10,9 @@ from ._names import joined, marked, with_names_marked
 from ._roster import CHANGE, COMES, GOES, NOT_POSSIBLE, TITLES, OldPlan, PlanLine, Roster, alike, like
 from ._sheets import SEPARATORS, quoted
 from ._words import Options
+
+if TYPE_CHECKING:
+    from ._by_rules import Proved
 
 
 class Fair(NamedTuple):
@@ -35,7 +38,8 @@ class Hand(NamedTuple):
 
 
 class Report(NamedTuple):
-    """All that is said of a run: what was asked for, the answer, the plans that were read, and what fairness costs."""
+    """All that is said of a run: what was asked for, the answer, the plans that were read, what fairness costs, and what was proved of a
+    roster with rules."""
 
     options: Options
     roster: Roster
@@ -43,6 +47,13 @@ class Report(NamedTuple):
     kept: Optional[OldPlan] = None
     hand: Optional[Hand] = None
     fair: Optional[Fair] = None
+    proved: Optional["Proved"] = None
+
+    @property
+    def alarms(self) -> int:
+        """How many of the first lines say why there is no plan."""
+        of_rules = len(self.proved.reasons) + 1 if self.proved is not None and self.proved.is_impossible else 0
+        return len(self.answer.groups) + of_rules
 
 
 class Note(NamedTuple):
@@ -76,11 +87,16 @@ def with_marks(report: Report) -> Report:
     if hand is not None:
         hand = hand._replace(broken=[broken._replace(sentence=with_names_marked(broken.sentence, (*broken.persons, *broken.objects)))
                                      for broken in hand.broken])
+    proved = report.proved
+    if proved is not None:
+        named = [*report.roster.persons, *report.roster.objects]
+        proved = proved._replace(reasons=[reason._replace(sentence=with_names_marked(reason.sentence, named),
+                                                          about=list(map(marked, reason.about))) for reason in proved.reasons])
     persons, objects = list(map(marked, report.roster.persons)), list(map(marked, report.roster.objects))
     person, object_, cost = map(_title, report.roster.titles)
     roster = report.roster._replace(persons=persons, objects=objects, groups=groups, person_numbers=_numbers_of(persons),
                                     object_numbers=_numbers_of(objects), titles=(person, object_, cost))
-    return report._replace(roster=roster, kept=kept, hand=hand)
+    return report._replace(roster=roster, kept=kept, hand=hand, proved=proved)
 
 
 def _title(title: str) -> str:
@@ -122,11 +138,15 @@ def first_lines(report: Report) -> List[str]:
     """A sentence for each group that is short, with marks around names, and the cost of the plan."""
     roster, answer, fair = report.roster, report.answer, report.fair
     lines = [sentence(roster, short, bool(report.options.fixed)) for short in answer.groups]
-    if answer.plan is not None:
+    if report.proved is not None:
+        from ._rule_texts import first_lines as lines_with_rules
+        lines = lines_with_rules(roster, answer.plan, report.proved, report.options.max)
+    elif answer.plan is not None:
         which = "greatest" if report.options.max else "least"
         fullest = f" of {len(answer.plan.pairs)} pairs" if answer.groups else ""
         bound = _bound(report, fair) if fair else ""
         lines.append(f"{which} {roster.titles[2]}{fullest}{bound}: {roster.shown(answer.plan.cost)}")
+    if answer.plan is not None:
         chosen = sum(not pair.fixed for pair in answer.plan.pairs)
         if roster.rounded:
             lines.append(f"costs were rounded: another plan may be better for the exact ones, by {roster.shown(chosen)} at most")
@@ -156,13 +176,20 @@ def notes_of(report: Report, plan: Plan) -> List[Note]:
     """Other plans, the rents, and how the plan compares with plans that were read."""
     roster, options = report.roster, report.options
     notes = [fairness(report, report.fair)] if report.fair else []
-    notes += others(report, plan)
+    notes += others(report, plan) if report.proved is None else _of_rules(report, report.proved)
     if options.plans > 1:
         notes += [_difference(report, plan, other, f"plan {number}") for number, other in enumerate(plan.following, 2)]
     if options.rents:
         notes += [Note(f"rent of {roster.objects[number]}: {roster.shown(rent)}") for number, rent in plan.rents.items()]
     notes += [changes(roster, plan, report.kept)] if report.kept else []
     return notes + broken_rules(report.hand) + ([compared(report, plan, report.hand)] if report.hand else [])
+
+
+def _of_rules(report: Report, proved: "Proved") -> List[Note]:
+    """How even counts are, and whether fewer changes may be enough."""
+    from ._rule_texts import even_lines
+    fewer = [Note(f"{report.kept.path}: fewer changes may be enough")] if report.kept and proved.fewer_changes else []
+    return [*map(Note, even_lines(report.roster, proved, report.options.max)), *fewer]
 
 
 def rows_of(roster: Roster, plan: Plan) -> List[str]:
@@ -310,7 +337,8 @@ def compared(report: Report, plan: Plan, hand: Hand) -> Note:
     of_pairs = f" for {counted(len(own.known), 'pair')} that the roster allows" if len(own.known) < len(own.named) else ""
     rest = "" if hand.is_comparable or hand.best_lack else ", which breaks none"
     rest = ", which misses less" if hand.lack > hand.best_lack > 0 else rest
-    return Note(f"{own.path}: {roster.shown(cost)}{of_pairs}, {size} the best{rest}", [
+    best = "the best" if report.proved is None or report.proved.better == 0 else "this plan"
+    return Note(f"{own.path}: {roster.shown(cost)}{of_pairs}, {size} {best}{rest}", [
         f"there {roster.persons[pair.person]}: {roster.objects[pair.object]}, {roster.shown(pair.cost)}" for pair in only_there(plan, own)])
 
 

@@ -17,9 +17,13 @@ NAME = "nushbaret"
 MOST_PLANS = 1000
 SUMMARY = "Find the plan of least cost for a roster of names in a CSV file, or who is short of what."
 STATUSES = ("Status 0: a plan; 1: there is none; 2: these words are refused; 3: a file's content is; 4: a file can't be read or written, an "
-            "output exists, the library isn't there, or memory was refused. Ctrl-C: 130.")
+            "output exists, the library isn't there, or memory was refused; 6: not decided in time. Ctrl-C: 130.")
 ROSTER = ("a CSV file (- is standard input) or an .xlsx workbook, with a title line: a person, an object and a cost in each line, or a "
           "matrix with names in the first line and column, where an empty cell forbids a pair")
+
+
+class WordsFault(Exception):
+    """Why words can't be followed here: what they need isn't installed."""
 
 
 class Value(NamedTuple):
@@ -61,6 +65,8 @@ class Options(NamedTuple):
     places: Optional[str]
     tasks: Optional[str]
     groups: Optional[str]
+    rules: Optional[str]
+    before: Optional[str]
     encoding: Optional[str]
     sheet: Optional[str]
     skip_rows: int
@@ -71,6 +77,7 @@ class Options(NamedTuple):
     keep: Optional[str]
     past: Optional[str]
     change_cost: Optional[str]
+    time: Optional[int]
     compare: Optional[str]
     others: bool
     plans: int
@@ -79,6 +86,7 @@ class Options(NamedTuple):
     outputs: Sequence[Output]
     plan_only: bool
     each: Optional[str]
+    certificate: Optional[str]
     quiet: bool
     force: bool
 
@@ -118,7 +126,7 @@ COUNT_OF_PLACES = Value("K", choices=PLACES, read=_number(0, MOST_PLACES))
 PLAN = Value("PLAN", True, (".csv", ".json", ".xlsx"))
 COUNTS = Value("FILE.csv", True, (".csv", ".xlsx"))
 
-READING, COUNTING, PLANNING, SHOWING, WRITING = "The roster", "Counts", "The plan", "What is printed", "What is written"
+READING, COUNTING, PLANNING, SHOWING, WRITING = "The roster", "Counts and rules", "The plan", "What is printed", "What is written"
 SECTIONS = (READING, COUNTING, PLANNING, SHOWING, WRITING)
 
 OPTIONS = (
@@ -139,6 +147,10 @@ OPTIONS = (
     Option("--tasks", "lines of a person and how many objects it takes (else one): a number, or at least and at most", COUNTING, "tasks",
            COUNTS),
     Option("--groups", "lines of an object and its group: nobody takes two objects of one group", COUNTING, "groups", COUNTS),
+    Option("--rules", "lines of a rule, its value and names: rest, runs, weeks, free weekends, hours and others; needs --groups, and SciPy",
+           COUNTING, "rules", COUNTS),
+    Option("--before", "with --rules: what was worked on earlier days (.csv, .json or .xlsx), whose objects the file of groups lists too",
+           COUNTING, "before", PLAN),
     Option("--max", "find the plan of greatest cost", PLANNING, "max"),
     Option("--fair", "make the dearest pair as cheap as possible, and then the sum", PLANNING, "fair"),
     Option("--fixed", "keep the pairs of this plan (.csv, .json or .xlsx)", PLANNING, "fixed", PLAN),
@@ -148,6 +160,7 @@ OPTIONS = (
            Value("GROUP")),
     Option("--change-cost", "weigh changes from the kept plan: half of C for each pair that comes, and for each that goes", PLANNING,
            "change_cost", Value("C")),
+    Option("--time", "with --rules: find and prove for at most S seconds (else 60)", PLANNING, "time", Value("S", read=_number(1, 10**6))),
     Option("--compare", "list the rules that this plan (.csv, .json or .xlsx) breaks, and by how much it is worse than the best", SHOWING,
            "compare", PLAN),
     Option("--others", "show who could change places at no cost, or the next best plan", SHOWING, "others"),
@@ -162,14 +175,17 @@ OPTIONS = (
     Option("--plan-only", "leave wishes, costs, hints and other plans out of pages, as for the wall", WRITING, "plan_only"),
     Option("--each", "write for each person a page and, where groups are dates, a calendar (.ics) into this folder", WRITING, "each",
            Value("FOLDER", True)),
+    Option("--certificate", "with --rules: write what proves the answer; --check FILE checks it alone", WRITING, "certificate",
+           Value("FILE", True)),
     Option("--quiet", "print the cost alone, or who is short", WRITING, "quiet", short="-q"),
     Option("--force", "overwrite an output that exists", WRITING, "force"),
 )
 
 
-# The options that need no roster, with their short words, if any, after the one for help.
-GENERAL = (("-V", "--version", "show program's version number and exit"),
-           ("", "--guide", "print the guide to rosters, and where it lies with its examples, and exit"))
+# The options that need no roster, with their short words and what stands after them, if any, after the one for help.
+GENERAL = (("-V", "--version", "", "show program's version number and exit"),
+           ("", "--guide", "", "print the guide to rosters, and where it lies with its examples, and exit"),
+           ("", "--check", "FILE", "check a file that --certificate wrote, print what it shows, and exit: 0 if shown, 1 if not"))
 HINT = f"{NAME} --help lists all options"
 DASHES = "-\u2013\u2014"
 
@@ -213,6 +229,22 @@ class _Guide(argparse.Action):
         parser.exit()
 
 
+class _Check(argparse.Action):
+    """Checks a certificate, and ends."""
+
+    def __init__(self, option_strings: Sequence[str], dest: str, **words: Any) -> None:
+        super().__init__(option_strings, argparse.SUPPRESS, **words)
+
+    def __call__(self, parser: argparse.ArgumentParser, namespace: argparse.Namespace, values: Any, option_string: Optional[str] = None) -> None:
+        from ._check_file import checked
+        try:
+            status, line = checked(str(values))
+            print_content(line + "\n")
+        except (OSError, OutputFault) as fault:
+            parser.exit(4, f"{NAME}: {fault}\n")
+        parser.exit(status)
+
+
 class _Once(argparse.Action):
     """Takes a file that is asked for once."""
 
@@ -227,9 +259,10 @@ def parser_of(options: Sequence[Option] = OPTIONS) -> _Parser:
     """The parser of a table of options."""
     parser = _Parser(prog=NAME, allow_abbrev=False, description=SUMMARY, epilog=STATUSES, formatter_class=_Help)
     parser.add_argument("roster", metavar="ROSTER", help=ROSTER)
-    (short, version, version_help), (_, guide, guide_help) = GENERAL
+    (short, version, _, version_help), (_, guide, _, guide_help), (_, check, file, check_help) = GENERAL
     parser.add_argument(short, version, action="version", version=f"{NAME} {VERSION}", help=version_help)
     parser.add_argument(guide, action=_Guide, help=guide_help)
+    parser.add_argument(check, action=_Check, metavar=file, help=check_help)
     sections = {name: parser.add_argument_group(name) for name in SECTIONS}
     choices: Dict[str, Any] = {}
     for option in options:
@@ -266,9 +299,10 @@ def read_words(words: Optional[Sequence[str]]) -> Options:
 
 def _refuse_unknown(words: Sequence[str], parser: argparse.ArgumentParser) -> None:
     """Refuses the first word that looks like an option and is none, with the nearest option."""
-    known = ["-h", "--help", *(word for *both, _ in GENERAL for word in both if word)]
+    known = ["-h", "--help", *(word for *both, _, _ in GENERAL for word in both if word)]
     known += [word for option in OPTIONS for word in (option.word, option.short) if word]
     valued = {word for option in OPTIONS if option.value is not None for word in (option.word, option.short) if word}
+    valued.update(word for _, word, value, _ in GENERAL if value)
     words = words[:words.index("--")] if "--" in words else words
     for before, word in zip((NAME, *words), words):
         name = word.partition("=")[0]
@@ -305,6 +339,7 @@ def _judge(options: Options, refuse: Callable[[str], NoReturn]) -> None:
         refuse("--plans compares costs alone: not with --change-cost")
     if options.fair:
         _judge_fair(options, refuse)
+    _judge_rules(options, refuse)
     if options.plan_only and all(output.kind != "html" for output in options.outputs):
         refuse("--plan-only is of pages: name one, such as --output plan.html")
     if options.print and any(output.is_standard for output in options.outputs):
@@ -322,6 +357,20 @@ def _judge_fair(options: Options, refuse: Callable[[str], NoReturn]) -> None:
             refuse(f"{word} is of the least sum of all pairs: not with --fair")
 
 
+def _judge_rules(options: Options, refuse: Callable[[str], NoReturn]) -> None:
+    """Refuses what doesn't go with rules, and what needs them."""
+    if options.rules is None:
+        for word, value in (("--before", options.before), ("--time", options.time), ("--certificate", options.certificate)):
+            if value is not None:
+                refuse(f"{word} needs --rules")
+        return
+    if not options.groups:
+        refuse("--rules needs --groups, which says the day of each object")
+    for word, is_given in (("--others", options.others), ("--plans", options.plans > 1), ("--fair", options.fair), ("--rents", options.rents)):
+        if is_given:
+            refuse(f"{word} is of plans without rules: not with --rules")
+
+
 def _judge_files(options: Options, refuse: Callable[[str], NoReturn]) -> None:
     read = [options.roster] + [getattr(options, option.field) for option in OPTIONS
                                if option.value is not None and option.value.is_file and option.section != WRITING]
@@ -330,8 +379,8 @@ def _judge_files(options: Options, refuse: Callable[[str], NoReturn]) -> None:
     if options.sheet is not None and file_and_sheet(options.roster)[1] is not None:
         refuse(f"--sheet and {options.roster} both name a sheet")
     seen = {os.path.realpath(file_and_sheet(path)[0]) for path in read if path}
-    for output in options.outputs:
-        place = os.path.realpath(output.path)
+    for path in [output.path for output in options.outputs] + list(filter(None, [options.certificate])):
+        place = os.path.realpath(path)
         if place in seen:
-            refuse(f"{output.path} is named twice, or is read too")
+            refuse(f"{path} is named twice, or is read too")
         seen.add(place)

@@ -11,10 +11,12 @@ TOP = pathlib.Path(__file__).resolve().parent.parent.parent
 CALLS = TOP / "crates/nushbaret/src"
 LISTS = TOP / "crates/lent_lists/src"
 SOLVER = TOP / "crates/list_solver/src"
+ROWS = TOP / "crates/lent_rows/src/info.rt"
 HEADER = re.sub(r"/\*.*?\*/", "", (TOP / "c/nushbaret.h").read_text(), flags=re.S)
 NUMBERS = {"u8": "uint8_t", "u32": "uint32_t", "u64": "uint64_t", "usize": "size_t", "i32": "int32_t", "i64": "int64_t",
            "Person": "uint32_t", "Object": "uint32_t", "Cost": "int64_t", "Price": "int64_t",
-           "Record": "struct nushbaret_record", "Info": "struct nushbaret_info"}
+           "Record": "struct nushbaret_record", "Info": "struct nushbaret_info",
+           "RowsInfo": "struct nushbaret_rows_info"}
 # What a code's variant is called in the header, where that isn't its own name.
 CALLED = {"Verdict::Length": "ANSWER_LENGTH", "Verdict::PriceRange": "PRICE_RANGE", "HallVerdict::Range": "HALL_RANGE", "HallVerdict::Order": "HALL_ORDER",
           "HallVerdict::Missing": "HALL_MISSING", "HallVerdict::Extra": "HALL_EXTRA", "HallVerdict::Count": "HALL_COUNT"}
@@ -62,6 +64,13 @@ def crate_codes():
                 yield CALLED.get(f"{kind}::{variant}", variant.upper()), int(number)
 
 
+def row_codes():
+    """The codes of rows: `Shown` and `Costs` have one."""
+    called = {"NotShown": "NOT_SHOWN", "TooGreat": "TOO_GREAT", "TooDeep": "TOO_DEEP", "RowVariable": "ROW_VARIABLE", "PlanNumber": "PLAN_NUMBER"}
+    for variant, number in re.findall(r"(?:Fault|Answer)::(\w+)(?:\(_\))? => (\d+),", ROWS.read_text()):
+        yield "SHOWN" if variant == "Costs" else called.get(variant, variant.upper()), int(number)
+
+
 def fields(struct):
     body = re.search(rf"struct {struct} \{{(.*?)\}}", HEADER, flags=re.S)[1]
     return [tuple(line.split()) for line in body.split(";") if line.strip()]
@@ -77,7 +86,9 @@ calls, declared = dict(crate_calls()), dict(header_calls())
 compare("calls", sorted(declared), sorted(calls))
 for name in sorted(calls.keys() & declared.keys()):
     compare(name, declared[name], calls[name])
-compare("codes", dict(sorted((name, int(code)) for name, code in re.findall(r"NUSHBARET_(\w+) = (\d+)", HEADER))), dict(sorted(crate_codes())))
+compare("codes", dict(sorted((name, int(code)) for name, code in re.findall(r"NUSHBARET_(?!ROWS_)(\w+) = (\d+)", HEADER))), dict(sorted(crate_codes())))
+compare("codes of rows", dict(sorted((name, int(code)) for name, code in re.findall(r"NUSHBARET_ROWS_(\w+) = (\d+)", HEADER))), dict(sorted(row_codes())))
+compare("nushbaret_rows_info", fields("nushbaret_rows_info"), crate_fields(ROWS, "RowsInfo"))
 compare("nushbaret_record", fields("nushbaret_record"), crate_fields(SOLVER / "record.rt", "Record"))
 compare("nushbaret_info", fields("nushbaret_info"), crate_fields(LISTS / "info.rt", "Info"))
 for crate, name, named in [("cost_lists", "MOST_PERSONS", "GREATEST_NUMBER"), ("assign_core", "GREATEST_COST", "GREATEST_COST"),

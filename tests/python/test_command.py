@@ -373,7 +373,7 @@ class NoPlans(Runs):
         self.expect(1, SENTENCE + "\np.csv isn't written: there is no plan\n", "", "r.csv",
                     "--output", "p.csv", "--output", "p.json", "--html", "page")
         self.assertEqual(sorted(os.listdir()), ["p.json", "page", "r.csv"])
-        self.assertEqual(json.loads(self.read("p.json")), {"format": 3, "sense": "min", "short": [{
+        self.assertEqual(json.loads(self.read("p.json")), {"format": 4, "sense": "min", "short": [{
             "persons": ["Ben", "Cleo", "Dan"], "objects": ["night", "weekend"], "sentence": SENTENCE}]})
 
     def test_plurals(self):

@@ -199,8 +199,8 @@ class Faults(Daily):
                             ([("Ada", 1)], "s.json, pair 1: a person and an object are needed, each a text")):
             self.file("s.json", json.dumps({"format": 2, "pairs": [{"person": person, "object": object_} for person, object_ in pairs]}))
             self.refused(3, text, "r.csv", "--fixed", "s.json")
-        self.file("s.json", '{"format": 4, "pairs": []}')
-        self.refused(3, "s.json: format 4 of a plan in JSON, where 1 to 3 can be read", "r.csv", "--keep", "s.json")
+        self.file("s.json", '{"format": 5, "pairs": []}')
+        self.refused(3, "s.json: format 5 of a plan in JSON, where 1 to 4 can be read", "r.csv", "--keep", "s.json")
 
     def test_change_cost_with_places(self):
         self.file("o.csv", "a,b\nAda,early\n")

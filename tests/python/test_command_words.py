@@ -61,7 +61,7 @@ class Short(Runs):
 
     def test_help_has_workbooks(self):
         text = " ".join(self.run_words("--help")[1].split())
-        self.assertEqual(text.count(".csv, .json or .xlsx)"), 3)
+        self.assertEqual(text.count(".csv, .json or .xlsx)"), 4)
         self.assertIn("-o, --output FILE ", text)
 
 

@@ -53,7 +53,8 @@ class Printed(Runs):
         status, out, err = self.run_words("--guide")
         page = TOP / "docs" / "ROSTERS.md"
         self.assertEqual((status, err), (0, ""))
-        self.assertEqual(out, page.read_text(encoding="utf-8") + f"\nThis guide as a page: {page}\nThe examples in it: {TOP / 'examples'}\n")
+        both = page.read_text(encoding="utf-8") + "\n" + (TOP / "docs" / "RULES.md").read_text(encoding="utf-8")
+        self.assertEqual(out, both + f"\nThis guide as a page: {page}\nThe examples in it: {TOP / 'examples'}\n")
 
     def test_installed(self):
         build = test_package.backend()
@@ -75,7 +76,8 @@ class Made(unittest.TestCase):
     def setUp(self):
         self.guide = module()
         self.page = (TOP / "docs" / "ROSTERS.md").read_text(encoding="utf-8")
-        self.text = self.guide.guide_text(self.page)
+        self.rules = (TOP / "docs" / "RULES.md").read_text(encoding="utf-8")
+        self.text = self.guide.guide_files(self.page, self.rules, {})["rosters.txt"].decode()
 
     def test_text(self):
         self.assertNotIn("PYTHONPATH", self.text)
@@ -96,18 +98,20 @@ class Made(unittest.TestCase):
         self.assertEqual(reader.open, [])
         shown = reader.text[reader.text.index(self.guide.STYLE) + len(self.guide.STYLE):]
         plain = re.sub(r"\[([^][]+)\]\([^()]*\)", r"\1", self.text)
-        self.assertEqual(words(shown), words(plain))
+        self.assertEqual(words(shown.replace("|", " ")), words(plain.replace("|", " ")))
         code = [line[4:] for line in self.text.split("\n") if line.startswith("    ")]
         self.assertEqual([line for block in reader.code for line in block.split("\n") if line], [line for line in code if line])
         self.assertLessEqual({link[1:] for link in reader.links if link.startswith("#")}, reader.names)
 
     def test_blocks(self):
-        text = ("# A <b>\n\nSome `x < y` words\nin [two](#next-one) lines, **bold**:\n\n    $ a\n\n    b\n\n- one\n  more\n\n- `two`\n\n## Next one\n### Third\n")
+        text = ("# A <b>\n\nSome `x < y` words\nin [two](#next-one) lines, **bold**:\n\n    $ a\n\n    b\n\n- one\n  more\n\n- `two`\n\n## Next one\n### Third\n\n"
+                "| a | `b` |\n|---|---|\n| c | |\n")
         body = self.guide.guide_page(text).partition("<body>\n")[2].partition("\n</body>")[0]
         self.assertEqual(body, '<h1 id="a-b">A &lt;b&gt;</h1>\n<p>Some <code>x &lt; y</code> words in <a href="#next-one">two</a> lines, <b>bold</b>:</p>\n'
                          "<pre>$ a\n\nb</pre>\n<ul>\n<li>one more</li>\n<li><code>two</code></li>\n</ul>\n"
-                         '<h2 id="next-one">Next one</h2>\n<h3 id="third">Third</h3>')
-        for line in ("| a | b |", "```", "1. one", "> said"):
+                         '<h2 id="next-one">Next one</h2>\n<h3 id="third">Third</h3>\n'
+                         "<table>\n<tr><th>a</th> <th><code>b</code></th></tr>\n<tr><td>c</td> <td></td></tr>\n</table>")
+        for line in ("```", "1. one", "> said"):
             with self.assertRaisesRegex(SystemExit, "has what its guide can't show"):
                 self.guide.guide_page("# A\n\n" + line + "\n")
 

@@ -52,7 +52,7 @@ class Package(unittest.TestCase):
                 self.assertEqual((digest, int(size)), (f"sha256={wanted}", len(text)))
         self.assertEqual({row[0] for row in rows}, names)
         self.assertLessEqual({"nushbaret/py.typed", "nushbaret/__main__.py", f"nushbaret/{build.NAME}", f"{build.DATA}/share/man/man1/nushbaret.1",
-                              "nushbaret/guide/rosters.html", "nushbaret/guide/examples/week.csv"}, names)
+                              "nushbaret/guide/rosters.html", "nushbaret/guide/examples/week.csv", "nushbaret/guide/examples/month_rules.csv"}, names)
         self.solves(str(self.folder / "out"))
         self.describes((self.folder / "out" / build.INFO / "METADATA").read_text(encoding="utf-8"))
 
@@ -62,6 +62,7 @@ class Package(unittest.TestCase):
         self.assertIn("linear assignment problem", ran["Keywords"].split(","))
         self.assertIn("Operating System :: POSIX :: Linux", ran.get_all("Classifier"))
         self.assertEqual(ran["Description-Content-Type"], "text/markdown")
+        self.assertEqual((ran.get_all("Provides-Extra"), ran.get_all("Requires-Dist")), (["rules"], ["scipy>=1.9; extra == 'rules'"]))
         self.assertIn("For rosters with names see ROSTERS.md.", ran.get_payload())
         self.assertNotRegex(ran.get_payload(), r"\]\((?!https?:)")
 

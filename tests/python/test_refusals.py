@@ -163,16 +163,19 @@ class Limits(unittest.TestCase):
     @unittest.skipUnless(sys.platform == "linux", "limits of memory are Linux's here")
     @unittest.skipIf("NUSHBARET_EMULATED" in os.environ, "an emulator takes more memory")
     def test_memory_refused(self):
-        code = ("import resource, nushbaret\nfrom array import array\n"
-                "view = memoryview(array('q', bytes(8 * 1500 * 1500))).cast('B').cast('q', (1500, 1500))\n"
+        """The memory that a call keeps is less than the search of so many pairs needs."""
+        code = ("import resource, nushbaret\nfrom array import array\nfrom nushbaret import _library as library\n"
+                "n = 2000\n"
+                "pairs = [array('I', [k // n + 1 for k in range(n * n)]), array('I', range(1, n + 1)) * n, array('q', bytes(8 * n * n))]\n"
+                "room = array('I', bytes(4 * n)), array('I', bytes(4 * n)), array('q', bytes(8 * n))\n"
                 "nushbaret.solve([[1]])\n"
                 "used = int(open('/proc/self/statm').read().split()[0]) * 4096\n"
                 "resource.setrlimit(resource.RLIMIT_AS, (used + 4 * 2**20, resource.RLIM_INFINITY))\n"
-                "try:\n    nushbaret.solve(view)\nexcept MemoryError as fault:\n    print('refused')\n"
+                "try:\n    library.searched(False, n, n, pairs, None, room)\nexcept MemoryError as fault:\n    print(fault)\n"
                 "resource.setrlimit(resource.RLIMIT_AS, (resource.RLIM_INFINITY, resource.RLIM_INFINITY))\n"
-                "print(nushbaret.solve(view).cost)\n")
+                "print(library.searched(False, n, n, pairs, None, room)[0])\n")
         ran = subprocess.run([sys.executable, "-c", code], capture_output=True, text=True, check=True, env=os.environ)
-        self.assertEqual(ran.stdout, "refused\n0\n")
+        self.assertEqual(ran.stdout, "the library was refused memory\nBEST\n")
 
 
 class Library(unittest.TestCase):

@@ -100,7 +100,7 @@ fn solve_twice(
     let standing = nothing(alloc, problem.n, problem.m)?;
     let found = in_pieces(alloc, &lists, standing, 0, 1)?;
     let standing = nothing(alloc, problem.n, problem.m)?;
-    let again = in_pieces(alloc, &lists, standing, budget, 100_000)?;
+    let again = in_pieces(alloc, &lists, standing, budget, 1000)?;
     assert_eq!(rt; found, again);
     Ok(found)
 }

@@ -12,6 +12,24 @@ use cost_lists::{Object, Pairs, Person, Price};
 use sparse_search::{Outcome, Record as SparseRecord, SparseProblem, search};
 use std::alloc::{AllocError, Global};
 
+// A call's first passes over all pairs come on top of its budget, so that each call gets on.
+const FIRST_PASSES: u64 = 3;
+
+fn with_passes(budget: u64, pairs: usize) -> u64 {
+    if budget == 0 {
+        return 0;
+    }
+    budget.saturating_add((pairs as u64).saturating_mul(FIRST_PASSES))
+}
+
+// Whether far more objects are dear than there are persons. At exact prices no unowned object is,
+// and each that is has to be brought down by a search of its own.
+fn are_far_off(prices: &[Price], persons: usize) -> bool {
+    let least = prices.iter().copied().min().unwrap_or(0);
+    let dear = prices.iter().filter(|price| **price > least).count();
+    dear > persons.saturating_add(persons / 256).saturating_add(8)
+}
+
 // Prices in the unit of the costs as prices of the search.
 fn divide(prices: &mut [Price], factor: i64) {
     for price in prices.iter_mut() {
@@ -72,7 +90,9 @@ fn search_grouped(
     ensures prices { length standing.new.prices.items ≡ length standing.old.prices.items }
     ensures objects { length standing.new.objects.items ≡ length standing.old.objects.items }
 {
-    let mut record = standing.record.to_sparse(standing.has_nothing());
+    let persons = standing.objects.len();
+    let has_nothing = standing.has_nothing() || are_far_off(standing.prices.as_slice(), persons);
+    let mut record = standing.record.to_sparse(has_nothing);
     if standing.record.begins_sparse() && grouped.factor != 1 {
         divide(standing.prices.as_mut_slice(), grouped.factor);
     }
@@ -82,7 +102,7 @@ fn search_grouped(
         &mut standing.prices,
         &mut standing.objects,
         &mut record,
-        budget,
+        with_passes(budget, grouped.pairs()),
     );
     standing.record = Record::of_sparse(&record);
     let ended = ended_as(outcome?);

@@ -99,6 +99,9 @@ fn flag(is_set: bool, bit: u32) -> u32 {
     if is_set { bit } else { 0 }
 }
 
+// More looks than any search takes.
+const MOST_LOOKS: u64 = 1 << 62;
+
 impl Record {
     /// A search that begins.
     pub fn cold() -> Record {
@@ -114,6 +117,11 @@ impl Record {
         }
     }
 
+    // The looks so far, with room for more.
+    fn looks_so_far(&self) -> u64 {
+        self.looks.min(MOST_LOOKS)
+    }
+
     // For the search over rows. A search begins with nothing, or with what somebody has.
     pub fn to_dense(&self, has_nothing: bool) -> DenseRecord {
         let begun = if has_nothing {
@@ -123,7 +131,7 @@ impl Record {
         };
         match dense_stage(self.stage) {
             None => DenseRecord {
-                looks: self.looks,
+                looks: self.looks_so_far(),
                 ..begun
             },
             Some(stage) => DenseRecord {
@@ -132,7 +140,7 @@ impl Record {
                 slackness: self.slackness,
                 bids: self.bids,
                 passes: self.passes,
-                looks: self.looks,
+                looks: self.looks_so_far(),
             },
         }
     }
@@ -146,7 +154,7 @@ impl Record {
         };
         match sparse_stage(self.stage) {
             None => SparseRecord {
-                looks: self.looks,
+                looks: self.looks_so_far(),
                 ..begun
             },
             Some(stage) => SparseRecord {
@@ -157,7 +165,7 @@ impl Record {
                 dummy_bids: self.dummy_bids,
                 has_assignment: self.flags & HAS_ASSIGNMENT != 0,
                 drops_pairs: self.flags & DROPS_PAIRS != 0,
-                looks: self.looks,
+                looks: self.looks_so_far(),
             },
         }
     }

@@ -68,14 +68,14 @@ fn begin_anew(standing: &mut Standing)
 }
 
 /// Searches for an optimal assignment with exact prices, or for a Hall set, and stops after about
-/// `budget` looks at pairs (0: it doesn't).
+/// `budget` looks at pairs, beside the passes over all pairs with which a call begins (0: it doesn't).
 ///
 /// A record whose stage is 0 begins: from the prices and the objects of the standing, or with nothing
-/// if all of them are 0. Objects that aren't from 1 to `m`, or are given twice, count as nobody's. Any
-/// other stage goes on from the prices, the objects and the record, as a `Stopped` call left them.
-/// Whatever they hold, the answer is as good: `Best` and `Hall` are what the checker accepts. Where a
-/// search from given prices, objects or a record finds nothing, another one begins with nothing, and
-/// doesn't stop before its end.
+/// if all of them are 0. Objects that aren't from 1 to `m`, or are given twice, count as nobody's.
+/// Prices may be left out if far more objects are dear than there are persons. Any other stage goes on
+/// from the prices, the objects and the record, as a `Stopped` call left them. Whatever they hold, the
+/// answer is as good: `Best` and `Hall` are what the checker accepts. Where a search from there finds
+/// nothing, another one begins with nothing, and doesn't stop before its end.
 ///
 /// # Errors
 /// `AllocError` if memory is refused.

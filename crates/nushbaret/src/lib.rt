@@ -4,10 +4,12 @@
 
 mod check;
 mod dense;
+mod rows;
 mod sparse;
 mod version;
 
 pub use check::{nushbaret_check, nushbaret_check_hall};
 pub use dense::{nushbaret_dense, nushbaret_dense_from};
+pub use rows::nushbaret_rows;
 pub use sparse::{nushbaret_sparse, nushbaret_sparse_from};
 pub use version::nushbaret_version;

@@ -1,0 +1,61 @@
+// What a caller gives.
+ghost use Rattle.std.specs.Prelude.{◌≡◌, ◌<◌, ◌^◌};
+ghost use Rattle.lent_rows.specs.Given.{GivenRows, have_lengths, rows_in};
+
+use std::marker::Model;
+
+/// Rows over variables that are 0 or 1, as compressed sparse rows, with a plan or none, and a tree.
+/// Row r has the terms from `starts[r]` up to `starts[r + 1]`. None of it has been checked.
+#[derive(Drop)]
+pub struct Given<'a> {
+    /// The number of variables.
+    pub n: usize,
+    /// One number more than there are rows.
+    pub starts: &'a [usize],
+    /// The variables of the terms, numbered from 0.
+    pub variables: &'a [u32],
+    pub coefficients: &'a [i64],
+    /// The lower bounds; `i64::MIN` for none.
+    pub least: &'a [i64],
+    /// The upper bounds; `i64::MAX` for none.
+    pub most: &'a [i64],
+    /// 0 or 1 for each variable, or empty for no plan.
+    pub plan: &'a [u8],
+    pub tree: &'a [i64],
+}
+
+impl<'a> Model for Given<'a> {
+    ghost Value = { GivenRows };
+
+    ghost view = { λ g. record {
+      n = g.n;
+      starts = g.starts.now;
+      variables = g.variables.now;
+      coefficients = g.coefficients.now;
+      least = g.least.now;
+      most = g.most.now;
+      plan = g.plan.now;
+      tree = g.tree.now;
+    } };
+}
+
+/// Whether the lengths of the lists fit each other.
+pub fn have_lengths(given: &Given<'_>) -> bool
+    ensures { result ≡ have_lengths given.now }
+{
+    let rows = given.starts.len().saturating_sub(1);
+    let has_plan = given.plan.is_empty() || (given.plan.len() == given.n && rows > 0);
+    !given.starts.is_empty()
+        && given.coefficients.len() == given.variables.len()
+        && given.least.len() == rows
+        && given.most.len() == rows
+        && has_plan
+}
+
+/// The number of rows.
+pub fn count_rows(given: &Given<'_>) -> usize
+    ensures is { result ≡ rows_in given.now }
+    ensures small { result < 2 ^ 63 }
+{
+    given.starts.len().saturating_sub(1)
+}

@@ -1,0 +1,4 @@
+pub mod Leaves
+pub mod Rows
+pub mod Trees
+pub mod inside

@@ -1,0 +1,95 @@
+"""Rosters with rules from Python: plans next to a search of all, own rows, and what is refused."""
+import datetime
+import os
+import pathlib
+import sys
+import tempfile
+import unittest
+from decimal import Decimal
+from fractions import Fraction
+
+sys.path.insert(0, str(pathlib.Path(__file__).resolve().parents[2] / "python"))
+
+import nushbaret
+from optional import np, optimize
+
+DAYS = [datetime.date(2027, 3, day) for day in (5, 6, 7, 8)]
+SHIFTS = {f"{kind} {day}": day for day in DAYS for kind in ("Early", "Night")}
+WISHES = {"Ada": (3, 0, 4, 2, 6, 0, 5, 1), "Ben": (2, 1, 4, 1, 3, 5, 0, 7), "Cleo": (1, 6, 1, 8, 1, 4, 3, 9)}
+COSTS = {(person, shift): cost for person, wishes in WISHES.items() for shift, cost in zip(SHIFTS, wishes)}
+RULES = [("rest", "Night > Early"), ("Night per month", "2")]
+TASKS = dict.fromkeys(WISHES, (2, 4))
+# What is given, the kind of the fault, and a part of what is said.
+REFUSED = (
+    ({"rules": [("resst", "Night > Early")]}, ValueError, "rules, line 1, column 1: 'resst' is no rule: did you mean 'rest'?"),
+    ({"rules": [*RULES, ("apart", "", ["Ada", "Bne"])]}, ValueError, "rules, line 3, column 3: the roster has no person 'Bne': did you mean 'Ben'?"),
+    ({"rules": ["rest"]}, ValueError, "rules: 'rest' is no rule, value and names"),
+    ({"tasks": {"Zoe": 3}}, ValueError, "tasks: 'Zoe': 3: no cost has this name"),
+    ({"places": {"Early 2027-03-05": (2, 1)}}, ValueError, "places: 'Early 2027-03-05': (2, 1)"),
+    ({"places": {"Early 2027-03-05": "2"}}, ValueError, "places: 'Early 2027-03-05': '2'"),
+    ({"fixed": [("Ada", "Late")]}, ValueError, "there is no object 'Late'"),
+    ({"rows": [(0, {("Zoe", "Early 2027-03-05"): 1}, 1, "x")]}, ValueError, "there is no person 'Zoe'"),
+    ({"rows": [(0, {("Ada", "Early 2027-03-05"): 0.5}, 1, "x")]}, ValueError, "rows: 'x': whole numbers are needed"),
+    ({"rows": [(2, {("Ada", "Early 2027-03-05"): 1}, 1, "x")]}, ValueError, "rows: 'x': at least 2 and at most 1"),
+    ({"kinds": {"Late": "Late"}}, ValueError, "kinds: there is no object 'Late'"),
+    ({"costs": {("Ada", "Early 2027-03-05"): float("nan")}}, ValueError, "the cost of ('Ada', 'Early 2027-03-05') is nan, which isn't finite"),
+    ({"costs": {("Ada", "Early 2027-03-05"): "3"}}, TypeError, "the cost of ('Ada', 'Early 2027-03-05') is '3', which is no number"),
+    ({"costs": {("Ada", "Early 2027-03-05"): 10**16}}, ValueError, "which has too many digits"),
+    ({"days": {}}, ValueError, "no object has a day"),
+)
+
+
+def planned(**given):
+    """A plan of the roster above, with something else in its place."""
+    words = {"costs": COSTS, "days": SHIFTS, "rules": RULES, "tasks": TASKS, "seconds": 900, **given}
+    return nushbaret.plan_roster(words.pop("costs"), words.pop("days"), words.pop("rules"), **words)
+
+
+class Refusals(unittest.TestCase):
+    def test_refusals(self):
+        for given, kind, text in REFUSED:
+            with self.subTest(given), self.assertRaises(kind) as caught:
+                planned(**given)
+            self.assertIn(text, str(caught.exception))
+
+
+@unittest.skipIf(optimize is None or np is None, "needs SciPy")
+class Plans(unittest.TestCase):
+    def test_best(self):
+        found = planned()
+        self.assertEqual((found.proved, found.cost, found.better, found.reasons), ("best", 6, 0, []))
+        self.assertEqual(sum(COSTS[pair] for pair in found.pairs), 6)
+        self.assertEqual(planned(maximize=True).cost, 44)
+        self.assertEqual(planned(fixed=[("Cleo", "Night 2027-03-05")]).cost, 15)
+        self.assertEqual(planned(before=[("Cleo", DAYS[0] - datetime.timedelta(1), "Night")]).cost, 8)
+
+    def test_exact_costs(self):
+        for unit, cost in ((Decimal("0.1"), Decimal("0.6")), (Fraction(1, 3), Fraction(2)), (0.25, Decimal("1.5"))):
+            with self.subTest(unit):
+                self.assertEqual(planned(costs={pair: unit * cost for pair, cost in COSTS.items()}).cost, cost)
+
+    def test_own_rows(self):
+        """Without her two nights Ada takes others; a row that can't be kept is named."""
+        nights = {("Ada", shift): 1 for shift in SHIFTS if shift.startswith("Night")}
+        found = planned(rows=[(None, nights, 1, "Ada has at most one night")])
+        self.assertEqual(found.proved, "best")
+        self.assertGreater(found.cost, 6)
+        self.assertLessEqual(sum(pair in nights for pair in found.pairs), 1)
+        found = planned(rows=[(3, nights, None, "Ada has three nights")])
+        self.assertEqual((found.proved, found.pairs, found.cost, found.is_minimal), ("impossible", None, None, True))
+        self.assertEqual(found.reasons, ["Ada has three nights", "Night per month: 2 (Ada)"][::1 if found.reasons[0][0] == "A" else -1])
+
+    def test_evenness_and_certificates(self):
+        found = planned(rules=[RULES[0], ("even", "Night")])
+        self.assertEqual((found.proved, found.cost, found.even), ("best", 13, [("even: Night", 1, 2)]))
+        with tempfile.TemporaryDirectory() as folder:
+            path = os.path.join(folder, "c.txt")
+            found.write_certificate(path)
+            from nushbaret._check_file import checked
+            self.assertEqual(checked(path)[0], 0)
+            with self.assertRaisesRegex(ValueError, "nothing was proved"):
+                found._replace(certificate=None).write_certificate(path)
+
+
+if __name__ == "__main__":
+    unittest.main()
