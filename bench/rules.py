@@ -1,7 +1,7 @@
 #!/usr/bin/env python3
 """How many drawn months with rules are proved best by the command: `rules.py [SECONDS [SEED [MONTHS]]]`, as a rule 180 s, the time as
 seed, and 25 months of 14 to 50 nurses, with rest, runs, weeks and nights; some with free weekends, hours, qualifications, whole weekends.
-Months that no plan meets are drawn anew. Needs SciPy and a built library."""
+Months that no plan meets are replaced. Needs SciPy and a built library."""
 import collections
 import datetime
 import os

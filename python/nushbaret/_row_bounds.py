@@ -8,10 +8,11 @@ from ._row_blocks import Block, cost_of, cost_row, limits_of
 from ._row_chains import Closing, chain
 from ._row_check import meets
 from ._row_model import Model, Proof, flat
+from ._row_parts import Part, renamed
 from ._row_plans import tried
 from ._row_prices import SCALE, Bound, Pricing, TooWide
 from ._row_reasons import reasons
-from ._row_trees import Open, Part, Solved, Trees, renamed
+from ._row_trees import Open, Solved, Trees
 from ._row_worker import Channel
 
 np: Any = importlib.import_module("numpy")
@@ -22,10 +23,12 @@ _MOST_LEAVES = 5000
 _FEW_LEAVES = 40
 # The part of the time in which a proof that the plan is best is looked for, before a lesser one.
 _FIRST_PART = 0.6
+# By so many in a hundred a plan may be above the bound, where one is looked for near it and none is known.
+_NEAR = (1, 4, 16)
 
 
 class Prover:
-    """Looks for bounds of a model and tells them with their proofs."""
+    """Looks for bounds of a model and reports them with their proofs."""
 
     def __init__(self, model: Model, channel: Channel, seconds: float):
         self.model, self.channel = model, channel
@@ -39,7 +42,7 @@ class Prover:
         return self.deadline - time.monotonic()
 
     def tell(self, proof: Proof, most: int) -> None:
-        """Tells a proof that no plan costs `most` or less."""
+        """Reports a proof that no plan costs `most` or less."""
         self.bound = most + 1
         self.channel.say(tree=flat(proof), most=most)
 
@@ -60,7 +63,7 @@ class Prover:
             self.by_one_tree()
 
     def explain(self, first: Optional[Proof]) -> None:
-        """Tells sentences that can't hold together."""
+        """Reports sentences that can't hold together."""
         for found in reasons(self.model, self.deadline, _MOST_LEAVES if self.is_small else _FEW_LEAVES, first):
             self.channel.say(reasons=found.texts, is_minimal=found.is_minimal, rows=found.rows, tree=found.tree)
 
@@ -113,7 +116,7 @@ class Prover:
             self.by_persons(pricing, best)
 
     def explain_block(self, block: Block) -> None:
-        """Tells why one person has no month."""
+        """Reports why one person has no month."""
         part = Part(block.rows, block.numbers, block.variables)
         try:
             tree = Trees(part, self.deadline).tree(np.zeros(len(block.variables)), None)
@@ -122,7 +125,7 @@ class Prover:
         self.explain(renamed(tree, part, None, len(self.rows)))
 
     def explain_prices(self, pricing: Pricing) -> None:
-        """Tells that no plan meets the rows, where prices show that without any costs."""
+        """Reports that no plan meets the rows, where prices show that without any costs."""
         free = pricing.without_costs()
         best: Optional[Bound] = None
         for best in free.search(np.zeros(len(free.shared)), lambda: 0, self.deadline):
@@ -138,7 +141,10 @@ class Prover:
         return None if self.channel.cost is None else self.channel.cost - 1
 
     def by_persons(self, pricing: Pricing, best: Bound) -> None:
-        """The bound that the prices show, then plans near it, then trees behind the persons' links for what is left between them."""
+        """The bound that the prices show, plans near it, and trees after the persons' links for what is left between them."""
+        for percent in _NEAR:
+            if self.channel.cost is None:
+                self.look_near(pricing, best, best.value // SCALE + abs(best.value) * percent // (100 * SCALE) + 2)
         most = -(-best.value // SCALE) - 1
         if self.channel.cost is not None:
             most = min(most, self.channel.cost - 1)
@@ -147,22 +153,17 @@ class Prover:
                 self.tell(chain(pricing, best, most, self.deadline), most)
             except Open:
                 pass
-        if not self.is_closed():
-            self.look_near(pricing, best)
+        if self.channel.cost is not None and not self.is_closed():
+            self.look_near(pricing, best, self.channel.cost - 1)
         self.close(pricing, best)
 
-    def look_near(self, pricing: Pricing, best: Bound) -> None:
-        """Looks for a plan among the variables that a plan between the bound and the plan known can have."""
-        most = self.channel.cost - 1 if self.channel.cost is not None else best.value // SCALE * 101 // 100 + 2
+    def look_near(self, pricing: Pricing, best: Bound, most: int) -> None:
+        """Looks for a plan that costs `most` at most, among the variables that the prices leave it."""
         reaches = pricing.reaches(best.prices)
         least = (reaches[0] > SCALE * most).astype(float)
         greatest = 1.0 - (reaches[1] > SCALE * most)
-        if (least > greatest).any():
-            return
-        found = tried(self.model.costs, [*self.rows, cost_row(self.model, most)], self.left() / 3, least, greatest)
-        cost = cost_of(self.model, found.plan)
-        if found.plan is not None and cost is not None:
-            self.channel.say_plan(found.plan, cost)
+        if (least <= greatest).all():
+            self.say_found(tried(self.model.costs, [*self.rows, cost_row(self.model, most)], self.left() / 3, least, greatest).plan)
 
     def close(self, pricing: Pricing, best: Bound) -> None:
         """Looks for a proof that the plan known is best; where that isn't found in a part of the time, for one that is half way as far."""
@@ -190,12 +191,12 @@ class Prover:
         return self.channel.cost != cost
 
     def say_found(self, plan: Optional[List[int]]) -> None:
-        """Tells a plan that a tree came upon, where it meets the rows."""
+        """Reports a plan that a tree came upon, where it meets the rows."""
         cost = cost_of(self.model, plan)
         if plan is not None and cost is not None and meets(plan, self.rows):
             self.channel.say_plan(plan, cost)
 
 
 def look_for_bounds(model: Model, channel: Channel, seconds: float) -> None:
-    """Tells better and better bounds with their proofs, or sentences that can't hold together."""
+    """Reports better and better bounds with their proofs, or sentences that can't hold together."""
     Prover(model, channel, seconds).run()

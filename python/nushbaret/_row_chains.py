@@ -1,12 +1,13 @@
-"""Proofs person by person: a chain of splits, each with a person's tree, and behind it one leaf that adds them up, or a tree over all
+"""Proofs person by person: a chain of splits, each with a person's tree, and after it one leaf that adds them up, or a tree over all
 variables. Needs NumPy and SciPy."""
 import importlib
 from typing import Any, Dict, List, NamedTuple, Optional, Tuple
 
 from ._row_blocks import limits_of
 from ._row_model import Leaf, Limits, Proof, Split, Terms
+from ._row_parts import Part, renamed
 from ._row_prices import SCALE, Bound, Pricing
-from ._row_trees import Open, Part, Trees, renamed
+from ._row_trees import Open, Trees
 
 np: Any = importlib.import_module("numpy")
 
@@ -26,11 +27,11 @@ class _Link(NamedTuple):
 
 
 class Chain:
-    """Links over all persons, in a model of so many rows, with its cost row `cost <= target` behind them."""
+    """Links over all persons, in a model of so many rows, with its cost row `cost <= target` after them."""
 
     def __init__(self, pricing: Pricing, bound: Bound, target: int, deadline: float):
         self.pricing, self.bound, self.target, self.deadline = pricing, bound, target, deadline
-        # Without costs there is no cost row, and the splits' rows stand right behind the model's.
+        # Without costs there is no cost row, and the splits' rows follow the model's.
         self.has_costs = any(pricing.model.costs)
         self.cost_row = len(pricing.model.rows) - int(not self.has_costs)
         self.costs = pricing.priced(bound.prices)
@@ -77,7 +78,7 @@ class Chain:
         return Leaf((*prices, *costs, *((row, 1) for row in rows)))
 
     def joined(self, last: Proof) -> Proof:
-        """The proof with `last` behind all links."""
+        """The proof with `last` after all links."""
         proof = last
         for link in reversed(self.links):
             is_above = link.row.most is None
@@ -116,7 +117,7 @@ class Chain:
 
 
 def chain(pricing: Pricing, bound: Bound, target: int, deadline: float) -> Proof:
-    """A proof that no plan costs `target` or less, by prices of the shared rows. The row `cost <= target` stands behind the model's rows.
+    """A proof that no plan costs `target` or less, by prices of the shared rows. The row `cost <= target` comes after the model's rows.
     Raises `Open` where a person's tree isn't found in time."""
     links = Chain(pricing, bound, target, deadline)
     if links.spare() < 0:
@@ -126,7 +127,7 @@ def chain(pricing: Pricing, bound: Bound, target: int, deadline: float) -> Proof
 
 
 class Closing:
-    """A proof by a tree over all variables behind the persons' links, where the prices alone don't show the target."""
+    """A proof by a tree over all variables after the persons' links, where the prices alone don't show the target."""
 
     def __init__(self, pricing: Pricing, bound: Bound, target: int, deadline: float):
         self.links = Chain(pricing, bound, target, deadline)

@@ -19,8 +19,8 @@ class _Node(NamedTuple):
 
 
 def shows(certificate: Certificate) -> bool:
-    """Whether a certificate shows that no plan meets its rows, and its plan, where it has one, meets all but the last. The library says so,
-    but where it has no such check, or a number is beyond 64 bits: then this module does."""
+    """Whether a certificate shows that no plan meets its rows, and its plan, where it has one, meets all but the last. The library says so;
+    where it doesn't have this check, or a number is beyond 64 bits, this module does."""
     is_shown = shown_by_library(certificate)
     return shows_here(certificate) if is_shown is None else is_shown
 

@@ -212,7 +212,7 @@ def _values(diagram: Diagram, costs: Any) -> List[Any]:
 
 
 def cheapest(diagram: Diagram, costs: Any) -> Optional[Tuple[int, Any]]:
-    """The least cost of a month at whole costs, and such a month; None where there is no month."""
+    """The least cost of a month at whole costs, and a month that costs so little; None where there is no month."""
     values = _values(diagram, costs)
     if diagram.widths[0] == 0:
         return None

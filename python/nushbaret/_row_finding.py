@@ -16,13 +16,13 @@ from ._row_check import meets, shows
 from ._row_model import Certificate, Finding, Limits, Model
 
 NEEDS_SCIPY = "rosters with rules need SciPy: pip install nushbaret[rules], or apt install python3-scipy"
-# What is told of the search: the stage, the cost of the best plan so far, and what no plan costs less than.
+# What is reported of the search: the stage, the cost of the best plan so far, and what no plan costs less than.
 Progress = Callable[[str, Optional[int], Optional[int]], None]
 _STAGES = {"plans": "looks for plans", "prices": "prices of shared rows", "proof": "proofs", "reasons": "reasons"}
 
 
 class _Worker:
-    """A process that works on a model. Its lines come into a queue; lines for it are written beside."""
+    """A process that works on a model. Its lines come into a queue; lines for it are written by a thread of its own."""
 
     def __init__(self, told: "queue.Queue[Dict[str, Any]]"):
         self.told = told
@@ -152,7 +152,7 @@ def _deeper(tree: Sequence[int], first: int) -> List[int]:
 def find(model: Model, seconds: float, progress: Optional[Progress] = None, start: Optional[Sequence[int]] = None) -> Finding:
     """Looks for the cheapest plan of a model and for a proof, for so many seconds by the clock.
 
-    `progress` is told the stage, the cost of the best plan so far and its bound. `start` is a plan known before. What is returned has been
+    `progress` is called with the stage, the cost of the best plan so far and its bound. `start` is a plan known before. What is returned has been
     shown by its certificate. Raises ImportError where SciPy isn't there.
     """
     deadline = time.monotonic() + seconds
@@ -171,6 +171,8 @@ def find(model: Model, seconds: float, progress: Optional[Progress] = None, star
         for role in ("plans", "bounds"):
             workers.append(_Worker(told))
             workers[-1].start({**first, "role": role})
+        if search.plan is not None:
+            _tell(workers, {"plan": search.plan, "cost": search.cost})
         _follow(search, workers, told, deadline, progress)
     finally:
         for worker in workers:
@@ -190,7 +192,7 @@ def _without_variables(search: _Search) -> None:
 
 def _follow(search: _Search, workers: List[_Worker], told: "queue.Queue[Dict[str, Any]]", deadline: float,
             progress: Optional[Progress]) -> None:
-    """Takes what the workers tell until the model is decided, all have ended, or the time is over."""
+    """Takes what the workers report until the model is decided, all have ended, or the time is over."""
     running = len(workers)
     while running and not search.is_best():
         try:
@@ -206,7 +208,7 @@ def _follow(search: _Search, workers: List[_Worker], told: "queue.Queue[Dict[str
 
 
 def _taken(search: _Search, workers: List[_Worker], message: Dict[str, Any]) -> Optional[str]:
-    """Takes one message; the stage that it tells of, or None."""
+    """Takes one message; the stage that it is about, or None."""
     if "plan" in message:
         if search.take_plan(message["plan"]):
             _tell(workers, {"plan": message["plan"], "cost": search.cost})

@@ -88,7 +88,7 @@ class Finding(NamedTuple):
 
     kind
         "best": the plan costs the least. "within": a plan and a bound that is less than its cost. "impossible": no plan meets the rows.
-        "undecided": neither a plan nor a proof that there is none; a plan without a bound is "undecided" too, and has its plan.
+        "undecided": there is no bound, and maybe no plan, and no proof that there is none.
     plan
         0 or 1 for each variable, or None.
     cost

@@ -28,8 +28,9 @@ def tried(costs: Sequence[int], rows: Sequence[Limits], seconds: float, least: A
     low, high = side_of(rows)
     constraints = optimize.LinearConstraint(matrix_of(rows, len(costs)), low, high) if rows else ()
     for presolve in (True, False):
+        options = {"time_limit": max(0.1, seconds), "mip_rel_gap": 0, "presolve": presolve}
         found = optimize.milp(np.array(costs, dtype=float), constraints=constraints, integrality=np.ones(len(costs)),
-                              bounds=optimize.Bounds(least, most), options={"time_limit": max(0.1, seconds), "mip_rel_gap": 0, "presolve": presolve})
+                              bounds=optimize.Bounds(least, most), options=options)
         if found.x is None:
             return Tried(None, found.status == 2)
         plan = [int(value > 0.5) for value in found.x]
@@ -39,7 +40,7 @@ def tried(costs: Sequence[int], rows: Sequence[Limits], seconds: float, least: A
 
 
 def look_for_plans(model: Model, channel: Channel, seconds: float) -> None:
-    """Tells each better plan that HiGHS returns."""
+    """Reports each better plan that HiGHS returns."""
     deadline = time.monotonic() + seconds
     rows = [limits_of(row) for row in model.rows]
     part = _FIRST_PART

@@ -6,8 +6,9 @@ from typing import Any, Dict, Iterator, List, NamedTuple, Optional, Set, Tuple
 from ._row_blocks import limits_of
 from ._row_check import MOST_DEPTH, meets
 from ._row_model import Leaf, Limits, Model, Proof, Split, flat
+from ._row_parts import Part
 from ._row_plans import tried
-from ._row_trees import Open, Part, Trees
+from ._row_trees import Open, Trees
 
 np: Any = importlib.import_module("numpy")
 

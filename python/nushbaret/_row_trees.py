@@ -6,6 +6,7 @@ from typing import Any, Dict, List, NamedTuple, Optional, Sequence, Tuple
 
 from ._row_blocks import matrix_of
 from ._row_model import Leaf, Limits, Proof, Split, Terms
+from ._row_parts import Part
 
 np: Any = importlib.import_module("numpy")
 sparse: Any = importlib.import_module("scipy.sparse")
@@ -22,16 +23,8 @@ class Open(Exception):
     """A tree can't be finished: the time or the leaves are used up, or there is a plan."""
 
 
-class Part(NamedTuple):
-    """Rows over a person's variables, from 0, with the numbers that the rows and the variables have in the model."""
-
-    rows: List[Limits]
-    numbers: List[int]
-    variables: List[int]
-
-
 class _Side(NamedTuple):
-    """A bound, and the number of the row that has it: -1 for that of a variable as such."""
+    """A bound, and the number of the row that has it: -1 for a 0 or 1 that no row says."""
 
     bound: int
     row: int
@@ -285,17 +278,3 @@ def _is_met(row: Limits, least: Sequence[int], most: Sequence[int]) -> bool:
     low = sum(factor * (least if factor > 0 else most)[variable] for variable, factor in row.terms)
     high = sum(factor * (most if factor > 0 else least)[variable] for variable, factor in row.terms)
     return (row.least is None or row.least <= low) and (row.most is None or high <= row.most)
-
-
-def renamed(proof: Proof, part: Part, cost_row: Optional[int], first: int) -> Proof:
-    """A part's tree in the model's numbers, where `cost <= most` is row `cost_row`, if there is one, and the splits' rows begin with `first`."""
-    numbers = dict(enumerate([*part.numbers, *([] if cost_row is None else [cost_row])]))
-    after = first - len(numbers)
-    return _renamed(proof, part.variables, numbers, after)
-
-
-def _renamed(proof: Proof, variables: Sequence[int], numbers: Dict[int, int], after: int) -> Proof:
-    if isinstance(proof, Leaf):
-        return Leaf(tuple((numbers.get(row, row + after), factor) for row, factor in proof.multipliers))
-    terms = tuple((variables[variable], factor) for variable, factor in proof.terms)
-    return Split(terms, proof.most, _renamed(proof.below, variables, numbers, after), _renamed(proof.above, variables, numbers, after))

@@ -18,7 +18,7 @@ class Channel:
         self.is_hopeless = False
 
     def listen(self) -> None:
-        """Reads better plans of others from now on, beside the work."""
+        """Reads better plans of others from now on, while the work goes on."""
         threading.Thread(target=self._read, daemon=True).start()
 
     def _read(self) -> None:
@@ -34,7 +34,7 @@ class Channel:
         self.out.flush()
 
     def say_plan(self, plan: Any, cost: int) -> None:
-        """Tells a plan, where none as good is known."""
+        """Reports a plan, where none as good is known."""
         if self.cost is None or cost < self.cost:
             self.plan, self.cost = [int(value) for value in plan], cost
             self.say(plan=self.plan)

@@ -47,7 +47,7 @@ def drawn_month(draw, persons=3, days=5):
 
 
 def meets(plan, rows):
-    """Whether a plan meets rows, read anew."""
+    """Whether a plan meets rows, by sums of its own."""
     for row in rows:
         value = sum(factor * plan[variable] for variable, factor in row.terms)
         if (row.least is not None and value < row.least) or (row.most is not None and value > row.most):
@@ -98,7 +98,7 @@ def _months(model, own, rows, shared):
 
 
 class Channel(worker.Channel):
-    """What both processes tell, kept in a list."""
+    """What both processes report, kept in a list."""
 
     def __init__(self):
         super().__init__(None, None)

@@ -1,14 +1,16 @@
-"""Certificates: changed ones beside a check in fractions, the form in C, and files."""
+"""Certificates: changed ones, held against a check in fractions, the form in C, and files."""
+import ctypes
 import itertools
 import pathlib
 import random
 import sys
 import tempfile
 import unittest
+from unittest import mock
 
 sys.path.insert(0, str(pathlib.Path(__file__).resolve().parents[2] / "python"))
 
-from nushbaret import _certificates as files
+from nushbaret import _certificates as files, _row_library as library
 from nushbaret._row_check import MOST_DEPTH, shows, shows_here
 from nushbaret._row_model import Certificate, Leaf, Limits, Split, flat
 
@@ -94,6 +96,33 @@ class Shown(unittest.TestCase):
         for size in (2**40, 2**70):
             self.assertTrue(self.agree(Certificate(1, (Limits(size, ((0, size - 1),), None),), None, (0, 1, 0, 1))))
             self.assertFalse(self.agree(Certificate(1, (Limits(size, ((0, size),), None),), None, (0, 1, 0, size))))
+
+
+def call_here(n, *arguments):
+    """Takes the lists as the library does, and answers by the check in fractions."""
+    kinds = (ctypes.c_size_t, ctypes.c_uint32, ctypes.c_int64, ctypes.c_int64, ctypes.c_int64, ctypes.c_uint8, ctypes.c_int64)
+    starts, variables, factors, least, most, plan, tree = (
+        list((kind * count).from_address(place)) if count else [] for kind, place, count in zip(kinds, arguments[0:14:2], arguments[1:14:2]))
+    bounds = [[None if value == none else value for value in values] for values, none in ((least, -2**63), (most, 2**63 - 1))]
+    return int(not models.shows(files.certificate_of(files.Lists(n, starts, variables, factors, *bounds, plan, tree))))
+
+
+class Library(unittest.TestCase):
+    """The lists that the library's call takes."""
+
+    def test_lists(self):
+        with mock.patch.object(library, "_rows_call", return_value=call_here):
+            self.assertTrue(shows(TRIANGLE) and shows(EVEN) and library.shown_by_library(TRIANGLE))
+            self.assertFalse(library.shown_by_library(TRIANGLE._replace(plan=(1, 0, 1))) or shows(EVEN._replace(tree=(0, 0))))
+            self.assertIs(library.shown_by_library(EVEN._replace(tree=(0, 1, 0, 2**63))), None)
+            self.assertIs(library.shown_by_library(EVEN._replace(rows=(Limits(-2**63, (), None),))), None)
+
+    def test_undecided(self):
+        for code, shown in ((2, None), (13, None), (0, True), (1, False), (4, False)):
+            with mock.patch.object(library, "_rows_call", return_value=lambda *_: code):
+                self.assertIs(library.shown_by_library(EVEN), shown)
+        with mock.patch.object(library, "_rows_call", return_value=None):
+            self.assertIs(library.shown_by_library(EVEN), None)
 
 
 class Files(unittest.TestCase):

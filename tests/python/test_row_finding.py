@@ -1,4 +1,4 @@
-"""Finding plans of rows: small models beside a search of all plans, months beside one person by person, reasons, time and Ctrl-C."""
+"""Finding plans of rows: small models and months held against slow searches, reasons, time and Ctrl-C."""
 import os
 import pathlib
 import random
@@ -146,7 +146,7 @@ def _is_there(process):
 
 
 class Untrusted(unittest.TestCase):
-    """What a process tells is kept only if it is so."""
+    """What a process reports is kept only if it is so."""
 
     MODEL = Model(2, (2, 4), (Row(1, ((0, 1), (1, 1)), None, "one"), Row(None, ((0, 1), (1, 1)), 0, "none")), (0, 1))
 
