@@ -6,7 +6,7 @@ import path from "node:path";
 
 const WORDS = ["--headless=new", "--no-sandbox", "--disable-gpu", "--disable-dev-shm-usage", "--remote-debugging-pipe", "--no-first-run"];
 // The browser is given so many milliseconds for what a test waits for.
-const PATIENCE = 30000;
+const PATIENCE = 300000;
 
 export class Browser {
   constructor() {

@@ -8,7 +8,7 @@ import os from "node:os";
 import path from "node:path";
 
 const [page, examples, great, heading, picture] = process.argv.slice(2);
-const PATIENCE = 120000;
+const PATIENCE = 300000;
 // How WebDriver names an element in its answers.
 const ELEMENT = "element-6066-11e4-a52e-4f735466cecf";
 
