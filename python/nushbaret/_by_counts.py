@@ -5,7 +5,7 @@ from typing import List, Sequence, Tuple
 
 from ._answer import Answer, Pair, Plan, Short, Wish, plural, with_following
 from ._counts import planned
-from ._exchanges import exchanges_of, free_pairs
+from ._exchanges import free_pairs
 from ._gadgets import Bounds, Counted, TooManyNodes
 from ._groups import order_of
 from ._lack import Lack
@@ -20,17 +20,16 @@ def answer_by_counts(roster: Roster, wish: Wish) -> Answer:
     """The answer to a roster with counts or groups; TooLarge where it is so for the library."""
     counted = counted_of(roster, wish)
     try:
-        lacks, pairs = planned(counted, wish.fullest, wish.kept if wish.change is None else None)
+        lacks, pairs, exchanges = planned(counted, wish.fullest, wish.kept if wish.change is None else None)
     except TooManyNodes as fault:
         persons, objects = map(plural, roster.titles[:2])
         raise TooLarge(fault.said(f"{objects} that {persons} may take", f"places at {objects}")) from fault
     groups = [_short(roster, counted, lack, _around(roster, wish.fixed)) for lack in lacks]
-    if pairs is None:
+    if pairs is None or exchanges is None:
         return Answer(None, groups)
     plan = plan_around(roster, wish.fixed, pairs)
     if wish.kept is not None and wish.change is not None:
         return Answer(plan, groups)
-    exchanges = exchanges_of(counted, pairs, bool(lacks))
     swaps = [Swap(those) for those in free_pairs(exchanges)]
     plan = plan._replace(swaps=swaps, is_only_one=not swaps)
     count = max(wish.plans - 1, int(wish.others and not swaps))

@@ -2,10 +2,12 @@
 import operator
 from collections import Counter
 from functools import cached_property
-from typing import Any, Collection, Dict, List, Optional, Tuple
+from typing import Any, Collection, Dict, List, NamedTuple, Optional, Tuple
 
 from . import _library as library, _naming as naming
+from ._count_rows import check_best, check_lacks
 from ._exact import manner
+from ._exchanges import Exchanges, exchanges_of
 from ._gadgets import Bounds, Counted, Pair, best_pairs, trimmed
 from ._infeasible import Infeasible, Shortage, numbered
 from ._lack import Lack, lacks_of
@@ -157,15 +159,26 @@ def missing(bounds: List[Bounds], had: Dict[int, int]) -> Dict[int, int]:
     return {number: bound.least - had.get(number, 0) for number, bound in enumerate(bounds) if had.get(number, 0) < bound.least}
 
 
-def planned(counted: Counted, partial: bool, kept: Optional[Collection[Pair]] = None) -> Tuple[List[Lack], Optional[List[Pair]]]:
-    """What is short, and the pairs of a best plan: None where something is short and the plan may not be partial."""
+class Planned(NamedTuple):
+    """What is short, and the pairs of a best plan with its changes: None where something is short and the plan may not be partial."""
+
+    lacks: List[Lack]
+    pairs: Optional[List[Pair]]
+    exchanges: Optional[Exchanges]
+
+
+def planned(counted: Counted, partial: bool, kept: Optional[Collection[Pair]] = None) -> Planned:
+    """The shortages and a best plan, each checked on rows that say the counts and groups."""
     trimmed(counted)
     lacks, served = lacks_of(counted)
+    check_lacks(counted, lacks)
     if lacks and not partial:
-        return lacks, None
+        return Planned(lacks, None, None)
     pairs = best_pairs(counted, served if lacks else None, kept)
     _judge(counted, pairs)
-    return lacks, pairs
+    exchanges = exchanges_of(counted, pairs, bool(lacks))
+    check_best(counted, lacks, exchanges)
+    return Planned(lacks, pairs, exchanges)
 
 
 def _judge(counted: Counted, pairs: List[Pair]) -> None:
@@ -329,7 +342,7 @@ def assign_counts(costs: Any, row_counts: Any = None, column_counts: Any = None,
     rows, columns = bounds_of(row_counts, "row", problem.n_rows, of_rows), bounds_of(column_counts, "column", problem.n_columns, of_columns)
     counted = _counted(problem, rows, columns, groups_of(column_groups, problem.n_columns, of_columns))
     with library.limited(timeout):
-        lacks, pairs = planned(counted, partial)
+        lacks, pairs, _ = planned(counted, partial)
     if pairs is None:
         raise CountsInfeasible(shortages_of(counted, lacks), problem.labels)
     return CountsResult(problem, counted, pairs)

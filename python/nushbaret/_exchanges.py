@@ -14,11 +14,12 @@ Arrows = List[Dict[int, int]]
 
 
 class Exchanges(NamedTuple):
-    """The graph of changes of a plan: what each arrow costs. Rows are the first vertices, and columns come after them; `ends` are the
-    two vertices of each pair."""
+    """The graph of changes of a plan: what each arrow costs. Rows are the first vertices, and columns come after them; `units`
+    has the vertices of units, and `ends` the two vertices of each pair."""
 
     arrows: Arrows
     first_column: int
+    units: Dict[Unit, int]
     ends: Dict[Pair, Tuple[int, int]]
     chosen: Set[Pair]
     potentials: List[int]
@@ -36,7 +37,7 @@ def exchanges_of(counted: Counted, chosen: Sequence[Pair], is_partial: bool, set
         begin, end = (vertex, unit[0]) if unit in taken else (unit[0], vertex)
         arrows[begin][end] = 0
     _add_ends(arrows, counted, own, is_partial)
-    return Exchanges(arrows, n_rows, ends, own, potentials_of(arrows))
+    return Exchanges(arrows, n_rows, units, ends, own, potentials_of(arrows))
 
 
 def _add_pairs(arrows: Arrows, counted: Counted, units: Dict[Unit, int], chosen: Set[Pair],
@@ -79,13 +80,13 @@ def _units(counted: Counted, first: int) -> Dict[Unit, int]:
 def _ends(vertex: int, free: int, must: Optional[int], count: int, bounds: Bounds) -> List[Tuple[int, int]]:
     """Arrows of a row that takes one more, and of one that takes one less; those of a column lead the other way."""
     found = []
-    if bounds.least <= count < bounds.most:
+    if count < bounds.most:
         found.append((free, vertex))
     if count > bounds.least:
         found.append((vertex, free))
     if must is not None and count < bounds.least:
         found.append((must, vertex))
-    if must is not None and 0 < count <= bounds.least:
+    if must is not None and min(count, bounds.least) > 0:
         found.append((vertex, must))
     return found
 

@@ -106,7 +106,7 @@ class Plans(unittest.TestCase):
             plans = list(roster.plans())
             least = min(plan[:2] for plan in plans)
             fewest = min(len(set(pairs) - set(kept)) for *worth, pairs in plans if tuple(worth) == least)
-            _, pairs = planned(roster.counted(), True, kept)
+            _, pairs, _ = planned(roster.counted(), True, kept)
             with self.subTest(case=case):
                 self.assertIn((*least, pairs), plans)
                 self.assertEqual(len(set(pairs) - set(kept)), fewest)
