@@ -39,14 +39,19 @@ def _finished(leads: Sequence[Sequence[int]]) -> List[int]:
 
 
 def potentials_of(arrows: List[Dict[int, int]]) -> List[int]:
-    """Numbers under which no arrow costs less than 0: Bellman (1958) and Ford, over a graph without a round below 0."""
+    """Numbers under which no arrow costs less than 0: Bellman (1958) and Ford. RuntimeError where a round of arrows costs less than 0."""
     potentials, waiting, waits = [0] * len(arrows), deque(range(len(arrows))), [True] * len(arrows)
+    # Of the way that a potential is the cost of: how many arrows. More than there are vertices go along a round below 0.
+    steps = [0] * len(arrows)
     while waiting:
         vertex = waiting.popleft()
         waits[vertex] = False
         for end, cost in arrows[vertex].items():
             if potentials[vertex] + cost < potentials[end]:
                 potentials[end] = potentials[vertex] + cost
+                steps[end] = steps[vertex] + 1
+                if steps[end] > len(arrows):
+                    raise RuntimeError("a plan was found to be the best, and a change of it costs less: please report this problem")
                 if not waits[end]:
                     waiting.append(end)
                     waits[end] = True

@@ -6,12 +6,9 @@ augmenting paths (Ford and Fulkerson 1956). What the searches that fail have rea
 from array import array
 from bisect import bisect_left
 from collections import deque
-from itertools import islice
 from typing import Any, Dict, Iterator, List, NamedTuple, Optional, Set, Tuple, Type
 
 from ._gadgets import Bounds, Counted, Pair, Served, Unit
-from ._infeasible import Group, prove_short
-from ._library import MOST_PERSONS
 
 
 class Lack(NamedTuple):
@@ -256,12 +253,9 @@ def _part(start: Any, seen: Set[Any], links: Dict[Any, List[Any]], back: Dict[An
 
 
 def lacks_of(counted: Counted) -> Tuple[List[Lack], Served]:
-    """What is short, each group proved by the library, and how much of the least counts can be met. Nothing is short where there is a
-    plan."""
+    """What is short, and how much of the least counts can be met. Nothing is short where there is a plan."""
     of_rows, some = _side_of(_RowsFlow, counted, 0, counted.row_bounds)
     of_columns, more = _side_of(_ColumnsFlow, counted, len(counted.row_bounds), counted.column_bounds)
-    for lack in some + more:
-        _prove(counted, lack)
     return some + more, Served(of_rows, of_columns)
 
 
@@ -275,34 +269,3 @@ def _side_of(kind: Type[_Flow], counted: Counted, begin: int, bounds: List[Bound
     if served + sum(lack.wanted - lack.had for lack in lacks) != sum(bound.least for bound in bounds):
         raise RuntimeError("groups were found to be short, and by another sum than what is missed")
     return served, lacks
-
-
-def _prove(counted: Counted, lack: Lack) -> None:
-    """Lets the library check that nodes of one side, one more than can be had, list no others than these."""
-    own = counted.column_bounds if lack.of_columns else counted.row_bounds
-    other = counted.row_bounds if lack.of_columns else counted.column_bounds
-    nodes: Dict[Any, range] = {}
-    begin = 0
-    for vertex in lack.rows if lack.of_columns else lack.columns:
-        nodes[vertex] = range(begin, begin + other[vertex].most)
-        begin += other[vertex].most
-    for unit in lack.once:
-        nodes[unit] = range(begin, begin + 1)
-        begin += 1
-    lists = _listed(counted, lack, nodes)
-    if lack.had < MOST_PERSONS:
-        many = (lists[vertex] for vertex in (lack.columns if lack.of_columns else lack.rows) for _ in range(own[vertex].least))
-        copies = list(islice(many, lack.had + 1))
-        prove_short(Group(list(range(len(copies))), sorted({node for own_nodes in copies for node in own_nodes})), copies)
-
-
-def _listed(counted: Counted, lack: Lack, nodes: Dict[Any, range]) -> Dict[int, List[int]]:
-    """The nodes that each row, or each column, of a group lists."""
-    many = lack.columns if lack.of_columns else lack.rows
-    lists: Dict[int, Dict[Any, None]] = {vertex: {} for vertex in many}
-    once = set(lack.once)
-    for unit, row, column in zip(counted.units(), counted.rows, counted.columns):
-        vertex, end = (column, row) if lack.of_columns else (row, column)
-        if vertex in lists:
-            lists[vertex][unit if unit in once else end] = None
-    return {vertex: [node for end in ends for node in nodes[end]] for vertex, ends in lists.items()}

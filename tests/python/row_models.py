@@ -2,6 +2,7 @@
 import itertools
 from fractions import Fraction
 
+from nushbaret import _certificates as files
 from nushbaret import _row_finding as finding
 from nushbaret import _row_worker as worker
 from nushbaret._row_model import Limits, Model, Row
@@ -167,3 +168,18 @@ def _is_leaf(rows, pairs, variables):
         for variable, coefficient in terms:
             weights[variable] += Fraction(factor) * coefficient
     return sum(max(weight, Fraction(0)) for weight in weights) < bound
+
+
+def changed(draw, certificate):
+    """The certificate with one of its numbers changed: of a row, the plan or the tree."""
+    lists = files.lists_of(certificate)
+    name = draw.choice(("least", "most", "coefficients", "variables", "tree", "tree", "tree", *(["plan"] if lists.plan else [])))
+    values = list(getattr(lists, name))
+    places = [place for place, value in enumerate(values) if value is not None]
+    place = draw.choice(places or [0])
+    if places:
+        values[place] += draw.choice((-2, -1, 1, 2, -values[place] or 3))
+    try:
+        return files.certificate_of(lists._replace(**{name: values}))
+    except files.CertificateFault:
+        return None

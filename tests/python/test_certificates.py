@@ -34,21 +34,6 @@ def grown(draw, depth):
     return Split(tuple((min(variable, 2), factor) for variable, factor in pairs), draw.randint(-2, 2), grown(draw, depth - 1), grown(draw, depth - 1))
 
 
-def changed(draw, certificate):
-    """The certificate with one of its numbers changed: of a row, the plan or the tree."""
-    lists = files.lists_of(certificate)
-    name = draw.choice(("least", "most", "coefficients", "variables", "tree", "tree", "tree", *(["plan"] if lists.plan else [])))
-    values = list(getattr(lists, name))
-    places = [place for place, value in enumerate(values) if value is not None]
-    place = draw.choice(places or [0])
-    if places:
-        values[place] += draw.choice((-2, -1, 1, 2, -values[place] or 3))
-    try:
-        return files.certificate_of(lists._replace(**{name: values}))
-    except files.CertificateFault:
-        return None
-
-
 class Shown(unittest.TestCase):
     def agree(self, certificate):
         """What all checks say; where they say yes, a search of all plans agrees."""
@@ -80,7 +65,7 @@ class Shown(unittest.TestCase):
             found = models.found_here(models.drawn_model(random.Random(seed)))
             self.assertTrue(self.agree(found.certificate))
             for _ in range(10):
-                certificate = changed(draw, found.certificate)
+                certificate = models.changed(draw, found.certificate)
                 if certificate is not None:
                     counts[self.agree(certificate)] += 1
         self.assertGreater(min(counts), CHANGES // 10)
