@@ -8,7 +8,7 @@ from itertools import chain
 from typing import Dict, List, NamedTuple, Sequence, Tuple
 
 from ._exchanges import Exchanges
-from ._gadgets import Bounds, Counted, Pair, Unit
+from ._gadgets import Bounds, Counted, Unit
 from ._lack import Lack
 from ._row_check import shows
 from ._row_model import Certificate, Leaf, Limits, Terms, flat
@@ -37,7 +37,7 @@ def _terms(numbers: Sequence[int], count: int) -> List[Terms]:
     own: List[List[Tuple[int, int]]] = [[] for _ in range(count)]
     for pair, number in enumerate(numbers):
         own[number].append((pair, 1))
-    return list(map(tuple, own))
+    return [tuple(terms) for terms in own]
 
 
 def check_lacks(counted: Counted, lacks: Sequence[Lack]) -> None:
@@ -63,8 +63,8 @@ def certificate_of_lack(counted: Counted, terms: CountTerms, lack: Lack) -> Cert
 
 
 def check_best(counted: Counted, lacks: Sequence[Lack], exchanges: Exchanges) -> None:
-    """Checks that a plan meets counts and groups, misses no more than the shortages say, and that no such plan costs less; RuntimeError
-    where its certificate doesn't show it."""
+    """Checks that a plan meets counts and groups, misses no more than the shortages say, and that no plan like that costs less;
+    RuntimeError where its certificate doesn't show it."""
     if not shows(certificate_of_best(counted, lacks, exchanges)):
         raise RuntimeError("a plan was found to be the best by its counts, and the check of these doesn't show it: please report this problem")
 

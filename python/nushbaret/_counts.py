@@ -327,8 +327,9 @@ def assign_counts(costs: Any, row_counts: Any = None, column_counts: Any = None,
     Notes
     -----
     Rows and columns become as many nodes as they count at most, and what counts once needs two more where a plan would break it; the
-    library takes 4194304 nodes of each side. It proves each plan of nodes best, and each shortage. How nodes stand for counts is tested,
-    not proved.
+    library takes 4194304 nodes of each side. Each plan and each shortage is then checked on rows that say
+    just the counts and groups: that no plan that meets them costs less, or that the names can't have more. Where all numbers are within
+    64 bits the library's proved check does this. That the rows say what was asked is tested, not proved.
 
     >>> import nushbaret
     >>> shifts = [[4, 1, 3, 2], [2, 3, 5, 1]]

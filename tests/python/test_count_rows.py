@@ -1,4 +1,4 @@
-"""Rows of counts and groups, and the leaves that show best plans and shortages: beside searches, a check in fractions, and changed ones."""
+"""Rows of counts and groups, and the leaves that show best plans and shortages, compared with searches and with a check in fractions."""
 import pathlib
 import random
 import sys
