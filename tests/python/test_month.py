@@ -1,5 +1,4 @@
 """A month's changes: what comes and goes, the past, plans from elsewhere and names without a line, compared with searches through all plans."""
-import csv
 import json
 import pathlib
 import random
