@@ -1,7 +1,7 @@
 #!/usr/bin/env bash
 # Builds the library for Windows on x86-64 of the module that c/build.sh kept: c/out/windows gets nushbaret.dll, its import
-# library libnushbaret.dll.a, and nushbaret.o, of which the DLL is linked. Needs the kit, whose clang compiles, python3, and
-# mingw's compiler, which links: Debian has it in gcc-mingw-w64-x86-64.
+# library nushbaret.lib, and nushbaret.o, of which the DLL is linked. Needs the kit, whose clang compiles and makes the import
+# library, python3, and mingw's compiler, which links: Debian has it in gcc-mingw-w64-x86-64.
 set -euo pipefail
 here=$(cd "$(dirname "$0")" && pwd)
 module=$here/out/module.ll
@@ -45,7 +45,10 @@ python3 "$here/retarget.py" "$module" windows > "$work/library.ll"
 # and memmove are those of msvcrt.dll, which each Windows has.
 { printf 'LIBRARY nushbaret.dll\nEXPORTS\n'; calls; } > "$work/nushbaret.def"
 "$gnu-gcc" -shared -nostdlib -s -o "$out/nushbaret.dll" "$out/nushbaret.o" "$work/nushbaret.def" -lgcc -lmsvcrt -Wl,--entry=0 \
-    -Wl,--gc-sections -Wl,--out-implib,"$out/libnushbaret.dll.a" -Wl,--no-insert-timestamp -Wl,--dynamicbase \
-    -Wl,--high-entropy-va -Wl,--nxcompat -Wl,--image-base=0x180000000
+    -Wl,--gc-sections -Wl,--no-insert-timestamp -Wl,--dynamicbase -Wl,--high-entropy-va -Wl,--nxcompat \
+    -Wl,--image-base=0x180000000
+# The kit's clang is this program too, by its name.
+ln -s "$clang" "$work/lld-link"
+"$work/lld-link" /lib /machine:x64 "/def:$work/nushbaret.def" "/out:$out/nushbaret.lib"
 [ "$(needed)" = msvcrt.dll ] || stop "the DLL needs other libraries than msvcrt.dll: $(needed | paste -s -d ' ')"
 [ "$(exported)" = "$(calls)" ] || stop "the DLL exports other names than exports.map: $(exported | paste -s -d ' ')"

@@ -38,7 +38,7 @@ expect() {
 
 # A program over the DLL, by its import library.
 over_the_dll() {
-    "$gnu-gcc" -std=c99 -O2 -Wall -Wextra -Werror -I"$top/c" "$1" "$built/libnushbaret.dll.a" -o "$work/$(basename "$1" .c).exe"
+    "$gnu-gcc" -std=c99 -O2 -Wall -Wextra -Werror -I"$top/c" "$1" "$built/nushbaret.lib" -o "$work/$(basename "$1" .c).exe"
 }
 
 # The calls of tests/door over the library's object. The test's own malloc stands in for that of the library alone, since mingw's
