@@ -5,7 +5,7 @@
 #     tests/windows.sh [TEST..]
 # TEST is a file of tests/python, or 'test_*.py' for all of them, which takes minutes. Nothing of it ran under Windows itself.
 #
-# Needs cc and python3; for Wine also mingw's compiler with threads and clang (Debian: gcc-mingw-w64-x86-64-posix, clang, wine64).
+# Needs cc and python3, or another that PYTHON names; for Wine also mingw's compiler with threads and clang (Debian: gcc-mingw-w64-x86-64-posix, clang, wine64).
 # The last line says what was left out.
 set -euo pipefail
 top=$(cd "$(dirname "$0")/.." && pwd)
@@ -13,6 +13,7 @@ built=$top/c/out/windows
 gnu=x86_64-w64-mingw32
 tests=("$@")
 [ $# -gt 0 ] || tests=(test_small.py test_solving.py test_certificates.py)
+python=${PYTHON:-python3}
 wine=$(type -P wine64 || echo /usr/lib/wine/wine64)
 if [ ! -e "$built/nushbaret.dll" ]; then
     echo 'windows: the library for Windows is left out: c/build_windows.sh makes it'
@@ -77,13 +78,13 @@ copy() {
 
 # tested FILE: a file of the package's tests, over the loader.
 tested() {
-    (cd "$work/top" && python3 -m unittest discover -s tests/python -p "$1" > "$work/log" 2>&1) ||
+    (cd "$work/top" && "$python" -m unittest discover -s tests/python -p "$1" > "$work/log" 2>&1) ||
         fail "$1: $(tail -20 "$work/log" | cut -c 1-300)"
 }
 
 copy
 export NUSHBARET_DLL=$built/nushbaret.dll PYTHONPATH=$work/top/python PYTHONDONTWRITEBYTECODE=1
-python3 "$top/tests/door/rows.py" "$work/top/c/out/libnushbaret.so" > "$work/log" 2>&1 || fail "rows: $(tail -5 "$work/log")"
+"$python" "$top/tests/door/rows.py" "$work/top/c/out/libnushbaret.so" > "$work/log" 2>&1 || fail "rows: $(tail -5 "$work/log")"
 for each in "${tests[@]}"; do
     tested "$each"
 done
