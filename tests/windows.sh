@@ -65,6 +65,8 @@ under_wine() {
     expect 'drawn problems under Wine' ', as a search over sets says' "$wine" drawn.exe 20000
     expect 'loading under Wine' "loaded: $(cat "$top/VERSION")" "$wine" load.exe
     expect 'calls under Wine' 'calls: all as wanted' "$wine" calls.exe
+    # Its server, of this prefix alone, would stay for some seconds.
+    "$(dirname "$wine")/wineserver" -k 2> /dev/null || true
     ran="$ran; under Wine the example, 20,000 drawn problems, loading as Python does, and the calls of tests/door"
 }
 
