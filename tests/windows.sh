@@ -5,8 +5,8 @@
 #     tests/windows.sh [TEST..]
 # TEST is a file of tests/python, or 'test_*.py' for all of them, which takes minutes. Nothing of it ran under Windows itself.
 #
-# Needs cc and python3, or another that PYTHON names; for Wine also mingw's compiler with threads and clang (Debian: gcc-mingw-w64-x86-64-posix, clang, wine64).
-# The last line says what was left out.
+# Needs cc and python3, or another that PYTHON names; for Wine also mingw's compiler with threads and clang (Debian:
+# gcc-mingw-w64-x86-64-posix, clang, wine64). The last line says what was left out.
 set -euo pipefail
 top=$(cd "$(dirname "$0")/.." && pwd)
 built=$top/c/out/windows
