@@ -106,8 +106,11 @@ def _replace(path: str, content: bytes) -> None:
 
 def _remove(path: str) -> None:
     """Removes a file, also one that nobody may write to, which Windows would keep."""
-    os.chmod(path, stat.S_IRUSR | stat.S_IWUSR)
-    os.unlink(path)
+    try:
+        os.unlink(path)
+    except PermissionError:
+        os.chmod(path, stat.S_IRUSR | stat.S_IWUSR)
+        os.unlink(path)
 
 
 def _mode_of(place: str) -> int:
