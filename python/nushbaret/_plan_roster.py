@@ -40,6 +40,12 @@ class RosterPlan(NamedTuple):
         Whether none of the reasons can be left out.
     even : list of tuple
         Of each rule of evenness the sentence, and the least and the greatest count.
+    certificate : Certificate or None
+        What proves the answer, for `write_certificate`.
+
+    >>> import nushbaret
+    >>> nushbaret.RosterPlan._fields[:4]
+    ('proved', 'pairs', 'cost', 'better')
     """
 
     proved: str
@@ -107,6 +113,11 @@ def plan_roster(costs: Mapping[Named, Any], days: Mapping[str, Union[str, date]]
         A cost is no number.
     ImportError
         SciPy isn't there.
+
+    >>> import nushbaret
+    >>> nushbaret.plan_roster({("Ada", "Early Mon"): 1}, {"Early Mon": "Mon"}, [("rest", "Late > Early")])
+    Traceback (most recent call last):
+    ValueError: rules, line 1, column 2: no kind of shift is 'Late': the kinds are Early
     """
     listed = dict(costs)
     ratios = [_ratio(pair, cost) for pair, cost in listed.items()]
