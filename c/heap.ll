@@ -1,10 +1,9 @@
-; The heap of the library on WebAssembly with addresses of 32 bits: what c/heap.c does on 64-bit ARM, in LLVM's own text,
-; since C compilers return a struct of two words in other ways than the module. No proof covers it.
+; The heap of the library on WebAssembly and on Windows: what c/heap.c does on 64-bit ARM, in LLVM's own text, since C
+; compilers return a struct of two words in other ways than the module. @block_of is in heap32.ll and heap64.ll, by the bits
+; of an address. No proof covers it.
 
 @no_place = private global [16 x i8] zeroinitializer, align 16
 
-declare ptr @malloc(i32)
-declare ptr @realloc(ptr, i32)
 declare void @free(ptr)
 
 ; A block, or a refusal: the first word is 0 then, and the place is never null.
@@ -23,24 +22,6 @@ define internal i64 @taken(i64 %size, i64 %alignment) nounwind {
   %is_empty = icmp eq i64 %size, 0
   %bytes = select i1 %is_empty, i64 %alignment, i64 %size
   ret i64 %bytes
-}
-
-; A new block, or another size of a block; a size of 32 bits or more is refused.
-define internal ptr @block_of(ptr %before, i64 %bytes) nounwind {
-  %is_beyond = icmp ugt i64 %bytes, 4294901760
-  br i1 %is_beyond, label %refused, label %fits
-refused:
-  ret ptr null
-fits:
-  %word = trunc i64 %bytes to i32
-  %is_new = icmp eq ptr %before, null
-  br i1 %is_new, label %new, label %old
-new:
-  %fresh = call ptr @malloc(i32 %word)
-  ret ptr %fresh
-old:
-  %moved = call ptr @realloc(ptr %before, i32 %word)
-  ret ptr %moved
 }
 
 define internal { i64, i64 } @rattle_alloc(i64 %size, i64 %alignment) nounwind {

@@ -1,20 +1,36 @@
 #!/usr/bin/env python3
-"""Writes the library's LLVM module, as c/build.sh keeps it, for WebAssembly with addresses of 32 bits: c/retarget.py MODULE.ll > OTHER.ll
+"""Writes the library's LLVM module, as c/build.sh keeps it, for another platform: c/retarget.py MODULE.ll PLATFORM > OTHER.ll
 
-What names x86-64 Linux changes: the triple, the layout of data, and the processor and the stack probes in the functions' attributes. The
-heap's three functions are added, from c/heap.ll. Numbers of 64 bits that hold an address stay so; what is read of memory as a pair with an
-address is read in two parts, since LLVM would look for the second one elsewhere. It stops at anything that it doesn't know.
+PLATFORM is wasm32, WebAssembly with addresses of 32 bits, or windows, for x86-64. What names x86-64 Linux changes: the triple, the layout
+of data, and the processor and the stack probes in the functions' attributes. The heap's three functions are added, from c/heap.ll and the
+file for the bits of an address. With 32 bits, numbers of 64 that hold an address stay so; what is read of memory as a pair with an address
+is read in two parts, since LLVM would look for the second one elsewhere. It stops at anything that it doesn't know.
 """
 import pathlib
 import re
 import sys
-from typing import Match, NoReturn
+from typing import Match, NamedTuple, NoReturn
 
 HERE = pathlib.Path(__file__).resolve().parent
-TRIPLE = "wasm32-unknown-unknown"
-LAYOUT = "e-m:e-p:32:32-p10:8:8-p20:8:8-i64:64-i128:128-n32:64-S128-ni:1:10:20"
 FEATURES = "+bulk-memory,+bulk-memory-opt,+multivalue,+mutable-globals,+nontrapping-fptoint,+sign-ext,+simd128"
-ATTRIBUTES = f'"target-cpu"="lime1" "target-features"="{FEATURES}"'
+
+
+class Platform(NamedTuple):
+    """A platform's triple, its layout of data, its functions' attributes, and the bits of an address."""
+
+    triple: str
+    layout: str
+    attributes: str
+    bits: int
+
+
+# The layouts are those that the kit's clang gives. With unwind tables, `uwtable`, debuggers on Windows see who called.
+PLATFORMS = {
+    "wasm32": Platform("wasm32-unknown-unknown", "e-m:e-p:32:32-p10:8:8-p20:8:8-i64:64-i128:128-n32:64-S128-ni:1:10:20",
+                       f'"target-cpu"="lime1" "target-features"="{FEATURES}"', 32),
+    "windows": Platform("x86_64-w64-windows-gnu", "e-m:w-p270:32:32-p271:32:32-p272:64:64-i64:64-i128:128-f80:128-n8:16:32:64-S128",
+                        'uwtable "target-cpu"="x86-64-v2"', 64),
+}
 OF_X86 = '"probe-stack"="inline-asm" "stack-probe-size"="3072" "target-cpu"="x86-64-v2"'
 HEAP = {"rattle_alloc", "rattle_realloc", "rattle_dealloc"}
 HEAP_LINE = re.compile(r"^declare [^@\n]*@rattle_(?:alloc|realloc|dealloc)\(.*\n", re.M)
@@ -72,19 +88,26 @@ def refuse_unknown(text: str) -> None:
         stop(f"calls of C that aren't the heap's: {', '.join(sorted(foreign - HEAP))}")
 
 
-def retargeted(text: str) -> str:
-    """The module for WebAssembly."""
-    text = replaced(r"^target triple = .*", f'target triple = "{TRIPLE}"', text)
-    text = replaced(r"^target datalayout = .*", f'target datalayout = "{LAYOUT}"', text)
+def heap_of(platform: Platform) -> str:
+    """The heap's functions."""
+    files = HERE / "heap.ll", HERE / f"heap{platform.bits}.ll"
+    text = "\n".join(file.read_text(encoding="utf-8") for file in files)
+    return text.replace(" nounwind {", f" nounwind {platform.attributes} {{")
+
+
+def retargeted(text: str, platform: Platform) -> str:
+    """The module for a platform."""
+    text = replaced(r"^target triple = .*", f'target triple = "{platform.triple}"', text)
+    text = replaced(r"^target datalayout = .*", f'target datalayout = "{platform.layout}"', text)
     if OF_X86 not in text:
         stop("the functions' attributes aren't those of x86-64 Linux")
-    text = text.replace(OF_X86, ATTRIBUTES)
+    text = text.replace(OF_X86, platform.attributes)
     refuse_unknown(text)
-    heap = (HERE / "heap.ll").read_text(encoding="utf-8").replace(" nounwind {", f" nounwind {ATTRIBUTES} {{")
-    return with_narrow_addresses(HEAP_LINE.sub("", text)) + "\n" + heap
+    text = HEAP_LINE.sub("", text)
+    return (with_narrow_addresses(text) if platform.bits == 32 else text) + "\n" + heap_of(platform)
 
 
 if __name__ == "__main__":
-    if len(sys.argv) != 2:
-        stop("the module is to be named")
-    sys.stdout.write(retargeted(pathlib.Path(sys.argv[1]).read_text(encoding="utf-8")))
+    if len(sys.argv) != 3 or sys.argv[2] not in PLATFORMS:
+        stop(f"a module is to be named, and a platform: {', '.join(PLATFORMS)}")
+    sys.stdout.write(retargeted(pathlib.Path(sys.argv[1]).read_text(encoding="utf-8"), PLATFORMS[sys.argv[2]]))

@@ -1,5 +1,5 @@
 """The build backend of the package: packs it, the shared library that c/build.sh made, the guide to rosters and the manual's page into a
-wheel. It needs nothing but Python, so that installing needs no network."""
+wheel. It needs nothing but Python, so that installing needs no network. Windows has no manual."""
 import base64
 import hashlib
 import io
@@ -12,9 +12,14 @@ import zipfile
 
 TOP = pathlib.Path(__file__).resolve().parent
 PACKAGE = TOP / "nushbaret"
-NAME = "libnushbaret.so"
-# Where the library for each machine is, after a place in the package itself, and what c/build.sh needs to make it.
-LIBRARIES = {"x86_64": (TOP.parent / "c" / "out" / NAME, ""), "aarch64": (TOP.parent / "c" / "out" / "aarch64" / NAME, " --target aarch64")}
+BUILT = TOP.parent / "c" / "out"
+# The library for each kind of machine: where it is, after a place in the package itself, and what makes it.
+LIBRARIES = {
+    r"(linux|manylinux2014)[-_]x86_64": (BUILT / "libnushbaret.so", "c/build.sh"),
+    r"(linux|manylinux2014)[-_]aarch64": (BUILT / "aarch64" / "libnushbaret.so", "c/build.sh --target aarch64"),
+    r"win[-_]amd64": (BUILT / "windows" / "nushbaret.dll", "c/build_windows.sh"),
+}
+NAMES = {place.name for place, _ in LIBRARIES.values()}
 DAY = (2020, 1, 1, 0, 0, 0)
 # What the wheel's tag says of the machine; release/make.sh sets it to what its library is looked at for.
 PLATFORM = sysconfig.get_platform()
@@ -47,14 +52,15 @@ DATA = f"nushbaret-{VERSION}.data/data"
 
 def _library():
     """The library for the machine that the wheel is for."""
-    found = re.fullmatch(r"(?:linux|manylinux2014)[-_](\w+)", PLATFORM)
-    if found is None or found[1] not in LIBRARIES:
-        raise SystemExit(f"nushbaret runs on Linux for x86-64 and for 64-bit ARM, and this is {PLATFORM}: use a Linux container there")
-    place, words = LIBRARIES[found[1]]
-    for file in (PACKAGE / NAME, place):
+    found = next((library for kind, library in LIBRARIES.items() if re.fullmatch(kind, PLATFORM)), None)
+    if found is None:
+        raise SystemExit(f"nushbaret runs on Linux for x86-64 and for 64-bit ARM, and on Windows for x86-64, and this is {PLATFORM}: "
+                         "use a Linux container there")
+    place, script = found
+    for file in (PACKAGE / place.name, place):
         if file.exists():
             return file
-    raise SystemExit(f"{NAME} isn't there: run c/build.sh{words} at the top of the checkout first, and then install again")
+    raise SystemExit(f"{place.name} isn't there: run {script} at the top of the checkout first, and then install again")
 
 
 def _tag():
@@ -121,7 +127,7 @@ def _info():
 
 def _sources():
     """The files of the package, without the library and what Python keeps of its own."""
-    return sorted(file for file in PACKAGE.rglob("*") if file.is_file() and "__pycache__" not in file.parts and file.name != NAME)
+    return sorted(file for file in PACKAGE.rglob("*") if file.is_file() and "__pycache__" not in file.parts and file.name not in NAMES)
 
 
 def _licenses():
@@ -166,9 +172,11 @@ prepare_metadata_for_build_editable = prepare_metadata_for_build_wheel
 
 def build_wheel(wheel_directory, config_settings=None, metadata_directory=None):
     held = {f"nushbaret/{file.relative_to(PACKAGE).as_posix()}": file.read_bytes() for file in _sources()}
-    held[f"nushbaret/{NAME}"] = _library().read_bytes()
+    library = _library()
+    held[f"nushbaret/{library.name}"] = library.read_bytes()
     held.update(_guide())
-    held.update({f"{DATA}/{name}": text for name, text in _manual().items()})
+    if library.suffix == ".so":
+        held.update({f"{DATA}/{name}": text for name, text in _manual().items()})
     licenses = {f"{INFO}/licenses/{file.name}": file.read_bytes() for file in _licenses()}
     return _write_wheel(wheel_directory, {**held, **_info(), **licenses})
 
@@ -187,7 +195,7 @@ def build_sdist(sdist_directory, config_settings=None):
     files.update({f"examples/{file.name}": file for file in _examples()})
     files.update({file.name: file for file in _licenses()})
     files.update({f"nushbaret/{file.relative_to(PACKAGE).as_posix()}": file for file in _sources()})
-    files[f"nushbaret/{NAME}"] = _library()
+    files[f"nushbaret/{_library().name}"] = _library()
     with tarfile.open(pathlib.Path(sdist_directory) / f"{front}.tar.gz", "w:gz", format=tarfile.PAX_FORMAT) as archive:
         for name, file in files.items():
             archive.add(file, f"{front}/{name}", recursive=False)

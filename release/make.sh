@@ -1,13 +1,13 @@
 #!/usr/bin/env bash
 # Packs what has been proved and built, and proves nothing itself: release/make.sh [FOLDER]. FOLDER, which is else release/,
 # gets the program; the roster page for browsers; for x86-64 and for 64-bit ARM a wheel, a tarball in the layout of a prefix,
-# and a Debian package; SOURCE and SHA256SUMS. The program is for x86-64 alone. The same sources and tools give the same
-# bytes, wherever and whenever it runs; it takes some seconds.
+# and a Debian package; for Windows a wheel, and a zip of the library; SOURCE and SHA256SUMS. The program is for x86-64 alone.
+# The same sources and tools give the same bytes, wherever and whenever it runs; it takes some seconds.
 #     release/make.sh --source
 # prints what SOURCE would say here.
 #
-# Needs the built program, libraries and page (./prove, rt run in crates/auction_cli, c/build.sh, c/build.sh --target aarch64
-# and page/build.sh, or the gate), and python3, git, binutils, GNU tar and gzip.
+# Needs the built program, libraries and page (./prove, rt run in crates/auction_cli, c/build.sh, c/build.sh --target aarch64,
+# c/build_windows.sh and page/build.sh, or the gate), and python3, git, binutils, GNU tar and gzip.
 set -euo pipefail
 export LC_ALL=C SOURCE_DATE_EPOCH=0 PYTHONDONTWRITEBYTECODE=1
 umask 022
@@ -18,6 +18,7 @@ major=${version%%.*}
 machines='x86_64 aarch64'
 # What the C library must be at least for the library.
 library_glibc=2.17
+windows=$top/c/out/windows
 page=$top/page/out/nushbaret.html
 most_of_page=500000
 
@@ -67,6 +68,7 @@ source_text() {
     echo "binutils: $(told ld --version)"
     echo "C library: $(told ldd --version)"
     echo "for ARM: $(told aarch64-linux-gnu-gcc --version), $(told aarch64-linux-gnu-ld --version), $(arm_library)"
+    echo "for Windows: $(told x86_64-w64-mingw32-gcc --version), $(told x86_64-w64-mingw32-ld --version)"
     echo "packers: $(told tar --version), $(told gzip --version), zlib $(told python3 -c 'import zlib; print(zlib.ZLIB_RUNTIME_VERSION)')"
 }
 
@@ -89,6 +91,13 @@ look_at_the_page() {
     [ -e "$page" ] || stop "${page#"$top"/} isn't there: run page/build.sh first"
     grep -q "<p>Nushbaret $version\." "$page" || stop "the page isn't of version $version: run page/build.sh"
     [ "$(stat -c %s "$page")" -le "$most_of_page" ] || stop "the page has more than $most_of_page bytes"
+}
+
+# Whether the library for Windows is there. tests/windows.sh looks at its version.
+look_at_windows() {
+    for file in nushbaret.dll nushbaret.lib; do
+        [ -e "$windows/$file" ] || stop "c/out/windows/$file isn't there: run c/build_windows.sh first"
+    done
 }
 
 # Whether the program is there, is of this version, and needs no newer C library than is promised.
@@ -193,23 +202,38 @@ package() {
     } > "$made/nushbaret_${version}_$architecture.deb"
 }
 
-# The wheel, by the package's own backend, and what it holds in a folder.
+# wheel PLATFORM LIBRARY: the wheel, by the package's own backend, and what it holds in a folder.
 wheel() {
-    local name=nushbaret-$version-py3-none-manylinux2014_$machine.whl
+    local name=nushbaret-$version-py3-none-$1.whl
     (cd "$top/python" && python3 -c 'import sys, nushbaret_build as build
 if build.VERSION != sys.argv[2]:
     sys.exit("release/make.sh: python/pyproject.toml is of version %s, and VERSION is %s" % (build.VERSION, sys.argv[2]))
 build.PLATFORM = sys.argv[3]
-build.build_wheel(sys.argv[1])' "$made" "$version" "manylinux2014_$machine")
+build.build_wheel(sys.argv[1])' "$made" "$version" "$1")
+    rm -rf "$work/wheel"
     python3 -m zipfile -e "$made/$name" "$work/wheel"
-    cmp -s "$library.so" "$work/wheel/nushbaret/libnushbaret.so" || stop "python/nushbaret has a library of its own, which isn't ${library#"$top"/}.so"
+    cmp -s "$2" "$work/wheel/nushbaret/$(basename "$2")" || stop "python/nushbaret has a library of its own, which isn't ${2#"$top"/}"
+}
+
+# The zip for Windows, in the layout of a prefix.
+zip_for_windows() {
+    local root=$work/windows cmake=$work/windows/lib/cmake/nushbaret share=$work/windows/share/doc/nushbaret
+    mkdir -p "$root/bin" "$root/include" "$cmake" "$share/examples"
+    cp "$windows/nushbaret.dll" "$root/bin/"
+    cp "$windows/nushbaret.lib" "$root/lib/"
+    cp "$top/c/nushbaret.h" "$root/include/"
+    filled nushbaret-config-windows.cmake lib '' > "$cmake/nushbaret-config.cmake"
+    filled nushbaret-config-version.cmake lib '' > "$cmake/nushbaret-config-version.cmake"
+    cp "$top/c/example.c" "$share/examples/"
+    cp "$top"/LICENSE-* "$share/"
+    python3 "$parts/zip.py" "$root" "$made/nushbaret-$version-windows-x86_64.zip"
 }
 
 # pack MACHINE: all that is made for it.
 pack() {
     choose "$1"
-    rm -rf "$work"/{wheel,prefix,package,control}
-    wheel
+    rm -rf "$work"/{prefix,package,control}
+    wheel "manylinux2014_$machine" "$library.so"
     tarball
     package
 }
@@ -226,6 +250,7 @@ for each in $machines; do
     look_at_the_library
 done
 look_at_the_page
+look_at_windows
 mkdir -p "${1:-$top/release}"
 folder=$(cd "${1:-$top/release}" && pwd)
 work=$(mktemp -d)
@@ -236,6 +261,8 @@ source_text > "$made/SOURCE"
 for each in $machines; do
     pack "$each"
 done
+wheel win_amd64 "$windows/nushbaret.dll"
+zip_for_windows
 install -m 755 "$top/crates/auction_cli/out/auction_cli" "$made/auction_cli"
 install -m 644 "$page" "$made/nushbaret.html"
 (cd "$made" && sha256sum -- * > "$work/SHA256SUMS")

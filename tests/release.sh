@@ -45,7 +45,7 @@ compare_bytes() {
 # What a release packs and isn't built here.
 unbuilt() {
     local file
-    for file in crates/auction_cli/out/auction_cli c/out/libnushbaret.so c/out/aarch64/libnushbaret.so page/out/nushbaret.html; do
+    for file in crates/auction_cli/out/auction_cli c/out/libnushbaret.so c/out/aarch64/libnushbaret.so c/out/windows/nushbaret.dll page/out/nushbaret.html; do
         [ -e "$top/$file" ] || echo "$file"
     done | paste -s -d ' '
 }

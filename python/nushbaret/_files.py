@@ -100,8 +100,17 @@ def _replace(path: str, content: bytes) -> None:
         os.chmod(name, mode)
         os.replace(name, place)
     except BaseException:
-        os.unlink(name)
+        _remove(name)
         raise
+
+
+def _remove(path: str) -> None:
+    """Removes a file, also one that nobody may write to, which Windows would keep."""
+    try:
+        os.unlink(path)
+    except PermissionError:
+        os.chmod(path, stat.S_IRUSR | stat.S_IWUSR)
+        os.unlink(path)
 
 
 def _mode_of(place: str) -> int:

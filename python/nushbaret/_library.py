@@ -3,6 +3,7 @@ import contextlib
 import ctypes
 import math
 import pathlib
+import sys
 import threading
 import time
 from array import array
@@ -28,9 +29,10 @@ CODES = (
     "STOPPED", "UNFOUND",
 )
 
-NAME = "libnushbaret.so"
+# What the library is called, where a checkout has it, and what makes it there.
+NAME, _FOLDER, _MADE_BY = ("nushbaret.dll", "windows", "c/build_windows.sh") if sys.platform == "win32" else ("libnushbaret.so", "", "c/build.sh")
 _PACKAGE = pathlib.Path(__file__).resolve().parent
-PLACES = (_PACKAGE / NAME, _PACKAGE.parent.parent / "c" / "out" / NAME)
+PLACES = (_PACKAGE / NAME, _PACKAGE.parent.parent / "c" / "out" / _FOLDER / NAME)
 
 
 class LibraryNotFound(OSError):
@@ -77,7 +79,7 @@ def _open() -> ctypes.CDLL:
                 return ctypes.CDLL(str(place))
             except OSError as fault:
                 raise LibraryNotFound(f"{place} can't be loaded: {fault}") from fault
-    raise LibraryNotFound(f"{NAME} isn't there: c/build.sh makes it, at the top of a checkout of Nushbaret")
+    raise LibraryNotFound(f"{NAME} isn't there: {_MADE_BY} makes it, at the top of a checkout of Nushbaret")
 
 
 def _load() -> None:
@@ -88,7 +90,7 @@ def _load() -> None:
     library.nushbaret_version(room, 32)
     found = bytes(room).split(b"\0")[0].decode()
     if found != VERSION:
-        raise LibraryNotFound(f"the library is of version {found}, and {VERSION} is needed: c/build.sh builds it again")
+        raise LibraryNotFound(f"the library is of version {found}, and {VERSION} is needed: {_MADE_BY} builds it again")
     for name, lists in _LISTS.items():
         call = getattr(library, f"nushbaret_{name}")
         sense = [] if name == "check_hall" else [ctypes.c_uint32]
@@ -364,7 +366,7 @@ class Room(Whole):
 
     def __init__(self, numpy: Any, n: int, m: int, home: Optional[List["Room"]]):
         self.memory, self.shape, self.home = array("Q", bytes(_INFO + 8 * m + 8 * n)), (n, m), home
-        self.rows, self.objects = numpy.arange(n), numpy.frombuffer(self.memory, numpy.uint32, n, _INFO + 8 * m)
+        self.rows, self.objects = numpy.arange(n, dtype=numpy.intp), numpy.frombuffer(self.memory, numpy.uint32, n, _INFO + 8 * m)
         info = self.memory.buffer_info()[0]
         prices, objects, persons = info + _INFO, info + _INFO + 8 * m, info + _INFO + 8 * m + 4 * n
         sense, count, address = ctypes.c_uint32.from_param, ctypes.c_size_t.from_param, ctypes.c_void_p.from_param

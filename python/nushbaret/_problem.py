@@ -320,7 +320,7 @@ def within(problem: Problem, worst: Ratio) -> Problem:
         # Of 64 bits, since NumPy would compare others as doubles.
         least, greatest = -2**63, 2**63 - 1
         if not least <= most <= greatest:
-            return problem if (most < least) == problem.maximize else kept(problem, problem.numpy.arange(0))
+            return problem if (most < least) == problem.maximize else kept(problem, problem.numpy.arange(0, dtype=problem.numpy.intp))
     if problem.numpy:
         return kept(problem, problem.costs >= most if problem.maximize else problem.costs <= most)
     return kept(problem, [place for place, cost in enumerate(problem.costs) if (cost >= most if problem.maximize else cost <= most)])

@@ -18,6 +18,10 @@ from ._row_model import Certificate, Finding, Limits, Model
 NEEDS_SCIPY = "rosters with rules need SciPy: pip install nushbaret[rules], or apt install python3-scipy"
 # What is reported of the search: the stage, the cost of the best plan so far, and what no plan costs less than.
 Progress = Callable[[str, Optional[int], Optional[int]], None]
+# Seconds.
+_LONGEST_WAIT = 0.2
+# On Windows the flag with which no Ctrl-C reaches a new process; elsewhere there is none.
+_OWN_GROUP: int = getattr(subprocess, "CREATE_NEW_PROCESS_GROUP", 0)
 _STAGES = {"plans": "looks for plans", "prices": "prices of shared rows", "proof": "proofs", "reasons": "reasons"}
 
 
@@ -36,7 +40,7 @@ class _Worker:
         paths = [package, *filter(None, [os.environ.get("PYTHONPATH")])]
         environment = {**os.environ, "PYTHONPATH": os.pathsep.join(paths), "OMP_NUM_THREADS": "1", "OPENBLAS_NUM_THREADS": "1"}
         self.process = subprocess.Popen([sys.executable, "-m", "nushbaret._row_worker"], stdin=subprocess.PIPE, stdout=subprocess.PIPE,
-                                        stderr=subprocess.DEVNULL, text=True, env=environment, start_new_session=True)
+                                        stderr=subprocess.DEVNULL, text=True, env=environment, start_new_session=True, creationflags=_OWN_GROUP)
         self.tell(first)
         self.threads = [threading.Thread(target=work, args=(self.process,), daemon=True) for work in (self._write, self._read)]
         for thread in self.threads:
@@ -190,14 +194,24 @@ def _without_variables(search: _Search) -> None:
             search.take_reasons({"reasons": [row.text], "is_minimal": True, "rows": [number], "tree": [0, 1, 0, factor]})
 
 
+def _next_message(told: "queue.Queue[Dict[str, Any]]", deadline: float) -> Optional[Dict[str, Any]]:
+    """What a worker reports next; None where the time is over. It waits in short pieces, since on Windows Ctrl-C ends no wait."""
+    while True:
+        left = deadline - time.monotonic()
+        try:
+            return told.get(timeout=max(0.0, min(left, _LONGEST_WAIT)))
+        except queue.Empty:
+            if left <= _LONGEST_WAIT:
+                return None
+
+
 def _follow(search: _Search, workers: List[_Worker], told: "queue.Queue[Dict[str, Any]]", deadline: float,
             progress: Optional[Progress]) -> None:
     """Takes what the workers report until the model is decided, all have ended, or the time is over."""
     running = len(workers)
     while running and not search.is_best():
-        try:
-            message = told.get(timeout=max(0.0, deadline - time.monotonic()))
-        except queue.Empty:
+        message = _next_message(told, deadline)
+        if message is None:
             return
         running -= "ended" in message
         stage = _taken(search, workers, message)

@@ -38,7 +38,7 @@ class SmallArrays:
         self.kinds.update(dict.fromkeys([self.float64, numpy.dtype("f4"), numpy.dtype("f2")], self.float64))
         self.add, self.subtract, self.copy_to, self.of_bytes = numpy.add, numpy.subtract, numpy.copyto, numpy.frombuffer
         # Numbers from 0 on come out of an array that has -1, 0, 1 ..
-        self.from_zero = numpy.arange(-1, MOST_SIDE).take
+        self.from_zero = numpy.arange(-1, MOST_SIDE, dtype=numpy.intp).take
         self.adders: Dict[int, Tuple[Any, Any]] = {}
 
     def assignment(self, costs: Any, maximize: bool) -> Optional[Tuple[Any, Any]]:

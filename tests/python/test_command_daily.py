@@ -2,6 +2,7 @@
 import json
 import os
 import signal
+import stat
 import subprocess
 import sys
 import time
@@ -17,6 +18,20 @@ try:
     import openpyxl
 except ImportError:
     openpyxl = None
+
+# The command as it runs where processes don't end by signals; what it needs is loaded before.
+INTERRUPTED_ON_WINDOWS = """import sys
+from nushbaret import __main__, _command
+sys.platform = "win32"
+sys.exit(__main__.main())"""
+_unlink = os.unlink
+
+
+def unlink_of_windows(path):
+    """Removes a file that may be written to."""
+    if not os.stat(path).st_mode & stat.S_IWUSR:
+        raise PermissionError(13, "Permission denied")
+    _unlink(path)
 
 
 class Daily(Runs):
@@ -144,6 +159,17 @@ class Faults(Daily):
         os.close(pipe)
         self.assertEqual((ended.returncode, out, err, sorted(os.listdir())), (-signal.SIGINT, b"", b"", ["pipe.csv", "r.csv"]))
 
+    def test_interrupted_on_windows(self):
+        """Where processes don't end by signals Ctrl-C raises, and the status is the same."""
+        os.mkfifo("pipe.csv")
+        ended = subprocess.Popen([sys.executable, "-c", INTERRUPTED_ON_WINDOWS, "pipe.csv", "--output", "p.csv"], stdout=subprocess.PIPE,
+                                 stderr=subprocess.PIPE, env={**os.environ, "PYTHONPATH": str(TOP / "python")})
+        pipe = self.opened("pipe.csv", ended)
+        ended.send_signal(signal.SIGINT)
+        out, err = ended.communicate()
+        os.close(pipe)
+        self.assertEqual((ended.returncode, out, err, sorted(os.listdir())), (130, b"", b"", ["pipe.csv", "r.csv"]))
+
     def opened(self, pipe, ended):
         """A pipe to a command that has begun to read it."""
         while ended.poll() is None:
@@ -174,6 +200,15 @@ class Faults(Daily):
         with mock.patch("nushbaret._files.tempfile.mkstemp", side_effect=PermissionError(13, "Permission denied", ".nushbaret.x")):
             self.refused(4, "p.csv: Permission denied", "r.csv", "--output", "p.csv", "--force")
         self.assertEqual(self.program("N r.csv --html /dev/full")[::2], (4, "/dev/full: No space left on device\n"))
+
+    def test_replacing_that_fails(self):
+        """Windows replaces no file that only may be read or is open elsewhere, and removes none that may only be read."""
+        self.file("p.csv", "old")
+        os.chmod("p.csv", 0o444)
+        with mock.patch("nushbaret._files.os.unlink", side_effect=unlink_of_windows), \
+                mock.patch("nushbaret._files.os.replace", side_effect=PermissionError(13, "Permission denied")):
+            self.refused(4, "p.csv: Permission denied", "r.csv", "--output", "p.csv", "--force")
+        self.assertEqual((self.read("p.csv"), sorted(os.listdir())), ("old", ["p.csv", "r.csv"]))
 
     def test_did_you_mean(self):
         self.file("r.csv", ",Nacht Mo,Nacht Di,S1\nAda,1,2,3\nBen,1,2,3\n")

@@ -51,7 +51,7 @@ class Package(unittest.TestCase):
                 wanted = base64.urlsafe_b64encode(hashlib.sha256(text).digest()).rstrip(b"=").decode()
                 self.assertEqual((digest, int(size)), (f"sha256={wanted}", len(text)))
         self.assertEqual({row[0] for row in rows}, names)
-        self.assertLessEqual({"nushbaret/py.typed", "nushbaret/__main__.py", f"nushbaret/{build.NAME}", f"{build.DATA}/share/man/man1/nushbaret.1",
+        self.assertLessEqual({"nushbaret/py.typed", "nushbaret/__main__.py", f"nushbaret/{library.NAME}", f"{build.DATA}/share/man/man1/nushbaret.1",
                               "nushbaret/guide/rosters.html", "nushbaret/guide/examples/week.csv", "nushbaret/guide/examples/month_rules.csv"}, names)
         self.solves(str(self.folder / "out"))
         self.describes((self.folder / "out" / build.INFO / "METADATA").read_text(encoding="utf-8"))
@@ -60,7 +60,7 @@ class Package(unittest.TestCase):
         """Whether the metadata have what an index shows, and a description without links that lead nowhere."""
         ran = email.message_from_string(metadata)
         self.assertIn("linear assignment problem", ran["Keywords"].split(","))
-        self.assertIn("Operating System :: POSIX :: Linux", ran.get_all("Classifier"))
+        self.assertLessEqual({"Operating System :: POSIX :: Linux", "Operating System :: Microsoft :: Windows"}, set(ran.get_all("Classifier")))
         self.assertEqual(ran["Description-Content-Type"], "text/markdown")
         self.assertEqual((ran.get_all("Provides-Extra"), ran.get_all("Requires-Dist")), (["rules"], ["scipy>=1.9; extra == 'rules'"]))
         self.assertIn("For rosters with names see ROSTERS.md.", ran.get_payload())
@@ -78,28 +78,34 @@ class Package(unittest.TestCase):
         build = backend()
         # The checkout's own may have one.
         build.PACKAGE = self.folder
-        for machine, words in (("x86_64", "c/build.sh at"), ("aarch64", "c/build.sh --target aarch64 at")):
-            build.PLATFORM = f"linux-{machine}"
-            build.LIBRARIES[machine] = self.folder / build.NAME, build.LIBRARIES[machine][1]
-            with self.assertRaisesRegex(SystemExit, f"run {words}"):
+        build.LIBRARIES = {kind: (self.folder / place.name, script) for kind, (place, script) in build.LIBRARIES.items()}
+        for build.PLATFORM, words in (("linux-x86_64", "libnushbaret.so isn't there: run c/build.sh at"),
+                                      ("linux-aarch64", "libnushbaret.so isn't there: run c/build.sh --target aarch64 at"),
+                                      ("win-amd64", "nushbaret.dll isn't there: run c/build_windows.sh at")):
+            with self.assertRaisesRegex(SystemExit, words):
                 build.build_wheel(self.folder)
         self.assertEqual(list(self.folder.iterdir()), [])
 
     def test_library_in_the_package(self):
         """A library that was copied into the package is packed, and no file of sources."""
         build = backend()
-        shutil.copytree(build.PACKAGE, self.folder / "nushbaret", ignore=shutil.ignore_patterns("__pycache__", build.NAME))
+        shutil.copytree(build.PACKAGE, self.folder / "nushbaret", ignore=shutil.ignore_patterns("__pycache__", *build.NAMES))
         sources = sorted(file.name for file in (self.folder / "nushbaret").iterdir())
         build.PACKAGE = self.folder / "nushbaret"
-        (build.PACKAGE / build.NAME).write_bytes(b"a library")
-        with zipfile.ZipFile(self.folder / build.build_wheel(self.folder)) as wheel:
-            self.assertEqual(wheel.read(f"nushbaret/{build.NAME}"), b"a library")
-        self.assertEqual(sorted(file.name for file in build._sources()), sources)
+        for build.PLATFORM, name in (("linux-x86_64", "libnushbaret.so"), ("win-amd64", "nushbaret.dll")):
+            (build.PACKAGE / name).write_bytes(b"a library")
+            with zipfile.ZipFile(self.folder / build.build_wheel(self.folder)) as wheel:
+                self.assertEqual(wheel.read(f"nushbaret/{name}"), b"a library")
+                # Windows has no manual.
+                self.assertEqual(any(".data/" in file for file in wheel.namelist()), name.endswith(".so"))
+                # The other library isn't packed.
+                self.assertEqual([file for file in wheel.namelist() if file.endswith((".so", ".dll"))], [f"nushbaret/{name}"])
+            self.assertEqual(sorted(file.name for file in build._sources()), sources)
 
     def test_other_machines(self):
         build = backend()
-        for build.PLATFORM in ("win-amd64", "macosx-14.0-arm64", "linux-i686", "linux-armv7l"):
-            with self.assertRaisesRegex(SystemExit, f"Linux for x86-64 and for 64-bit ARM, and this is {build.PLATFORM}"):
+        for build.PLATFORM in ("win-arm64", "win32", "macosx-14.0-arm64", "linux-i686", "linux-armv7l"):
+            with self.assertRaisesRegex(SystemExit, f"on Windows for x86-64, and this is {build.PLATFORM}: "):
                 build.build_wheel(self.folder)
         self.assertEqual(list(self.folder.iterdir()), [])
 

@@ -2,7 +2,8 @@
 # Installs and uses a release: the wheel in a fresh environment, the tarball in a fresh home by README's line, and the package
 # under another root and by dpkg; a roster is planned with each, and with the last two a problem is solved and verified, and
 # c/example.c built as C99 and as C++11, by pkg-config and by CMake, and run. The module of the roster page is run by Node. Of
-# what is for ARM, pip takes the wheel by its rules for that machine, and c/example.c is built and run under emulation. tests/release.sh calls it, as
+# what is for ARM and for Windows, pip takes the wheel by its rules for that machine, and c/example.c is built and run under emulation
+# and under Wine. tests/release.sh calls it, as
 # tests/release/use.sh FOLDER WORK: what is wrong is printed and goes to WORK/failed, what was used to WORK/ran, and what the
 # tools for are missing to WORK/without. Where KIT is set, that folder must be out of sight.
 set -uo pipefail
@@ -52,7 +53,7 @@ hidden() {
 # What needs the kit says so in one sentence.
 without_kit() {
     local script
-    for script in prove page/build.sh $(if has cc; then echo c/build.sh; fi); do
+    for script in prove page/build.sh c/build_windows.sh $(if has cc; then echo c/build.sh; fi); do
         "$top/$script" > "$work/log" 2>&1 && fail "$script succeeds without the kit"
         [ "$(cat "$work/log")" = "$script: the Rattle kit isn't on the path (docs/RATTLE.md)" ] || fail "$script without the kit: $(cat "$work/log")"
     done
@@ -322,6 +323,40 @@ page() {
     fi
 }
 
+# wheel_for_windows PREFIX: pip takes it by its rules for that platform, and it has the DLL of the zip.
+wheel_for_windows() {
+    [ -d "$work/planner" ] || return
+    done_by 'pip install for Windows' "$work/planner/bin/pip" --disable-pip-version-check install --quiet --no-index \
+        --find-links "$folder" --platform win_amd64 --only-binary=:all: --target "$work/for_windows" nushbaret || return
+    cmp -s "$work/for_windows/nushbaret/nushbaret.dll" "$1/bin/nushbaret.dll" || fail 'the wheel for Windows has another DLL than the zip'
+    ran 'the wheel for Windows by pip'
+}
+
+# The zip for Windows: the worked example by CMake, and run under Wine.
+windows() {
+    local prefix=$work/windows built=$work/cmake-windows wine
+    done_by 'zip for Windows' python3 -m zipfile -e "$folder/nushbaret-$version-windows-x86_64.zip" "$prefix" || return
+    ran 'the zip for Windows'
+    wheel_for_windows "$prefix"
+    if ! has x86_64-w64-mingw32-gcc || ! has cmake || ! { has make || has ninja; }; then
+        without 'a compiler for Windows and CMake'
+        return
+    fi
+    done_by 'CMake for Windows' cmake -S "$top/tests/release/windows" -B "$built" -DCMAKE_SYSTEM_NAME=Windows -DWANTED="$version" \
+        -DCMAKE_C_COMPILER=x86_64-w64-mingw32-gcc -DEXAMPLE="$top/c/example.c" -Dnushbaret_DIR="$prefix/lib/cmake/nushbaret" || return
+    done_by 'CMake builds for Windows' cmake --build "$built" || return
+    ran 'C99 for Windows by CMake'
+    wine=$(type -P wine64 || echo /usr/lib/wine/wine64)
+    if [ -x "$wine" ]; then
+        cp "$prefix/bin/nushbaret.dll" "$built/"
+        expect 'example under Wine' "$example" env WINEDEBUG=-all WINEPREFIX="$work/wine" bash -c '"$1" "$2" 2> /dev/null | tr -d "\r"' \
+            wine "$wine" "$built/example.exe"
+        ran 'under Wine'
+    else
+        without Wine
+    fi
+}
+
 completions() {
     local share=$prefix/share name
     ran 'completions of bash'
@@ -352,5 +387,6 @@ package
 manual
 completions
 page
+windows
 removed
 exit 0
