@@ -114,13 +114,16 @@ class Progress(unittest.TestCase):
                  lambda **words: nushbaret.solve([list(column) for column in zip(*self.COSTS)], **words).cost,
                  lambda **words: nushbaret.solve_sparse(30, 40, *zip(*lists), **words).cost,
                  lambda **words: nushbaret.solve([[cost + 1e15 / 3 for cost in row] for row in self.COSTS], **words).columns)
+        numbers = []
         for call in calls:
             noted, found = self.noted(call)
             self.assertEqual(found, call())
             self.assertEqual((noted[-1], {rows for _, rows in noted}), ((30, 30), {30}))
             self.assertTrue(all(0 <= served <= 30 for served, _ in noted))
-            self.assertGreater(len(noted), 1)
+            numbers.append(len(noted))
             self.assertEqual(self.noted(call, timeout=1000)[1], found)
+        # Listed pairs get some passes beyond a budget, so a small search ends in its first piece.
+        self.assertEqual([number > 1 for number in numbers], [True, True, True, False, True])
 
     def test_it_may_end_the_call(self):
         def stop(served, rows):
