@@ -115,9 +115,11 @@ def plan_roster(costs: Mapping[Named, Any], days: Mapping[str, Union[str, date]]
         SciPy isn't there.
 
     >>> import nushbaret
-    >>> nushbaret.plan_roster({("Ada", "Early Mon"): 1}, {"Early Mon": "Mon"}, [("rest", "Late > Early")])
-    Traceback (most recent call last):
-    ValueError: rules, line 1, column 2: no kind of shift is 'Late': the kinds are Early
+    >>> try:
+    ...     nushbaret.plan_roster({("Ada", "Early Mon"): 1}, {"Early Mon": "Mon"}, [("rest", "Late > Early")])
+    ... except ValueError as fault:
+    ...     print(fault)
+    rules, line 1, column 2: no kind of shift is 'Late': the kinds are Early
     """
     listed = dict(costs)
     ratios = [_ratio(pair, cost) for pair, cost in listed.items()]
