@@ -94,7 +94,7 @@ class Pieces(unittest.TestCase):
                 result = nushbaret.solve(costs, maximize, partial=True)
                 self.assertEqual((result.cost, bool(result.verify(costs))), (wanted.cost, True))
             pieces += len(calls)
-        self.assertGreater(pieces, 150)
+        self.assertGreater(pieces, 80)
 
 
 class Progress(unittest.TestCase):
