@@ -74,7 +74,7 @@ under_wine() {
 copy() {
     mkdir -p "$work/top/c/out"
     cd "$top"
-    cp -r --parents VERSION LICENSE-* README.md c/nushbaret.h docs examples python tests crates/assign_core/src/numbers.rt "$work/top"
+    cp -r --parents VERSION LICENSE-* README.md c/nushbaret.h bench/*.* docs examples python tests crates/assign_core/src/numbers.rt "$work/top"
     cc -std=gnu99 -O1 -Wall -Wextra -Werror -I"$top/c" -shared -fPIC "$top/tests/windows/loader.c" -o "$work/top/c/out/libnushbaret.so"
 }
 
