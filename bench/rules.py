@@ -3,8 +3,7 @@
 seed, and 25 months of 14 to 50 nurses, with rest, runs, weeks and nights; some with free weekends, hours, qualifications, whole weekends.
 Months that no plan meets are replaced. Needs SciPy and a built library.
 
-On four cores under load 25 to 30, seed 20261127: of the first 21 months 19 were proved best after 4 to 139 s, one was within 3 of 344, and
-one wasn't decided; since then plans are looked for near the bound, too."""
+On four cores, seed 20261128: 23 of 25 months were proved best after 1 to 31 s, and two within 1, of 207 and of 307."""
 import collections
 import datetime
 import os
