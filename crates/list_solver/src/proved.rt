@@ -1,0 +1,35 @@
+// The proved search, where the checker accepts nothing that another one finds.
+ghost use Rattle.std.specs.Prelude.{◌≡◌, length, IfOk};
+ghost use Rattle.list_solver.specs.Found.{IsAllowed, IsFound};
+
+use super::found::{Found, HallSet};
+use super::standing::Standing;
+use cost_lists::CostLists;
+use hungarian::{Outcome, solve};
+use std::alloc::{AllocError, Global};
+
+// Decides a problem. It begins with nothing, and the record stays.
+pub fn decide(
+    alloc: Global,
+    lists: &CostLists<'_>,
+    standing: &mut Standing,
+) -> Result<Found, AllocError>
+    requires prices { length standing.old.prices.items ≡ lists.now.m }
+    requires objects { length standing.old.objects.items ≡ length lists.now.rows }
+    ensures prices { length standing.new.prices.items ≡ length standing.old.prices.items }
+    ensures objects { length standing.new.objects.items ≡ length standing.old.objects.items }
+    ensures found { IfOk result (IsFound lists.now standing.new) }
+    ensures allowed { IfOk result (IsAllowed 0) }
+{
+    match solve(alloc, lists)? {
+        Outcome::Best(best) => {
+            standing.objects = best.objects;
+            standing.prices = best.prices;
+            Ok(Found::Best)
+        }
+        Outcome::Hall(set) => Ok(Found::Hall(HallSet {
+            persons: set.persons,
+            objects: set.objects,
+        })),
+    }
+}
