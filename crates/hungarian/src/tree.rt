@@ -1,0 +1,34 @@
+// The alternating paths from one person, as far as they were searched.
+use assign_core::Cost;
+use cost_lists::{Object, Person};
+use std::alloc::{AllocError, Global};
+
+// A path's cost is that of its steps to objects, less that of its steps from objects to owners.
+#[derive(Drop)]
+pub struct Tree {
+    // the cost of the best path to each object that has a predecessor
+    pub to_objects: Vec<Cost>,
+    // the person before each object on this path; 0: none was found
+    pub predecessors: Vec<Person>,
+    // when each object was scanned, from 1; 0: not yet
+    pub ranks: Vec<u32>,
+    // the cost of the path to each scanned person
+    pub to_persons: Vec<Cost>,
+    // the scanned persons; each but the first was reached from the object whose rank is its place
+    pub persons: Vec<Person>,
+}
+
+impl Tree {
+    // The tree of the first person alone.
+    pub fn new(alloc: Global, n: usize, m: usize, person: Person) -> Result<Tree, AllocError> {
+        let mut persons = Vec::new(alloc);
+        persons.push(person)?;
+        Ok(Tree {
+            to_objects: vec![in alloc; 0i64; m]?,
+            predecessors: vec![in alloc; 0u32; m]?,
+            ranks: vec![in alloc; 0u32; m]?,
+            to_persons: vec![in alloc; 0i64; n]?,
+            persons,
+        })
+    }
+}
