@@ -14,7 +14,7 @@ IsFound l s (Hall set) = IsHallSet l.rows set.persons.items set.objects.items
 IsFound l s Stopped = Unit {0}
 
 -- a call stops only where it has a budget, which isn't 0
-abbrev pub IsAllowed : ℕ → Found → Type 0
-IsAllowed budget Best = Unit {0}
-IsAllowed budget (Hall set) = Unit {0}
-IsAllowed budget Stopped = budget ≢ 0
+abbrev pub MayStop : ℕ → Found → Type 0
+MayStop budget Best = Unit {0}
+MayStop budget (Hall set) = Unit {0}
+MayStop budget Stopped = budget ≢ 0

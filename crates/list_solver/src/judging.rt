@@ -2,7 +2,7 @@
 ghost use Rattle.std.specs.Prelude.{◌≡◌, true, IfOk, MatchOption, Unit};
 ghost use Rattle.assign_core.specs.Hall.{IsHallSet};
 ghost use Rattle.cost_lists.specs.Exact.{IsOptimum};
-ghost use Rattle.list_solver.specs.Found.{IsAllowed, IsFound};
+ghost use Rattle.list_solver.specs.Found.{IsFound, MayStop};
 
 use super::found::{Ended, Found, HallSet};
 use super::standing::Standing;
@@ -36,7 +36,7 @@ pub fn judge(
 ) -> Result<Option<Found>, AllocError>
     ensures found { IfOk result
         (λ found. MatchOption found (Unit {0}) (IsFound lists.now standing.now)) }
-    ensures allowed { IfOk result (λ found. MatchOption found (Unit {0}) (IsAllowed budget)) }
+    ensures allowed { IfOk result (λ found. MatchOption found (Unit {0}) (MayStop budget)) }
 {
     match ended {
         Ended::Best => {

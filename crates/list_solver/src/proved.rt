@@ -1,6 +1,6 @@
 // The proved search, where the checker accepts nothing that another one finds.
 ghost use Rattle.std.specs.Prelude.{◌≡◌, length, IfOk};
-ghost use Rattle.list_solver.specs.Found.{IsAllowed, IsFound};
+ghost use Rattle.list_solver.specs.Found.{IsFound, MayStop};
 
 use super::found::{Found, HallSet};
 use super::standing::Standing;
@@ -19,7 +19,7 @@ pub fn decide(
     ensures prices { length standing.new.prices.items ≡ length standing.old.prices.items }
     ensures objects { length standing.new.objects.items ≡ length standing.old.objects.items }
     ensures found { IfOk result (IsFound lists.now standing.new) }
-    ensures allowed { IfOk result (IsAllowed 0) }
+    ensures allowed { IfOk result (MayStop 0) }
 {
     match solve(alloc, lists)? {
         Outcome::Best(best) => {

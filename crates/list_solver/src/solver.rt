@@ -1,6 +1,6 @@
 // The solver: a search, then the checker, and a proved search where the checker accepts nothing.
 ghost use Rattle.std.specs.Prelude.{◌≡◌, length, IfOk, MatchOption, Unit};
-ghost use Rattle.list_solver.specs.Found.{IsAllowed, IsFound};
+ghost use Rattle.list_solver.specs.Found.{IsFound, MayStop};
 
 use super::dense_lists::search_rows;
 use super::found::{Ended, Found};
@@ -39,7 +39,7 @@ fn try_once(
     ensures objects { length standing.new.objects.items ≡ length standing.old.objects.items }
     ensures found { IfOk result
         (λ found. MatchOption found (Unit {0}) (IsFound lists.now standing.new)) }
-    ensures allowed { IfOk result (λ found. MatchOption found (Unit {0}) (IsAllowed budget)) }
+    ensures allowed { IfOk result (λ found. MatchOption found (Unit {0}) (MayStop budget)) }
 {
     let ended = search_lists(alloc, lists, standing, budget)?;
     judge(alloc, lists, standing, budget, ended)
@@ -82,7 +82,7 @@ fn try_anew(
     ensures prices { length standing.new.prices.items ≡ length standing.old.prices.items }
     ensures objects { length standing.new.objects.items ≡ length standing.old.objects.items }
     ensures found { IfOk result (IsFound lists.now standing.new) }
-    ensures allowed { IfOk result (IsAllowed 0) }
+    ensures allowed { IfOk result (MayStop 0) }
 {
     if !is_first {
         begin_anew(standing);
@@ -117,7 +117,7 @@ pub fn solve_lists(
     ensures prices { length standing.new.prices.items ≡ length standing.old.prices.items }
     ensures objects { length standing.new.objects.items ≡ length standing.old.objects.items }
     ensures found { IfOk result (IsFound lists.now standing.new) }
-    ensures allowed { IfOk result (IsAllowed budget) }
+    ensures allowed { IfOk result (MayStop budget) }
 {
     let is_first = standing.record.stage == 0 && standing.has_nothing();
     if let Some(found) = try_once(alloc, lists, standing, budget)? {
