@@ -6,7 +6,7 @@ import time
 from array import array
 
 import nushbaret
-from nushbaret import _library as library
+from nushbaret.lap import library
 
 try:
     import numpy as np

@@ -18,8 +18,8 @@ TOP = HERE.parent
 sys.path.insert(0, str(TOP / "python"))
 sys.dont_write_bytecode = True
 
-from nushbaret._html import COLOURS, FRAME  # noqa: E402
-from nushbaret._page import SHADES_STYLE, STYLE  # noqa: E402
+from nushbaret.roster.output.html import COLOURS, FRAME  # noqa: E402
+from nushbaret.roster.output.page import SHADES_STYLE, STYLE  # noqa: E402
 
 IMPORT = re.compile(r'^import \{[^}]*\} from "\./([a-z]+)\.mjs";\n', re.M)
 NAMED = re.compile(r"^(?:export )?(?:async )?(?:function\*?|const|let|class) (\w+)", re.M)

@@ -2,8 +2,8 @@
 import textwrap
 from typing import Iterable, Iterator, List, NamedTuple, Tuple
 
-from nushbaret import _words as words
-from nushbaret._library import VERSION
+from nushbaret.roster import words
+from nushbaret.lap.library import VERSION
 
 # The variables that the command looks at.
 VARIABLES = [("NUSHBARET_DEBUG", "If it is set, a fault of the command itself shows where it comes from.")]

@@ -35,12 +35,8 @@ MOST_OF_ALL = 18500
 UNCOUNTED = (GENERATED, "CHANGELOG.md")
 # The sources whose comments avoid the same words, the beginning of these comments, and code in them.
 COMMENTS = {"crates/*/src/**/*.rt": re.compile(r"\s*//[/!]"), "crates/*/specs/**/*.antt": re.compile(r"\s*--")}
-# The modules of the command for rosters.
-COMMAND = ("answer", "blocks", "by_counts", "by_rules", "calendar", "changes", "check_file", "command", "costs", "dates",
-           "day_sheets", "days", "each", "encodings", "exchanges", "fair", "files", "gadgets", "groups", "html", "json",
-           "lack", "month", "names", "nodes", "page", "past", "ranked", "read_workbook", "roster", "roster_rows",
-           "rule_even", "rule_file", "rule_rows", "rule_texts", "rules", "rules_kept", "ruling", "sentences", "sheet_looks",
-           "sheets", "texts", "times", "words", "workbook")
+# The folders of Python whose texts people read, not the comments alone.
+TEXTS = ("python/nushbaret/api/", "python/nushbaret/counts/", "python/nushbaret/roster/", "python/nushbaret/rows/")
 # The other sources, and what their comments are, by how their names end; those of Python are found by its own reader.
 SCRIPTED = (".ci/run", "prove", "bench/**/*", "c/*", "docs/*.py", "page/*", "programs/**/*", "python/**/*.py", "release/**/*", "tests/**/*")
 SCRIPTS = {("/run", ".sh"): re.compile(r'^\s*#.*$|"""[\s\S]*?"""', re.M), (".c", ".h"): re.compile(r"/\*.*?\*/", re.DOTALL),
@@ -241,7 +237,7 @@ def comments_of(path):
     """Each comment of a source outside the crates with the number of its first line."""
     name = os.path.basename(path)
     if path.endswith(".py") or name == "prove":
-        yield from comments_of_python(path, name in (f"_{module}.py" for module in COMMAND))
+        yield from comments_of_python(path, os.path.relpath(path, TOP).startswith(TEXTS))
         return
     for kinds, comment in SCRIPTS.items():
         if path.endswith(kinds):

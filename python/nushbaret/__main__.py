@@ -16,7 +16,7 @@ def main() -> int:
 
 
 def _run() -> int:
-    from ._command import DEVICE, main as run
+    from .roster.command import DEVICE, main as run
     try:
         return run()
     except Exception:

@@ -16,12 +16,12 @@ from typing import Any, Dict, List
 sys.path.insert(0, os.path.join(os.path.dirname(os.path.abspath(__file__)), "../../python"))
 sys.dont_write_bytecode = True
 
-from nushbaret._answer import Wish, answer_of, left_out  # noqa: E402
-from nushbaret._names import without_marks  # noqa: E402
-from nushbaret._roster import Roster, read_roster  # noqa: E402
-from nushbaret._sheets import Reading, RosterFault  # noqa: E402
-from nushbaret._texts import Report, first_lines, rows_of  # noqa: E402
-from nushbaret._words import read_words  # noqa: E402
+from nushbaret.roster.answer import Wish, answer_of, left_out  # noqa: E402
+from nushbaret.roster.names import without_marks  # noqa: E402
+from nushbaret.roster.roster import Roster, read_roster  # noqa: E402
+from nushbaret.roster.sheets import Reading, RosterFault  # noqa: E402
+from nushbaret.roster.output.texts import Report, first_lines, rows_of  # noqa: E402
+from nushbaret.roster.words import read_words  # noqa: E402
 
 # The command names its options, and the page what it has for them.
 WORDS = {

@@ -6,10 +6,10 @@ from datetime import date, timedelta
 
 sys.path.insert(0, str(pathlib.Path(__file__).resolve().parents[2] / "python"))
 
-from nushbaret._month import Before, month_of
-from nushbaret._roster import Earlier, Groups, PlanLine, Roster
-from nushbaret._rule_file import Line, rules_of
-from nushbaret._times import Times
+from nushbaret.roster.month import Before, month_of
+from nushbaret.roster.roster import Earlier, Groups, PlanLine, Roster
+from nushbaret.roster.rule_file import Line, rules_of
+from nushbaret.roster.times import Times
 
 KINDS = ("Early", "Late", "Night")
 NAMES = ("Ada", "Ben", "Cleo", "Dan", "Eve", "Finn")

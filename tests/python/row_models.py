@@ -2,10 +2,10 @@
 import itertools
 from fractions import Fraction
 
-from nushbaret import _certificates as files
-from nushbaret import _row_finding as finding
-from nushbaret import _row_worker as worker
-from nushbaret._row_model import Limits, Model, Row
+from nushbaret.rows import certificates as files
+from nushbaret.rows import finding
+from nushbaret.rows import worker
+from nushbaret.rows.model import Limits, Model, Row
 
 try:
     import scipy
@@ -112,10 +112,10 @@ class Channel(worker.Channel):
 
 def found_here(model, seconds=600):
     """What `find` returns, with the work of both processes done here, one after the other."""
-    from nushbaret import _row_bounds, _row_plans
+    from nushbaret.rows import bounds, plans
     search, channel = finding._Search(model), Channel()
-    _row_plans.look_for_plans(search.scaled, channel, seconds)
-    _row_bounds.look_for_bounds(search.scaled, channel, seconds)
+    plans.look_for_plans(search.scaled, channel, seconds)
+    bounds.look_for_bounds(search.scaled, channel, seconds)
     for message in channel.told:
         finding._taken(search, [], message)
     return search.finding()

@@ -10,7 +10,8 @@ from fractions import Fraction
 
 import nushbaret
 from drawn import drawing
-from nushbaret import _exact, _problem, _proved
+from nushbaret.costs import reading, problem as _problem
+from nushbaret.lap import proved
 from optional import np, pd
 
 LEAST, MOST = -2**63, 2**63 - 1
@@ -244,9 +245,9 @@ class Views(unittest.TestCase):
         self.assertEqual(nushbaret.solve([tenth]).cost, Decimal("0.1"))
         self.assertEqual(nushbaret.solve((ctypes.c_float * 1 * 1)((0.1,))).cost, Decimal("0.1"))
         self.assertEqual(nushbaret.solve_sparse(1, 1, [0], [0], tenth).cost, Decimal("0.1"))
-        problem = _problem.of_matrix([[1]], _exact.manner(False))
+        problem = _problem.of_matrix([[1]], reading.manner(False))
         for prices in [tenth, memoryview(tenth)] + ([np.array(tenth), [*np.array(tenth)]] if np else []):
-            self.assertEqual(_proved.exact_prices(problem, prices), [Fraction(1, 10)])
+            self.assertEqual(proved.exact_prices(problem, prices), [Fraction(1, 10)])
         self.assertLess(0.1, exact)
         # By hand: as decimals both plans cost 0.1 + 0.1, as doubles the first one costs more.
         view = memoryview(array("f", [0.1, 0.1, 0.1, 0.1])).cast("B").cast("f", (2, 2))
@@ -287,7 +288,7 @@ class Ends(unittest.TestCase):
         """A bound is compared as a whole number, where NumPy would compare doubles."""
         for worst, kept, kept_greatest in (2**63, 2, 0), (2**70, 2, 0), (MOST, 2, 1), (LEAST, 1, 2), (LEAST - 1, 0, 2), (-2**70, 0, 2):
             for maximize, wanted in (False, kept), (True, kept_greatest):
-                problem = _problem.of_matrix(np.array([[LEAST, MOST]]), _exact.manner(maximize))
+                problem = _problem.of_matrix(np.array([[LEAST, MOST]]), reading.manner(maximize))
                 self.assertEqual(len(_problem.within(problem, (worst, 1)).costs), wanted)
 
     def test_small_numbers_of_rows_and_columns(self):
@@ -326,7 +327,7 @@ class Ends(unittest.TestCase):
 
     def test_all_of_16_bits(self):
         """Each float of 16 bits, and drawn ones of 32, are what NumPy prints."""
-        from nushbaret import _printing
+        from nushbaret.costs import printing
         every = np.arange(2**16, dtype=np.uint16).view(np.float16)
         bits = np.random.default_rng(60).integers(0, 2**32, 20000, dtype=np.uint64).astype(np.uint32).view(np.float32)
         near = (np.random.default_rng(61).integers(-10**6, 10**6, 20000) / 256).astype(np.float32)
@@ -334,11 +335,11 @@ class Ends(unittest.TestCase):
         for floats in every, bits, near, powers:
             floats = floats[np.isfinite(floats)]
             with np.errstate(all="ignore"):
-                found = _printing.of_array(np, floats)
+                found = printing.of_array(np, floats)
             wanted = [float(str(value)) for value in floats]
             self.assertEqual(found.tolist(), wanted)
             letter = floats.dtype.char
-            self.assertEqual([_printing.shortest(float(value), letter) for value in floats[::7]], wanted[::7])
+            self.assertEqual([printing.shortest(float(value), letter) for value in floats[::7]], wanted[::7])
 
     def test_great_long_doubles(self):
         if np.finfo(np.longdouble).max <= sys.float_info.max:

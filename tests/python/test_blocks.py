@@ -8,9 +8,9 @@ from datetime import date, timedelta
 
 sys.path.insert(0, str(pathlib.Path(__file__).resolve().parents[2] / "python"))
 
-from nushbaret._answer import Pair, Plan
-from nushbaret._blocks import blocks_of
-from nushbaret._roster import Groups, OldPlan
+from nushbaret.roster.answer import Pair, Plan
+from nushbaret.roster.blocks import blocks_of
+from nushbaret.roster.roster import Groups, OldPlan
 from test_planners import roster_of
 
 

@@ -9,15 +9,15 @@ sys.path.insert(0, str(pathlib.Path(__file__).resolve().parents[2] / "python"))
 
 from drawn_rules import SHAPES, drawn_lines, roster_of, with_earlier, with_past
 from optional import np, optimize
-from nushbaret._answer import Wish
-from nushbaret._by_rules import Task, answer_by_rules
-from nushbaret._month import month_of
-from nushbaret._roster import PlanLine
-from nushbaret._roster_rows import built
-from nushbaret._row_finding import find
-from nushbaret._row_model import Model, Row
-from nushbaret._rule_file import Line, rules_of
-from nushbaret._rules_kept import broken_by, plan_of
+from nushbaret.roster.answer import Wish
+from nushbaret.roster.by_rules import Task, answer_by_rules
+from nushbaret.roster.month import month_of
+from nushbaret.roster.roster import PlanLine
+from nushbaret.roster.roster_rows import built
+from nushbaret.rows.finding import find
+from nushbaret.rows.model import Model, Row
+from nushbaret.roster.rule_file import Line, rules_of
+from nushbaret.roster.rules_kept import broken_by, plan_of
 
 MOST_PLANS = 4000
 # More than any of these takes on a busy machine.

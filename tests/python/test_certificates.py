@@ -10,9 +10,9 @@ from unittest import mock
 
 sys.path.insert(0, str(pathlib.Path(__file__).resolve().parents[2] / "python"))
 
-from nushbaret import _certificates as files, _row_library as library
-from nushbaret._row_check import MOST_DEPTH, shows, shows_here
-from nushbaret._row_model import Certificate, Leaf, Limits, Split, flat
+from nushbaret.rows import certificates as files, library
+from nushbaret.rows.check import MOST_DEPTH, shows, shows_here
+from nushbaret.rows.model import Certificate, Leaf, Limits, Split, flat
 
 import row_models as models
 

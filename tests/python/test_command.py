@@ -18,12 +18,13 @@ from unittest import mock
 TOP = pathlib.Path(__file__).resolve().parents[2]
 sys.path.insert(0, str(TOP / "python"))
 
-from nushbaret import _command as command, _library as library
-from nushbaret._answer import Short, listed, plural, sentence
-from nushbaret._files import OutputFault, write_file
-from nushbaret._names import without_marks
-from nushbaret._roster import read_roster
-from nushbaret._words import parser_of
+from nushbaret.lap import library
+from nushbaret.roster import command
+from nushbaret.roster.answer import Short, listed, plural, sentence
+from nushbaret.roster.files import OutputFault, write_file
+from nushbaret.roster.names import without_marks
+from nushbaret.roster.roster import read_roster
+from nushbaret.roster.words import parser_of
 
 NIGHTS = ("person,shift,hours\nAda,early,1\nBen,night,2\nBen,weekend,3\nCleo,night,2\nDan,night,1\nDan,weekend,5\n"
           "Ada,late,2\nAda,office,1\n")
@@ -534,7 +535,7 @@ class Outputs(Runs):
             page = parsed(self.read("p.html"))
             self.assertEqual(len([1 for _, kinds in page.cells if "own" in kinds]), size)
             self.assertEqual(len(page.cells), size * size + 3 * size)
-        with mock.patch("nushbaret._page.MOST_CELLS", 899):
+        with mock.patch("nushbaret.roster.output.page.MOST_CELLS", 899):
             self.run_words("r.csv", "--html", "q.html")
         self.assertIn("isn't drawn", self.read("q.html"))
 
@@ -625,7 +626,7 @@ class Statuses(Runs):
         self.file("r.csv", SQUARE)
         with mock.patch.dict(library._calls, clear=True), mock.patch.object(library, "PLACES", ()):
             self.refused(4, "c/build.sh", "r.csv", "--output", "p.csv")
-        with mock.patch("nushbaret._answer.solved", side_effect=MemoryError):
+        with mock.patch("nushbaret.roster.answer.solved", side_effect=MemoryError):
             self.refused(4, "memory refused", "r.csv", "--output", "p.csv")
 
     def program(self, *words, **options):

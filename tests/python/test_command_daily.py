@@ -12,7 +12,7 @@ from unittest import mock
 import test_command
 from test_command import SQUARE, TOP, Runs
 
-from nushbaret._page import _filled
+from nushbaret.roster.output.page import _filled
 
 try:
     import openpyxl
@@ -181,12 +181,12 @@ class Faults(Daily):
 
     def test_interrupted_while_writing(self):
         for force in ((), ("--force",)):
-            with mock.patch("nushbaret._files.os.chmod" if force else "nushbaret._files.open", side_effect=KeyboardInterrupt, create=True):
+            with mock.patch("nushbaret.roster.files.os.chmod" if force else "nushbaret.roster.files.open", side_effect=KeyboardInterrupt, create=True):
                 self.assertEqual(self.run_words("r.csv", "--output", "p.csv", *force), (130, "", ""))
             self.assertEqual(os.listdir(), ["r.csv"])
 
     def test_own_fault(self):
-        with mock.patch("nushbaret._command.answer_of", side_effect=ZeroDivisionError("by nought")):
+        with mock.patch("nushbaret.roster.command.answer_of", side_effect=ZeroDivisionError("by nought")):
             self.expect(4, "", "a fault of nushbaret itself: ZeroDivisionError: by nought (NUSHBARET_DEBUG=1 shows where)\n", "r.csv")
             with mock.patch.dict(os.environ, NUSHBARET_DEBUG="1"), self.assertRaises(ZeroDivisionError):
                 self.run_words("r.csv")
@@ -195,9 +195,9 @@ class Faults(Daily):
         self.assertEqual(self.program("N - <&-"), (4, "", "standard input is closed\n"))
 
     def test_files_that_cannot_be_written(self):
-        with mock.patch("nushbaret._files.open", side_effect=OSError(28, "No space left on device"), create=True):
+        with mock.patch("nushbaret.roster.files.open", side_effect=OSError(28, "No space left on device"), create=True):
             self.refused(4, "p.csv: No space left on device", "r.csv", "--output", "p.csv")
-        with mock.patch("nushbaret._files.tempfile.mkstemp", side_effect=PermissionError(13, "Permission denied", ".nushbaret.x")):
+        with mock.patch("nushbaret.roster.files.tempfile.mkstemp", side_effect=PermissionError(13, "Permission denied", ".nushbaret.x")):
             self.refused(4, "p.csv: Permission denied", "r.csv", "--output", "p.csv", "--force")
         self.assertEqual(self.program("N r.csv --html /dev/full")[::2], (4, "/dev/full: No space left on device\n"))
 
@@ -205,8 +205,8 @@ class Faults(Daily):
         """Windows replaces no file that only may be read or is open elsewhere, and removes none that may only be read."""
         self.file("p.csv", "old")
         os.chmod("p.csv", 0o444)
-        with mock.patch("nushbaret._files.os.unlink", side_effect=unlink_of_windows), \
-                mock.patch("nushbaret._files.os.replace", side_effect=PermissionError(13, "Permission denied")):
+        with mock.patch("nushbaret.roster.files.os.unlink", side_effect=unlink_of_windows), \
+                mock.patch("nushbaret.roster.files.os.replace", side_effect=PermissionError(13, "Permission denied")):
             self.refused(4, "p.csv: Permission denied", "r.csv", "--output", "p.csv", "--force")
         self.assertEqual((self.read("p.csv"), sorted(os.listdir())), ("old", ["p.csv", "r.csv"]))
 

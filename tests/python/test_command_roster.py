@@ -12,9 +12,9 @@ from unittest import mock
 
 sys.path.insert(0, str(pathlib.Path(__file__).resolve().parents[2] / "python"))
 
-from nushbaret import _roster
-from nushbaret._roster import alike, form_of, read_plan, read_roster
-from nushbaret._sheets import RosterFault, Sheet
+from nushbaret.roster import roster as _roster
+from nushbaret.roster.roster import alike, form_of, read_plan, read_roster
+from nushbaret.roster.sheets import RosterFault, Sheet
 
 try:
     import openpyxl
@@ -160,8 +160,8 @@ class InOneGo(Folder):
     def read(self, path, words, bulk):
         with contextlib.ExitStack() as patches:
             if not bulk:
-                patches.enter_context(mock.patch("nushbaret._costs.Costs.take_plain", return_value=False))
-                patches.enter_context(mock.patch("nushbaret._roster.Lines.take_all", return_value=False))
+                patches.enter_context(mock.patch("nushbaret.roster.costs.Costs.take_plain", return_value=False))
+                patches.enter_context(mock.patch("nushbaret.roster.roster.Lines.take_all", return_value=False))
             try:
                 roster = read_roster(path, *words)
             except RosterFault as fault:
@@ -190,7 +190,7 @@ class InOneGo(Folder):
     def test_beside_one_by_one(self):
         draw = random.Random(5)
         seen = {str: 0, dict: 0}
-        with mock.patch("nushbaret._sheets.BLOCK", 3), mock.patch("nushbaret._sheets.PIECE", 9):
+        with mock.patch("nushbaret.roster.sheets.BLOCK", 3), mock.patch("nushbaret.roster.sheets.PIECE", 9):
             for case in range(1500):
                 path = self.file(self.content(draw, draw.choice((0, 0.02, 0.1))))
                 words = draw.choice(((None, None, False), (None, 2, False), (None, None, False, 1), ("lines", None, False)))

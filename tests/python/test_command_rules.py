@@ -11,8 +11,9 @@ sys.path.insert(0, str(pathlib.Path(__file__).resolve().parents[2] / "python"))
 
 from optional import np, optimize
 from test_command import Runs, Terminal
-from nushbaret import _row_finding as finding, _ruling as ruling
-from nushbaret._row_model import Finding
+from nushbaret.roster import ruling
+from nushbaret.rows import finding
+from nushbaret.rows.model import Finding
 
 WISHES = (",Early 2027-03-05,Night 2027-03-05,Early 2027-03-06,Night 2027-03-06,Early 2027-03-07,Night 2027-03-07,Early 2027-03-08,"
           "Night 2027-03-08\nAda,3,0,4,2,6,0,5,1\nBen,2,1,4,1,3,5,0,7\nCleo,1,6,1,8,1,4,3,9\n")
@@ -106,7 +107,7 @@ class Words(Files):
             return Finding("undecided")
         terminal = Terminal()
         with mock.patch.object(finding, "find", side_effect=found), mock.patch.object(sys, "stderr", terminal):
-            from nushbaret._command import main
+            from nushbaret.roster.command import main
             with contextlib.redirect_stdout(io.StringIO()):
                 main([*WORDS, "-q"])
         self.assertIn("\rcosts: looks for plans, proved at least 4\rcosts: proofs, found 7, proved at least 5", terminal.getvalue())

@@ -7,7 +7,7 @@ import unittest
 
 from test_command import SQUARE, TOP, Runs
 
-from nushbaret import _library as library
+from nushbaret.lap import library
 
 HINT = " (nushbaret --help lists all options)\n"
 

@@ -8,9 +8,9 @@ from unittest import mock
 sys.path.insert(0, str(pathlib.Path(__file__).resolve().parents[2] / "python"))
 
 import nushbaret
-from nushbaret import _count_rows as rows, _counts as counts
-from nushbaret._exchanges import exchanges_of
-from nushbaret._row_check import shows, shows_here
+from nushbaret.counts import count_rows as rows, planned as counts
+from nushbaret.counts.exchanges import exchanges_of
+from nushbaret.rows.check import shows, shows_here
 
 import drawn
 import row_models as models

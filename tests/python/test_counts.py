@@ -11,9 +11,9 @@ from unittest import mock
 sys.path.insert(0, str(pathlib.Path(__file__).resolve().parents[2] / "python"))
 
 import nushbaret
-from nushbaret import _gadgets as gadgets
-from nushbaret._counts import planned
-from nushbaret._gadgets import Bounds, Counted
+from nushbaret.counts import gadgets
+from nushbaret.api.counts import planned
+from nushbaret.counts.gadgets import Bounds, Counted
 
 import drawn
 
@@ -89,11 +89,11 @@ class Plans(unittest.TestCase):
         self.assertLess(infeasible, 1300)
 
     def test_gadgets_only_where_a_plan_needs_them(self):
-        solved, more = gadgets.solve_sparse, 0
+        solved, more = gadgets.best_plan, 0
         for case, (roster, maximize) in enumerate(rosters(2, SMALL)):
             least, calls = min(plan[:2] for plan in roster.plans(maximize)), []
             with mock.patch.object(gadgets._Builder, "spare", lambda builder: iter(())), mock.patch.object(
-                    gadgets, "solve_sparse", lambda *lists: calls.append(lists) or solved(*lists)), self.subTest(case=case):
+                    gadgets, "best_plan", lambda *lists: calls.append(lists) or solved(*lists)), self.subTest(case=case):
                 self.judge(roster, roster.assign(maximize=maximize, partial=True), maximize, least)
             more += len(calls) > 1
         self.assertGreater(more, 50)

@@ -7,7 +7,7 @@ from datetime import date, timedelta
 
 sys.path.insert(0, str(pathlib.Path(__file__).resolve().parents[2] / "python"))
 
-from nushbaret._dates import DAY_NAMES, dates_of, has_weekday, is_weekend_name, monday_of, order_by_date
+from nushbaret.roster.dates import DAY_NAMES, dates_of, has_weekday, is_weekend_name, monday_of, order_by_date
 
 
 class Reading(unittest.TestCase):

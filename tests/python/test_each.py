@@ -8,9 +8,9 @@ from datetime import date, datetime, time, timedelta
 
 sys.path.insert(0, str(pathlib.Path(__file__).resolve().parents[2] / "python"))
 
-from nushbaret._calendar import Event, calendar
-from nushbaret._each import file_names
-from nushbaret._times import Times
+from nushbaret.roster.output.calendar import Event, calendar
+from nushbaret.roster.output.each import file_names
+from nushbaret.roster.times import Times
 from test_command import Runs, parsed, without_names
 
 try:

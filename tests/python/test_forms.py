@@ -6,12 +6,15 @@ from fractions import Fraction
 from unittest import mock
 
 import nushbaret
-from nushbaret import _levels, _library as library, _problem, _solving
+from nushbaret.api import solve
+from nushbaret.costs import problem as _problem
+from nushbaret.lap import levels, library
 from drawn import drawing
 
 try:
     import numpy as np
-    from nushbaret import _printing, _small
+    from nushbaret.costs import printing
+    from nushbaret.lap import small
 except ImportError:
     np = None
 try:
@@ -89,7 +92,7 @@ class Forms(unittest.TestCase):
         for call in nushbaret.solve, nushbaret.linear_sum_assignment:
             with self.subTest(costs=costs, kind=costs.dtype, maximize=maximize, call=call.__name__):
                 shorter = _said(call, costs, maximize)
-                with mock.patch.object(_solving, "small_arrays", return_value=None):
+                with mock.patch.object(solve, "small_arrays", return_value=None):
                     self.assertEqual(shorter, _said(call, costs, maximize))
 
     def test_beside_the_longer_way(self):
@@ -109,7 +112,7 @@ class Forms(unittest.TestCase):
 
     def test_which_way_is_taken(self):
         """Of each of these forms the shorter way finds the answer."""
-        draw, arrays = drawing(173), _small.small_arrays()
+        draw, arrays = drawing(173), small.small_arrays()
         plain = _drawn(draw, "f8", "even", "plain", (8, 8))
         allowed = plain.copy()
         allowed[0, 1:5] = np.inf
@@ -132,7 +135,7 @@ class Forms(unittest.TestCase):
                 frame[0] = draw.randint(0, 9)
             for call in nushbaret.solve, nushbaret.linear_sum_assignment:
                 shorter = _said(call, frame, turn % 2 == 0)
-                with mock.patch.object(_solving, "small_arrays", return_value=None):
+                with mock.patch.object(solve, "small_arrays", return_value=None):
                     self.assertEqual(shorter, _said(call, frame, turn % 2 == 0))
 
     def test_what_is_forbidden_is_never_taken(self):
@@ -157,7 +160,7 @@ class Forms(unittest.TestCase):
     def test_refined(self):
         """Where rounding doesn't show the best plan among allowed pairs, levels go on."""
         draw = drawing(175)
-        with mock.patch.object(_levels, "finer", side_effect=_levels.finer) as finer:
+        with mock.patch.object(levels, "finer", side_effect=levels.finer) as finer:
             for _ in range(40):
                 costs = _drawn(draw, "f8", "ties", "infinite", (4, 5))
                 self.both(costs, False)
@@ -203,8 +206,8 @@ class Shortest(unittest.TestCase):
 
     def compare(self, floats):
         with np.errstate(all="ignore"):
-            np.testing.assert_array_equal(_printing.of_array(np, floats), floats.astype("U32").astype(float))
-            least_places = _printing.with_places(np, floats)[1]
+            np.testing.assert_array_equal(printing.of_array(np, floats), floats.astype("U32").astype(float))
+            least_places = printing.with_places(np, floats)[1]
         finite = [Decimal(str(cost)).normalize().as_tuple().exponent for cost in floats if np.isfinite(cost)]
         self.assertLessEqual(least_places, -min(finite, default=0) if least_places else 0)
 

@@ -8,7 +8,7 @@ from fractions import Fraction
 from unittest import mock
 
 import nushbaret
-from nushbaret import _duals, _levels, _pricing, _small, _ties
+from nushbaret.lap import duals, level as _level, levels, pricing, reduced, small, ties as _ties
 from drawn import KINDS, best, doubles, drawing, exactly, hungarian, proves
 from optional import np
 
@@ -266,14 +266,14 @@ class Larger(unittest.TestCase):
             exact = [list(map(Fraction, row)) for row in costs.tolist()]
             rows, columns = nushbaret.linear_sum_assignment(costs, maximize)
             shown = [list(map(float, row)) for row in costs.tolist()]
-            asked = _levels.solved(self.listed(shown, maximize), None, None)
+            asked = levels.solved(self.listed(shown, maximize), None, None)
             person_columns = list(asked.objects)
             pairs = list(enumerate(person_columns)) if shape[0] <= shape[1] else [(row, column) for column, row in enumerate(person_columns)]
             other = [(row, column - 1) if shape[0] <= shape[1] else (row - 1, column) for row, column in pairs]
             self.assertEqual(sum_of(exact, rows, columns), sum_of(exact, *zip(*other)))
 
     def listed(self, costs, maximize):
-        from nushbaret._problem import Problem
+        from nushbaret.costs.problem import Problem
         return Problem(len(costs), len(costs[0]), maximize, [cost for row in costs for cost in row], raw=True, doubles=True)
 
 
@@ -283,14 +283,14 @@ class Priced(unittest.TestCase):
 
     def test_beside_hungarian(self):
         draw, rounds, whole = drawing(69), 0, 0
-        with mock.patch.object(_pricing, "LARGE", 1), mock.patch.object(_pricing, "CHEAPEST", 1), mock.patch.object(_pricing, "MOST_SHARE", 1), \
-                mock.patch.multiple(_small, SMALL=0, MOST_STEPS=0), \
+        with mock.patch.object(pricing, "LARGE", 1), mock.patch.object(pricing, "CHEAPEST", 1), mock.patch.object(pricing, "MOST_SHARE", 1), \
+                mock.patch.multiple(small, SMALL=0, MOST_STEPS=0), \
                 mock.patch.object(_ties, "of_problem", return_value=None):
             for turn in range(240):
                 kind = list(KINDS)[turn % len(KINDS)]
                 n_rows, maximize = draw.randint(2, 20), draw.random() < 0.5
                 costs = doubles(draw, n_rows, draw.choice([n_rows, n_rows + 4, max(n_rows // 2, 1)]), kind)
-                with mock.patch.object(_pricing._Matrix, "answer", autospec=True, side_effect=_pricing._Matrix.answer) as asked:
+                with mock.patch.object(pricing._Matrix, "answer", autospec=True, side_effect=pricing._Matrix.answer) as asked:
                     rows, columns = nushbaret.linear_sum_assignment(np.array(costs), maximize)
                     result = nushbaret.solve(np.array(costs), maximize)
                 rounds += asked.call_count > 2
@@ -321,17 +321,17 @@ class Steps(unittest.TestCase):
     def test_which_pairs_go_out(self):
         """No pair of any best plan goes out at the first level."""
         draw, out = drawing(68), 0
-        from nushbaret._exact import manner
-        from nushbaret._problem import of_matrix
+        from nushbaret.costs.reading import manner
+        from nushbaret.costs.problem import of_matrix
         import itertools
         for turn in range(300):
             n_rows, n_columns = draw.randint(2, 4), draw.randint(2, 4)
             costs = doubles(draw, n_rows, n_columns, list(KINDS)[turn % len(KINDS)])
-            problem = _levels.prepared(of_matrix(costs, manner(False, doubles=True)))
+            problem = levels.prepared(of_matrix(costs, manner(False, doubles=True)))
             if not problem.raw:
                 continue
-            level = _levels.first_level(problem, None)
-            pairs = _levels.kept(level, level.asked.n + _ties.more(level.asked.n))
+            level = levels.first_level(problem, None)
+            pairs = reduced.kept(level, level.asked.n + _level.more(level.asked.n))
             left = set(zip(map(int, pairs.persons), map(int, pairs.objects)))
             exact = exactly(costs, False)
             exact = exact if n_rows <= n_columns else [list(column) for column in zip(*exact)]
@@ -346,7 +346,7 @@ class Steps(unittest.TestCase):
     def test_prices_that_settle(self):
         """Bounds between prices hold afterwards, and prices only fall."""
         prices = [0, 5, 9, 9]
-        _duals._settle(prices, [{}, {2: 1}, {3: -2}, {}])
+        duals._settle(prices, [{}, {2: 1}, {3: -2}, {}])
         self.assertEqual(prices, [0, 5, 6, 4])
 
 

@@ -11,9 +11,9 @@ import drawn
 from test_command import TOP, Runs, Terminal, without_names
 from test_planners_counts import Drawn
 
-from nushbaret._past import groups_before
-from nushbaret._roster import Groups
-from nushbaret._sheets import RosterFault
+from nushbaret.roster.past import groups_before
+from nushbaret.roster.roster import Groups
+from nushbaret.roster.sheets import RosterFault
 
 CASES = 500
 
@@ -441,13 +441,13 @@ class Forgotten(Month):
     def test_first_line_on_a_terminal(self):
         import contextlib
         import io
-        from nushbaret import _command
+        from nushbaret.roster import command
         self.file("sums.csv", "shift,places\nMon,2\nTue,1\nWed,1\n")
         self.file("bounds.csv", "shift,at least,at most\nMon,1,2\nTue,1,1\nWed,1,1\n")
         for words, rule in ((("--places", "sums.csv"), "; single counts: the side with the smaller sum takes all"),
                             (("--places", "bounds.csv"), "; bounds: each name's counts are kept"), ((), "")):
             with contextlib.redirect_stdout(io.StringIO()), contextlib.redirect_stderr(Terminal()) as err:
-                _command.main(["r.csv", *words])
+                command.main(["r.csv", *words])
             self.assertEqual(err.getvalue().splitlines()[0], "2 nurses, 3 shifts, 5 pairs" + rule)
 
     def test_what_was_read_is_said_before_a_refusal(self):

@@ -14,7 +14,7 @@ import tempfile
 import unittest
 import zipfile
 
-from nushbaret import _library as library
+from nushbaret.lap import library
 
 PYTHON = pathlib.Path(__file__).resolve().parent.parent.parent / "python"
 SOLVES = "import sys; sys.path.insert(0, sys.argv[1]); import nushbaret; print(nushbaret.__file__, nushbaret.solve([[1, 2], [3, 5]]).cost)"
@@ -90,7 +90,7 @@ class Package(unittest.TestCase):
         """A library that was copied into the package is packed, and no file of sources."""
         build = backend()
         shutil.copytree(build.PACKAGE, self.folder / "nushbaret", ignore=shutil.ignore_patterns("__pycache__", *build.NAMES))
-        sources = sorted(file.name for file in (self.folder / "nushbaret").iterdir())
+        sources = sorted(file.name for file in (self.folder / "nushbaret").rglob("*") if file.is_file())
         build.PACKAGE = self.folder / "nushbaret"
         for build.PLATFORM, name in (("linux-x86_64", "libnushbaret.so"), ("win-amd64", "nushbaret.dll")):
             (build.PACKAGE / name).write_bytes(b"a library")
@@ -156,7 +156,7 @@ class Bump(unittest.TestCase):
         changed = {file.relative_to(self.top).as_posix(): held for file, held in self.texts().items() if held != before[file]}
         self.assertEqual(sorted(changed), ["VERSION", "c/nushbaret.h", "crates/program_tests/src/command.rt",
                                            "crates/release_version/must-fail/another_version.edit", "crates/release_version/src/lib.rt",
-                                           "docs/SCRIPTS.md", "python/nushbaret/_library.py", "python/pyproject.toml"])
+                                           "docs/SCRIPTS.md", "python/nushbaret/lap/library.py", "python/pyproject.toml"])
         for name, held in changed.items():
             self.assertEqual(held.decode(), before[self.top / name].decode().replace(old, new))
         self.assertEqual(self.bump(old)[0], 0)

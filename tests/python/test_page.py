@@ -13,9 +13,9 @@ from unittest import mock
 
 sys.path.insert(0, str(pathlib.Path(__file__).resolve().parents[2] / "python"))
 
-from nushbaret import _days, _each, _html, _page
-from nushbaret._days import SIZES, _size
-from nushbaret._names import BEGIN, END, Piece, joined, marked, pieces, without_marks
+from nushbaret.roster.output import days, each, html as _html, page
+from nushbaret.roster.output.days import SIZES, _size
+from nushbaret.roster.names import BEGIN, END, Piece, joined, marked, pieces, without_marks
 from test_command import SQUARE, TOP, Runs, parsed, without_names
 
 BROWSER = next(filter(None, map(shutil.which, ("chromium", "chromium-browser", "google-chrome"))), None)
@@ -57,7 +57,7 @@ class Colours(unittest.TestCase):
 
     def test_no_colour_is_in_a_rule(self):
         """All colours are named, so that dark rooms have their own."""
-        for style in (_html.FRAME, _page.STYLE, _days.STYLE, _each.STYLE):
+        for style in (_html.FRAME, page.STYLE, days.STYLE, each.STYLE):
             self.assertIsNone(re.search("#[0-9a-fA-F]{3}", style))
 
 
@@ -159,7 +159,7 @@ class Month(Runs):
 
     def test_too_many_cells(self):
         """Where days have too many cells the plan is a list."""
-        with mock.patch.object(_page, "MOST_CELLS", 28 * 28 - 1):
+        with mock.patch.object(page, "MOST_CELLS", 28 * 28 - 1):
             self.run_words(*self.words, "--html", "m.html")
         text = self.read("m.html")
         self.assertNotIn('class="days"', text)

@@ -85,7 +85,7 @@ class Plans(unittest.TestCase):
         with tempfile.TemporaryDirectory() as folder:
             path = os.path.join(folder, "c.txt")
             found.write_certificate(path)
-            from nushbaret._check_file import checked
+            from nushbaret.roster.check_file import checked
             self.assertEqual(checked(path)[0], 0)
             with self.assertRaisesRegex(ValueError, "nothing was proved"):
                 found._replace(certificate=None).write_certificate(path)

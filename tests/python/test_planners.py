@@ -8,9 +8,9 @@ from array import array
 
 sys.path.insert(0, str(pathlib.Path(__file__).resolve().parents[2] / "python"))
 
-from nushbaret._answer import Wish, answer_of
-from nushbaret._by_counts import answer_by_counts
-from nushbaret._roster import Roster
+from nushbaret.roster.answer import Wish, answer_of
+from nushbaret.roster.by_counts import answer_by_counts
+from nushbaret.roster.roster import Roster
 
 CASES = 500
 

@@ -11,11 +11,11 @@ from unittest import mock
 
 sys.path.insert(0, str(pathlib.Path(__file__).resolve().parents[2] / "python"))
 
-from nushbaret import _sentences
-from nushbaret._answer import Wish, sentence
-from nushbaret._by_counts import answer_by_counts
-from nushbaret._names import without_marks
-from nushbaret._roster import Groups, Roster
+from nushbaret.roster import sentences
+from nushbaret.roster.answer import Wish, sentence
+from nushbaret.roster.by_counts import answer_by_counts
+from nushbaret.roster.names import without_marks
+from nushbaret.roster.roster import Groups, Roster
 
 import drawn
 from test_command import Runs, without_names
@@ -208,7 +208,7 @@ class Sentences(unittest.TestCase):
         found = 0
         for number, case in enumerate(drawings(5, 1300)):
             roster = case.roster()
-            with mock.patch.object(_sentences, "MOST_LISTED", number % 2 * 9):
+            with mock.patch.object(sentences, "MOST_LISTED", number % 2 * 9):
                 answer = answer_by_counts(roster, Wish((), case.maximize))
             found += bool(answer.groups)
             for short in answer.groups:

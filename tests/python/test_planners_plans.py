@@ -6,9 +6,9 @@ import unittest
 
 sys.path.insert(0, str(pathlib.Path(__file__).resolve().parents[2] / "python"))
 
-from nushbaret._answer import Wish, answer_of
-from nushbaret._by_counts import answer_by_counts
-from nushbaret._fair import fair_answer
+from nushbaret.roster.answer import Wish, answer_of
+from nushbaret.roster.by_counts import answer_by_counts
+from nushbaret.roster.fair import fair_answer
 
 from test_planners_counts import drawings, pairs_of
 

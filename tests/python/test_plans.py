@@ -6,8 +6,8 @@ from decimal import Decimal
 from unittest import mock
 
 import nushbaret
-from nushbaret import _plans
-from nushbaret._plans import Ranking
+from nushbaret.lap import ranking
+from nushbaret.lap.ranking import Ranking, _Search
 from drawn import drawing, matrix
 from optional import np
 
@@ -139,7 +139,7 @@ class Checked(unittest.TestCase):
     def test_each_plan_is_checked(self):
         draw = drawing(35)
         for costs in (self.COSTS, matrix(draw, 9, 4, 5, 0.7), matrix(draw, 4, 9, 5, 0.7)):
-            with mock.patch.object(_plans, "check_problem", side_effect=_plans.check_problem) as check:
+            with mock.patch.object(ranking, "check_problem", side_effect=ranking.check_problem) as check:
                 plans = list(nushbaret.k_best(costs, 5, partial=True))
             self.assertEqual(check.call_count, len(plans))
 
@@ -166,12 +166,12 @@ class Checked(unittest.TestCase):
 
     def test_a_part_taken_for_empty(self):
         def none(ranking, part, *words):
-            return _plans._Search(None, {}, {}, [0] * (ranking.n_columns + 1))
+            return _Search(None, {}, {}, [0] * (ranking.n_columns + 1))
         self.refused("_search", none, "a group was found to be short, and the library says otherwise")
 
     def test_a_plan_taken_for_the_only_one(self):
         result = nushbaret.solve([[1, 1], [1, 1]])
-        ranking = Ranking(result._source.read(), result)
+        ranking = result._ranking()
         self.assertTrue(ranking.has_other())
         ranking.whole = ranking.whole._replace(row_duals=[dual + 1 for dual in ranking.whole.row_duals])
         with self.assertRaisesRegex(RuntimeError, "along pairs of reduced cost 0, and the library says otherwise"):
@@ -206,7 +206,7 @@ class Bottlenecks(unittest.TestCase):
         self.assertEqual(nushbaret.bottleneck([]).cost, 0)
 
     def test_too_few_pairs(self):
-        for module, call in (("_bottleneck", nushbaret.bottleneck), ("_solving", nushbaret.solve)):
+        for module, call in (("api.bottleneck", nushbaret.bottleneck), ("lap.solving", nushbaret.solve)):
             with mock.patch(f"nushbaret.{module}.most_served", return_value=1):
                 with self.assertRaisesRegex(RuntimeError, "1 pairs were found to be the most, and the library says otherwise"):
                     call([[1, None, None], [2, 3, None], [4, None, None]], partial=True)

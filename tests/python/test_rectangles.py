@@ -3,7 +3,7 @@ import unittest
 from unittest import mock
 
 import nushbaret
-from nushbaret import _library as library
+from nushbaret.lap import library
 from drawn import best, drawing, matrix
 from optional import np
 

@@ -14,7 +14,8 @@ from fractions import Fraction
 from unittest import mock
 
 import nushbaret
-from nushbaret import _library as library, _proved as proved
+from nushbaret.costs.limits import GREATEST_PRICE
+from nushbaret.lap import library, proved
 
 TOP = pathlib.Path(__file__).resolve().parent.parent.parent
 MOST = nushbaret.GREATEST_COST
@@ -164,7 +165,7 @@ class Limits(unittest.TestCase):
     @unittest.skipIf("NUSHBARET_EMULATED" in os.environ, "an emulator takes more memory")
     def test_memory_refused(self):
         """The memory that a call keeps is less than the search of so many pairs needs."""
-        code = ("import resource, nushbaret\nfrom array import array\nfrom nushbaret import _library as library\n"
+        code = ("import resource, nushbaret\nfrom array import array\nfrom nushbaret.lap import library\n"
                 "n = 2000\n"
                 "pairs = [array('I', [k // n + 1 for k in range(n * n)]), array('I', range(1, n + 1)) * n, array('q', bytes(8 * n * n))]\n"
                 "room = array('I', bytes(4 * n)), array('I', bytes(4 * n)), array('q', bytes(8 * n))\n"
@@ -183,17 +184,17 @@ class Library(unittest.TestCase):
         header = (TOP / "c/nushbaret.h").read_text()
         codes = {name: int(code) for name, code in re.findall(r"NUSHBARET_(?!ROWS_)(\w+) = (\d+)", header)}
         self.assertEqual({name: code for code, name in enumerate(library.CODES)}, codes)
-        self.assertIn(f"NUSHBARET_MOST_PERSONS {library.MOST_PERSONS}\n", header)
-        self.assertIn(f"NUSHBARET_GREATEST_COST INT64_C({library.GREATEST_COST})\n", header)
+        self.assertIn(f"NUSHBARET_MOST_PERSONS {nushbaret.MOST_PERSONS}\n", header)
+        self.assertIn(f"NUSHBARET_GREATEST_COST INT64_C({nushbaret.GREATEST_COST})\n", header)
         self.assertIn(f'NUSHBARET_VERSION "{library.VERSION}"', header)
-        self.assertIn(f"NUSHBARET_GREATEST_PRICE INT64_C({library.GREATEST_PRICE})\n", header)
+        self.assertIn(f"NUSHBARET_GREATEST_PRICE INT64_C({GREATEST_PRICE})\n", header)
         for struct, held in ("info", library.Info), ("record", library.Record):
             fields = re.search(rf"struct nushbaret_{struct} \{{(.*?)\n\}}", header, re.S)[1]
             kinds = [(name, f"{'u' * (kind(-1).value > 0)}int{8 * ctypes.sizeof(kind)}_t") for name, kind in held._fields_]
             self.assertEqual([(name, kind) for kind, name in re.findall(r"(\w+) (\w+);", fields)], kinds)
 
     def test_no_library(self):
-        code = ("import pathlib, nushbaret, nushbaret._library as library\nlibrary.PLACES = (pathlib.Path('/nowhere.so'),)\n"
+        code = ("import pathlib, nushbaret, nushbaret.lap.library as library\nlibrary.PLACES = (pathlib.Path('/nowhere.so'),)\n"
                 "try:\n    nushbaret.solve([[1]])\nexcept OSError as fault:\n    print(type(fault).__name__, fault)\n")
         ran = subprocess.run([sys.executable, "-c", code], capture_output=True, text=True, check=True, env=os.environ)
         self.assertEqual(ran.stdout, "LibraryNotFound libnushbaret.so isn't there: c/build.sh makes it, at the top of a checkout of Nushbaret\n")

@@ -9,7 +9,7 @@ from decimal import Decimal
 from fractions import Fraction
 
 import nushbaret
-from nushbaret import _result
+from nushbaret.api import results as _result
 from drawn import KINDS, doubles, drawing
 from optional import np, pd, sparse
 

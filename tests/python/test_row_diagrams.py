@@ -9,18 +9,18 @@ from unittest import mock
 
 sys.path.insert(0, str(pathlib.Path(__file__).resolve().parents[2] / "python"))
 
-from nushbaret._row_check import shows_here
-from nushbaret._row_model import Certificate, Limits, Model, flat
+from nushbaret.rows.check import shows_here
+from nushbaret.rows.model import Certificate, Limits, Model, flat
 
 import row_models as models
 
 if models.scipy:
     import numpy as np
-    from nushbaret import _row_diagrams as diagrams, _row_prices as prices
-    from nushbaret._row_chains import Closing, chain
-    from nushbaret._row_parts import Part
-    from nushbaret._row_prices import SCALE, Pricing
-    from nushbaret._row_trees import Open, Trees
+    from nushbaret.rows import diagrams, prices
+    from nushbaret.rows.chains import Closing, chain
+    from nushbaret.rows.parts import Part
+    from nushbaret.rows.prices import SCALE, Pricing
+    from nushbaret.rows.trees import Open, Trees
 
 CASES = 300
 

@@ -11,9 +11,9 @@ from unittest import mock
 
 sys.path.insert(0, str(pathlib.Path(__file__).resolve().parents[2] / "python"))
 
-from nushbaret import _row_finding as finding
-from nushbaret._row_check import shows
-from nushbaret._row_model import Model, Row
+from nushbaret.rows import finding
+from nushbaret.rows.check import shows
+from nushbaret.rows.model import Model, Row
 
 import row_models as models
 
@@ -78,8 +78,8 @@ class Months(unittest.TestCase):
     """Months by prices and persons' trees, however small."""
 
     def setUp(self):
-        from nushbaret import _row_bounds
-        patched = mock.patch.object(_row_bounds, "_SMALL", 0)
+        from nushbaret.rows import bounds
+        patched = mock.patch.object(bounds, "_SMALL", 0)
         patched.start()
         self.addCleanup(patched.stop)
 

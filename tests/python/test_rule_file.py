@@ -9,10 +9,10 @@ from fractions import Fraction
 sys.path.insert(0, str(pathlib.Path(__file__).resolve().parents[2] / "python"))
 
 from drawn_rules import roster_of
-from nushbaret._month import Before, month_of
-from nushbaret._roster import Earlier, Groups
-from nushbaret._rule_file import Line, Rule, rules_of
-from nushbaret._sheets import RosterFault
+from nushbaret.roster.month import Before, month_of
+from nushbaret.roster.roster import Earlier, Groups
+from nushbaret.roster.rule_file import Line, Rule, rules_of
+from nushbaret.roster.sheets import RosterFault
 
 ALL = (0, 1, 2)
 KINDS = frozenset(("Early", "Late", "Night"))

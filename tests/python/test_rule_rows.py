@@ -8,10 +8,10 @@ from collections import Counter
 sys.path.insert(0, str(pathlib.Path(__file__).resolve().parents[2] / "python"))
 
 from drawn_rules import SHAPES, drawn_case
-from nushbaret._roster import PlanLine
-from nushbaret._row_sums import Rows, Work
-from nushbaret._rule_rows import Making, add_rules
-from nushbaret._rules_kept import broken_by, plan_of
+from nushbaret.roster.roster import PlanLine
+from nushbaret.roster.sums import Rows, Work
+from nushbaret.roster.rule_rows import Making, add_rules
+from nushbaret.roster.rules_kept import broken_by, plan_of
 
 
 def drawn_plan(r, roster, past):

@@ -8,9 +8,9 @@ import zipfile
 
 from test_command import SQUARE, Runs
 
-from nushbaret._dates import spellings
-from nushbaret._encodings import LETTERS, MARKS
-from nushbaret._sheets import heading_of
+from nushbaret.roster.dates import spellings
+from nushbaret.roster.encodings import LETTERS, MARKS
+from nushbaret.roster.sheets import heading_of
 
 try:
     import openpyxl

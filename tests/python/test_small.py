@@ -6,12 +6,13 @@ from fractions import Fraction
 from unittest import mock
 
 import nushbaret
-from nushbaret import _levels, _solving
+from nushbaret.api import solve
+from nushbaret.lap import levels
 from drawn import KINDS, best, doubles, drawing, exactly, hungarian, proves
 
 try:
     import numpy as np
-    from nushbaret import _small
+    from nushbaret.lap import small as _small
 except ImportError:
     np = None
 
@@ -47,7 +48,7 @@ class Small(unittest.TestCase):
         """By the thousand, compared with all plans: lists and arrays, for decimals and for doubles."""
         draw, kinds = drawing(81), [*OWN_KINDS, "tied", "near ties", "small differences", "thirds and M", "even"]
         small, refined = 0, 0
-        with mock.patch.object(_levels, "after_first", side_effect=_levels.after_first) as finer:
+        with mock.patch.object(levels, "after_first", side_effect=levels.after_first) as finer:
             for turn in range(2400):
                 kind, most = kinds[turn % len(kinds)], 5 if turn % 40 == 0 else 4
                 n_rows, n_columns, maximize = draw.randint(1, most), draw.randint(1, most), draw.random() < 0.5
@@ -109,7 +110,7 @@ class Small(unittest.TestCase):
                 costs = self.costs(draw, kind, n_rows, n_columns)
             for form in (costs,) if kind == "great whole" else (costs, np.array(costs)):
                 result = nushbaret.solve(form, maximize)
-                with mock.patch.object(_solving, "small_arrays", return_value=None):
+                with mock.patch.object(solve, "small_arrays", return_value=None):
                     longer = nushbaret.solve(form, maximize)
                 for own in result, pickle.loads(pickle.dumps(result)):
                     self.assertEqual(self.form_of(own), self.form_of(longer))

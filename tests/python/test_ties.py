@@ -4,7 +4,7 @@ from fractions import Fraction
 from unittest import mock
 
 import nushbaret
-from nushbaret import _levels, _ties
+from nushbaret.lap import levels, ties
 from drawn import drawing, exactly, hungarian, proves
 
 try:
@@ -51,7 +51,7 @@ class Ties(unittest.TestCase):
         """From a call's own first level, and from the one of the longer way."""
         draw, seen = drawing(181), {"best": 0, "after_level": 0}
         wrapped = {name: self.counted(seen, name) for name in seen}
-        with mock.patch.multiple(_ties, **wrapped):
+        with mock.patch.multiple(ties, **wrapped):
             for turn in range(600):
                 kind = list(KINDS)[turn % len(KINDS)]
                 n_rows, n_columns = draw.randint(1, 18), draw.randint(1, 18)
@@ -63,7 +63,7 @@ class Ties(unittest.TestCase):
         self.assertGreater(min(seen.values()), 100, seen)
 
     def counted(self, seen, name):
-        plain = getattr(_ties, name)
+        plain = getattr(ties, name)
 
         def counting(*words):
             found = plain(*words)
@@ -80,7 +80,7 @@ class Ties(unittest.TestCase):
                 for call in nushbaret.solve, nushbaret.linear_sum_assignment:
                     with self.subTest(kind=kind, shape=costs.shape, turn=turn, call=call.__name__):
                         found = self.sum_of(costs, call(costs, turn < 4), call is nushbaret.solve)
-                        with mock.patch.object(_ties, "of_problem", return_value=None):
+                        with mock.patch.object(ties, "of_problem", return_value=None):
                             self.assertEqual(found, self.sum_of(costs, call(costs, turn < 4), call is nushbaret.solve))
 
     def sum_of(self, costs, found, printed):
@@ -100,7 +100,7 @@ class Ties(unittest.TestCase):
         """Where too many costs differ, levels go on along lists of pairs."""
         draw = drawing(183)
         costs = [[draw.choice([0.25, 0.25, 0.25, draw.random() * 1e-7 + 0.25]) for _ in range(60)] for _ in range(60)]
-        with mock.patch.object(_ties, "_MOST_VALUES", 3), mock.patch.object(_levels, "finer", side_effect=_levels.finer) as finer:
+        with mock.patch.object(ties, "_MOST_VALUES", 3), mock.patch.object(levels, "finer", side_effect=levels.finer) as finer:
             self.judge(costs, False)
         self.assertGreater(finer.call_count, 0)
 

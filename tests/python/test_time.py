@@ -10,7 +10,7 @@ from array import array
 from unittest import mock
 
 import nushbaret
-from nushbaret import _levels, _library as library
+from nushbaret.lap import levels, library
 from drawn import drawing, matrix
 
 TOP = os.path.dirname(os.path.dirname(nushbaret.__file__))
@@ -206,7 +206,7 @@ class Timeouts(unittest.TestCase):
                 with self.assertRaisesRegex(TimeoutError, "^the time is over; nothing of the caller's was changed$") as raised:
                     call([Endless(), Endless()], timeout=0.05)
                 self.assertIs(type(raised.exception), TimeoutError)
-            with mock.patch.object(_levels, "finer", never), self.assertRaises(TimeoutError):
+            with mock.patch.object(levels, "finer", never), self.assertRaises(TimeoutError):
                 nushbaret.solve([[0.1 + 0.2, 0.1], [1 / 3, 1 / 3 - 0.2]] * 40, partial=True, timeout=0.05)
             ended.append(nushbaret.solve([[4, 1], [2, 3]]).cost)
 

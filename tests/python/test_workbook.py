@@ -5,7 +5,7 @@ from unittest import mock
 
 from test_command import Runs
 
-from nushbaret import _day_sheets as day_sheets
+from nushbaret.roster.output import day_sheets
 
 try:
     import openpyxl

@@ -1,0 +1,188 @@
+"""The best plan for any numbers, by levels.
+
+The library takes whole costs up to 10**12. So a level rounds costs to whole multiples of a unit, and lets the library solve them. Its
+duals leave each pair a reduced cost, which is whole and at least 0, and 0 in the plan. Rounding changed each cost by at most half a
+unit, so any plan with a pair whose reduced cost is above n units costs more than this plan: the pair goes out. The next level takes
+the others at their exact reduced costs, which are at most some n units, and has a smaller unit. It ends where nothing was rounded, or
+where only the pairs of one plan are left.
+
+Where columns may stay unused, what a plan pays for its columns' duals v isn't the same for all plans. A best plan uses each column
+whose dual is below -n units. So the next level's costs keep max(v, -(2 n + 2)) of it.
+
+The lists here are as the library takes them: persons and objects from 1 on, dummies among them. Costs count in their own unit."""
+import contextlib
+import math
+from array import array
+from fractions import Fraction
+from typing import Any, Dict, List, Optional, Sequence, Tuple, Union
+
+from ..costs import problem as reading
+from ..costs.numbers import ONE, Ratio, Unit, bits_above, rounded
+from ..costs.problem import Problem
+from ..costs.reading import loaded_numpy
+from . import arrays, pricing, proved, residues, ties
+from .level import BITS, Level, Pairs, more
+from .reduced import is_only_plan, kept, level_of
+
+# From so many pairs on an array is worth making.
+FEW_PAIRS = 64
+
+
+def solved(problem: Problem, served: Optional[int], start: Optional[proved.Start]) -> Union[proved.Answer, proved.Short]:
+    """The best plan of so many pairs, for costs of any size; its answer has no prices."""
+    with quiet(problem):
+        return _solved(prepared(problem), served, start)
+
+
+def quiet(problem: Problem) -> Any:
+    """A context in which NumPy says nothing of floating point."""
+    return problem.numpy.errstate(all="ignore") if problem.numpy else contextlib.nullcontext()
+
+
+def _solved(problem: Problem, served: Optional[int], start: Optional[proved.Start]) -> Union[proved.Answer, proved.Short]:
+    tied = ties.of_problem(problem) if served is None else None
+    objects = None if tied is None else ties.best(tied)
+    if objects is not None:
+        n, m = sorted((problem.n_rows, problem.n_columns))
+        return proved.Answer(n, m, None, objects, None)
+    priced = None if served is not None or tied or start is not None else pricing.first_level(problem, BITS, _most_left(problem))
+    found = priced.level if priced else first_level(problem, served, start)
+    if isinstance(found, proved.Short):
+        return found
+    objects = None if tied is None else ties.after_level(tied, found)
+    if objects is None:
+        pairs = priced.pairs if priced else kept(found, found.asked.n + more(found.asked.n))
+        objects = found.objects if is_only_plan(found, pairs) else finer(problem, found, pairs)
+    return proved.Answer(found.asked.n, found.asked.m, None, objects, None)
+
+
+def after_first(problem: Problem, level: Level) -> Any:
+    """The objects of a best plan of a matrix, or of listed pairs, from its first level."""
+    tied = ties.of_problem(problem)
+    objects = None if tied is None else ties.best(tied)
+    if objects is None and tied is not None:
+        objects = ties.after_level(tied, level)
+    if objects is not None:
+        return objects
+    pairs = kept(level, level.asked.n + more(level.asked.n))
+    return level.objects if is_only_plan(level, pairs) else finer(problem, level, pairs)
+
+
+def _most_left(problem: Problem) -> int:
+    """Up to how many units of reduced cost pairs are left."""
+    n = min(problem.n_rows, problem.n_columns)
+    return n + more(n)
+
+
+def prepared(problem: Problem) -> Problem:
+    """The problem in which no pair is given twice, as a list where its doubles are too small or too great for sums of them."""
+    if not problem.raw:
+        return problem if problem.persons is None else reading.once(problem)
+    return arrays.as_list(problem) if problem.numpy and len(problem.costs) and arrays.is_extreme(problem) else problem
+
+
+def first_level(problem: Problem, served: Optional[int], start: Optional[proved.Start] = None) -> Union[Level, proved.Short]:
+    """The level of the first unit."""
+    coarse, shift = _rounded(problem)
+    asked = proved.given(coarse, served)
+    first = None if start is None else proved.first_of(coarse, start, served)
+    answer = proved.answer(coarse, asked, first)
+    if answer is None:
+        raise RuntimeError("costs were rounded to the library's range, and it says otherwise")
+    if isinstance(answer, proved.Short):
+        return answer
+    return level_of(asked, answer, shift, -1 if problem.maximize else 1)
+
+
+
+
+# The first level's costs.
+
+
+def _rounded(problem: Problem) -> Tuple[Problem, int]:
+    """The problem with costs of at most 39 bits, and the shift that made them so."""
+    if not len(problem.costs):
+        costs, shift = array("q") if not problem.numpy else problem.costs.astype("int64"), 0
+    elif problem.numpy:
+        costs, shift = arrays.rounded(problem, BITS)
+    else:
+        costs, shift = _rounded_list(problem)
+    part: Any = 1 << shift if shift >= 0 else Fraction(1, 1 << -shift)
+    return problem._replace(costs=costs, unit=Unit(problem.unit.denominator * part, None), raw=False), shift
+
+
+def _rounded_list(problem: Problem) -> Tuple[Any, int]:
+    values: Any = reading.plain(problem.costs)
+    if not problem.raw or problem.unit != ONE:
+        shift = min(0, BITS - max(max(values).bit_length(), min(values).bit_length()))
+        half = 1 << -shift >> 1
+        return array("q", [(value + half) >> -shift for value in values]), shift
+    if set(map(type, values)) == {float}:
+        shift = BITS - math.frexp(max(max(values), -min(values)))[1]
+        # A greater shift would be needed for the smallest doubles alone, which print as decimals that are further from them.
+        if shift <= 1000:
+            return array("q", [round(math.ldexp(value, shift)) for value in values]), shift
+    ratios = [problem.ratio(value) for value in values]
+    shift = BITS - max((bits_above(ratio) for ratio in ratios if ratio[0]), default=BITS)
+    return array("q", [rounded(ratio, shift) for ratio in ratios]), shift
+
+
+# What is left after a level.
+
+
+def places_in(problem: Problem, asked: proved.Given, places: Sequence[int]) -> List[int]:
+    """Where the costs of pairs stand that have some places in the lists of the library; -1 for pairs of dummies."""
+    if len(asked.persons):
+        return [place if place < len(problem.persons) else -1 for place in places] if problem.persons is not None else \
+            [_in_dense(problem, asked, place) for place in places]
+    return [_in_dense(problem, asked, place) for place in places]
+
+
+def _in_dense(problem: Problem, asked: proved.Given, place: int) -> int:
+    """As `places_in`, for a problem that has all pairs."""
+    if len(asked.persons):
+        return place if place < problem.n_rows * problem.n_columns else -1
+    if not proved.is_turned(problem):
+        return place
+    column, row = divmod(place, asked.m)
+    return row * problem.n_columns + column
+
+
+def ratios_at(problem: Problem, asked: proved.Given, places: Sequence[int]) -> List[Ratio]:
+    """The costs of pairs at some places in the lists of the library, exactly, in the problem's own unit."""
+    costs = reading.plain(problem.costs)
+    own = places_in(problem, asked, places)
+    if problem.numpy:
+        found = costs[problem.numpy.array(own, problem.numpy.intp)].tolist()
+        held = [cost if place >= 0 else 0 for cost, place in zip(found, own)]
+    else:
+        held = [costs[place] if place >= 0 else 0 for place in own]
+    if not problem.raw or problem.unit != ONE:
+        return [(int(value), 1) for value in held]
+    known: Dict[Tuple[type, Any], Ratio] = {}
+    keys = [(type(value), value) for value in held]
+    for key in keys:
+        if key not in known:
+            known[key] = problem.ratio(key[1])
+    return [known[key] for key in keys]
+
+
+def finer(problem: Problem, level: Level, pairs: Pairs) -> Any:
+    """The objects of a best plan along pairs that a level left."""
+    numpy = loaded_numpy()
+    if problem.numpy and problem.raw:
+        found = residues.finer_of_doubles(problem, level, pairs)
+        if found is not None:
+            return found
+    elif problem.numpy:
+        left = residues.left_of_whole(problem, level, pairs)
+        return residues.finish(problem.numpy, level.asked.n, level.asked.m, pairs, left)
+    ratios = ratios_at(problem, level.asked, pairs.places.tolist())
+    persons, objects = pairs.persons.tolist(), pairs.objects.tolist()
+    left = residues.exact_left(level, ratios, persons, objects)
+    if left is None:
+        return level.objects
+    if numpy and len(left) >= FEW_PAIRS and max(max(left), -min(left)) < 2**61:
+        as_arrays = Pairs(numpy.array(persons, numpy.uint32), numpy.array(objects, numpy.uint32), None)
+        return residues.finish(numpy, level.asked.n, level.asked.m, as_arrays, numpy.array(left, numpy.int64))
+    return residues.finish_list(level.asked.n, level.asked.m, array("I", persons), array("I", objects), left)

@@ -1,0 +1,3 @@
+from nushbaret.roster.plan_roster import RosterPlan
+
+__all__ = ["RosterPlan"]

@@ -1,0 +1,3 @@
+from nushbaret.lap.proved import Answer, Duals
+
+__all__ = ["Answer", "Duals"]
