@@ -22,11 +22,11 @@ if TYPE_CHECKING:
     from .api.infeasible import Infeasible, Shortage
     from .api.plans import k_best
     from .api.results import Plan, Result
+    from .api.rosters import RosterPlan, plan_roster
     from .api.solve import linear_sum_assignment, solve, solve_sparse
     from .api.verdicts import Verdict
     from .costs.limits import GREATEST_COST, MOST_PERSONS
     from .lap.library import VERSION as __version__, LibraryNotFound
-    from .roster.plan_roster import RosterPlan, plan_roster
 
 __all__ = [
     "GREATEST_COST", "MOST_PERSONS", "Comparison", "CountsInfeasible", "CountsResult", "Infeasible", "LibraryNotFound", "Plan", "Result",
@@ -42,11 +42,11 @@ _MODULES = {
     "api.infeasible": ("Infeasible", "Shortage"),
     "api.plans": ("k_best",),
     "api.results": ("Plan", "Result"),
+    "api.rosters": ("RosterPlan", "plan_roster"),
     "api.solve": ("linear_sum_assignment", "solve", "solve_sparse"),
     "api.verdicts": ("Verdict",),
     "costs.limits": ("GREATEST_COST", "MOST_PERSONS"),
     "lap.library": ("VERSION", "LibraryNotFound"),
-    "roster.plan_roster": ("RosterPlan", "plan_roster"),
 }
 
 

@@ -13,13 +13,13 @@ BELOW = {
     "lap": ("costs",),
     "rows": ("costs", "lap"),
     "counts": ("costs", "lap", "rows"),
-    "api": ("costs", "lap", "counts"),
-    "roster": ("costs", "lap", "rows", "counts", "api"),
+    "roster": ("costs", "lap", "rows", "counts"),
     "roster.output": ("costs", "lap", "rows", "counts", "roster"),
-    "pickled": ("costs", "lap", "rows", "api", "roster"),
+    "api": ("costs", "lap", "rows", "counts", "roster", "roster.output"),
+    "pickled": ("costs", "lap", "rows", "api"),
 }
 # The modules of roster/ that hand on to roster/output/, whose modules import none of them.
-FRONTS = ("roster.command", "roster.ruling", "roster.plan_roster")
+FRONTS = ("roster.command", "roster.ruling")
 # What begins: it loads any module when this is needed, and no module imports it.
 ENTRIES = ("", "__main__")
 
@@ -78,7 +78,7 @@ def is_allowed(name, other):
     """Whether a module may import another one."""
     folder, its = folder_of(name), folder_of(other)
     if other in FRONTS:
-        return name in FRONTS or folder == "pickled"
+        return name in FRONTS
     if name in FRONTS and its == "roster.output":
         return True
     return other not in ENTRIES and (its == folder or its in BELOW.get(folder, ()))

@@ -19,7 +19,7 @@ class Package(unittest.TestCase):
         folders = {layers.folder_of(name) for name in self.GRAPH if name not in layers.ENTRIES}
         self.assertEqual(folders, set(layers.BELOW))
         drawn = "\n".join(layers.drawn(self.GRAPH))
-        self.assertRegex(drawn, r"(?s)^pickled/ .*\nroster/output/ .*\nroster/ .*\napi/ .*\ncounts/ .*\nrows/ .*\nlap/ .*\ncosts/  imports nothing\n")
+        self.assertRegex(drawn, r"(?s)^pickled/ .*\napi/ .*\nroster/output/ .*\nroster/ .*\ncounts/ .*\nrows/ .*\nlap/ .*\ncosts/  imports nothing\n")
 
 
 class Planted(unittest.TestCase):

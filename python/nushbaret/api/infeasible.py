@@ -2,7 +2,7 @@
 from typing import Any, List, NamedTuple, Optional, Tuple
 
 from ..costs.problem import Labels, Problem
-from ..lap.matching import groups_of, lists_of_nodes
+from ..lap.matching import short_groups
 
 
 def numbered(kind: str, numbers: Any, labels: Optional[List[Any]] = None) -> str:
@@ -76,9 +76,6 @@ class Infeasible(ValueError):
 
 
 def infeasible(problem: Problem) -> Infeasible:
-    """The proof that a problem which lists its pairs can't be solved: of its rows, or of its columns where these are fewer."""
-    of_columns = problem.n_rows > problem.n_columns
-    count, other = sorted((problem.n_rows, problem.n_columns))
-    nodes, others = (problem.objects, problem.persons) if of_columns else (problem.persons, problem.objects)
-    groups = [tuple(map(problem.numbers, group)) for group in groups_of(lists_of_nodes(count, nodes, others), other)]
-    return Infeasible([(few, many) if of_columns else (many, few) for many, few in groups], problem.labels)
+    """The proof that a problem which lists its pairs can't be solved."""
+    groups = [(problem.numbers(rows), problem.numbers(columns)) for rows, columns in short_groups(problem)]
+    return Infeasible(groups, problem.labels)

@@ -10,11 +10,6 @@ from .results import Plan, Result
 from .solve import solve_problem
 
 
-def best_plans(result: Result, count: int) -> Iterator[Plan]:
-    """The first plans of a result's problem in order, so many at most."""
-    return _in_order(result._ranking(), result, count, None)
-
-
 def _in_order(ranking: Ranking, result: Result, count: int, timeout: Optional[float]) -> Iterator[Plan]:
     ranking.wait(ranking.whole)
     for left in range(count, 0, -1):

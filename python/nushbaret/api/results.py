@@ -226,8 +226,7 @@ class Result(Lasting):
 
     def _plan(self, ranking: Ranking, part: Part) -> Plan:
         """The best plan of a part, as the caller sees it."""
-        rows = [row for row, column in enumerate(part.columns) if column < ranking.n_columns]
-        columns = [part.columns[row] for row in rows]
+        rows, columns = ranking.pairs(part)
         shown = self._shape.unit if not self._shape.raw else ranking.unit
         cost = ranking.sign * part.cost * shown.denominator // ranking.unit.denominator
         return Plan(self._numbers(rows), self._numbers(columns), shown.shown(cost))

@@ -480,7 +480,7 @@ def of_sparse_matrix(matrix: Any, manner: exact.Manner) -> Problem:
     return of_pairs(n_rows, n_columns, entries.row, entries.col, entries.data, manner)
 
 
-def of_whole_numbers(n_rows: int, n_columns: int, rows: Sequence[int], columns: Sequence[int], costs: List[int]) -> Problem:
+def of_whole_numbers(n_rows: int, n_columns: int, rows: Sequence[int], columns: Sequence[int], costs: Sequence[int]) -> Problem:
     """The problem of listed pairs, none twice, numbered from 0, at whole costs of any size; the sum is to be least."""
     persons, objects = (array("I", [number + 1 for number in numbers]) for numbers in (rows, columns))
     try:

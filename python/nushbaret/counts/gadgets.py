@@ -375,7 +375,7 @@ def sum_of(counted: Counted, pairs: Collection[Pair]) -> int:
 def _fewest_changes(counted: Counted, nodes: Nodes, best: BestPlan, kept: Collection[Pair]) -> List[Pair]:
     """The pairs of a plan with the fewest changes among those as good as a best plan: these have all nodes matched along pairs whose reduced
     cost is 0."""
-    lists, duals = nodes.lists, duals_of_whole(best.problem, best.answer)
+    lists, duals = nodes.lists, duals_of_whole(best)
     costs = [*counted.costs, 0]
     changes = [*(-1 if pair in kept else 1 for pair in zip(counted.rows, counted.columns)), 0]
     tight = [edge for edge, (row, column, place) in enumerate(zip(lists.rows, lists.columns, lists.places))

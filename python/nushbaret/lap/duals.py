@@ -9,6 +9,7 @@ from typing import Dict, List, NamedTuple, Optional, Sequence
 from ..costs.numbers import Unit, in_unit, of_places, unit_of
 from ..costs.problem import Problem, costs_of_pairs
 from . import levels, proved, reduced
+from .solving import BestPlan
 
 
 class ExactPrices(NamedTuple):
@@ -101,9 +102,13 @@ def _settle(prices: List[int], bounds: List[Dict[int, int]]) -> None:
                     waiting.append(other)
 
 
-def duals_of_whole(problem: Problem, answer: proved.Answer) -> proved.Duals:
-    """Whole duals of a best plan of as many pairs as the shorter side has nodes, where costs are whole."""
-    rows, columns = proved.pairs_of(problem, answer)
-    found = exact_prices(problem, None, answer.objects) if rows and answer.prices is None else None
-    prices = found.prices if found else proved.whole_prices(answer) if rows else []
+def duals_of_whole(best: BestPlan) -> proved.Duals:
+    """Whole duals of a best plan."""
+    problem, answer, rows, columns, _ = best
+    prices: List[int] = []
+    if rows and answer.prices is None:
+        found = exact_prices(problem, None if len(rows) == min(problem.n_rows, problem.n_columns) else len(rows), answer.objects)
+        prices = found.prices if found else prices
+    elif rows:
+        prices = proved.whole_prices(answer)
     return proved.duals_of(problem, answer, prices, list(zip(rows, columns)), costs_of_pairs(problem, rows, columns))

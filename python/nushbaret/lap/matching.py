@@ -2,8 +2,7 @@
 reaches, in connected parts."""
 from array import array
 from collections import deque
-from typing import Dict, List, NamedTuple, Optional, Sequence, Set, Union
-from typing import Any
+from typing import Any, Dict, List, NamedTuple, Optional, Sequence, Set, Tuple, Union
 
 from ..costs.problem import Problem
 from . import library
@@ -78,6 +77,16 @@ class Group(NamedTuple):
 
     many: List[int]
     few: List[int]
+
+
+def short_groups(problem: Problem) -> List[Tuple[List[int], List[int]]]:
+    """Rows and columns of each group that is short in a problem that lists its pairs: of its rows, or of its columns where these are
+    fewer."""
+    of_columns = problem.n_rows > problem.n_columns
+    count, other = sorted((problem.n_rows, problem.n_columns))
+    nodes, others = (problem.objects, problem.persons) if of_columns else (problem.persons, problem.objects)
+    groups = groups_of(lists_of_nodes(count, nodes, others), other)
+    return [(few, many) if of_columns else (many, few) for many, few in groups]
 
 
 def groups_of(lists: Lists, other: int) -> List[Group]:

@@ -11,15 +11,16 @@ from array import array
 from bisect import insort
 from fractions import Fraction
 from itertools import compress, repeat
-from typing import Any, Dict, FrozenSet, Iterable, List, NamedTuple, Optional, Sequence, Tuple
+from typing import Any, Dict, FrozenSet, Iterable, Iterator, List, NamedTuple, Optional, Sequence, Tuple
 
-from ..costs.numbers import Ratio, Unit, in_unit, unit_of
-from ..costs.problem import Problem, in_whole_numbers, lists_of, owned
+from ..costs.numbers import ONE, Ratio, Unit, in_unit, unit_of
+from ..costs.problem import Problem, costs_of_pairs, in_whole_numbers, lists_of, owned
 from . import library
 from .checking import check_problem
+from .duals import duals_of_whole
 from .matching import Group, prove_short
 from .proved import Duals
-from .solving import least_sum
+from .solving import BestPlan, least_sum
 
 INFINITE = float("inf")
 NOBODY: FrozenSet[int] = frozenset()
@@ -104,6 +105,11 @@ class Ranking:
             part = self._first_of_its_cost(part)
             self._put(part, 1, part.columns)
         return None
+
+    def pairs(self, part: Part) -> Tuple[List[int], List[int]]:
+        """Rows and columns of a part's plan."""
+        rows = [row for row, column in enumerate(part.columns) if column < self.n_columns]
+        return rows, [part.columns[row] for row in rows]
 
     def split(self, part: Part, wanted: int) -> None:
         """Puts in line the parts of all plans of a part but its best one, as far as they can be among so many that are wanted. Where
@@ -295,6 +301,21 @@ class Ranking:
         if best is None or best > most:
             raise RuntimeError("a plan was found to be along pairs of reduced cost 0, and the library says otherwise")
         return best < most
+
+
+def plans_in_order(best: BestPlan, count: int) -> Iterator[Tuple[List[int], List[int]]]:
+    """Rows and columns of the first plans from a best one on, so many at most."""
+    rows, columns = best.rows, best.columns
+    ratios = [(cost, 1) for cost in costs_of_pairs(best.problem, rows, columns)]
+    ranking = Ranking(best.problem, (rows, columns), ratios, duals_of_whole(best), ONE)
+    ranking.wait(ranking.whole)
+    for left in range(count, 0, -1):
+        part = ranking.take()
+        if part is None:
+            return
+        yield ranking.pairs(part)
+        if left > 1:
+            ranking.split(part, left - 1)
 
 
 def _common(first: Unit, second: Unit) -> Unit:

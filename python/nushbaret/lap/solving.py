@@ -53,10 +53,12 @@ class BestPlan(NamedTuple):
     cost: int
 
 
-def best_plan(problem: Problem) -> Optional[BestPlan]:
-    """A best plan of a problem whose costs are whole; None if the library proves that there is none."""
+def best_plan(problem: Problem, fullest: bool = False) -> Optional[BestPlan]:
+    """A best plan of a problem whose costs are whole; if the library proves that there is none, the best of the fullest ones, or None."""
     answer = solved(problem)
     if isinstance(answer, proved.Short):
-        return None
+        if not fullest:
+            return None
+        answer = most(problem, None)
     rows, columns = proved.pairs_of(problem, answer)
     return BestPlan(problem, answer, rows, columns, sum(costs_of_pairs(problem, rows, columns)))

@@ -1,3 +1,3 @@
-from nushbaret.roster.plan_roster import RosterPlan
+from nushbaret.api.rosters import RosterPlan
 
 __all__ = ["RosterPlan"]

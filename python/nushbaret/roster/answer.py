@@ -1,15 +1,18 @@
 """Answers by names: the plan of a roster, or who is short of what."""
 from collections import Counter
 from itertools import islice
-from typing import Any, Dict, List, NamedTuple, Optional, Sequence, Set, Tuple
+from typing import Dict, List, NamedTuple, Optional, Sequence, Set, Tuple
 
-from ..api.infeasible import Infeasible
-from ..api.plans import best_plans
 from ..costs.limits import Numbers
+from ..lap.duals import duals_of_whole
+from ..lap.matching import short_groups
+from ..lap.proved import rents
+from ..lap.ranking import plans_in_order
+from ..lap.solving import BestPlan, best_plan
 from .groups import missing_of
 from .names import Shown, joined, numbered
 from .nodes import (Edges, Nodes, Swap, changed, face_of, fewest_changes, is_only_one, least_costs, nodes_without,
-    solved, swaps_of)
+    problem_of, swaps_of)
 from .roster import PlanLine, Roster
 
 MOST_NAMES_SHOWN = 20
@@ -96,33 +99,34 @@ def answer_of(roster: Roster, wish: Wish) -> Answer:
     costs = least_costs(nodes, wish.maximize)
     if wish.kept is not None and wish.change:
         costs = changed(costs, nodes.edges, wish.kept, wish.change)
-    try:
-        return Answer(_plan(roster, wish, nodes, costs, solved(nodes, costs, False)), [])
-    except Infeasible as found:
-        groups = shortages(nodes, found)
-    if not wish.fullest:
-        return Answer(None, groups)
-    return Answer(_plan(roster, wish, nodes, costs, solved(nodes, costs, True)), groups)
+    problem = problem_of(nodes, costs)
+    best = best_plan(problem)
+    groups: List[Short] = []
+    if best is None:
+        groups = shortages(nodes, short_groups(problem))
+        best = best_plan(problem, True) if wish.fullest else None
+    return Answer(None if best is None else _plan(roster, wish, nodes, costs, best), groups)
 
 
-def _plan(roster: Roster, wish: Wish, nodes: Nodes, costs: Numbers, result: Any) -> Plan:
-    rents = dict(zip(nodes.of_columns, result._rents))
+def _plan(roster: Roster, wish: Wish, nodes: Nodes, costs: Numbers, best: BestPlan) -> Plan:
+    prices = rents(duals_of_whole(best))
+    of_objects, chosen = dict(zip(nodes.of_columns, prices)), nodes.pairs(best.rows, best.columns)
+    plan = plan_of(roster, wish.fixed, chosen, of_objects)
     if wish.kept is not None and wish.change is not None:
-        return plan_of(roster, wish.fixed, nodes.pairs(result.rows, result.columns), rents)
-    face, chosen = face_of(nodes, costs, result), nodes.pairs(result.rows, result.columns)
-    plan = plan_of(roster, wish.fixed, chosen, rents)
+        return plan
+    face = face_of(nodes, costs, best, prices)
     if wish.kept is not None:
-        best, chosen = plan, fewest_changes(nodes, face, result, wish.kept)
-        plan = plan_of(roster, wish.fixed, chosen, rents)
-        if (len(plan.pairs), plan.cost) != (len(best.pairs), best.cost):
+        first, chosen = plan, fewest_changes(nodes, face, len(best.rows), wish.kept)
+        plan = plan_of(roster, wish.fixed, chosen, of_objects)
+        if (len(plan.pairs), plan.cost) != (len(first.pairs), first.cost):
             raise RuntimeError("a plan with fewest changes was found to be as good as the best, and isn't")
     swaps = swaps_of(nodes, face, chosen) if wish.others else []
     plan = plan._replace(swaps=swaps, is_only_one=not swaps if wish.others else is_only_one(nodes, face, chosen))
     is_next_shown = wish.others and plan.is_only_one
     count = max(wish.plans - 1, int(is_next_shown))
     # The library's first plan may be another one than that with the fewest changes.
-    ranked = best_plans(result, count + 1) if count else iter(())
-    others = (pairs for pairs in (nodes.pairs(other.rows, other.columns) for other in ranked) if pairs != chosen)
+    ranked = plans_in_order(best, count + 1) if count else iter(())
+    others = (pairs for pairs in (nodes.pairs(*other) for other in ranked) if pairs != chosen)
     following = [plan_of(roster, wish.fixed, pairs, {}) for pairs in islice(others, count)]
     return with_following(plan, following, is_next_shown)
 
@@ -134,11 +138,11 @@ def with_following(plan: Plan, following: Sequence[Plan], is_next_shown: bool) -
     return plan._replace(following=following, next_cost=following[0].cost if is_next_shown and following else None)
 
 
-def shortages(nodes: Nodes, found: Infeasible) -> List[Short]:
+def shortages(nodes: Nodes, groups: Sequence[Tuple[List[int], List[int]]]) -> List[Short]:
     """All groups that are short, by the roster's numbers."""
     of_objects = len(nodes.of_rows) > len(nodes.of_columns)
     shorts = []
-    for rows, columns in found.groups:
+    for rows, columns in groups:
         persons, objects = [nodes.of_rows[row] for row in rows], [nodes.of_columns[column] for column in columns]
         wanted, had = (len(objects), len(persons)) if of_objects else (len(persons), len(objects))
         shorts.append(Short(persons, objects, of_objects, wanted, had))

@@ -11,10 +11,10 @@ from itertools import compress
 from operator import add
 from typing import Any, Collection, Dict, Iterator, List, NamedTuple, Optional, Sequence, Set, Tuple
 
-from ..api.solve import solve_problem, solve_sparse
 from ..costs.limits import GREATEST_COST, Numbers
-from ..costs.problem import Problem, TooLarge
+from ..costs.problem import Problem, TooLarge, of_whole_numbers
 from ..counts.graphs import strong_parts
+from ..lap.solving import BestPlan, best_plan
 
 Pair = Tuple[int, int]
 
@@ -80,11 +80,11 @@ def changed(costs: Sequence[int], edges: Sequence[Pair], kept: Collection[Pair],
     return more
 
 
-def solved(nodes: Nodes, costs: Numbers, fullest: bool) -> Any:
-    """The result of the problem of nodes, for these costs, which are to be least."""
+def problem_of(nodes: Nodes, costs: Numbers) -> Problem:
+    """The problem of nodes, for these costs, which are to be least."""
     rows, columns = len(nodes.of_rows), len(nodes.of_columns)
     persons, objects = (None, None) if nodes.is_full else (_from_one(nodes.rows), _from_one(nodes.columns))
-    return solve_problem(Problem(rows, columns, False, costs, persons, objects), None, fullest)
+    return Problem(rows, columns, False, costs, persons, objects)
 
 
 def _from_one(numbers: Numbers) -> Numbers:
@@ -102,20 +102,21 @@ class Face(NamedTuple):
     columns: List[int]
 
 
-def face_of(nodes: Nodes, costs: Numbers, result: Any) -> Face:
-    """All plans as good as a result for these costs, which are to be least."""
-    rents = result._rents
+def face_of(nodes: Nodes, costs: Numbers, best: BestPlan, rents: List[int]) -> Face:
+    """All plans as good as a best one for these costs, which are to be least, and for the rents that prove it."""
+    without, unused = (sorted(set(range(len(side))).difference(own)) for side, own in (
+        (nodes.of_rows, best.rows), (nodes.of_columns, best.columns)))
     least: List[Optional[int]] = [None] * len(nodes.of_rows)
     lowest: List[List[int]] = [[] for _ in nodes.of_rows]
     for row, edges, paid in _paid(nodes, costs, rents):
         low = least[row] = min(paid)
         lowest[row] = list(compress(edges, map(low.__eq__, paid))) if paid.count(low) > 1 else [edges[paid.index(low)]]
-    out = [least[row] for row in result.unmatched_rows]
+    out = [least[row] for row in without]
     bound = min((cost for cost in out if cost is not None), default=None)
     tight = [edge for low, own in zip(least, lowest) if low is not None and (bound is None or low <= bound) for edge in own]
-    some_out = len(result.unmatched_rows) > 0
+    some_out = len(without) > 0
     rows = [row for row, cost in enumerate(least) if some_out and (cost is None or bound is None or cost >= bound)]
-    spare = len(result.unmatched_columns) > 0
+    spare = len(unused) > 0
     return Face(tight, rows, [column for column in range(len(nodes.of_columns)) if spare and rents[column] == 0])
 
 
@@ -136,11 +137,11 @@ def _paid(nodes: Nodes, costs: Numbers, rents: List[int]) -> Iterator[Tuple[int,
             yield row, range(begin, end), list(map(add, costs[begin:end], own_rents))
 
 
-def fewest_changes(nodes: Nodes, face: Face, result: Any, kept: Collection[Pair]) -> List[Pair]:
-    """The pairs of a plan as good as the result's with the fewest pairs that aren't kept.
+def fewest_changes(nodes: Nodes, face: Face, count: int, kept: Collection[Pair]) -> List[Pair]:
+    """The pairs of a plan of the face, each of which has so many, with the fewest pairs that aren't kept.
 
     All pairs of the face cost a change or nothing, and who may not stay out is worth more than all changes."""
-    step = len(result.rows) + 1
+    step = count + 1
     rows, columns, changes = array("q"), array("q"), array("q")
     out_rows, out_columns = set(face.rows), set(face.columns)
     for edge in face.edges:
@@ -148,8 +149,8 @@ def fewest_changes(nodes: Nodes, face: Face, result: Any, kept: Collection[Pair]
         rows.append(row)
         columns.append(column)
         changes.append((nodes.edges[edge] not in kept) - step * ((row not in out_rows) + (column not in out_columns)))
-    best = solve_sparse(len(nodes.of_rows), len(nodes.of_columns), rows, columns, changes, partial=True)
-    return nodes.pairs(best.rows, best.columns)
+    best = best_plan(of_whole_numbers(len(nodes.of_rows), len(nodes.of_columns), rows, columns, changes), True)
+    return [] if best is None else nodes.pairs(best.rows, best.columns)
 
 
 class Swap(NamedTuple):

@@ -5,14 +5,14 @@ from typing import Any, Dict, Iterable, List, Mapping, NamedTuple, Optional, Seq
 
 from ..costs.numbers import Number, Ratio, in_unit, ratio_of, unit_of
 from ..counts.gadgets import Bounds
+from ..roster.answer import Wish
+from ..roster.by_rules import Proved, Task, answer_by_rules
+from ..roster.month import Before, month_of
+from ..roster.output.rule_texts import sentence_of
+from ..roster.roster import Earlier, Groups, PlanLine, Roster
+from ..roster.roster_rows import OwnRow
+from ..roster.rule_file import Line, rules_of
 from ..rows.model import Certificate
-from .answer import Wish
-from .by_rules import Proved, Task, answer_by_rules
-from .month import Before, month_of
-from .output.rule_texts import sentence_of
-from .roster import Earlier, Groups, PlanLine, Roster
-from .roster_rows import OwnRow
-from .rule_file import Line, rules_of
 
 Named = Tuple[str, str]
 Count = Union[int, Tuple[int, int]]
