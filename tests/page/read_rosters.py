@@ -16,7 +16,7 @@ from typing import Any, Dict, List
 sys.path.insert(0, os.path.join(os.path.dirname(os.path.abspath(__file__)), "../../python"))
 sys.dont_write_bytecode = True
 
-from nushbaret.roster.answer import Wish, answer_of, left_out  # noqa: E402
+from nushbaret.roster.answer import Request, answer_of, left_out  # noqa: E402
 from nushbaret.roster.names import without_marks  # noqa: E402
 from nushbaret.roster.roster import Roster, read_roster  # noqa: E402
 from nushbaret.roster.sheets import Reading, RosterFault  # noqa: E402
@@ -101,7 +101,7 @@ def _with_fault(random_: random.Random, text: str) -> str:
 def said(roster: Roster, maximize: bool) -> List[str]:
     """The first lines of the answer, and who is left over; the plan's pairs are any of the best ones."""
     options = read_words(["roster.csv"])._replace(max=maximize)
-    answer = answer_of(roster, Wish(maximize=maximize))
+    answer = answer_of(roster, Request(maximize=maximize))
     lines = list(map(without_marks, first_lines(Report(options, roster, answer))))
     if answer.plan is not None:
         lines += [f"{len(rows_of(roster, answer.plan))} pairs"]

@@ -8,7 +8,7 @@ sys.path.insert(0, str(pathlib.Path(__file__).resolve().parents[2] / "python"))
 
 from nushbaret.roster.month import Before, month_of
 from nushbaret.roster.roster import Earlier, Groups, PlanLine, Roster
-from nushbaret.roster.rule_file import Line, rules_of
+from nushbaret.roster.rule_file import RuleLine, rules_of
 from nushbaret.roster.times import Times
 
 KINDS = ("Early", "Late", "Night")
@@ -35,7 +35,7 @@ SHAPES = (
     ("apart", lambda r: r.choice(("", "yes")), 2),
     ("together", lambda r: "", 2),
 )
-HOURS = (Line("hours of", "Early 7.7", "", 2), Line("hours of", "Night 9,5", "", 3))
+HOURS = (RuleLine("hours of", "Early 7.7", "", 2), RuleLine("hours of", "Night 9,5", "", 3))
 
 
 def roster_of(r, n_persons, n_days, are_dates, share=0.85):
@@ -82,7 +82,7 @@ def drawn_lines(r, persons, count, shapes=SHAPES):
     for number in range(count):
         rule, value, least = r.choice(shapes)
         some = r.sample(persons, r.randint(least, len(persons))) if least or r.random() < 0.3 else []
-        lines.append(Line(rule, value(r), ", ".join(some), number + 4))
+        lines.append(RuleLine(rule, value(r), ", ".join(some), number + 4))
     return [*HOURS, *lines]
 
 
@@ -98,6 +98,6 @@ def drawn_case(r, n_persons, n_days, n_rules, shapes=SHAPES):
     month = month_of(roster, roster.groups, "g.csv", before)
     lines = drawn_lines(r, roster.persons, n_rules, shapes)
     if r.random() < 0.3:
-        lines.insert(2, Line("holiday", r.choice(roster.groups.names), "", 3))
+        lines.insert(2, RuleLine("holiday", r.choice(roster.groups.names), "", 3))
     rules = rules_of("rules.csv", lines, roster, month)
     return roster, month._replace(holidays=rules.holidays), rules, past

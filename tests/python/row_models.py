@@ -113,7 +113,7 @@ class Channel(worker.Channel):
 def found_here(model, seconds=600):
     """What `find` returns, with the work of both processes done here, one after the other."""
     from nushbaret.rows import bounds, plans
-    search, channel = finding._Search(model), Channel()
+    search, channel = finding._PlanSearch(model), Channel()
     plans.look_for_plans(search.scaled, channel, seconds)
     bounds.look_for_bounds(search.scaled, channel, seconds)
     for message in channel.told:

@@ -166,7 +166,7 @@ class OwnFaults(unittest.TestCase):
     def ran(self, fault, **more):
         """The command with a fault of its own in the solving step: its status, and what it prints."""
         code = ("import sys\nfrom unittest import mock\nfrom nushbaret import __main__\n"
-                f"with mock.patch('nushbaret.roster.answer.solved', side_effect={fault}):\n"
+                f"with mock.patch('nushbaret.roster.answer.best_plan', side_effect={fault}):\n"
                 f"    sys.argv = ['nushbaret', {str(self.file)!r}]\n    sys.exit(__main__.main())\n")
         env = {name: value for name, value in os.environ.items() if name != "NUSHBARET_DEBUG"}
         return subprocess.run([sys.executable, "-c", code], capture_output=True, text=True, env={**env, **more})

@@ -8,7 +8,7 @@ from datetime import date, timedelta
 
 sys.path.insert(0, str(pathlib.Path(__file__).resolve().parents[2] / "python"))
 
-from nushbaret.roster.answer import Pair, Plan
+from nushbaret.roster.answer import Pair, NamedPlan
 from nushbaret.roster.blocks import blocks_of
 from nushbaret.roster.roster import Groups, OldPlan
 from test_planners import roster_of
@@ -25,7 +25,7 @@ def roster_by_days(names, persons=2, allowed=None):
 
 
 def plan_of(pairs, fixed=()):
-    return Plan([Pair(person, object_, 1, (person, object_) in fixed) for person, object_ in sorted(pairs)], len(pairs), [], [], {})
+    return NamedPlan([Pair(person, object_, 1, (person, object_) in fixed) for person, object_ in sorted(pairs)], len(pairs), [], [], {})
 
 
 class Weeks(unittest.TestCase):

@@ -9,14 +9,14 @@ sys.path.insert(0, str(pathlib.Path(__file__).resolve().parents[2] / "python"))
 
 from drawn_rules import SHAPES, drawn_lines, roster_of, with_earlier, with_past
 from optional import np, optimize
-from nushbaret.roster.answer import Wish
+from nushbaret.roster.answer import Request
 from nushbaret.roster.by_rules import Task, answer_by_rules
 from nushbaret.roster.month import month_of
 from nushbaret.roster.roster import PlanLine
 from nushbaret.roster.roster_rows import built
 from nushbaret.rows.finding import find
 from nushbaret.rows.model import Model, Row
-from nushbaret.roster.rule_file import Line, rules_of
+from nushbaret.roster.rule_file import RuleLine, rules_of
 from nushbaret.roster.rules_kept import broken_by, plan_of
 
 MOST_PLANS = 4000
@@ -98,7 +98,7 @@ class AllPlans(unittest.TestCase):
         for begin in range(0, 500, 50):
             cases = [drawn(seed) for seed in range(begin, begin + 50)]
             costs = [searched(*case) for case in cases]
-            found = [built(roster, rules, month, Wish(past)) for roster, month, rules, past, _ in cases]
+            found = [built(roster, rules, month, Request(past)) for roster, month, rules, past, _ in cases]
             possible = [place for place, cost in enumerate(costs) if cost is not None]
             model, starts = side_by_side([found[place].rows.model() for place in possible])
             finding = find(model, SECONDS)
@@ -149,7 +149,7 @@ class Reasons(unittest.TestCase):
                 continue
             tried += 1
             roster, month, rules, past, _ = case
-            found = built(roster, rules, month, Wish(past))
+            found = built(roster, rules, month, Request(past))
             finding = find(found.rows.model(), SECONDS)
             self.assertEqual((finding.kind, finding.is_minimal), ("impossible", True))
             model = found.rows.model()
@@ -168,7 +168,7 @@ class Reasons(unittest.TestCase):
             roster, month, rules, past, options = case
             best = self.fewest(*case)
             tried += best is not None
-            answer, proved = answer_by_rules(Task(roster, month, rules, Wish(past, fullest=True), SECONDS))
+            answer, proved = answer_by_rules(Task(roster, month, rules, Request(past, fullest=True), SECONDS))
             if best is None:
                 self.assertIsNone(answer.plan)
                 continue
@@ -221,7 +221,7 @@ class Evenness(unittest.TestCase):
         for seed in itertools.count(self.FIRST):
             roster, month, rules, past, options = drawn(seed)
             r = random.Random(seed)
-            lines = [Line("even", r.choice(("Night", "Early, Late", "shifts", "weekend shifts")), r.choice(("", ", ".join(roster.persons[:2]))), number)
+            lines = [RuleLine("even", r.choice(("Night", "Early, Late", "shifts", "weekend shifts")), r.choice(("", ", ".join(roster.persons[:2]))), number)
                      for number in range(2, 2 + r.randint(1, 2))]
             own = rules_of("r.csv", lines, roster, month)
             # Of other rules few are kept, so that there are plans.
@@ -229,7 +229,7 @@ class Evenness(unittest.TestCase):
             best = most_even(roster, month, rules, past, options)
             if best is None:
                 continue
-            answer, proved = answer_by_rules(Task(roster, month, rules, Wish(past), SECONDS))
+            answer, proved = answer_by_rules(Task(roster, month, rules, Request(past), SECONDS))
             even = [max(0, one.most - one.least - 1) for one in proved.even]
             self.assertEqual((proved.kind, proved.is_most_even, answer.plan.cost, sum(even)), ("best", True, best[-1], sum(best[:-1])), seed)
             tried += 1

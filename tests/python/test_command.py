@@ -20,7 +20,7 @@ sys.path.insert(0, str(TOP / "python"))
 
 from nushbaret.lap import library
 from nushbaret.roster import command
-from nushbaret.roster.answer import Short, listed, plural, sentence
+from nushbaret.roster.answer import ShortGroup, listed, plural, sentence
 from nushbaret.roster.files import OutputFault, write_file
 from nushbaret.roster.names import without_marks
 from nushbaret.roster.roster import read_roster
@@ -352,9 +352,9 @@ class NoPlans(Runs):
         self.file("r.csv", ",x,y\nAda,1,1\nBen,1,1\n")
         roster = read_roster("r.csv", None, None, False)
         for short, wanted in (
-                (Short([0, 1], [], False, 2, 0), "2 people (Ada, Ben) can take no object: allow each one, or leave them out"),
-                (Short([], [0, 1], True, 2, 0), "2 objects (x, y) can go to no person: allow each to somebody, or leave them open"),
-                (Short([0, 1, 1], [0], False, 3, 1), "3 people (Ada, Ben, Ben) can take only 1 object between them (x): "
+                (ShortGroup([0, 1], [], False, 2, 0), "2 people (Ada, Ben) can take no object: allow each one, or leave them out"),
+                (ShortGroup([], [0, 1], True, 2, 0), "2 objects (x, y) can go to no person: allow each to somebody, or leave them open"),
+                (ShortGroup([0, 1, 1], [0], False, 3, 1), "3 people (Ada, Ben, Ben) can take only 1 object between them (x): "
                  "allow 2 of them another, or leave 2 out")):
             self.assertEqual(without_marks(sentence(roster, short, False)), wanted)
 
@@ -626,7 +626,7 @@ class Statuses(Runs):
         self.file("r.csv", SQUARE)
         with mock.patch.dict(library._calls, clear=True), mock.patch.object(library, "PLACES", ()):
             self.refused(4, "c/build.sh", "r.csv", "--output", "p.csv")
-        with mock.patch("nushbaret.roster.answer.solved", side_effect=MemoryError):
+        with mock.patch("nushbaret.roster.answer.best_plan", side_effect=MemoryError):
             self.refused(4, "memory refused", "r.csv", "--output", "p.csv")
 
     def program(self, *words, **options):

@@ -7,7 +7,7 @@ from unittest import mock
 
 sys.path.insert(0, str(pathlib.Path(__file__).resolve().parents[2] / "python"))
 
-from nushbaret.counts import gadgets
+from nushbaret.counts import nodes
 from test_command import OTHERS, Runs, without_names
 
 WEEK = ("nurse,shift,hours\nAda,early Mon,1\nAda,late Mon,2\nAda,early Tue,3\nBen,early Mon,2\nBen,late Mon,1\nBen,early Tue,2\n"
@@ -147,7 +147,7 @@ class Refusals(Runs):
     def test_too_many_nodes(self):
         self.file("r.csv", "nurse,shift,hours\n" + "".join(f"p{person},o{number},1\n" for person in range(100) for number in range(100)))
         self.file("t.csv", "nurse,least,most\n" + "".join(f"p{person},0,90\n" for person in range(100)))
-        with mock.patch.object(gadgets, "MOST_PERSONS", 8192):
+        with mock.patch.object(nodes, "MOST_PERSONS", 8192):
             self.refused(3, "r.csv: 9000 shifts that nurses may take, 100 places at shifts and 0 rules of at most one need 9000 nodes, and 8192 "
                          "can be had: lower the greatest counts, forbid more pairs, or split the problem, as by weeks", "r.csv", "--tasks", "t.csv")
 

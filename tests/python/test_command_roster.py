@@ -160,7 +160,7 @@ class InOneGo(Folder):
     def read(self, path, words, bulk):
         with contextlib.ExitStack() as patches:
             if not bulk:
-                patches.enter_context(mock.patch("nushbaret.roster.costs.Costs.take_plain", return_value=False))
+                patches.enter_context(mock.patch("nushbaret.roster.costs.CostColumn.take_plain", return_value=False))
                 patches.enter_context(mock.patch("nushbaret.roster.roster.Lines.take_all", return_value=False))
             try:
                 roster = read_roster(path, *words)

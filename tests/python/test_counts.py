@@ -11,9 +11,9 @@ from unittest import mock
 sys.path.insert(0, str(pathlib.Path(__file__).resolve().parents[2] / "python"))
 
 import nushbaret
-from nushbaret.counts import gadgets
+from nushbaret.counts import nodes
 from nushbaret.api.counts import planned
-from nushbaret.counts.gadgets import Bounds, Counted
+from nushbaret.counts.nodes import Bounds, Counted
 
 import drawn
 
@@ -88,12 +88,12 @@ class Plans(unittest.TestCase):
         self.assertGreater(infeasible, 500)
         self.assertLess(infeasible, 1300)
 
-    def test_gadgets_only_where_a_plan_needs_them(self):
-        solved, more = gadgets.best_plan, 0
+    def test_transshipments_only_where_a_plan_needs_them(self):
+        solved, more = nodes.best_plan, 0
         for case, (roster, maximize) in enumerate(rosters(2, SMALL)):
             least, calls = min(plan[:2] for plan in roster.plans(maximize)), []
-            with mock.patch.object(gadgets._Builder, "spare", lambda builder: iter(())), mock.patch.object(
-                    gadgets, "best_plan", lambda *lists: calls.append(lists) or solved(*lists)), self.subTest(case=case):
+            with mock.patch.object(nodes._Builder, "spare", lambda builder: iter(())), mock.patch.object(
+                    nodes, "best_plan", lambda *lists: calls.append(lists) or solved(*lists)), self.subTest(case=case):
                 self.judge(roster, roster.assign(maximize=maximize, partial=True), maximize, least)
             more += len(calls) > 1
         self.assertGreater(more, 50)
@@ -122,7 +122,7 @@ class Plans(unittest.TestCase):
         self.assertEqual(len({(row, column // 3) for row, column in result.pairs}), 1800)
         some = [row[:21] for row in costs[:60]]
         wanted = nushbaret.assign_counts(some, (4, 5), (10, 13)).cost
-        with mock.patch.multiple(gadgets, MOST_PERSONS=1200, AT_ONCE=1200, LIKELY=800):
+        with mock.patch.multiple(nodes, MOST_PERSONS=1200, AT_ONCE=1200, LIKELY=800):
             self.assertEqual(nushbaret.assign_counts(some, (4, 5), (10, 13)).cost, wanted)
 
 
@@ -270,7 +270,7 @@ class Words(unittest.TestCase):
         for row_counts, column_counts, text in (
                 ((0, 90), (0, 2), "9000 columns that rows may take, 200 rows that columns may take and 0 rules of at most one need 9000"),
                 ((40, 80), (40, 80), "8000 columns that rows may take, 8000 rows that columns may take and 0 rules of at most one need 12000")):
-            with mock.patch.object(gadgets, "MOST_PERSONS", 8192):
+            with mock.patch.object(nodes, "MOST_PERSONS", 8192):
                 with self.assertRaises(ValueError) as caught:
                     nushbaret.assign_counts(costs, row_counts, column_counts)
                 self.assertEqual(str(pickle.loads(pickle.dumps(caught.exception))), f"{text} nodes, and 8192 {helps}")

@@ -155,7 +155,7 @@ class Forms(unittest.TestCase):
         for _ in range(3):
             self.assertEqual(nushbaret.solve(costs).cost, 4)
             self.assertEqual(nushbaret.solve(np.array([[1.0, 0.0], [2.0, 9.0]])).cost, 2)
-        self.assertTrue(all(room.listed is None for rooms in library._rooms.values() for room in rooms))
+        self.assertTrue(all(room.listed is None for rooms in library._workspaces.values() for room in rooms))
 
     def test_refined(self):
         """Where rounding doesn't show the best plan among allowed pairs, levels go on."""

@@ -266,7 +266,7 @@ class Larger(unittest.TestCase):
             exact = [list(map(Fraction, row)) for row in costs.tolist()]
             rows, columns = nushbaret.linear_sum_assignment(costs, maximize)
             shown = [list(map(float, row)) for row in costs.tolist()]
-            asked = levels.solved(self.listed(shown, maximize), None, None)
+            asked = levels.solved_by_levels(self.listed(shown, maximize), None, None)
             person_columns = list(asked.objects)
             pairs = list(enumerate(person_columns)) if shape[0] <= shape[1] else [(row, column) for column, row in enumerate(person_columns)]
             other = [(row, column - 1) if shape[0] <= shape[1] else (row - 1, column) for row, column in pairs]

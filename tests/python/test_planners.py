@@ -8,7 +8,7 @@ from array import array
 
 sys.path.insert(0, str(pathlib.Path(__file__).resolve().parents[2] / "python"))
 
-from nushbaret.roster.answer import Wish, answer_of
+from nushbaret.roster.answer import Request, answer_of
 from nushbaret.roster.by_counts import answer_by_counts
 from nushbaret.roster.roster import Roster
 
@@ -60,7 +60,7 @@ class PlacesAndTasks(unittest.TestCase):
             maximize = draw.random() < 0.5
             roster = roster_of(len(tasks), len(places), costs, dict(enumerate(tasks)), dict(enumerate(places)))
             kept = {pair for pair in costs if draw.random() < 0.3} if draw.random() < 0.5 else None
-            answer = answer_by_counts(roster, Wish((), maximize, True, kept))
+            answer = answer_by_counts(roster, Request((), maximize, True, kept))
             every = plans(costs, tasks, places)
             most = max(map(len, every))
             best = min(value(pairs, costs, maximize) for pairs in every if len(pairs) == most)
@@ -104,7 +104,7 @@ class Others(unittest.TestCase):
             costs = drawn_costs(draw, persons, objects, draw.choice((0.5, 1)))
             kept = {pair for pair in costs if draw.random() < 0.3} if draw.random() < 0.3 else None
             maximize = draw.random() < 0.5
-            answer = answer_of(roster_of(persons, objects, costs), Wish((), maximize, True, kept, None, True))
+            answer = answer_of(roster_of(persons, objects, costs), Request((), maximize, True, kept, None, True))
             with self.subTest(case=case):
                 found += self.judge(answer, costs, plans(costs, [1] * persons, [1] * objects), maximize)[0] is not None
         self.assertGreater(found, 50)
@@ -116,7 +116,7 @@ class Others(unittest.TestCase):
             most, maximize = draw.choice((2, 40)), draw.random() < 0.5
             costs = {pair: cost % most for pair, cost in costs.items()}
             roster = roster_of(len(tasks), len(places), costs, dict(enumerate(tasks)), dict(enumerate(places)))
-            answer = answer_by_counts(roster, Wish((), maximize, True, None, None, True))
+            answer = answer_by_counts(roster, Request((), maximize, True, None, None, True))
             every = plans(costs, tasks, places)
             others = {those for those in map(lambda plan: tuple(sorted(plan)), every) if len(those) == len(answer.plan.pairs)}
             with self.subTest(case=case):
@@ -135,7 +135,7 @@ class Kept(unittest.TestCase):
             kept = {pair for pair in costs if draw.random() < 0.3}
             maximize, change = draw.random() < 0.5, draw.choice((None, None, 0, 1, 2))
             roster = roster_of(persons, objects, costs)
-            pairs = {(pair.person, pair.object) for pair in answer_of(roster, Wish((), maximize, True, kept, change)).plan.pairs}
+            pairs = {(pair.person, pair.object) for pair in answer_of(roster, Request((), maximize, True, kept, change)).plan.pairs}
             every = plans(costs, [1] * persons, [1] * objects)
             most = max(map(len, every))
 
@@ -159,7 +159,7 @@ class Groups(unittest.TestCase):
         for case in range(CASES):
             persons, objects = draw.randint(1, 6), draw.randint(1, 6)
             costs = drawn_costs(draw, persons, objects, draw.choice((0.2, 0.35)))
-            groups = answer_of(roster_of(persons, objects, costs), Wish()).groups
+            groups = answer_of(roster_of(persons, objects, costs), Request()).groups
             of_objects = persons > objects
             listed = {}
             for pair in costs:

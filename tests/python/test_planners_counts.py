@@ -12,7 +12,7 @@ from unittest import mock
 sys.path.insert(0, str(pathlib.Path(__file__).resolve().parents[2] / "python"))
 
 from nushbaret.roster import sentences
-from nushbaret.roster.answer import Wish, sentence
+from nushbaret.roster.answer import Request, sentence
 from nushbaret.roster.by_counts import answer_by_counts
 from nushbaret.roster.names import without_marks
 from nushbaret.roster.roster import Groups, Roster
@@ -127,7 +127,7 @@ class Plans(unittest.TestCase):
         for number, case in enumerate(drawings(2, 500, 2)):
             kept = {pair for pair in case.pairs() if draw.random() < 0.4}
             change = draw.choice((None, None, 0, 1, 3))
-            plan = answer_by_counts(case.roster(), Wish((), case.maximize, True, kept, change)).plan
+            plan = answer_by_counts(case.roster(), Request((), case.maximize, True, kept, change)).plan
 
             def judged(missed, cost, pairs):
                 changes = len(set(pairs) ^ kept)
@@ -143,7 +143,7 @@ class Plans(unittest.TestCase):
     def test_others_beside_all_plans(self):
         swapped = shown = 0
         for number, case in enumerate(drawings(3, CASES, 2) + drawings(4, CASES, 60)):
-            plan = answer_by_counts(case.roster(), Wish((), case.maximize, True, None, None, True)).plan
+            plan = answer_by_counts(case.roster(), Request((), case.maximize, True, None, None, True)).plan
             plans = case.plans()
             missed, cost = min(those[:2] for those in plans)
             plans = [those for those in plans if those[0] == missed]
@@ -209,7 +209,7 @@ class Sentences(unittest.TestCase):
         for number, case in enumerate(drawings(5, 1300)):
             roster = case.roster()
             with mock.patch.object(sentences, "MOST_LISTED", number % 2 * 9):
-                answer = answer_by_counts(roster, Wish((), case.maximize))
+                answer = answer_by_counts(roster, Request((), case.maximize))
             found += bool(answer.groups)
             for short in answer.groups:
                 text = without_marks(sentence(roster, short, False))

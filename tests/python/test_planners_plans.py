@@ -6,7 +6,7 @@ import unittest
 
 sys.path.insert(0, str(pathlib.Path(__file__).resolve().parents[2] / "python"))
 
-from nushbaret.roster.answer import Wish, answer_of
+from nushbaret.roster.answer import Request, answer_of
 from nushbaret.roster.by_counts import answer_by_counts
 from nushbaret.roster.fair import fair_answer
 
@@ -36,7 +36,7 @@ class Ranked(unittest.TestCase):
                 plans = case.plans()
                 missed = min(plans)[0]
                 every = sorted((cost, pairs) for lack, cost, pairs in plans if lack == missed)
-                plan = solve(roster_of(case), Wish((), case.maximize, True, plans=5)).plan
+                plan = solve(roster_of(case), Request((), case.maximize, True, plans=5)).plan
                 found = [plan, *plan.following]
                 counts.append(len(found))
                 with self.subTest(kind=what, case=number):
@@ -51,7 +51,7 @@ class Ranked(unittest.TestCase):
             for number, case in enumerate(cases):
                 plans = case.plans()
                 every = sorted(plan[1:] for plan in plans if plan[0] == min(plans)[0])
-                plan = solve(roster_of(case), Wish((), case.maximize, True, others=True)).plan
+                plan = solve(roster_of(case), Request((), case.maximize, True, others=True)).plan
                 with self.subTest(kind=what, case=number):
                     self.assertEqual(plan.is_only_one, len(every) == 1 or every[0][0] < every[1][0])
                     self.assertEqual(len(plan.following), int(plan.is_only_one and len(every) > 1))
@@ -69,7 +69,7 @@ class Fair(unittest.TestCase):
                 every = [(max((sign * costs[pair] for pair in pairs), default=-math.inf), cost, pairs)
                          for lack, cost, pairs in plans if lack == min(plans)[0]]
                 with self.subTest(kind=what, case=number):
-                    answer, fair = fair_answer(roster_of(case), Wish((), case.maximize, True), solve)
+                    answer, fair = fair_answer(roster_of(case), Request((), case.maximize, True), solve)
                     if fair is None:
                         self.assertEqual((answer.plan.pairs, min(plan[1] for plan in every)), ([], 0))
                         continue

@@ -7,7 +7,7 @@ from unittest import mock
 
 import nushbaret
 from nushbaret.lap import ranking
-from nushbaret.lap.ranking import Ranking, _Search
+from nushbaret.lap.ranking import Ranking, _PathSearch
 from drawn import drawing, matrix
 from optional import np
 
@@ -166,7 +166,7 @@ class Checked(unittest.TestCase):
 
     def test_a_part_taken_for_empty(self):
         def none(ranking, part, *words):
-            return _Search(None, {}, {}, [0] * (ranking.n_columns + 1))
+            return _PathSearch(None, {}, {}, [0] * (ranking.n_columns + 1))
         self.refused("_search", none, "a group was found to be short, and the library says otherwise")
 
     def test_a_plan_taken_for_the_only_one(self):

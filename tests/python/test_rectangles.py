@@ -10,7 +10,7 @@ from optional import np
 
 def asked(run):
     """The names, sizes and numbers of pairs of the library's calls that something makes."""
-    calls, call, room_for = [], library.call, library.room_for
+    calls, call, room_for = [], library.call, library.workspace_for
 
     def noted(name, sense, n, m, *lists, **words):
         calls.append((name, n, m, len(lists[0])))
@@ -29,7 +29,7 @@ def asked(run):
 
     # Rooms made meanwhile are dropped afterwards.
     with mock.patch.object(library, "call", noted), mock.patch.object(library, "room_for", noting_room), \
-            mock.patch.dict(library._rooms, clear=True):
+            mock.patch.dict(library._workspaces, clear=True):
         run()
     return calls
 

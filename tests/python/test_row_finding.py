@@ -151,7 +151,7 @@ class Untrusted(unittest.TestCase):
     MODEL = Model(2, (2, 4), (Row(1, ((0, 1), (1, 1)), None, "one"), Row(None, ((0, 1), (1, 1)), 0, "none")), (0, 1))
 
     def test_plans(self):
-        search = finding._Search(self.MODEL._replace(rows=self.MODEL.rows[:1]))
+        search = finding._PlanSearch(self.MODEL._replace(rows=self.MODEL.rows[:1]))
         for plan in ((0, 0), (1,), (2, 0), (1, 0, 0)):
             self.assertFalse(search.take_plan(plan))
         self.assertTrue(search.take_plan((0, 1)))
@@ -159,7 +159,7 @@ class Untrusted(unittest.TestCase):
         self.assertEqual(search.finding()[:3], ("undecided", (0, 1), 4))
 
     def test_bounds(self):
-        search = finding._Search(self.MODEL._replace(rows=self.MODEL.rows[:1]))
+        search = finding._PlanSearch(self.MODEL._replace(rows=self.MODEL.rows[:1]))
         self.assertEqual(search.unit, 2)
         self.assertFalse(search.take_bound(0, (0, 1, 0, 1)))
         self.assertTrue(search.take_bound(0, (0, 2, 0, 1, 1, -1)))
@@ -170,7 +170,7 @@ class Untrusted(unittest.TestCase):
         self.assertTrue(shows(found.certificate) and models.shows(found.certificate))
 
     def test_reasons(self):
-        search = finding._Search(self.MODEL)
+        search = finding._PlanSearch(self.MODEL)
         told = {"reasons": ["one", "none"], "is_minimal": True, "rows": [0, 1], "tree": [0, 2, 0, 1, 1, 1]}
         self.assertFalse(search.take_reasons(told))
         self.assertTrue(search.take_reasons({**told, "tree": [0, 2, 0, 1, 1, -1]}))

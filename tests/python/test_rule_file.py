@@ -11,7 +11,7 @@ sys.path.insert(0, str(pathlib.Path(__file__).resolve().parents[2] / "python"))
 from drawn_rules import roster_of
 from nushbaret.roster.month import Before, month_of
 from nushbaret.roster.roster import Earlier, Groups
-from nushbaret.roster.rule_file import Line, Rule, rules_of
+from nushbaret.roster.rule_file import RuleLine, Rule, rules_of
 from nushbaret.roster.sheets import RosterFault
 
 ALL = (0, 1, 2)
@@ -79,7 +79,7 @@ def small(are_dates=True, n_days=9):
 
 def read(*lines, roster=None):
     roster = roster or small()
-    return rules_of("rules.csv", [Line(*cells, number) for number, cells in enumerate(lines, 2)], roster,
+    return rules_of("rules.csv", [RuleLine(*cells, number) for number, cells in enumerate(lines, 2)], roster,
                     month_of(roster, roster.groups, "g.csv"))
 
 

@@ -45,7 +45,7 @@ def endless_call():
 
 def short_pieces(looks):
     """Searches in pieces of so many looks at pairs, to begin with."""
-    return mock.patch.dict(library.PIECES, dict.fromkeys(library.PIECES, library.Piece(looks, 0)))
+    return mock.patch.dict(library.PIECES, dict.fromkeys(library.PIECES, library.PieceSize(looks, 0)))
 
 
 class Interrupts(unittest.TestCase):

@@ -9,8 +9,8 @@ from ..costs.numbers import Number
 from ..costs.problem import Labels, Problem, in_whole_numbers, lists_of
 from ..costs.reading import manner
 from ..costs.source import lasting, problem_of
-from ..counts.gadgets import Bounds, Counted, Pair
 from ..counts.lack import Lack
+from ..counts.nodes import Bounds, Counted, Pair
 from ..counts.planned import missing, planned
 from ..lap import library
 from .infeasible import Infeasible, Shortage, numbered
@@ -60,14 +60,14 @@ def _why(short: Shortage, labels: Labels) -> str:
 def shortages_of(counted: Counted, lacks: List[Lack]) -> List[Shortage]:
     """What is short, where groups are lists of columns."""
     members: Dict[Tuple[int, int], List[int]] = {}
-    wanted = {unit for lack in lacks for unit in lack.once}
-    for unit, column in zip(counted.units(), counted.columns):
-        if unit in wanted:
-            members.setdefault(unit, []).append(column)
+    wanted = {row_group for lack in lacks for row_group in lack.once}
+    for row_group, column in zip(counted.row_groups(), counted.columns):
+        if row_group in wanted:
+            members.setdefault(row_group, []).append(column)
     found = []
     for lack in lacks:
         own = set(lack.columns)
-        once = [(unit[0], [column for column in members[unit] if not lack.of_columns or column in own]) for unit in lack.once]
+        once = [(row, [column for column in members[row, group] if not lack.of_columns or column in own]) for row, group in lack.once]
         found.append(Shortage(lack.of_columns, lack.rows, lack.columns, once, lack.wanted, lack.had))
     return found
 

@@ -8,10 +8,10 @@ from ..costs import problem as reading
 from ..costs.numbers import Number, Ratio, Unit, all_shown, total
 from ..costs.problem import Problem, costs_of_pairs
 from ..costs.reading import loaded_numpy, manner, whole_number
-from ..costs.source import Held, Source, problem_of
+from ..costs.source import FixedProblem, Source, problem_of
 from ..lap import duals as exact_duals, library, proved
 from ..lap.checking import check_wholly
-from ..lap.ranking import Part, Ranking
+from ..lap.ranking import Ranking, Subproblem
 from ..lap.solving import solved
 from .infeasible import infeasible
 from .verdicts import Verdict, verdict_on
@@ -67,26 +67,26 @@ class Result(Lasting):
     columns: Any
     #: Whether this is the greatest sum, not the least.
     maximize: bool
-    _source: Union[Source, Held]
+    _source: Union[Source, FixedProblem]
     _shape: Problem
-    _answer: proved.Answer
+    _answer: proved.Assignment
     _costs: List[Any]
     _as_arrays: bool
 
-    def __init__(self, source: Union[Source, Held], problem: Problem, answer: proved.Answer):
+    def __init__(self, source: Union[Source, FixedProblem], problem: Problem, answer: proved.Assignment):
         rows, columns = proved.rows_and_columns(problem, answer)
         costs = costs_of_pairs(problem, rows, columns)
         # Without its lists the problem is small.
         shape = problem._replace(costs=None, persons=None, objects=None, numpy=None, arrays=None)
-        self._take(source, proved.Found(shape, answer, rows, columns, costs, problem.arrays is not None))
+        self._take(source, proved.ResultParts(shape, answer, rows, columns, costs, problem.arrays is not None))
 
-    def _take(self, source: Union[Source, Held], found: proved.Found) -> None:
+    def _take(self, source: Union[Source, FixedProblem], found: proved.ResultParts) -> None:
         held = self.__dict__
         held["_source"], held["maximize"] = source, found.shape.maximize
         held["_shape"], held["_answer"], held["rows"], held["columns"], held["_costs"], held["_as_arrays"] = found
 
     @classmethod
-    def _of(cls, source: Source, found: proved.Found) -> "Result":
+    def _of(cls, source: Source, found: proved.ResultParts) -> "Result":
         """The result of what was found to be a best plan."""
         result = cls.__new__(cls)
         result._take(source, found)
@@ -160,7 +160,7 @@ class Result(Lasting):
         problem, count = self._read_again(), len(self._pairs[0])
         served = None if count == min(problem.n_rows, problem.n_columns) else count
         again = solved(problem, None, served)
-        if isinstance(again, proved.Short) or Result(self._source, problem, again).cost != self.cost:
+        if isinstance(again, proved.HallSet) or Result(self._source, problem, again).cost != self.cost:
             raise ValueError(CHANGED)
         found = exact_duals.exact_prices(problem, served, self._answer.objects)
         if found is None:
@@ -224,7 +224,7 @@ class Result(Lasting):
     def _ranking_of(self, problem: Problem) -> Ranking:
         return Ranking(problem, self._pairs, self._ratios, *self._whole_duals)
 
-    def _plan(self, ranking: Ranking, part: Part) -> Plan:
+    def _plan(self, ranking: Ranking, part: Subproblem) -> Plan:
         """The best plan of a part, as the caller sees it."""
         rows, columns = ranking.pairs(part)
         shown = self._shape.unit if not self._shape.raw else ranking.unit
@@ -370,14 +370,14 @@ def _without(result: Result, row: Any, column: Any, timeout: Optional[float]) ->
     with library.limited(timeout):
         less = reading.without_pair(result._checked(), row, column)
         answer = solved(less, _less(result, row, column), len(result._pairs[0]))
-    if isinstance(answer, proved.Short):
+    if isinstance(answer, proved.HallSet):
         raise infeasible(less)
     source: Any = result._source
-    source = source._replace(less=source.less + ((row, column),)) if isinstance(source, Source) else Held(less)
+    source = source._replace(less=source.less + ((row, column),)) if isinstance(source, Source) else FixedProblem(less)
     return Result(source, less, answer)
 
 
-def _less(result: Result, row: int, column: int) -> proved.Start:
+def _less(result: Result, row: int, column: int) -> proved.WarmStart:
     """Where the search without a pair begins: at the result's prices and other pairs."""
     pairs = [pair for pair in zip(*result._pairs) if pair != (row, column)]
-    return proved.Start(result._exact_rents, [own for own, _ in pairs], [own for _, own in pairs])
+    return proved.WarmStart(result._exact_rents, [own for own, _ in pairs], [own for _, own in pairs])

@@ -4,14 +4,14 @@ from datetime import date
 from typing import Any, Dict, Iterable, List, Mapping, NamedTuple, Optional, Sequence, Tuple, Union
 
 from ..costs.numbers import Number, Ratio, in_unit, ratio_of, unit_of
-from ..counts.gadgets import Bounds
-from ..roster.answer import Wish
+from ..counts.nodes import Bounds
+from ..roster.answer import Request
 from ..roster.by_rules import Proved, Task, answer_by_rules
 from ..roster.month import Before, month_of
 from ..roster.output.rule_texts import sentence_of
 from ..roster.roster import Earlier, Groups, PlanLine, Roster
 from ..roster.roster_rows import OwnRow
-from ..roster.rule_file import Line, rules_of
+from ..roster.rule_file import RuleLine, rules_of
 from ..rows.model import Certificate
 
 Named = Tuple[str, str]
@@ -135,7 +135,7 @@ def plan_roster(costs: Mapping[Named, Any], days: Mapping[str, Union[str, date]]
                                                                for number, (person, day, kind) in enumerate(earlier, 1)]))
     lines = [_line(rule, number) for number, rule in enumerate(rules, 1)]
     ruled = rules_of("rules", lines, roster, month)
-    wish = Wish(_fixed(roster, fixed), maximize)
+    wish = Request(_fixed(roster, fixed), maximize)
     own = [_own_row(roster, row) for row in rows]
     answer, proved = answer_by_rules(Task(roster, month._replace(holidays=ruled.holidays), ruled, wish, seconds, own))
     pairs = None if answer.plan is None else [(roster.persons[pair.person], roster.objects[pair.object]) for pair in answer.plan.pairs]
@@ -211,13 +211,13 @@ def _groups(roster: Roster, earlier: Sequence[Tuple[str, str, str]]) -> Groups:
     return roster.groups._replace(earlier=tuple(named.values()))
 
 
-def _line(rule: Sequence[str], number: int) -> Line:
+def _line(rule: Sequence[str], number: int) -> RuleLine:
     """A rule as a line: names may be a list too."""
     if isinstance(rule, str) or not 1 <= len(rule) <= 3:
         raise ValueError(f"rules: {rule!r} is no rule, value and names")
     cells = [*rule, "", ""][:3]
     names = cells[2] if isinstance(cells[2], str) else "; ".join(cells[2])
-    return Line(cells[0], str(cells[1]), names, number)
+    return RuleLine(cells[0], str(cells[1]), names, number)
 
 
 def _fixed(roster: Roster, fixed: Iterable[Named]) -> List[PlanLine]:

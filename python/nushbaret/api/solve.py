@@ -3,7 +3,7 @@ from typing import Any, Callable, List, Optional, Sequence, Tuple, Union, overlo
 
 from ..costs import problem as reading, reading as exact, source as sources
 from ..costs.problem import Problem
-from ..costs.source import Held, Source
+from ..costs.source import FixedProblem, Source
 from ..lap import library, proved
 from ..lap.small import small_arrays
 from ..lap.solving import Began, most, solved
@@ -15,10 +15,10 @@ Start = Union[Result, Sequence[Any], None]
 Progress = Optional[Callable[[int, int], Any]]
 
 
-def _answer(problem: Problem, start: Start, partial: bool) -> proved.Answer:
+def _answer(problem: Problem, start: Start, partial: bool) -> proved.Assignment:
     began = None if start is None else began_at(problem, start)
     answer = solved(problem, began)
-    if not isinstance(answer, proved.Short):
+    if not isinstance(answer, proved.HallSet):
         return answer
     if not partial:
         raise infeasible(problem)
@@ -31,23 +31,23 @@ def began_at(problem: Problem, start: Start) -> Began:
     if not isinstance(start, Result):
         if not hasattr(start, "__iter__"):
             raise TypeError(f"start is {start!r}: it must be a result, or a list of prices")
-        return proved.Start(proved.exact_prices(problem, start, "start"))
+        return proved.WarmStart(proved.exact_prices(problem, start, "start"))
     try:
         prices = start._exact_rents
     except ValueError:
         return None
-    return proved.Start(proved.exact_prices(problem, prices), *start._pairs)
+    return proved.WarmStart(proved.exact_prices(problem, prices), *start._pairs)
 
 
 def solve_served(problem: Problem, served: int, source: Optional[Source] = None) -> Optional[Result]:
     """The best plan of so many pairs; None if the library proves that there is none."""
     answer = solved(problem, None, served)
-    return None if isinstance(answer, proved.Short) else Result(source or Held(problem), problem, answer)
+    return None if isinstance(answer, proved.HallSet) else Result(source or FixedProblem(problem), problem, answer)
 
 
 def solve_problem(problem: Problem, start: Start = None, partial: bool = False, source: Optional[Source] = None) -> Result:
     """The result of a problem; Infeasible where it has no plan and none is to be partial."""
-    return Result(source or Held(problem), problem, _answer(problem, start, partial))
+    return Result(source or FixedProblem(problem), problem, _answer(problem, start, partial))
 
 
 def solve_source(source: Source, start: Start = None, partial: bool = False, timeout: Optional[float] = None, progress: Progress = None) -> Result:

@@ -16,7 +16,7 @@ GREATEST_PRICE = 9 * 10**18
 FEW = 1024
 
 
-class Lent:
+class BorrowedNumbers:
     """A buffer of 64-bit numbers of another owner, which stays as long as this does."""
 
     def __init__(self, view: memoryview):

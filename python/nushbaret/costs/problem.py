@@ -8,7 +8,7 @@ from itertools import compress
 from typing import Any, Dict, Iterable, List, NamedTuple, Optional, Sequence, Tuple
 
 from . import naming, parts, printing, reading as exact
-from .limits import MOST_PERSONS, Lent
+from .limits import MOST_PERSONS, BorrowedNumbers
 from .numbers import ONE, Ratio, Unit, in_unit, ratio_of, unit_of
 
 
@@ -139,7 +139,7 @@ def _of_view(view: memoryview, manner: exact.Manner) -> Problem:
     kind = view.format
     own = kind in ("q", "l") and view.itemsize == 8 and view.c_contiguous and not view.readonly
     if own and not manner.decimals and view.nbytes:
-        return Problem(n_rows, n_columns, manner.maximize, Lent(view))
+        return Problem(n_rows, n_columns, manner.maximize, BorrowedNumbers(view))
     rows: Any = view.tolist()
     if kind in ("e", "f") and not manner.doubles:
         rows = [[printing.shortest(cost, kind) for cost in row] for row in rows]
@@ -156,7 +156,7 @@ def _of_array(numpy: Any, costs: Any, manner: exact.Manner, labels: Labels) -> P
     return _dense(n_rows, n_columns, manner, read)._replace(arrays=numpy, labels=labels)
 
 
-def _dense(n_rows: int, n_columns: int, manner: exact.Manner, read: exact.Costs) -> Problem:
+def _dense(n_rows: int, n_columns: int, manner: exact.Manner, read: exact.ReadCosts) -> Problem:
     """The problem of all pairs but the forbidden ones."""
     whole = Problem(n_rows, n_columns, manner.maximize, read.numbers, None, None, read.unit, read.raw, manner.doubles, read.numpy,
                     None, read.fractions, None, read.most)
@@ -237,7 +237,7 @@ def listed_costs(problem: Problem) -> List[Any]:
 
 def owned(problem: Problem) -> Problem:
     """The problem with costs that the caller can't change."""
-    if isinstance(problem.costs, Lent):
+    if isinstance(problem.costs, BorrowedNumbers):
         return problem._replace(costs=array("q", bytes(problem.costs.held)))
     return problem._replace(costs=problem.costs.copy()) if problem.numpy else problem
 
@@ -335,7 +335,7 @@ def without_pair(problem: Problem, row: int, column: int) -> Problem:
     return kept(problem, [place for place, other in enumerate(zip(problem.persons, problem.objects)) if other != pair])
 
 
-def _without_forbidden(n_rows: int, n_columns: int, read: exact.Costs) -> Tuple[Any, Any, Any]:
+def _without_forbidden(n_rows: int, n_columns: int, read: exact.ReadCosts) -> Tuple[Any, Any, Any]:
     """Costs, persons and objects of the pairs that aren't forbidden."""
     numpy = read.numpy
     if numpy:
@@ -388,7 +388,7 @@ def _all_below(numbers: List[int], most: int, what: str) -> None:
             raise ValueError(f"{what}[{place}] is {number}: it must be from 0 to {most - 1}")
 
 
-def _pair_costs(costs: Any, manner: exact.Manner, where: exact.Where) -> exact.Costs:
+def _pair_costs(costs: Any, manner: exact.Manner, where: exact.Where) -> exact.ReadCosts:
     numpy = exact.numpy_of(costs)
     if numpy:
         costs = numpy.asanyarray(costs)

@@ -46,7 +46,7 @@ class Manner(NamedTuple):
         return -math.inf if self.maximize else math.inf
 
 
-class Costs(NamedTuple):
+class ReadCosts(NamedTuple):
     """Costs in their order, in a unit; `forbidden` has the places of those that forbid their pair, where a 0 stands. Where `raw` is false
     they are whole numbers of 64 bits, else an array of doubles or a list of exact numbers. `numpy` is the module where they are an array
     of it, `fractions` says that one was a Fraction, and `most` is the greatest size of doubles, where it is known."""
@@ -114,7 +114,7 @@ def is_nan(value: Any) -> bool:
     return isinstance(value, float) and value != value or type(value).__name__ in ("NAType", "NaTType")
 
 
-class _Reader:
+class _NumberReader:
     """Reads numbers of any kind, one after the other."""
 
     def __init__(self, manner: Manner, where: Where):
@@ -170,13 +170,13 @@ def _simple(value: decimal.Decimal) -> Any:
     return int(value) if value.adjusted() < 18 and value == value.to_integral_value() else value
 
 
-def of_rows(rows: Any, length: int, manner: Manner, where: Where) -> Costs:
+def of_rows(rows: Any, length: int, manner: Manner, where: Where) -> ReadCosts:
     """The costs of rows of one length. `where(place)` names a place for the caller."""
     if length * len(rows) <= FEW:
         rows, length = [list(chain.from_iterable(rows))], length * len(rows)
     packed = None if manner.decimals else _packed(rows, length)
     if packed is not None:
-        return Costs(packed)
+        return ReadCosts(packed)
     numpy = loaded_numpy()
     read = _by_array(numpy, rows, length, manner, where) if numpy and length * len(rows) > FEW else None
     if read is not None:
@@ -184,14 +184,14 @@ def of_rows(rows: Any, length: int, manner: Manner, where: Where) -> Costs:
     return of_list(list(chain.from_iterable(rows)), manner, where)
 
 
-def of_list(values: List[Any], manner: Manner, where: Where) -> Costs:
+def of_list(values: List[Any], manner: Manner, where: Where) -> ReadCosts:
     """The costs of a list."""
     kinds = frozenset(map(type, values))
     if _PLAIN.issuperset(kinds):
         read = _of_plain(values.copy(), manner) if manner.decimals is None and not manner.doubles else None
         if read is not None:
             return read
-    reader = _Reader(manner, where)
+    reader = _NumberReader(manner, where)
     found = [reader.number(place, value) for place, value in enumerate(values)]
     forbidden = [place for place, number in enumerate(found) if number is None]
     for place in forbidden:
@@ -199,7 +199,7 @@ def of_list(values: List[Any], manner: Manner, where: Where) -> Costs:
     return _of_numbers(found, forbidden, manner)
 
 
-def _by_array(numpy: Any, rows: Any, length: int, manner: Manner, where: Where) -> Optional[Costs]:
+def _by_array(numpy: Any, rows: Any, length: int, manner: Manner, where: Where) -> Optional[ReadCosts]:
     """The costs of many ints, floats and None, through an array; None where others are among them, or one is an int that is no double. An
     array of each row is made in turn, so that Ctrl-C is heeded."""
     doubles = numpy.empty((len(rows), length))
@@ -213,21 +213,21 @@ def _by_array(numpy: Any, rows: Any, length: int, manner: Manner, where: Where) 
     return of_array(numpy, doubles, manner, where)
 
 
-def _of_numbers(found: List[Any], forbidden: List[int], manner: Manner) -> Costs:
+def _of_numbers(found: List[Any], forbidden: List[int], manner: Manner) -> ReadCosts:
     """The costs of exact numbers: whole ones of 64 bits where one unit makes them whole."""
     if manner.decimals is not None:
         found = [_to_places(value, manner.decimals, manner.doubles) for value in found]
         unit = of_places(manner.decimals)
         try:
-            return Costs(array("q", found), forbidden, unit)
+            return ReadCosts(array("q", found), forbidden, unit)
         except OverflowError:
-            return Costs(found, forbidden, unit, True)
+            return ReadCosts(found, forbidden, unit, True)
     fractions = any(type(value) is Fraction for value in found)
     ratios = [ratio_of(value, manner.doubles) for value in found]
-    return _in_one_unit(ratios, forbidden, fractions) or Costs(found, forbidden, ONE, True, None, fractions)
+    return _in_one_unit(ratios, forbidden, fractions) or ReadCosts(found, forbidden, ONE, True, None, fractions)
 
 
-def _in_one_unit(ratios: List[Ratio], forbidden: List[int], fractions: bool) -> Optional[Costs]:
+def _in_one_unit(ratios: List[Ratio], forbidden: List[int], fractions: bool) -> Optional[ReadCosts]:
     """Costs as whole numbers in the unit of all; None where that is too small for the library's range."""
     denominators = {denominator for _, denominator in ratios}
     if max(denominators, default=1) > GREATEST_COST:
@@ -241,7 +241,7 @@ def _in_one_unit(ratios: List[Ratio], forbidden: List[int], fractions: bool) -> 
     if unit != ONE and max((abs(number) for number in whole), default=0) > GREATEST_COST:
         return None
     try:
-        return Costs(array("q", whole), forbidden, unit, False, None, fractions)
+        return ReadCosts(array("q", whole), forbidden, unit, False, None, fractions)
     except OverflowError:
         return None
 
@@ -276,7 +276,7 @@ def _pack(pack: Callable[..., None], numbers_: Numbers, place: int, row: Any) ->
         pack(numbers_, place, *map(int, row))
 
 
-def _of_plain(values: List[Any], manner: Manner) -> Optional[Costs]:
+def _of_plain(values: List[Any], manner: Manner) -> Optional[ReadCosts]:
     """The costs of a list of ints, floats and None; None where they have too many places, or one is out of range or NaN."""
     forbids = manner.forbids
     forbidden = [place for place, value in enumerate(values)
@@ -289,7 +289,7 @@ def _of_plain(values: List[Any], manner: Manner) -> Optional[Costs]:
         return None
     if numbers_ and max(max(numbers_), -min(numbers_)) > GREATEST_COST:
         return None
-    return Costs(numbers_, forbidden, of_places(places))
+    return ReadCosts(numbers_, forbidden, of_places(places))
 
 
 def _scaled_plain(values: List[Any]) -> Tuple[Numbers, int]:
@@ -314,7 +314,7 @@ def _block_scaled(block: List[Any], least: int) -> Tuple[Numbers, int]:
     raise ValueError(f"more than {MOST_PLACES} decimal places")
 
 
-def of_array(numpy: Any, values: Any, manner: Manner, where: Where) -> Costs:
+def of_array(numpy: Any, values: Any, manner: Manner, where: Where) -> ReadCosts:
     """The costs of a NumPy array, whatever its shape, in the order of C."""
     mask = getattr(values, "mask", None) if isinstance(values, numpy.ma.MaskedArray) else None
     if mask is None and values.dtype.kind in "biu":
@@ -377,7 +377,7 @@ def _fits_doubles(column: Any) -> bool:
     return not column.size or -_MOST_WHOLE <= int(column.min()) and int(column.max()) <= _MOST_WHOLE
 
 
-def _of_values(numpy: Any, flat: Any, manner: Manner, where: Where) -> Costs:
+def _of_values(numpy: Any, flat: Any, manner: Manner, where: Where) -> ReadCosts:
     kind, size = flat.dtype.kind, flat.dtype.itemsize
     if kind in "biu":
         return _of_whole_array(numpy, flat, manner, where)
@@ -389,7 +389,7 @@ def _of_values(numpy: Any, flat: Any, manner: Manner, where: Where) -> Costs:
     raise TypeError(f"Cannot cast array data from {flat.dtype!r} to dtype('float64') according to the rule 'safe': costs must be numbers")
 
 
-def _of_whole_array(numpy: Any, flat: Any, manner: Manner, where: Where) -> Costs:
+def _of_whole_array(numpy: Any, flat: Any, manner: Manner, where: Where) -> ReadCosts:
     places = manner.decimals or 0
     if flat.size and (places or flat.dtype.kind == "u"):
         # As Python's numbers, since NumPy compares whole numbers of two kinds as doubles.
@@ -397,23 +397,23 @@ def _of_whole_array(numpy: Any, flat: Any, manner: Manner, where: Where) -> Cost
         if not (int(flat.min()) >= -most and int(flat.max()) <= most):
             return _of_numbers(flat.tolist(), [], manner)
     numbers_ = flat.astype(numpy.int64, copy=not flat.flags.aligned)
-    return Costs(numbers_ * 10**places if places else numbers_, (), of_places(places), False, numpy)
+    return ReadCosts(numbers_ * 10**places if places else numbers_, (), of_places(places), False, numpy)
 
 
-def _of_float_array(numpy: Any, flat: Any, manner: Manner, where: Where) -> Costs:
+def _of_float_array(numpy: Any, flat: Any, manner: Manner, where: Where) -> ReadCosts:
     if flat.dtype.itemsize < 8 and not manner.doubles:
         flat = printing.of_array(numpy, flat)
     wide = flat.astype(numpy.float64, copy=not flat.flags.aligned)
     found = None if manner.decimals else whole_numbers(numpy, wide)
     if found is not None:
-        return Costs(found, (), ONE, False, numpy)
+        return ReadCosts(found, (), ONE, False, numpy)
     wide, forbidden, most = _finite(numpy, wide, manner, where)
     if manner.decimals is not None:
         return _rounded_array(numpy, wide, forbidden, manner)
     places = None if manner.doubles and not len(forbidden) else _least_places(numpy, wide, 0 if manner.doubles else MOST_PLACES)
     if places is not None and size_of(wide) * 10.0**places <= GREATEST_COST:
-        return Costs(_scaled_array(numpy, wide, places), forbidden, of_places(places), False, numpy)
-    return Costs(wide, forbidden, ONE, True, numpy, False, most)
+        return ReadCosts(_scaled_array(numpy, wide, places), forbidden, of_places(places), False, numpy)
+    return ReadCosts(wide, forbidden, ONE, True, numpy, False, most)
 
 
 def _finite(numpy: Any, flat: Any, manner: Manner, where: Where) -> Tuple[Any, Any, Optional[float]]:
@@ -436,12 +436,12 @@ def size_of(flat: Any) -> float:
     return max(float(flat.max()), -float(flat.min())) if flat.size else 0.0
 
 
-def _rounded_array(numpy: Any, flat: Any, forbidden: Any, manner: Manner) -> Costs:
+def _rounded_array(numpy: Any, flat: Any, forbidden: Any, manner: Manner) -> ReadCosts:
     places = manner.decimals or 0
     if places <= MOST_PLACES and size_of(flat) * 10.0**places <= GREATEST_COST:
         whole = _scaled_array(numpy, flat, places)
         _round_halves(numpy, flat, whole, places, manner.doubles)
-        return Costs(whole, forbidden, of_places(places), False, numpy)
+        return ReadCosts(whole, forbidden, of_places(places), False, numpy)
     return _of_numbers(flat.tolist(), forbidden, manner)
 
 

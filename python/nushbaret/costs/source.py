@@ -44,7 +44,7 @@ class Source(NamedTuple):
         return Source, (_portable(self.costs), _portable(self.rows), _portable(self.columns), *self[3:])
 
 
-class Held(NamedTuple):
+class FixedProblem(NamedTuple):
     """A problem that nobody else can change."""
 
     problem: Problem

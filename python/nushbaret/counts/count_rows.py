@@ -10,27 +10,27 @@ from typing import Dict, List, NamedTuple, Sequence, Tuple
 from ..rows.check import shows
 from ..rows.model import Certificate, Leaf, Limits, Terms, flat
 from .exchanges import Exchanges
-from .gadgets import Bounds, Counted, Unit
 from .lack import Lack
+from .nodes import Bounds, Counted, RowGroup
 
 
 class CountTerms(NamedTuple):
-    """The pairs of each row, of each column, and of each unit that has several."""
+    """The pairs of each row, of each column, and of each row group that has several."""
 
     of_rows: List[Terms]
     of_columns: List[Terms]
-    of_units: Dict[Unit, Terms]
+    of_row_groups: Dict[RowGroup, Terms]
 
 
 def terms_of(counted: Counted) -> CountTerms:
     """The terms of the rows that say counts and groups."""
-    several = {unit for unit, count in Counter(counted.units()).items() if count > 1}
-    units: Dict[Unit, List[Tuple[int, int]]] = {}
-    for pair, unit in enumerate(counted.units()):
-        if unit in several:
-            units.setdefault(unit, []).append((pair, 1))
+    several = {row_group for row_group, count in Counter(counted.row_groups()).items() if count > 1}
+    row_groups: Dict[RowGroup, List[Tuple[int, int]]] = {}
+    for pair, row_group in enumerate(counted.row_groups()):
+        if row_group in several:
+            row_groups.setdefault(row_group, []).append((pair, 1))
     return CountTerms(_terms(counted.rows, len(counted.row_bounds)), _terms(counted.columns, len(counted.column_bounds)),
-                      {unit: tuple(terms) for unit, terms in units.items()})
+                      {row_group: tuple(terms) for row_group, terms in row_groups.items()})
 
 
 def _terms(numbers: Sequence[int], count: int) -> List[Terms]:
@@ -56,7 +56,7 @@ def certificate_of_lack(counted: Counted, terms: CountTerms, lack: Lack) -> Cert
     other, others = (terms.of_rows, lack.rows) if lack.of_columns else (terms.of_columns, lack.columns)
     bounds = counted.row_bounds if lack.of_columns else counted.column_bounds
     rows = [Limits(None, other[name], bounds[name].most) for name in others]
-    rows += [Limits(None, terms.of_units[unit], 1) for unit in lack.once if unit in terms.of_units]
+    rows += [Limits(None, terms.of_row_groups[row_group], 1) for row_group in lack.once if row_group in terms.of_row_groups]
     leaf = Leaf((*((row, -1) for row in range(len(rows))), (len(rows), 1)))
     rows.append(Limits(lack.had + 1, tuple(chain.from_iterable(own[name] for name in names)), None))
     return Certificate(len(counted.rows), tuple(rows), None, flat(leaf))
@@ -91,11 +91,11 @@ def certificate_of_best(counted: Counted, lacks: Sequence[Lack], exchanges: Exch
     rows = [Limits(bound.least, own + more, bound.most) for bounds, their, missed in
             zip((counted.row_bounds, counted.column_bounds), (terms.of_rows, terms.of_columns), sides)
             for bound, own, more in zip(bounds, their, missed.terms)]
-    rows += [Limits(None, own, 1) for own in terms.of_units.values()]
+    rows += [Limits(None, own, 1) for own in terms.of_row_groups.values()]
     rows += [Limits(missed.total, tuple(chain.from_iterable(missed.terms)), missed.total) for missed in sides if missed.total]
     costs = tuple((pair, cost) for pair, cost in enumerate(counted.costs) if cost)
     rows.append(Limits(None, costs, sum(cost for cost, value in zip(counted.costs, values) if value) - 1))
-    factors = _multipliers(counted, list(terms.of_units), exchanges, [missed.total > 0 for missed in sides])
+    factors = _multipliers(counted, list(terms.of_row_groups), exchanges, [missed.total > 0 for missed in sides])
     leaf = Leaf(tuple((row, factor) for row, factor in enumerate(factors) if factor))
     return Certificate(len(values), tuple(rows), tuple(values), flat(leaf))
 
@@ -129,13 +129,13 @@ def _taken(parts: Sequence[int], number: int) -> List[int]:
     return values
 
 
-def _multipliers(counted: Counted, units: Sequence[Unit], exchanges: Exchanges, has_missed: Sequence[bool]) -> List[int]:
+def _multipliers(counted: Counted, row_groups: Sequence[RowGroup], exchanges: Exchanges, has_missed: Sequence[bool]) -> List[int]:
     """The multiplier of each row of the certificate."""
     potentials, n_rows = exchanges.potentials, exchanges.first_column
     free = potentials[n_rows + len(counted.column_bounds)]
     must = potentials[n_rows + len(counted.column_bounds) + 1:]
     factors = [free - potential for potential in potentials[:n_rows]]
     factors += [potential - free for potential in potentials[n_rows:n_rows + len(counted.column_bounds)]]
-    factors += [min(0, potentials[unit[0]] - potentials[exchanges.units[unit]]) for unit in units]
+    factors += [min(0, potentials[row_group[0]] - potentials[exchanges.row_groups[row_group]]) for row_group in row_groups]
     factors += [must[0] - free] * has_missed[0] + [free - must[1]] * has_missed[1]
     return [*factors, -1]

@@ -1,25 +1,25 @@
 """How plans by counts differ: who could change places at no cost, and what the best other plan costs.
 
-Two plans differ by rounds of changes. In a graph of rows, units of groups and columns, an arrow leads from a row to a column that it could
+Two plans differ by rounds of changes. In a graph of rows, row groups of groups and columns, an arrow leads from a row to a column that it could
 take, and back where it has it. One more vertex is where rows and columns that may take more, or less, begin and end; two others do the same
 for least counts that are missed, of which as many are met in each plan."""
 from collections import Counter
 from heapq import heappop, heappush
 from typing import Collection, Dict, List, NamedTuple, Optional, Sequence, Set, Tuple
 
-from .gadgets import Bounds, Counted, Pair, Unit
 from .graphs import potentials_of, strong_parts
+from .nodes import Bounds, Counted, Pair, RowGroup
 
 Arrows = List[Dict[int, int]]
 
 
 class Exchanges(NamedTuple):
-    """The graph of changes of a plan: what each arrow costs. Rows are the first vertices, and columns come after them; `units`
-    has the vertices of units, and `ends` the two vertices of each pair."""
+    """The graph of changes of a plan: what each arrow costs. Rows are the first vertices, and columns come after them; `row_groups`
+    has the vertices of row groups, and `ends` the two vertices of each pair."""
 
     arrows: Arrows
     first_column: int
-    units: Dict[Unit, int]
+    row_groups: Dict[RowGroup, int]
     ends: Dict[Pair, Tuple[int, int]]
     chosen: Set[Pair]
     potentials: List[int]
@@ -28,26 +28,26 @@ class Exchanges(NamedTuple):
 def exchanges_of(counted: Counted, chosen: Sequence[Pair], is_partial: bool, settled: Collection[Pair] = ()) -> Exchanges:
     """The changes of a plan whose cost is the least of all those that agree with it in the settled pairs, which it may have or not."""
     n_rows, n_columns = len(counted.row_bounds), len(counted.column_bounds)
-    units = _units(counted, n_rows + n_columns + 3)
-    arrows: Arrows = [{} for _ in range(n_rows + n_columns + 3 + len(units))]
+    row_groups = _row_groups(counted, n_rows + n_columns + 3)
+    arrows: Arrows = [{} for _ in range(n_rows + n_columns + 3 + len(row_groups))]
     own = set(chosen)
-    ends = _add_pairs(arrows, counted, units, own, settled)
+    ends = _add_pairs(arrows, counted, row_groups, own, settled)
     taken = {(row, counted.group_of[column]) for row, column in chosen}
-    for unit, vertex in units.items():
-        begin, end = (vertex, unit[0]) if unit in taken else (unit[0], vertex)
+    for row_group, vertex in row_groups.items():
+        begin, end = (vertex, row_group[0]) if row_group in taken else (row_group[0], vertex)
         arrows[begin][end] = 0
     _add_ends(arrows, counted, own, is_partial)
-    return Exchanges(arrows, n_rows, units, ends, own, potentials_of(arrows))
+    return Exchanges(arrows, n_rows, row_groups, ends, own, potentials_of(arrows))
 
 
-def _add_pairs(arrows: Arrows, counted: Counted, units: Dict[Unit, int], chosen: Set[Pair],
+def _add_pairs(arrows: Arrows, counted: Counted, row_groups: Dict[RowGroup, int], chosen: Set[Pair],
                settled: Collection[Pair]) -> Dict[Pair, Tuple[int, int]]:
     """Adds an arrow for each pair that isn't settled; the two vertices of each."""
     ends: Dict[Pair, Tuple[int, int]] = {}
-    for unit, row, column, cost in zip(counted.units(), counted.rows, counted.columns, counted.costs):
+    for row_group, row, column, cost in zip(counted.row_groups(), counted.rows, counted.columns, counted.costs):
         if (row, column) in settled:
             continue
-        begin, end = ends[row, column] = units.get(unit, row), len(counted.row_bounds) + column
+        begin, end = ends[row, column] = row_groups.get(row_group, row), len(counted.row_bounds) + column
         if (row, column) in chosen:
             arrows[end][begin] = -cost
         else:
@@ -68,13 +68,13 @@ def _add_ends(arrows: Arrows, counted: Counted, chosen: Set[Pair], is_partial: b
             arrows[begin][end] = 0
 
 
-def _units(counted: Counted, first: int) -> Dict[Unit, int]:
-    """A vertex for each unit of a group that was given."""
-    units: Dict[Unit, int] = {}
-    for unit in counted.units():
-        if unit[1] < counted.n_groups:
-            units.setdefault(unit, first + len(units))
-    return units
+def _row_groups(counted: Counted, first: int) -> Dict[RowGroup, int]:
+    """A vertex for each row group of a group that was given."""
+    row_groups: Dict[RowGroup, int] = {}
+    for row_group in counted.row_groups():
+        if row_group[1] < counted.n_groups:
+            row_groups.setdefault(row_group, first + len(row_groups))
+    return row_groups
 
 
 def _ends(vertex: int, free: int, must: Optional[int], count: int, bounds: Bounds) -> List[Tuple[int, int]]:

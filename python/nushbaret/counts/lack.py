@@ -8,24 +8,24 @@ from bisect import bisect_left
 from collections import deque
 from typing import Any, Dict, Iterator, List, NamedTuple, Optional, Set, Tuple, Type
 
-from .gadgets import Bounds, Counted, Pair, Served, Unit
+from .nodes import Bounds, Counted, Pair, RowGroup, Served
 
 
 class Lack(NamedTuple):
     """Least counts that can't be met. If `of_columns` is false, these rows must have `wanted` columns and can have no more than `had`: as
-    many as the columns take at most, and one for each unit in `once`. If it is true, these columns must have `wanted` rows and can have
-    no more than `had`: as many as the rows take at most, and one for each unit in `once`."""
+    many as the columns take at most, and one for each row group in `once`. If it is true, these columns must have `wanted` rows and can have
+    no more than `had`: as many as the rows take at most, and one for each row group in `once`."""
 
     of_columns: bool
     rows: List[int]
     columns: List[int]
-    once: List[Unit]
+    once: List[RowGroup]
     wanted: int
     had: int
 
 
 class _Step(NamedTuple):
-    """A step of a path to a row or a column (by its vertex) or to a unit, with the pair that it gives up and the one that it makes."""
+    """A step of a path to a row or a column (by its vertex) or to a row group, with the pair that it gives up and the one that it makes."""
 
     end: Any
     leave: Optional[Pair]
@@ -34,17 +34,17 @@ class _Step(NamedTuple):
 
 class _Flow:
     """Pairs that meet least counts of one side, as many as can be. A row is the vertex of its number, and the columns come after the
-    rows. A unit that has a column is a vertex too."""
+    rows. A row group that has a column is a vertex too."""
 
     def __init__(self, counted: Counted):
         self.counted, self.first_column = counted, len(counted.row_bounds)
-        self.taken: Dict[Unit, int] = {}
+        self.taken: Dict[RowGroup, int] = {}
         self.of_rows: List[Set[int]] = [set() for _ in counted.row_bounds]
         self.of_columns: List[Set[int]] = [set() for _ in counted.column_bounds]
         # What searches that failed have reached: no later one finds more there.
         self.closed: Set[Any] = set()
 
-    def unit(self, row: int, column: int) -> Unit:
+    def row_group(self, row: int, column: int) -> RowGroup:
         return row, self.counted.group_of[column]
 
     def is_full(self, vertex: int) -> bool:
@@ -54,12 +54,12 @@ class _Flow:
         return len(self.of_columns[column]) >= self.counted.column_bounds[column].most
 
     def take(self, row: int, column: int) -> None:
-        self.taken[self.unit(row, column)] = column
+        self.taken[self.row_group(row, column)] = column
         self.of_rows[row].add(column)
         self.of_columns[column].add(row)
 
     def leave(self, row: int, column: int) -> None:
-        del self.taken[self.unit(row, column)]
+        del self.taken[self.row_group(row, column)]
         self.of_rows[row].remove(column)
         self.of_columns[column].remove(row)
 
@@ -120,7 +120,7 @@ class _Flow:
 
 
 class _RowsFlow(_Flow):
-    """Rows need columns: a row takes one of a unit that has none. Where a column is full, a unit that has it takes another of its group, or
+    """Rows need columns: a row takes one of a row group that has none. Where a column is full, a row group that has it takes another of its group, or
     its row takes one of another group."""
 
     def __init__(self, counted: Counted):
@@ -139,11 +139,11 @@ class _RowsFlow(_Flow):
                             if column != held and self.counted.group_of[column] == group)
         elif vertex < self.first_column:
             for column in self.lists[vertex]:
-                if self.unit(vertex, column) not in self.taken:
+                if self.row_group(vertex, column) not in self.taken:
                     yield _Step(self.first_column + column, None, (vertex, column))
         else:
             column = vertex - self.first_column
-            yield from (_Step(self.unit(row, column), None, None) for row in self.of_columns[column])
+            yield from (_Step(self.row_group(row, column), None, None) for row in self.of_columns[column])
 
     def is_goal(self, vertex: Any) -> bool:
         return not isinstance(vertex, tuple) and vertex >= self.first_column and not self.is_full(vertex)
@@ -156,24 +156,24 @@ class _RowsFlow(_Flow):
             for column in own[place:] + own[:place]:
                 if len(self.of_rows[row]) >= bound.least:
                     break
-                if self.unit(row, column) not in self.taken and not self.is_full(self.first_column + column):
+                if self.row_group(row, column) not in self.taken and not self.is_full(self.first_column + column):
                     self.take(row, column)
                     last = column
 
     def lacks(self) -> List[Lack]:
         rows = sorted(vertex for vertex in self.closed if not isinstance(vertex, tuple) and vertex < self.first_column)
-        once = {row: [unit for unit in (self.unit(row, column) for column in sorted(self.of_rows[row]))
-                      if self.first_column + self.taken[unit] not in self.closed] for row in rows}
-        links = {row: [self.first_column + column for column in self.lists[row] if self.unit(row, column) not in once[row]] for row in rows}
+        once = {row: [row_group for row_group in (self.row_group(row, column) for column in sorted(self.of_rows[row]))
+                      if self.first_column + self.taken[row_group] not in self.closed] for row in rows}
+        links = {row: [self.first_column + column for column in self.lists[row] if self.row_group(row, column) not in once[row]] for row in rows}
         return [self._lack(part, once) for part in _parts(rows, links)]
 
-    def _lack(self, part: Set[Any], once: Dict[int, List[Unit]]) -> Lack:
+    def _lack(self, part: Set[Any], once: Dict[int, List[RowGroup]]) -> Lack:
         rows = sorted(vertex for vertex in part if vertex < self.first_column)
         columns = sorted(vertex - self.first_column for vertex in part if vertex >= self.first_column)
-        units = [unit for row in rows for unit in once[row]]
+        row_groups = [row_group for row in rows for row_group in once[row]]
         wanted = sum(self.counted.row_bounds[row].least for row in rows)
-        had = sum(self.counted.column_bounds[column].most for column in columns) + len(units)
-        return Lack(False, rows, columns, units, wanted, had)
+        had = sum(self.counted.column_bounds[column].most for column in columns) + len(row_groups)
+        return Lack(False, rows, columns, row_groups, wanted, had)
 
 
 class _ColumnsFlow(_Flow):
@@ -192,7 +192,7 @@ class _ColumnsFlow(_Flow):
             return
         column = vertex - self.first_column
         for row in self.listed[column]:
-            held = self.taken.get(self.unit(row, column))
+            held = self.taken.get(self.row_group(row, column))
             if held is None:
                 yield _Step(row, None, (row, column))
             elif held != column:
@@ -209,7 +209,7 @@ class _ColumnsFlow(_Flow):
             for row in own[place:] + own[:place]:
                 if len(self.of_columns[column]) >= bound.least:
                     break
-                if self.unit(row, column) not in self.taken and not self.is_full(row):
+                if self.row_group(row, column) not in self.taken and not self.is_full(row):
                     self.take(row, column)
                     last = row
 
@@ -218,17 +218,17 @@ class _ColumnsFlow(_Flow):
         links: Dict[Any, List[Any]] = {}
         for vertex in columns:
             column = vertex - self.first_column
-            links[vertex] = [row if row in self.closed else self.unit(row, column) for row in self.listed[column]]
+            links[vertex] = [row if row in self.closed else self.row_group(row, column) for row in self.listed[column]]
         return [self._lack(part) for part in _parts(columns, links)]
 
     def _lack(self, part: Set[Any]) -> Lack:
-        units = sorted((vertex[0], vertex[1]) for vertex in part if isinstance(vertex, tuple))
+        row_groups = sorted((vertex[0], vertex[1]) for vertex in part if isinstance(vertex, tuple))
         plain = sorted(vertex for vertex in part if not isinstance(vertex, tuple))
         rows = [vertex for vertex in plain if vertex < self.first_column]
         columns = [vertex - self.first_column for vertex in plain if vertex >= self.first_column]
         wanted = sum(self.counted.column_bounds[column].least for column in columns)
-        had = sum(self.counted.row_bounds[row].most for row in rows) + len(units)
-        return Lack(True, rows, columns, units, wanted, had)
+        had = sum(self.counted.row_bounds[row].most for row in rows) + len(row_groups)
+        return Lack(True, rows, columns, row_groups, wanted, had)
 
 
 def _parts(starts: List[Any], links: Dict[Any, List[Any]]) -> List[Set[Any]]:

@@ -4,8 +4,8 @@ from typing import Collection, Dict, List, NamedTuple, Optional
 
 from .count_rows import check_best, check_lacks
 from .exchanges import Exchanges, exchanges_of
-from .gadgets import Bounds, Counted, Pair, best_pairs, trimmed
 from .lack import Lack, lacks_of
+from .nodes import Bounds, Counted, Pair, best_pairs, trimmed
 
 
 class Planned(NamedTuple):
@@ -33,8 +33,8 @@ def planned(counted: Counted, partial: bool, kept: Optional[Collection[Pair]] = 
 def _judge(counted: Counted, pairs: List[Pair]) -> None:
     """Whether pairs pass no greatest count, and keep groups."""
     of_rows, of_columns = Counter(row for row, _ in pairs), Counter(column for _, column in pairs)
-    units = {(row, counted.group_of[column]) for row, column in pairs}
-    if (len(units) < len(pairs) or any(count > counted.row_bounds[row].most for row, count in of_rows.items())
+    row_groups = {(row, counted.group_of[column]) for row, column in pairs}
+    if (len(row_groups) < len(pairs) or any(count > counted.row_bounds[row].most for row, count in of_rows.items())
             or any(count > counted.column_bounds[column].most for column, count in of_columns.items())):
         raise RuntimeError("a plan was found that passes a greatest count or takes two of a group")
 

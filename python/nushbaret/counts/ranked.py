@@ -6,7 +6,7 @@ import heapq
 from typing import FrozenSet, Iterator, List, Optional, Sequence, Set, Tuple
 
 from .exchanges import Other, exchanges_of, next_plan
-from .gadgets import Counted, Pair
+from .nodes import Counted, Pair
 
 Waiting = List[Tuple[int, int, Other, int, Set[Pair], FrozenSet[Pair]]]
 

@@ -65,7 +65,7 @@ def whole_of(numpy: Any, costs: Any, shift: int) -> Any:
     return found
 
 
-def duals_of(asked: proved.Given, answer: proved.Answer, sign: int) -> Tuple[Any, Any]:
+def duals_of(asked: proved.Instance, answer: proved.Assignment, sign: int) -> Tuple[Any, Any]:
     """The duals of persons and of objects, each after a 0."""
     numpy = _module(asked)
     objects = numpy.array(answer.objects, numpy.intp)
@@ -81,11 +81,11 @@ def duals_of(asked: proved.Given, answer: proved.Answer, sign: int) -> Tuple[Any
     return of_persons, of_objects
 
 
-def _module(asked: proved.Given) -> Any:
+def _module(asked: proved.Instance) -> Any:
     return sys.modules["numpy"]
 
 
-def whole_prices(numpy: Any, answer: proved.Answer) -> Any:
+def whole_prices(numpy: Any, answer: proved.Assignment) -> Any:
     """The prices of an answer, the least 0."""
     prices = numpy.frombuffer(answer.prices, numpy.int64)
     return prices - prices.min()
@@ -139,7 +139,7 @@ def taken_off(numpy: Any, level: Level, pairs: Pairs) -> Any:
                         lambda part: level.of_persons[pairs.persons[part]] + of_objects[pairs.objects[part]])
 
 
-def _places(numpy: Any, problem: Problem, asked: proved.Given, places: Any) -> Tuple[Any, Any]:
+def _places(numpy: Any, problem: Problem, asked: proved.Instance, places: Any) -> Tuple[Any, Any]:
     """Where the costs of pairs stand, and which of them are those of dummies."""
     if len(asked.persons):
         dummies = places >= problem.costs.size

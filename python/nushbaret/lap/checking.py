@@ -12,7 +12,7 @@ from .matching import most_served
 from .solving import prove_most
 
 
-class Finding(NamedTuple):
+class CheckOutcome(NamedTuple):
     """What is wrong with the first row or column that speaks against a plan, and which these are; nothing where the prices prove it."""
 
     why: str = ""
@@ -23,20 +23,20 @@ class Finding(NamedTuple):
         return not self.why
 
 
-def check_wholly(problem: Problem, rows: Sequence[int], columns: Sequence[int], prices: List[Fraction]) -> Finding:
+def check_wholly(problem: Problem, rows: Sequence[int], columns: Sequence[int], prices: List[Fraction]) -> CheckOutcome:
     """What is found of a plan whose rows and columns are numbers of the problem, no row twice."""
     found, count = check_problem(problem, rows, columns, prices), len(rows)
     if not found or count == min(problem.n_rows, problem.n_columns):
         return found
     most = most_served(problem)
     if most > count:
-        return Finding(f"{counted(count, 'row')} of {problem.n_rows} {_has(count)} a column, and {most} can")
+        return CheckOutcome(f"{counted(count, 'row')} of {problem.n_rows} {_has(count)} a column, and {most} can")
     if count:
         prove_most(problem, count)
     return found
 
 
-def check_problem(problem: Problem, rows: Sequence[int], columns: Sequence[int], prices: List[Fraction]) -> Finding:
+def check_problem(problem: Problem, rows: Sequence[int], columns: Sequence[int], prices: List[Fraction]) -> CheckOutcome:
     """As `check_wholly`, among plans of as many pairs."""
     pairs = list(zip(rows, columns))
     if not pairs:
@@ -45,13 +45,13 @@ def check_problem(problem: Problem, rows: Sequence[int], columns: Sequence[int],
     given_columns = set()
     for (row, column), cost in zip(pairs, costs):
         if cost is None:
-            return Finding(f"row {problem.row_name(row)} may not have column {problem.column_name(column)}", row, column)
+            return CheckOutcome(f"row {problem.row_name(row)} may not have column {problem.column_name(column)}", row, column)
         if column in given_columns:
-            return Finding(f"column {problem.column_name(column)} is given twice", row, column)
+            return CheckOutcome(f"column {problem.column_name(column)} is given twice", row, column)
         given_columns.add(column)
     most = min(problem.n_rows, problem.n_columns)
     if problem.persons is None and len(pairs) < most:
-        return Finding(f"{counted(len(pairs), 'row')} of {problem.n_rows} {_has(len(pairs))} a column, and {most} can")
+        return CheckOutcome(f"{counted(len(pairs), 'row')} of {problem.n_rows} {_has(len(pairs))} a column, and {most} can")
     found = None
     if not problem.raw and not isinstance(problem.costs, list):
         found = _judged(problem, pairs, costs, prices)
@@ -66,13 +66,13 @@ def _has(count: int) -> str:
     return "has" if count == 1 else "have"
 
 
-def _of_none(problem: Problem) -> Finding:
+def _of_none(problem: Problem) -> CheckOutcome:
     if not min(problem.n_rows, problem.n_columns) or problem.persons is not None and not len(problem.persons):
-        return Finding()
-    return Finding("no row has a column")
+        return CheckOutcome()
+    return CheckOutcome("no row has a column")
 
 
-def _judged(problem: Problem, pairs: List[Tuple[int, int]], costs: List[int], given: List[Fraction]) -> Optional[Finding]:
+def _judged(problem: Problem, pairs: List[Tuple[int, int]], costs: List[int], given: List[Fraction]) -> Optional[CheckOutcome]:
     """The library's verdict, in the caller's numbers; None where costs or prices are beyond its range.
 
     A dummy's price is what the dearest pair pays, so nobody who is matched gains by staying out. If that is below 0, the cost of
@@ -113,7 +113,7 @@ def _objects(problem: Problem, pairs: List[Tuple[int, int]], n: int, most: int) 
     return objects
 
 
-def _in_words(problem: Problem, pairs: List[Tuple[int, int]], prices: List[int], code: str, info: library.Info) -> Optional[Finding]:
+def _in_words(problem: Problem, pairs: List[Tuple[int, int]], prices: List[int], code: str, info: library.Info) -> Optional[CheckOutcome]:
     if code == "SLACK":
         row, column = info.person - 1, info.object - 1
         if proved.is_turned(problem):
@@ -128,16 +128,16 @@ def _in_words(problem: Problem, pairs: List[Tuple[int, int]], prices: List[int],
     # Where rows are more the library has seen the prices of the matched columns alone.
     used = {column for _, column in pairs}
     overpriced = [column for column, price in enumerate(prices) if price and column not in used]
-    return _overpriced(problem, prices, overpriced[0]) if overpriced else Finding()
+    return _overpriced(problem, prices, overpriced[0]) if overpriced else CheckOutcome()
 
 
-def _better_off(problem: Problem, row: int, column: int) -> Finding:
-    return Finding(f"row {problem.row_name(row)} would be better off with column {problem.column_name(column)}, at these prices", row, column)
+def _better_off(problem: Problem, row: int, column: int) -> CheckOutcome:
+    return CheckOutcome(f"row {problem.row_name(row)} would be better off with column {problem.column_name(column)}, at these prices", row, column)
 
 
-def _overpriced(problem: Problem, prices: List[int], unused: int) -> Finding:
+def _overpriced(problem: Problem, prices: List[int], unused: int) -> CheckOutcome:
     cheaper = next(column for column, price in enumerate(prices) if price < prices[unused])
-    return Finding(f"column {problem.column_name(unused)} stays unused, and column {problem.column_name(cheaper)} is cheaper", None, cheaper)
+    return CheckOutcome(f"column {problem.column_name(unused)} stays unused, and column {problem.column_name(cheaper)} is cheaper", None, cheaper)
 
 
 # Exactly, for costs and prices of any size.
@@ -150,7 +150,7 @@ class _Best(NamedTuple):
     column: int
 
 
-def _judged_exactly(problem: Problem, pairs: List[Tuple[int, int]], costs: List[Any], given: List[Fraction]) -> Finding:
+def _judged_exactly(problem: Problem, pairs: List[Tuple[int, int]], costs: List[Any], given: List[Fraction]) -> CheckOutcome:
     """The verdict by exact numbers. No plan of as many pairs is better by more than all slack together: what each matched row pays above
     its best, and each unmatched one below the dearest, and what unused columns cost above the cheapest. Differences of plans are
     multiples of the unit of all costs, so less slack than that is none."""
@@ -170,7 +170,7 @@ def _judged_exactly(problem: Problem, pairs: List[Tuple[int, int]], costs: List[
     overpriced = {column: price - lowest for column, price in enumerate(prices) if column not in used}
     whole = sum(slack.values()) + sum(overpriced.values())
     if not whole or whole * _unit_of_all(problem).denominator < unit.denominator:
-        return Finding()
+        return CheckOutcome()
     row = next((row for row, more in slack.items() if more), None)
     if row is not None:
         return _better_off(problem, row, rows[row].column)  # type: ignore[union-attr]

@@ -24,7 +24,7 @@ def exact_prices(problem: Problem, served: Optional[int], objects: Sequence[int]
     problem = levels.prepared(problem)
     with levels.quiet(problem):
         level = levels.first_level(problem, served)
-    if isinstance(level, proved.Short):
+    if isinstance(level, proved.HallSet):
         return None
     n, m = level.asked.n, level.asked.m
     pairs = reduced.kept(level, 6 * n + 16)

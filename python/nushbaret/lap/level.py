@@ -1,7 +1,7 @@
 """What a level is: rounded costs with the library's plan and duals, and the pairs that it leaves."""
 from typing import Any, NamedTuple
 
-from .proved import Given
+from .proved import Instance
 
 # Rounded costs have so many bits.
 BITS = 39
@@ -11,7 +11,7 @@ class Level(NamedTuple):
     """A level that was solved: what was passed to the library, its answer, and the duals of persons and objects, in its unit, which is
     2**-shift. Before the first dual stands a 0."""
 
-    asked: Given
+    asked: Instance
     objects: Any
     of_persons: Any
     of_objects: Any

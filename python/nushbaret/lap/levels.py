@@ -28,7 +28,7 @@ from .reduced import is_only_plan, kept, level_of
 FEW_PAIRS = 64
 
 
-def solved(problem: Problem, served: Optional[int], start: Optional[proved.Start]) -> Union[proved.Answer, proved.Short]:
+def solved_by_levels(problem: Problem, served: Optional[int], start: Optional[proved.WarmStart]) -> Union[proved.Assignment, proved.HallSet]:
     """The best plan of so many pairs, for costs of any size; its answer has no prices."""
     with quiet(problem):
         return _solved(prepared(problem), served, start)
@@ -39,21 +39,21 @@ def quiet(problem: Problem) -> Any:
     return problem.numpy.errstate(all="ignore") if problem.numpy else contextlib.nullcontext()
 
 
-def _solved(problem: Problem, served: Optional[int], start: Optional[proved.Start]) -> Union[proved.Answer, proved.Short]:
+def _solved(problem: Problem, served: Optional[int], start: Optional[proved.WarmStart]) -> Union[proved.Assignment, proved.HallSet]:
     tied = ties.of_problem(problem) if served is None else None
     objects = None if tied is None else ties.best(tied)
     if objects is not None:
         n, m = sorted((problem.n_rows, problem.n_columns))
-        return proved.Answer(n, m, None, objects, None)
+        return proved.Assignment(n, m, None, objects, None)
     priced = None if served is not None or tied or start is not None else pricing.first_level(problem, BITS, _most_left(problem))
     found = priced.level if priced else first_level(problem, served, start)
-    if isinstance(found, proved.Short):
+    if isinstance(found, proved.HallSet):
         return found
     objects = None if tied is None else ties.after_level(tied, found)
     if objects is None:
         pairs = priced.pairs if priced else kept(found, found.asked.n + more(found.asked.n))
         objects = found.objects if is_only_plan(found, pairs) else finer(problem, found, pairs)
-    return proved.Answer(found.asked.n, found.asked.m, None, objects, None)
+    return proved.Assignment(found.asked.n, found.asked.m, None, objects, None)
 
 
 def after_first(problem: Problem, level: Level) -> Any:
@@ -81,7 +81,7 @@ def prepared(problem: Problem) -> Problem:
     return arrays.as_list(problem) if problem.numpy and len(problem.costs) and arrays.is_extreme(problem) else problem
 
 
-def first_level(problem: Problem, served: Optional[int], start: Optional[proved.Start] = None) -> Union[Level, proved.Short]:
+def first_level(problem: Problem, served: Optional[int], start: Optional[proved.WarmStart] = None) -> Union[Level, proved.HallSet]:
     """The level of the first unit."""
     coarse, shift = _rounded(problem)
     asked = proved.given(coarse, served)
@@ -89,7 +89,7 @@ def first_level(problem: Problem, served: Optional[int], start: Optional[proved.
     answer = proved.answer(coarse, asked, first)
     if answer is None:
         raise RuntimeError("costs were rounded to the library's range, and it says otherwise")
-    if isinstance(answer, proved.Short):
+    if isinstance(answer, proved.HallSet):
         return answer
     return level_of(asked, answer, shift, -1 if problem.maximize else 1)
 
@@ -130,7 +130,7 @@ def _rounded_list(problem: Problem) -> Tuple[Any, int]:
 # What is left after a level.
 
 
-def places_in(problem: Problem, asked: proved.Given, places: Sequence[int]) -> List[int]:
+def places_in(problem: Problem, asked: proved.Instance, places: Sequence[int]) -> List[int]:
     """Where the costs of pairs stand that have some places in the lists of the library; -1 for pairs of dummies."""
     if len(asked.persons):
         return [place if place < len(problem.persons) else -1 for place in places] if problem.persons is not None else \
@@ -138,7 +138,7 @@ def places_in(problem: Problem, asked: proved.Given, places: Sequence[int]) -> L
     return [_in_dense(problem, asked, place) for place in places]
 
 
-def _in_dense(problem: Problem, asked: proved.Given, place: int) -> int:
+def _in_dense(problem: Problem, asked: proved.Instance, place: int) -> int:
     """As `places_in`, for a problem that has all pairs."""
     if len(asked.persons):
         return place if place < problem.n_rows * problem.n_columns else -1
@@ -148,7 +148,7 @@ def _in_dense(problem: Problem, asked: proved.Given, place: int) -> int:
     return row * problem.n_columns + column
 
 
-def ratios_at(problem: Problem, asked: proved.Given, places: Sequence[int]) -> List[Ratio]:
+def ratios_at(problem: Problem, asked: proved.Instance, places: Sequence[int]) -> List[Ratio]:
     """The costs of pairs at some places in the lists of the library, exactly, in the problem's own unit."""
     costs = reading.plain(problem.costs)
     own = places_in(problem, asked, places)

@@ -9,7 +9,7 @@ import time
 from array import array
 from typing import Any, Callable, Dict, List, NamedTuple, Optional, Sequence, Tuple, Union
 
-from ..costs.limits import FEW, Lent, Numbers
+from ..costs.limits import FEW, BorrowedNumbers, Numbers
 
 VERSION = "4.0.0"
 
@@ -104,11 +104,11 @@ _KEPT = 2**25 - 2**16
 _FEW_BYTES = 8 * FEW
 
 
-def _lend(values: Any) -> Tuple[Union[int, bytes], int]:
+def _address_and_count(values: Any) -> Tuple[Union[int, bytes], int]:
     """Address, or bytes that stand for it, and count; the address is never null."""
     if isinstance(values, array):
         place, count = values.buffer_info()
-    elif isinstance(values, Lent):
+    elif isinstance(values, BorrowedNumbers):
         place, count = values.place, values.count
     elif values.nbytes <= _FEW_BYTES:
         return values.tobytes(), values.size
@@ -132,7 +132,7 @@ def call(name: str, sense: Optional[bool], n: int, m: int, *lists: Any, piece: S
     info = Info()
     words: List[Any] = [n, m] if sense is None else [1 if sense else 0, n, m]
     for values in lists:
-        words += _lend(values)
+        words += _address_and_count(values)
     code = CODES[_loaded()[name](*words, *piece, ctypes.addressof(info))]
     if code == "MEMORY":
         raise MemoryError("the library was refused memory")
@@ -161,7 +161,7 @@ def searched(sense: bool, n: int, m: int, lists: Sequence[Any], first: Optional[
     return code, info
 
 
-class Piece(NamedTuple):
+class PieceSize(NamedTuple):
     """How many looks at pairs a piece of a search has at least: so many, and so many for each pair, since each piece reads all of them."""
 
     looks: int
@@ -172,7 +172,7 @@ class _Pace:
     """How long the pieces of a search are. Each has up to a quarter of the looks that all before it had, since a search may lose by many
     short ones; but no more than the time that is left."""
 
-    def __init__(self, piece: Piece, pairs: int):
+    def __init__(self, piece: PieceSize, pairs: int):
         self.least, self.looks, self.began = piece.looks + piece.passes * pairs, 0, time.monotonic()
 
     def budget(self) -> int:
@@ -189,7 +189,7 @@ class _Pace:
 _limits = threading.local()
 # A search whose persons times pairs are so many may take long. It is done in pieces of some tenths of a second.
 LONG = 2**27
-PIECES = {"dense": Piece(2 * 10**7, 10), "sparse": Piece(5 * 10**6, 4)}
+PIECES = {"dense": PieceSize(2 * 10**7, 10), "sparse": PieceSize(5 * 10**6, 4)}
 _LONGEST_WAIT = 10.0**5
 _TIME_IS_OVER = "the time is over; nothing of the caller's was changed"
 
@@ -315,7 +315,7 @@ def look_at_time() -> None:
         raise TimeoutError(_TIME_IS_OVER)
 
 
-class Whole:
+class CostMemory:
     """Memory for costs that are to become whole numbers: `doubles`, `numbers` and `flat` are one memory, and `calls` has the arguments for
     these under minimize and maximize."""
 
@@ -336,14 +336,14 @@ class Whole:
         self.calls = tuple(self.words(sense, own) for sense in senses)
 
 
-class Room(Whole):
+class Workspace(CostMemory):
     """What a dense call on an array of NumPy's fills, with its arguments made ready, since to convert them takes as long as a small
     problem: a sense, sizes, costs, and the rest. The call answers 0 where it found a best assignment, whose objects stand here
     then. `home` is the list that the room goes back to after a call, if it is kept. `is_rounded` says whether costs were rounded, `places`
     of how many decimal places they are whole numbers otherwise, `is_turned` whether columns are the persons, and `listed` has the pairs
     where some are forbidden."""
 
-    def __init__(self, numpy: Any, n: int, m: int, home: Optional[List["Room"]]):
+    def __init__(self, numpy: Any, n: int, m: int, home: Optional[List["Workspace"]]):
         self.memory, self.shape, self.home = array("Q", bytes(_INFO + 8 * m + 8 * n)), (n, m), home
         self.rows, self.objects = numpy.arange(n, dtype=numpy.intp), numpy.frombuffer(self.memory, numpy.uint32, n, _INFO + 8 * m)
         info = self.memory.buffer_info()[0]
@@ -359,7 +359,7 @@ class Room(Whole):
         self.total = ctypes.c_int64.from_buffer(self.memory)
         self.is_rounded = self.is_turned = self.of_list = False
         self.places = 0
-        self.listed: Optional["Listed"] = None
+        self.listed: Optional["SparseWorkspace"] = None
         self.every: Any = None
 
     def give_back(self) -> None:
@@ -385,17 +385,17 @@ class Room(Whole):
         return persons, objects
 
 
-class Listed(Whole):
+class SparseWorkspace(CostMemory):
     """The pairs of a room's problem, where some are forbidden, and the arguments of a sparse call that fills the room. `places` are those
     of the pairs among all."""
 
-    def __init__(self, numpy: Any, room: Room, places: Any):
+    def __init__(self, numpy: Any, room: Workspace, places: Any):
         self.senses = room.minimized, room.maximized
         persons, objects = room.every_pair(numpy)
         self.persons, self.objects = persons.take(places), objects.take(places)
         self.call = _calls["sparse, made ready"]
         count = ctypes.c_size_t.from_param(len(places))
-        self.before = *room.sizes, lent(self.persons), count, lent(self.objects), count
+        self.before = *room.sizes, argument_of(self.persons), count, argument_of(self.objects), count
         self.rest = count, *room.rest[1:]
 
     def words(self, sense: Any, costs: Any) -> Tuple[Any, ...]:
@@ -411,7 +411,7 @@ def address_of(numbers: Any) -> Any:
     return ctypes.c_void_p.from_param(numbers.__array_interface__["data"][0])
 
 
-def lent(numbers: Any) -> Any:
+def argument_of(numbers: Any) -> Any:
     """An array as an argument that was made ready: bytes where it has few numbers, else its address."""
     return numbers.tobytes() if numbers.size <= FEW else address_of(numbers)
 
@@ -419,25 +419,25 @@ def lent(numbers: Any) -> Any:
 # Rooms of calls that have ended, by their sizes; at most so many sizes.
 _MOST_SIZES = 256
 _MOST_KEPT = 4096
-_rooms: Dict[Tuple[int, int], List[Room]] = {}
+_workspaces: Dict[Tuple[int, int], List[Workspace]] = {}
 
 
-def room_for(numpy: Any, n: int, m: int) -> Room:
+def workspace_for(numpy: Any, n: int, m: int) -> Workspace:
     """A room that no other call has: give it back after the call."""
-    rooms = _rooms.get((n, m))
+    rooms = _workspaces.get((n, m))
     if rooms:
         try:
             return rooms.pop()
         except IndexError:
             pass
-    return Room(numpy, n, m, rooms if rooms is not None else _rooms_for(n, m))
+    return Workspace(numpy, n, m, rooms if rooms is not None else _workspaces_for(n, m))
 
 
-def _rooms_for(n: int, m: int) -> Optional[List[Room]]:
+def _workspaces_for(n: int, m: int) -> Optional[List[Workspace]]:
     """A new list of rooms. Larger ones aren't kept: making one takes little time compared with the problem, and it holds much memory."""
     _loaded()
     if n * m > _MOST_KEPT:
         return None
-    if len(_rooms) >= _MOST_SIZES:
-        _rooms.clear()
-    return _rooms.setdefault((n, m), [])
+    if len(_workspaces) >= _MOST_SIZES:
+        _workspaces.clear()
+    return _workspaces.setdefault((n, m), [])

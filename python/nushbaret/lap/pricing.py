@@ -42,7 +42,7 @@ def first_level(problem: Problem, bits: int, most: int) -> Optional[Priced]:
         cheaper, left = matrix.priced(level, most)
         if not len(cheaper):
             return Priced(level, left)
-        chosen, prices = numpy.union1d(chosen, cheaper), proved.First(answer.prices, answer.objects)
+        chosen, prices = numpy.union1d(chosen, cheaper), proved.FirstPrices(answer.prices, answer.objects)
         if len(chosen) > MOST_SHARE * problem.costs.size:
             return None
     return None
@@ -75,16 +75,16 @@ class _Matrix:
     def _whole(self, costs: Any) -> Any:
         return arrays.whole_of(self.numpy, costs, self.shift)
 
-    def answer(self, places: Any, prices: Any) -> Optional[proved.Answer]:
+    def answer(self, places: Any, prices: Any) -> Optional[proved.Assignment]:
         """The library's answer to some pairs; None if these hold no plan."""
         numpy = self.numpy
         persons, objects = numpy.divmod(places, self.m)
         costs = self._whole(self.costs[persons, objects])
-        asked = proved.Given(self.n, self.m, (persons + 1).astype(numpy.uint32), (objects + 1).astype(numpy.uint32), costs)
+        asked = proved.Instance(self.n, self.m, (persons + 1).astype(numpy.uint32), (objects + 1).astype(numpy.uint32), costs)
         found = proved.found(asked, self.sign < 0, prices)
-        return found if isinstance(found, proved.Answer) else None
+        return found if isinstance(found, proved.Assignment) else None
 
-    def level(self, answer: proved.Answer, places: Any) -> Level:
+    def level(self, answer: proved.Assignment, places: Any) -> Level:
         """The level of an answer, with duals of persons and objects."""
         numpy = self.numpy
         objects = numpy.array(answer.objects, numpy.intp)
@@ -92,7 +92,7 @@ class _Matrix:
         of_objects[1:] = -arrays.whole_prices(numpy, answer)
         of_persons = numpy.zeros(self.n + 1, numpy.int64)
         of_persons[1:] = self.sign * self._whole(self.costs[numpy.arange(self.n), objects - 1]) - of_objects[objects]
-        asked = proved.Given(self.n, self.m, proved.NONE, proved.NONE, None)
+        asked = proved.Instance(self.n, self.m, proved.NONE, proved.NONE, None)
         return Level(asked, answer.objects, of_persons, of_objects, self.shift, self.sign)
 
     def priced(self, level: Level, most: int) -> Tuple[Any, Pairs]:

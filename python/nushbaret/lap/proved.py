@@ -15,7 +15,7 @@ from ..costs.problem import Problem, TooLarge, listed, lists_of, plain
 from . import library
 
 
-class Given(NamedTuple):
+class Instance(NamedTuple):
     """What is passed to the library: how many persons and objects there are, and three lists; in a dense problem those of persons and
     objects are empty."""
 
@@ -26,7 +26,7 @@ class Given(NamedTuple):
     costs: Any
 
 
-class Answer(NamedTuple):
+class Assignment(NamedTuple):
     """A best assignment: an object for each person, from 1 on, and prices in the unit of the costs. Where levels found it, there are no
     prices and no total."""
 
@@ -52,14 +52,14 @@ class Halves:
         return [(price - missing - 1) // unit for price in prices]
 
 
-class Short(NamedTuple):
+class HallSet(NamedTuple):
     """Persons and objects, from 1 on, that prove that there is no assignment."""
 
     persons: Any
     objects: Any
 
 
-class Start(NamedTuple):
+class WarmStart(NamedTuple):
     """Where a search begins: prices of columns in the unit of the costs, and the pairs of an earlier plan."""
 
     prices: List[Fraction]
@@ -67,7 +67,7 @@ class Start(NamedTuple):
     columns: Sequence[int] = ()
 
 
-class First(NamedTuple):
+class FirstPrices(NamedTuple):
     """The same for the library: prices of objects, and an object for each person, from 1 on; 0 for nobody's."""
 
     prices: Numbers
@@ -112,17 +112,17 @@ def _turned_array(numpy: Any, costs: Any) -> Any:
     return turned
 
 
-def given(problem: Problem, served: Optional[int] = None, out: int = 0) -> Given:
+def given(problem: Problem, served: Optional[int] = None, out: int = 0) -> Instance:
     """The problem whose assignments have `served` pairs, or as many as the shorter side has nodes. `out` is the cost of staying
     out."""
     n, m, dummies = sizes_of(problem, served)
     if problem.persons is None and not dummies:
-        return Given(n, m, NONE, NONE, _turned_costs(problem) if is_turned(problem) else problem.costs)
+        return Instance(n, m, NONE, NONE, _turned_costs(problem) if is_turned(problem) else problem.costs)
     problem = listed(problem)
     lists = [problem.objects, problem.persons, problem.costs] if is_turned(problem) else [problem.persons, problem.objects, problem.costs]
     if dummies:
         lists = [_joined(problem.numpy, own, more) for own, more in zip(lists, _dummies(n, m, dummies, out))]
-    return Given(n, m, *lists)
+    return Instance(n, m, *lists)
 
 
 def _dummies(n: int, m: int, dummies: int, out: int) -> Tuple[Any, Any, Any]:
@@ -142,7 +142,7 @@ def refuse(code: str, info: library.Info) -> NoReturn:
     raise RuntimeError(f"the library refused its lists: {code} at {info.place}")
 
 
-def answer(problem: Problem, asked: Given, first: Optional[First] = None) -> Union[Answer, Short, None]:
+def answer(problem: Problem, asked: Instance, first: Optional[FirstPrices] = None) -> Union[Assignment, HallSet, None]:
     """The library's answer, an Answer or a Short; None where a cost is beyond its range. `first` is where to begin."""
     is_dense = problem.persons is None and not len(asked.persons)
     lists = (asked.costs,) if is_dense else (asked.persons, asked.objects, asked.costs)
@@ -150,37 +150,37 @@ def answer(problem: Problem, asked: Given, first: Optional[First] = None) -> Uni
     return None if code == "COST" else answer_ or refuse(code, info)
 
 
-def found(asked: Given, maximize: bool, first: Optional[First] = None) -> Union[Answer, Short]:
+def found(asked: Instance, maximize: bool, first: Optional[FirstPrices] = None) -> Union[Assignment, HallSet]:
     """The library's answer to listed pairs, whose costs are in its range."""
     code, info, answer_ = _searched(asked, maximize, (asked.persons, asked.objects, asked.costs), first)
     return answer_ or refuse(code, info)
 
 
-def _searched(asked: Given, maximize: bool, lists: Sequence[Any], first: Optional[First]) -> Tuple[str, library.Info, Union[Answer, Short, None]]:
+def _searched(asked: Instance, maximize: bool, lists: Sequence[Any], first: Optional[FirstPrices]) -> Tuple[str, library.Info, Union[Assignment, HallSet, None]]:
     """What the library says to lists, and its answer if it has one."""
     n, m = asked.n, asked.m
     objects, persons, prices = first.objects[:] if first else array("I", bytes(4 * n)), array("I", bytes(4 * n)), array("q", bytes(8 * m))
     code, info = library.searched(maximize, n, m, lists, first and first.prices, (objects, persons, prices))
     if code == "BEST":
-        return code, info, Answer(n, m, info.total, objects, prices)
-    return code, info, Short(persons[:info.persons], objects[:info.objects]) if code == "HALL" else None
+        return code, info, Assignment(n, m, info.total, objects, prices)
+    return code, info, HallSet(persons[:info.persons], objects[:info.objects]) if code == "HALL" else None
 
 
-def best_of(asked: Given) -> Answer:
+def best_of(asked: Instance) -> Assignment:
     """The library's answer to listed pairs that hold an assignment; the sum is to be least."""
     answer_ = found(asked, False)
-    if isinstance(answer_, Short):
+    if isinstance(answer_, HallSet):
         raise RuntimeError("some pairs were found to hold a plan, and the library says otherwise")
     return answer_
 
 
-def no_pairs(problem: Problem) -> Answer:
+def no_pairs(problem: Problem) -> Assignment:
     """The answer without any pair: all stay out, at prices of 0."""
     n, most = sorted((problem.n_rows, problem.n_columns))
-    return Answer(n, most + n, 0, array("I", (most + 1,)) * n, array("q", bytes(8 * (most + n))))
+    return Assignment(n, most + n, 0, array("I", (most + 1,)) * n, array("q", bytes(8 * (most + n))))
 
 
-def pairs_of(problem: Problem, found: Answer) -> Tuple[List[int], List[int]]:
+def pairs_of(problem: Problem, found: Assignment) -> Tuple[List[int], List[int]]:
     """Rows and columns of the pairs of an answer, rows rising, without dummies."""
     most = max(problem.n_rows, problem.n_columns)
     own = [item - 1 for item in found.objects]
@@ -194,12 +194,12 @@ def pairs_of(problem: Problem, found: Answer) -> Tuple[List[int], List[int]]:
     return [own[place] for place in columns], [persons[place] for place in columns]
 
 
-def rows_and_columns(problem: Problem, answer: Answer) -> Tuple[Any, Any]:
+def rows_and_columns(problem: Problem, answer: Assignment) -> Tuple[Any, Any]:
     """The numbers of the pairs of an answer, without dummies, as arrays if the costs were one."""
     return _arrays_of(problem.arrays, problem, answer) if problem.arrays else pairs_of(problem, answer)
 
 
-def _arrays_of(numpy: Any, problem: Problem, answer: Answer) -> Tuple[Any, Any]:
+def _arrays_of(numpy: Any, problem: Problem, answer: Assignment) -> Tuple[Any, Any]:
     own = numpy.array(answer.objects, numpy.intp)
     own -= 1
     persons = numpy.flatnonzero(own < max(problem.n_rows, problem.n_columns))
@@ -210,11 +210,11 @@ def _arrays_of(numpy: Any, problem: Problem, answer: Answer) -> Tuple[Any, Any]:
     return own[order], persons[order]
 
 
-class Found(NamedTuple):
+class ResultParts(NamedTuple):
     """What a result is made of: its problem without lists, the answer, the pairs with their costs, and whether they are arrays."""
 
     shape: Problem
-    answer: Answer
+    answer: Assignment
     rows: Any
     columns: Any
     costs: List[Any]
@@ -233,7 +233,7 @@ class Duals(NamedTuple):
     unmatched: int
 
 
-def duals_of(problem: Problem, found: Answer, prices: List[int], pairs: Sequence[Tuple[int, int]], costs: Sequence[int]) -> Duals:
+def duals_of(problem: Problem, found: Assignment, prices: List[int], pairs: Sequence[Tuple[int, int]], costs: Sequence[int]) -> Duals:
     """The duals that follow from whole prices of the objects, the least 0, and from the pairs of a plan with their costs. A row's and a
     column's sum is at most their pair's cost, and equals it in the plan. Columns have no dual above 0, and 0 if they are unmatched; if all
     are matched and rows are left over, this holds of rows instead."""
@@ -253,7 +253,7 @@ def duals_of(problem: Problem, found: Answer, prices: List[int], pairs: Sequence
     return Duals([dual + out for dual in of_objects], [dual - out for dual in of_persons], out)
 
 
-def whole_prices(found: Answer) -> List[int]:
+def whole_prices(found: Assignment) -> List[int]:
     """The prices of an answer, the least 0."""
     prices: List[int] = found.prices.tolist()
     lowest = min(prices)
@@ -307,7 +307,7 @@ def whole_of(problem: Problem, prices: List[Fraction], parts: int = 1) -> Option
     return None if max(whole, default=0) > GREATEST_PRICE else whole
 
 
-def first_of(problem: Problem, start: Start, served: Optional[int]) -> Optional[First]:
+def first_of(problem: Problem, start: WarmStart, served: Optional[int]) -> Optional[FirstPrices]:
     """Where the library's search begins; prices of dummies are 0. None where prices are too far apart to be of use."""
     n, _, dummies = sizes_of(problem, served)
     prices, turned, objects = whole_of(problem, start.prices), is_turned(problem), array("I", bytes(4 * n))
@@ -316,7 +316,7 @@ def first_of(problem: Problem, start: Start, served: Optional[int]) -> Optional[
     for row, column in zip(start.rows, start.columns):
         if row < problem.n_rows and column < problem.n_columns:
             objects[column if turned else row] = (row if turned else column) + 1
-    return First(array("q", (_of_rows(problem, prices) if turned else prices) + [0] * dummies), objects)
+    return FirstPrices(array("q", (_of_rows(problem, prices) if turned else prices) + [0] * dummies), objects)
 
 
 def _of_rows(problem: Problem, prices: List[int]) -> List[int]:

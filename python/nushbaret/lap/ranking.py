@@ -28,7 +28,7 @@ NOBODY: FrozenSet[int] = frozenset()
 Choice = Tuple[int, int]
 
 
-class Part(NamedTuple):
+class Subproblem(NamedTuple):
     """All plans that keep the columns of the rows below `first`, and in which row `first` has none of `banned`: the columns of the best
     one and its cost, with duals that prove it. A row whose column is the number of columns stays out."""
 
@@ -40,7 +40,7 @@ class Part(NamedTuple):
     banned: FrozenSet[int]
 
 
-class _Search(NamedTuple):
+class _PathSearch(NamedTuple):
     """A search for a shortest alternating path: its length, None where none was found; the row that takes each column, by which column
     each row was reached, and how far columns are (below 0: closed)."""
 
@@ -70,15 +70,15 @@ class Ranking:
         for row, column in zip(rows, columns):
             own[row] = column
         row_duals, column_duals = duals.rows + [0], duals.columns + [-duals.unmatched]
-        self.whole = Part(own, self.sign * cost, [of_duals * dual for dual in row_duals], [of_duals * dual for dual in column_duals],
+        self.whole = Subproblem(own, self.sign * cost, [of_duals * dual for dual in row_duals], [of_duals * dual for dual in column_duals],
                            0, NOBODY)
 
-    def wait(self, part: Part) -> None:
+    def wait(self, part: Subproblem) -> None:
         """Puts a part in line: at first by the least columns that its best plans can begin with."""
         insort(self.costs, part.cost)
         self._put(part, 0, part.columns[:part.first] + [self._least_column(part)])
 
-    def _least_column(self, part: Part) -> int:
+    def _least_column(self, part: Subproblem) -> int:
         """The first column that the first free row of a part can have at the part's cost, as far as the duals say."""
         row, taken = part.first, set(part.columns[:part.first])
         if row == self.n_rows:
@@ -88,15 +88,15 @@ class Ranking:
                      if cost - base == part.column_duals[column] and column not in part.banned
                      and (column not in taken or column == self.n_columns)), 0)
 
-    def _put(self, part: Part, stage: int, key: List[int]) -> None:
+    def _put(self, part: Subproblem, stage: int, key: List[int]) -> None:
         self.count += 1
         heapq.heappush(self.waiting, (part.cost, key, stage, self.count, part))
 
-    def take(self) -> Optional[Part]:
+    def take(self) -> Optional[Subproblem]:
         """The next part in order, with its plan checked; None where there is none."""
         while self.waiting:
             library.look_at_time()
-            part: Part
+            part: Subproblem
             _, _, stage, _, part = heapq.heappop(self.waiting)
             if stage:
                 self.costs.pop(0)
@@ -106,12 +106,12 @@ class Ranking:
             self._put(part, 1, part.columns)
         return None
 
-    def pairs(self, part: Part) -> Tuple[List[int], List[int]]:
+    def pairs(self, part: Subproblem) -> Tuple[List[int], List[int]]:
         """Rows and columns of a part's plan."""
         rows = [row for row, column in enumerate(part.columns) if column < self.n_columns]
         return rows, [part.columns[row] for row in rows]
 
-    def split(self, part: Part, wanted: int) -> None:
+    def split(self, part: Subproblem, wanted: int) -> None:
         """Puts in line the parts of all plans of a part but its best one, as far as they can be among so many that are wanted. Where
         the row that differs stays out in the best plan, there is a part for each column that it may have."""
         holder, closed = self._holder(part), self._closed(part)
@@ -133,28 +133,28 @@ class Ranking:
                     if found.length is not None:
                         self.wait(self._after(part, found, row, row + 1, NOBODY))
 
-    def _most(self, part: Part, wanted: int) -> float:
+    def _most(self, part: Subproblem, wanted: int) -> float:
         """How long a path may be, so that what it leads to can be among so many that are wanted."""
         return self.costs[wanted - 1] - part.cost if len(self.costs) >= wanted else INFINITE
 
-    def _closed(self, part: Part) -> List[int]:
+    def _closed(self, part: Subproblem) -> List[int]:
         """The columns of the rows that a part keeps."""
         return [column for column in part.columns[:part.first] if column < self.n_columns]
 
-    def _holder(self, part: Part) -> List[int]:
+    def _holder(self, part: Subproblem) -> List[int]:
         """The row of each column, which is the dummy row for columns that are out."""
         holder = [self.n_rows] * (self.n_columns + 1)
         for row, column in enumerate(part.columns):
             holder[column] = row
         return holder
 
-    def _holders(self, part: Part, holder: List[int], column: int, row: int) -> Sequence[int]:
+    def _holders(self, part: Subproblem, holder: List[int], column: int, row: int) -> Sequence[int]:
         """Who may be asked to leave a column: of rows that are out all after the row that the path begins with."""
         if column < self.n_columns:
             return (holder[column],)
         return [other for other in range(row + 1, self.n_rows) if part.columns[other] == column]
 
-    def _search(self, part: Part, holder: List[int], closed: List[int], row: int, choices: Iterable[Choice], most: float) -> _Search:
+    def _search(self, part: Subproblem, holder: List[int], closed: List[int], row: int, choices: Iterable[Choice], most: float) -> _PathSearch:
         """The shortest path of at most a length by which a row leaves its column for one of some choices (Dijkstra 1959)."""
         target, rows, columns = part.columns[row], part.row_duals, part.column_duals
         far: List[Any] = [INFINITE] * (self.n_columns + 1)
@@ -175,20 +175,20 @@ class Ranking:
         while heap:
             length, column = heapq.heappop(heap)
             if column == target:
-                return _Search(length, taker, reached, far)
+                return _PathSearch(length, taker, reached, far)
             if length > far[column]:
                 continue
             for other in self._holders(part, holder, column, row):
                 if other not in reached:
                     reached[other] = column
                     go(other, length - rows[other], self._choices(other))
-        return _Search(None, taker, reached, far)
+        return _PathSearch(None, taker, reached, far)
 
     def _choices(self, row: int) -> Iterable[Choice]:
         choices = zip(*self.lists[row])
         return [*choices, (self.n_columns, 0)] if self.rows_out and row < self.n_rows else choices
 
-    def _changed(self, part: Part, found: _Search, row: int) -> List[int]:
+    def _changed(self, part: Subproblem, found: _PathSearch, row: int) -> List[int]:
         """The columns after the changes of a path."""
         columns, column = part.columns.copy(), part.columns[row]
         while True:
@@ -199,7 +199,7 @@ class Ranking:
                 return columns
             column = found.reached[taking]
 
-    def _after(self, part: Part, found: _Search, row: int, first: int, banned: FrozenSet[int]) -> Part:
+    def _after(self, part: Subproblem, found: _PathSearch, row: int, first: int, banned: FrozenSet[int]) -> Subproblem:
         """The part whose best plan is the one after a row's path. Columns that are nearer than the path is long get cheaper by the rest of
         it, and the row that holds them gains as much."""
         rows, columns, whole = part.row_duals, part.column_duals, found.length or 0
@@ -211,9 +211,9 @@ class Ranking:
                     columns[column] -= whole - length
             for other, column in found.reached.items():
                 rows[other] += max(whole - found.far[column], 0)
-        return Part(self._changed(part, found, row), part.cost + whole, rows, columns, first, banned)
+        return Subproblem(self._changed(part, found, row), part.cost + whole, rows, columns, first, banned)
 
-    def _first_of_its_cost(self, part: Part) -> Part:
+    def _first_of_its_cost(self, part: Subproblem) -> Subproblem:
         """The part with that one of its best plans whose columns come first, row by row."""
         closed = self._closed(part)
         for row in range(part.first, self.n_rows):
@@ -231,7 +231,7 @@ class Ranking:
                 closed.append(part.columns[row])
         return part
 
-    def _prove(self, part: Part) -> None:
+    def _prove(self, part: Subproblem) -> None:
         """Lets the library check that a part's plan is a best one of the part, by the part's duals: of the problem that is left to the
         rows and columns that the part leaves free."""
         taken, first = set(self._closed(part)), part.first
@@ -252,7 +252,7 @@ class Ranking:
         cost: int = values[columns.index(column)]
         return cost
 
-    def _left(self, part: Part, free: List[int]) -> Problem:
+    def _left(self, part: Subproblem, free: List[int]) -> Problem:
         """The pairs that a part leaves to its free rows and columns."""
         persons, objects = array("I"), array("I")
         costs: List[int] = []
@@ -270,7 +270,7 @@ class Ranking:
             persons.extend(array("I", (row - part.first + 1,)) * (len(objects) - len(persons)))
         return Problem(self.n_rows - part.first, len(free), False, _packed(costs), persons, objects)
 
-    def _prove_empty(self, part: Part, row: int, choices: Iterable[Choice], found: _Search) -> None:
+    def _prove_empty(self, part: Subproblem, row: int, choices: Iterable[Choice], found: _PathSearch) -> None:
         """Lets the library say that no plan of a part keeps the columns of the rows below a row, which gets one of some choices: the
         rows that the search reached have fewer columns than they are. Each row that stays out brings a dummy column."""
         out = range(self.n_columns, self.n_columns + part.columns[row + 1:].count(self.n_columns))

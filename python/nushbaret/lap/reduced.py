@@ -3,7 +3,7 @@ from array import array
 from itertools import repeat
 from typing import Dict, List, Tuple
 
-from ..costs.limits import Lent
+from ..costs.limits import BorrowedNumbers
 from ..costs.problem import plain
 from . import arrays, proved
 from .level import Level, Pairs
@@ -12,9 +12,9 @@ from .level import Level, Pairs
 MOST_CHANGES = 3
 
 
-def level_of(asked: proved.Given, answer: proved.Answer, shift: int, sign: int) -> Level:
+def level_of(asked: proved.Instance, answer: proved.Assignment, shift: int, sign: int) -> Level:
     """The duals of a level's answer. A sum of a person's and an object's is at most their cost, and equals it in the plan."""
-    if not isinstance(asked.costs, (array, Lent)):
+    if not isinstance(asked.costs, (array, BorrowedNumbers)):
         return Level(asked, answer.objects, *arrays.duals_of(asked, answer, sign), shift, sign)
     of_objects = [0] + [-price for price in proved.whole_prices(answer)]
     of_persons, costs = [0] * (asked.n + 1), plain(asked.costs)
@@ -30,7 +30,7 @@ def level_of(asked: proved.Given, answer: proved.Answer, shift: int, sign: int) 
 def kept(level: Level, most: int) -> Pairs:
     """The pairs whose reduced cost is at most so many units."""
     asked, sign = level.asked, level.sign
-    if not isinstance(asked.costs, (array, Lent)):
+    if not isinstance(asked.costs, (array, BorrowedNumbers)):
         return Pairs(*arrays.kept(level, most))
     costs = plain(asked.costs)
     persons, objects, places = array("I"), array("I"), array("q")

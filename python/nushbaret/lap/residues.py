@@ -78,7 +78,7 @@ class _Doubles:
             shift = BITS - math.frexp(most)[1]
             if not most or abs(shift) > MOST_SHIFT or self.loose * 2.0**shift > CLOSE:
                 return None
-            asked = proved.Given(self.n, self.m, self.pairs.persons, self.pairs.objects, whole_of(numpy, self.high, shift))
+            asked = proved.Instance(self.n, self.m, self.pairs.persons, self.pairs.objects, whole_of(numpy, self.high, shift))
             answer = proved.best_of(asked)
             level = Level(asked, answer.objects, *arrays.duals_of(asked, answer, 1), shift, 1)
             kept_ = reduced.kept(level, self.n + more(self.n))
@@ -166,7 +166,7 @@ def finish(numpy: Any, n: int, m: int, pairs: Pairs, left: Any) -> Any:
         left = _halved(numpy, left, _zeros(int(numpy.bitwise_or.reduce(left))), 0)
         shift = max(0, max(int(left.max()).bit_length(), int(left.min()).bit_length()) - BITS)
         costs = _halved(numpy, left, shift, 1 << shift >> 1)
-        asked = proved.Given(n, m, pairs.persons, pairs.objects, costs)
+        asked = proved.Instance(n, m, pairs.persons, pairs.objects, costs)
         answer = proved.best_of(asked)
         if not shift:
             return answer.objects
@@ -201,7 +201,7 @@ def finish_list(n: int, m: int, persons: Any, objects: Any, left: List[int]) -> 
         left = [value >> zeros for value in left] if zeros else left
         shift = max(0, max(max(left).bit_length(), min(left).bit_length()) - BITS)
         half = 1 << shift >> 1
-        asked = proved.Given(n, m, persons, objects, array("q", [(value + half) >> shift for value in left]))
+        asked = proved.Instance(n, m, persons, objects, array("q", [(value + half) >> shift for value in left]))
         answer = proved.best_of(asked)
         if not shift:
             return answer.objects

@@ -12,7 +12,7 @@ from ..costs.numbers import of_places
 from ..costs.problem import Problem
 from . import arrays, levels, library, proved
 from .level import BITS, Level
-from .proved import Found
+from .proved import ResultParts
 
 # Beyond these powers of two the double that rounds is none.
 MOST_SHIFT = 850
@@ -64,7 +64,7 @@ class SmallArrays:
         room.give_back()
         return found
 
-    def found(self, costs: Any, maximize: bool) -> Optional[Found]:
+    def found(self, costs: Any, maximize: bool) -> Optional[ResultParts]:
         """What a result is made of, for a small array, a frame or a list of lists, where floats are the decimals that they print as. None as
         in `assignment`."""
         matrix, flat = self._read(costs) if type(costs) is list else (self._plain(costs, True), None)
@@ -85,7 +85,7 @@ class SmallArrays:
         if room.places:
             own = [round(cost * 10**room.places) for cost in own]
         room.give_back()
-        return Found(shape, answer, rows, columns, own, flat is None)
+        return ResultParts(shape, answer, rows, columns, own, flat is None)
 
     def _plain(self, costs: Any, printed: bool) -> Any:
         """An array of 64-bit integers or floats with all numbers of a small array or frame; None where there is none, or it isn't small.
@@ -116,7 +116,7 @@ class SmallArrays:
             return None
         return values
 
-    def _pairs_of(self, room: library.Room) -> Tuple[Any, Any]:
+    def _pairs_of(self, room: library.Workspace) -> Tuple[Any, Any]:
         """Rows and columns of the plan in a room."""
         persons, objects = room.rows.copy(), self.from_zero(room.objects)
         if not room.is_turned:
@@ -141,7 +141,7 @@ class SmallArrays:
         except struct.error:
             return None
 
-    def _solved(self, costs: Any, maximize: bool, printed: bool, of_list: bool = False, least_places: int = 0) -> Optional[library.Room]:
+    def _solved(self, costs: Any, maximize: bool, printed: bool, of_list: bool = False, least_places: int = 0) -> Optional[library.Workspace]:
         """A room with a best plan, whose persons are the fewer of rows and columns; floats are the decimals that they print as where
         `printed`, and these have so many places or more. Of a list those with at most 12 digits are left to the longer way, which may find
         a unit for them."""
@@ -151,21 +151,21 @@ class SmallArrays:
             n, m, costs = m, n, costs.T
         if not costs.flags.aligned:
             return None
-        room = library.room_for(self.numpy, n, m)
+        room = library.workspace_for(self.numpy, n, m)
         room.is_turned, room.places, room.listed, room.of_list = is_turned, 0, None, of_list and printed
         if costs.dtype.kind == "i":
             return room if self._of_whole(costs.ravel(), room, maximize) else None
         return room if self._of_doubles(costs, room, maximize, printed, least_places) else None
 
-    def _of_whole(self, costs: Any, room: library.Room, maximize: bool) -> bool:
+    def _of_whole(self, costs: Any, room: library.Workspace, maximize: bool) -> bool:
         """Whether the room has a best plan for whole numbers."""
         room.is_rounded, sense = False, room.maximized if maximize else room.minimized
-        lent = library.lent(costs)
+        lent = library.argument_of(costs)
         if room.listed:
             return not room.listed.call(*room.listed.words(sense, lent))
         return not room.call(sense, *room.sizes, lent, *room.rest)
 
-    def _of_doubles(self, costs: Any, room: library.Room, maximize: bool, printed: bool, least_places: int) -> bool:
+    def _of_doubles(self, costs: Any, room: library.Workspace, maximize: bool, printed: bool, least_places: int) -> bool:
         """Whether the room has a plan that is best for doubles."""
         allowed, values = None, costs
         whole, most = self._whole(costs), 0.0
@@ -193,7 +193,7 @@ class SmallArrays:
         self._by_levels(values, room, shift, maximize, printed)
         return True
 
-    def _is_alone(self, allowed: Any, room: library.Room, maximize: bool, dearer: int) -> bool:
+    def _is_alone(self, allowed: Any, room: library.Workspace, maximize: bool, dearer: int) -> bool:
         """Whether the plan of a room's whole numbers stays the best where its pairs are dearer. What isn't allowed is dear: if a best plan
         has none of it, it is best among those that have none."""
         dear = -GREATEST_COST if maximize else GREATEST_COST
@@ -213,12 +213,12 @@ class SmallArrays:
         """Doubles as whole numbers; None where they aren't. Where the first isn't whole, no look at the others is needed."""
         return exact.whole_numbers(self.numpy, costs.ravel()) if costs.item(0).is_integer() else None
 
-    def _list(self, allowed: Any, room: library.Room) -> None:
+    def _list(self, allowed: Any, room: library.Workspace) -> None:
         """Gives the room the lists of the pairs that are allowed, if not all are."""
         if allowed is not None:
-            room.listed = library.Listed(self.numpy, room, allowed.nonzero()[0])
+            room.listed = library.SparseWorkspace(self.numpy, room, allowed.nonzero()[0])
 
-    def _with_places(self, flat: Any, room: library.Room, most: float, least_places: int) -> Any:
+    def _with_places(self, flat: Any, room: library.Workspace, most: float, least_places: int) -> Any:
         """Doubles of so many places or more as whole numbers of a decimal unit, whose places the room gets; None where they have too many
         places, or are too great. What `_least_places` says holds here too."""
         rint, first = self.numpy.rint, flat.item(0)
@@ -235,20 +235,20 @@ class SmallArrays:
                     return whole.astype(self.int64)
         return None
 
-    def _by_levels(self, costs: Any, room: library.Room, shift: int, maximize: bool, printed: bool) -> None:
+    def _by_levels(self, costs: Any, room: library.Workspace, shift: int, maximize: bool, printed: bool) -> None:
         """Gives the room a best plan, from the one of the first level that it has."""
         (n, m), held = room.shape, room.listed
         lists = (held.persons, held.objects) if held else (proved.NONE, proved.NONE)
-        asked = proved.Given(n, m, *lists, (held or room).numbers.ravel())
+        asked = proved.Instance(n, m, *lists, (held or room).numbers.ravel())
         sign = -1 if maximize else 1
-        duals = arrays.duals_of(asked, proved.Answer(n, m, None, room.objects, room.prices), sign)
+        duals = arrays.duals_of(asked, proved.Assignment(n, m, None, room.objects, room.prices), sign)
         level = Level(asked, room.objects, *duals, shift, sign)
         persons, objects = lists if held else (None, None)
         problem = Problem(n, m, maximize, costs.ravel(), persons, objects, raw=True, doubles=not printed, numpy=self.numpy)
         with levels.quiet(problem):
             room.objects[:] = levels.after_first(problem, level)
 
-    def _scaled(self, costs: Any, room: library.Room, shift: int) -> bool:
+    def _scaled(self, costs: Any, room: library.Workspace, shift: int) -> bool:
         """Gives the room the costs times 2**shift, rounded to the nearest whole numbers; false where doubles don't suffice for it."""
         adder = self.adders.get(shift) or self._adder(shift)
         if adder is None:
@@ -300,7 +300,7 @@ def _flat(rows: Any) -> Optional[List[Any]]:
     return flat or None
 
 
-def _listed_pairs_of(room: library.Room) -> Tuple[List[int], List[int]]:
+def _listed_pairs_of(room: library.Workspace) -> Tuple[List[int], List[int]]:
     """Rows and columns of the plan in a room, as lists."""
     persons, objects = list(range(len(room.objects))), [item - 1 for item in room.objects.tolist()]
     if not room.is_turned:
@@ -309,13 +309,13 @@ def _listed_pairs_of(room: library.Room) -> Tuple[List[int], List[int]]:
     return [objects[person] for person in persons], persons
 
 
-def _answer_of(room: library.Room) -> proved.Answer:
+def _answer_of(room: library.Workspace) -> proved.Assignment:
     """The answer in a room, with prices where costs weren't rounded."""
     n, m = room.shape
     objects = array("I", room.objects.tobytes())
     if room.is_rounded:
-        return proved.Answer(n, m, None, objects, None)
-    return proved.Answer(n, m, room.total.value, objects, array("q", room.prices.tobytes()))
+        return proved.Assignment(n, m, None, objects, None)
+    return proved.Assignment(n, m, room.total.value, objects, array("q", room.prices.tobytes()))
 
 
 def _is_long(cost: float) -> bool:
@@ -323,7 +323,7 @@ def _is_long(cost: float) -> bool:
     return float("%.12g" % cost) != cost and not cost.is_integer()
 
 
-def _call(room: library.Room, maximize: bool) -> int:
+def _call(room: library.Workspace, maximize: bool) -> int:
     """Solves the whole numbers that a room holds."""
     held = room.listed or room
     return int(held.call(*held.calls[maximize]))

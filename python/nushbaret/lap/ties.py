@@ -79,8 +79,8 @@ def best(matrix: Matrix) -> Optional[Any]:
 def _solved(matrix: Matrix, left: Any) -> Optional[Any]:
     n, m = left.shape
     problem = Problem(n, m, False, left.base, numpy=matrix.numpy)
-    answer = proved.answer(problem, proved.Given(n, m, proved.NONE, proved.NONE, problem.costs))
-    return answer.objects if isinstance(answer, proved.Answer) else None
+    answer = proved.answer(problem, proved.Instance(n, m, proved.NONE, proved.NONE, problem.costs))
+    return answer.objects if isinstance(answer, proved.Assignment) else None
 
 
 def _left_of_doubles(matrix: Matrix) -> Optional[Any]:

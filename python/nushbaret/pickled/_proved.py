@@ -1,3 +1,3 @@
-from nushbaret.lap.proved import Answer, Duals
+from nushbaret.lap.proved import Assignment as Answer, Duals
 
 __all__ = ["Answer", "Duals"]

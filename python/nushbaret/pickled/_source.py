@@ -1,3 +1,3 @@
-from nushbaret.costs.source import Held, Source
+from nushbaret.costs.source import FixedProblem as Held, Source
 
 __all__ = ["Held", "Source"]

@@ -10,9 +10,9 @@ from ..lap.proved import rents
 from ..lap.ranking import plans_in_order
 from ..lap.solving import BestPlan, best_plan
 from .groups import missing_of
-from .names import Shown, joined, numbered
-from .nodes import (Edges, Nodes, Swap, changed, face_of, fewest_changes, is_only_one, least_costs, nodes_without,
-    problem_of, swaps_of)
+from .names import NamesShown, joined, numbered
+from .nodes import (Edges, RosterNodes, Swap, changed, face_of, fewest_changes, is_only_one, least_costs,
+    nodes_without, problem_of, swaps_of)
 from .roster import PlanLine, Roster
 
 MOST_NAMES_SHOWN = 20
@@ -27,7 +27,7 @@ class Pair(NamedTuple):
     fixed: bool
 
 
-class Short(NamedTuple):
+class ShortGroup(NamedTuple):
     """Why there is no plan. Where `of_objects` is false these persons need `wanted` and can have no more than `had`, of these objects
     alone; where it is true it is the other way round. `text` is the sentence that says so, where it isn't `sentence` that does."""
 
@@ -39,7 +39,7 @@ class Short(NamedTuple):
     text: str = ""
 
 
-class Plan(NamedTuple):
+class NamedPlan(NamedTuple):
     """Pairs in the order of the persons, their cost, who and what gets less than it should, and the rent of each object that isn't
     fixed, where nobody counts several times. Costs and rents are in the roster's units. `is_only_one` says that no other plan is
     as good; where others were asked for, `swaps` are the groups that could change places at no cost, and `next_cost` is that of the best
@@ -54,25 +54,25 @@ class Plan(NamedTuple):
     swaps: Sequence[Swap] = ()
     is_only_one: bool = True
     next_cost: Optional[int] = None
-    following: Sequence["Plan"] = ()
+    following: Sequence["NamedPlan"] = ()
 
 
 class Answer(NamedTuple):
     """A best plan; or the groups that are short, then with the fullest plan where it was asked for."""
 
-    plan: Optional[Plan]
-    groups: List[Short]
+    plan: Optional[NamedPlan]
+    groups: List[ShortGroup]
 
 
 class Fair(NamedTuple):
     """What --fair says: the dearest pair that isn't fixed, if any pair is needed, and the plan of the least cost, with its dearest pair."""
 
     pair: Optional[Pair]
-    best: Plan
+    best: NamedPlan
     best_pair: Pair
 
 
-class Wish(NamedTuple):
+class Request(NamedTuple):
     """What is asked of a roster: pairs that stand, whatever they cost; the greatest cost, not the least; where there is no plan for all
     the fullest one; the pairs of an earlier plan, from which as little is to change as can be at no cost, or where each pair that comes
     and each that goes costs half of `change`; the best other plan, if it isn't as good; and so many plans in all, in order."""
@@ -86,14 +86,14 @@ class Wish(NamedTuple):
     plans: int = 1
 
 
-def nodes_around(roster: Roster, fixed: Sequence[PlanLine]) -> Nodes:
+def nodes_around(roster: Roster, fixed: Sequence[PlanLine]) -> RosterNodes:
     """What is left to solve around the fixed pairs."""
-    nodes = Nodes(list(range(len(roster.persons))), list(range(len(roster.objects))), roster.of_persons, roster.of_objects, roster.costs,
+    nodes = RosterNodes(list(range(len(roster.persons))), list(range(len(roster.objects))), roster.of_persons, roster.of_objects, roster.costs,
                   Edges(roster.of_persons, roster.of_objects), roster.by_persons, roster.is_full)
     return nodes_without(nodes, [(pair.person, pair.object) for pair in fixed]) if fixed else nodes
 
 
-def answer_of(roster: Roster, wish: Wish) -> Answer:
+def answer_of(roster: Roster, wish: Request) -> Answer:
     """The answer to a roster in which each name counts once; TooLarge where it is so for the library."""
     nodes = nodes_around(roster, wish.fixed)
     costs = least_costs(nodes, wish.maximize)
@@ -101,14 +101,14 @@ def answer_of(roster: Roster, wish: Wish) -> Answer:
         costs = changed(costs, nodes.edges, wish.kept, wish.change)
     problem = problem_of(nodes, costs)
     best = best_plan(problem)
-    groups: List[Short] = []
+    groups: List[ShortGroup] = []
     if best is None:
         groups = shortages(nodes, short_groups(problem))
         best = best_plan(problem, True) if wish.fullest else None
     return Answer(None if best is None else _plan(roster, wish, nodes, costs, best), groups)
 
 
-def _plan(roster: Roster, wish: Wish, nodes: Nodes, costs: Numbers, best: BestPlan) -> Plan:
+def _plan(roster: Roster, wish: Request, nodes: RosterNodes, costs: Numbers, best: BestPlan) -> NamedPlan:
     prices = rents(duals_of_whole(best))
     of_objects, chosen = dict(zip(nodes.of_columns, prices)), nodes.pairs(best.rows, best.columns)
     plan = plan_of(roster, wish.fixed, chosen, of_objects)
@@ -131,25 +131,25 @@ def _plan(roster: Roster, wish: Wish, nodes: Nodes, costs: Numbers, best: BestPl
     return with_following(plan, following, is_next_shown)
 
 
-def with_following(plan: Plan, following: Sequence[Plan], is_next_shown: bool) -> Plan:
+def with_following(plan: NamedPlan, following: Sequence[NamedPlan], is_next_shown: bool) -> NamedPlan:
     """A plan with those after it; where none is as good, the cost of the next one is known."""
     if is_next_shown and following and following[0].cost == plan.cost:
         raise RuntimeError("no other plan was found to be as good, and then one was")
     return plan._replace(following=following, next_cost=following[0].cost if is_next_shown and following else None)
 
 
-def shortages(nodes: Nodes, groups: Sequence[Tuple[List[int], List[int]]]) -> List[Short]:
+def shortages(nodes: RosterNodes, groups: Sequence[Tuple[List[int], List[int]]]) -> List[ShortGroup]:
     """All groups that are short, by the roster's numbers."""
     of_objects = len(nodes.of_rows) > len(nodes.of_columns)
     shorts = []
     for rows, columns in groups:
         persons, objects = [nodes.of_rows[row] for row in rows], [nodes.of_columns[column] for column in columns]
         wanted, had = (len(objects), len(persons)) if of_objects else (len(persons), len(objects))
-        shorts.append(Short(persons, objects, of_objects, wanted, had))
+        shorts.append(ShortGroup(persons, objects, of_objects, wanted, had))
     return shorts
 
 
-def plan_of(roster: Roster, fixed: Sequence[PlanLine], chosen: List[Tuple[int, int]], rents: Dict[int, int]) -> Plan:
+def plan_of(roster: Roster, fixed: Sequence[PlanLine], chosen: List[Tuple[int, int]], rents: Dict[int, int]) -> NamedPlan:
     """A plan of the fixed pairs and of those chosen for the others."""
     costs = roster.costs_of(set(chosen))
     pairs = [Pair(pair.person, pair.object, pair.cost, True) for pair in fixed]
@@ -157,7 +157,7 @@ def plan_of(roster: Roster, fixed: Sequence[PlanLine], chosen: List[Tuple[int, i
     pairs.sort()
     had = Counter(pair.person for pair in pairs)
     used = Counter(pair.object for pair in pairs)
-    return Plan(
+    return NamedPlan(
         pairs, sum(pair.cost for pair in pairs),
         [person for person in range(len(roster.persons)) if had[person] < roster.tasks_of(person)],
         [object_ for object_ in range(len(roster.objects)) if used[object_] < roster.places_of(object_)], rents)
@@ -171,7 +171,7 @@ class Out(NamedTuple):
     names: List[str]
 
 
-def left_out(roster: Roster, plan: Plan) -> List[Out]:
+def left_out(roster: Roster, plan: NamedPlan) -> List[Out]:
     """Who gets less than it should, and what has places left, as far as there are any; with bounds what misses its least count, and who
     and what is in no pair."""
     had, used = Counter(pair.person for pair in plan.pairs), Counter(pair.object for pair in plan.pairs)
@@ -214,11 +214,11 @@ def named(numbers: List[int], word: str, names: List[str]) -> str:
     return f"{counted(len(numbers), word)} ({listed(names, numbers)})"
 
 
-def sentence(roster: Roster, short: Short, some_fixed: bool) -> str:
+def sentence(roster: Roster, short: ShortGroup, some_fixed: bool) -> str:
     """What a manager reads of a group that is short, with marks around names."""
     if short.text:
         return short.text
-    shown = Shown(len(short.persons), len(short.objects))
+    shown = NamesShown(len(short.persons), len(short.objects))
     persons, objects = numbered(roster.persons, short.persons), numbered(roster.objects, short.objects)
     person, object_ = roster.titles[0], roster.titles[1]
     if short.of_objects:
@@ -230,16 +230,16 @@ def sentence(roster: Roster, short: Short, some_fixed: bool) -> str:
     return "around the fixed pairs, " + said if some_fixed else said
 
 
-def _only(names: List[str], word: str, shown: Shown, side: int) -> str:
+def _only(names: List[str], word: str, shown: NamesShown, side: int) -> str:
     return f"only {counted(len(names), word)} between them{shown.bracketed(side, names)}" if names else f"no {word}"
 
 
-def _few(short: Short) -> str:
+def _few(short: ShortGroup) -> str:
     lack = short.wanted - short.had
     return "one" if lack == 1 else str(lack)
 
 
-def _advice_on_persons(word: str, short: Short) -> str:
+def _advice_on_persons(word: str, short: ShortGroup) -> str:
     if short.objects:
         return f"allow {_few(short)} of them another, or leave {_few(short)} out"
     if len(short.persons) == 1:
@@ -247,7 +247,7 @@ def _advice_on_persons(word: str, short: Short) -> str:
     return "allow each one, or leave them out"
 
 
-def _advice_on_objects(short: Short) -> str:
+def _advice_on_objects(short: ShortGroup) -> str:
     if short.persons:
         return f"allow {_few(short)} of them to another, or leave {_few(short)} open"
     if len(short.objects) == 1:

@@ -3,7 +3,7 @@ from collections import Counter
 from datetime import date, timedelta
 from typing import Dict, List, NamedTuple, Optional, Sequence, Set, Tuple
 
-from .answer import Plan
+from .answer import NamedPlan
 from .dates import DAY_NAMES, SATURDAY, dates_of, has_weekday, is_weekend_name, monday_of
 from .groups import missing_of, order_of
 from .roster import Groups, OldPlan, Roster
@@ -102,7 +102,7 @@ class _Held(NamedTuple):
     whole: Dict[int, int]
 
 
-def blocks_of(roster: Roster, plan: Plan, kept: Optional[OldPlan] = None) -> List[Block]:
+def blocks_of(roster: Roster, plan: NamedPlan, kept: Optional[OldPlan] = None) -> List[Block]:
     """The blocks of a plan of a roster with groups: weeks from Monday where these are dates, else seven groups at a time."""
     if roster.groups is None:
         return []
@@ -178,7 +178,7 @@ def without_group(name: str, group: str) -> str:
     return name
 
 
-def _held(roster: Roster, plan: Plan, labels: List[str], kept: Optional[OldPlan]) -> _Held:
+def _held(roster: Roster, plan: NamedPlan, labels: List[str], kept: Optional[OldPlan]) -> _Held:
     before = None if kept is None else set(kept.pairs)
     entries: Dict[Spot, List[Entry]] = {}
     who: Dict[int, List[str]] = {}
@@ -193,7 +193,7 @@ def _held(roster: Roster, plan: Plan, labels: List[str], kept: Optional[OldPlan]
     return _Held(entries, gone, _allowed(roster), who, missing, Counter(pair.person for pair in plan.pairs))
 
 
-def _gone(roster: Roster, plan: Plan, labels: List[str], kept: OldPlan) -> Dict[Spot, List[str]]:
+def _gone(roster: Roster, plan: NamedPlan, labels: List[str], kept: OldPlan) -> Dict[Spot, List[str]]:
     """What was before and is no more, as far as the roster has both names."""
     now = {(roster.persons[pair.person], roster.objects[pair.object]) for pair in plan.pairs}
     gone: Dict[Spot, List[str]] = {}

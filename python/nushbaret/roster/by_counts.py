@@ -5,18 +5,18 @@ from typing import List, Sequence, Tuple
 
 from ..costs.problem import TooLarge
 from ..counts.exchanges import free_pairs
-from ..counts.gadgets import Bounds, Counted, TooManyNodes
 from ..counts.lack import Lack
+from ..counts.nodes import Bounds, Counted, TooManyNodes
 from ..counts.planned import planned
 from ..counts.ranked import plans_after
-from .answer import Answer, Pair, Plan, Short, Wish, plural, with_following
+from .answer import Answer, NamedPlan, Pair, Request, ShortGroup, plural, with_following
 from .groups import order_of
 from .nodes import Swap
 from .roster import PlanLine, Roster
 from .sentences import sentence_of
 
 
-def answer_by_counts(roster: Roster, wish: Wish) -> Answer:
+def answer_by_counts(roster: Roster, wish: Request) -> Answer:
     """The answer to a roster with counts or groups; TooLarge where it is so for the library."""
     counted = counted_of(roster, wish)
     try:
@@ -37,7 +37,7 @@ def answer_by_counts(roster: Roster, wish: Wish) -> Answer:
     return Answer(with_following(plan, following, wish.others and not swaps), groups)
 
 
-def counted_of(roster: Roster, wish: Wish) -> Counted:
+def counted_of(roster: Roster, wish: Request) -> Counted:
     """What is left to plan around the fixed pairs, with costs that are to be least. Where changes cost, these are doubled: half of what a
     change costs is that of a pair that comes, and of one that goes."""
     group_of, n_groups = _groups(roster)
@@ -86,17 +86,17 @@ def _around(roster: Roster, fixed: Sequence[PlanLine]) -> str:
     return f"around {' and '.join(names)}, " if names else ""
 
 
-def _short(roster: Roster, counted: Counted, lack: Lack, around: str) -> Short:
+def _short(roster: Roster, counted: Counted, lack: Lack, around: str) -> ShortGroup:
     """Who is short, and the sentence that says so."""
     persons = sorted({*lack.rows, *(row for row, _ in lack.once)})
-    once = {unit for unit in lack.once}
+    once = set(lack.once)
     objects = set(lack.columns)
     if not lack.of_columns:
-        objects.update(column for unit, column in zip(counted.units(), counted.columns) if unit in once)
-    return Short(persons, sorted(objects), lack.of_columns, lack.wanted, lack.had, around + sentence_of(roster, counted, lack))
+        objects.update(column for row_group, column in zip(counted.row_groups(), counted.columns) if row_group in once)
+    return ShortGroup(persons, sorted(objects), lack.of_columns, lack.wanted, lack.had, around + sentence_of(roster, counted, lack))
 
 
-def plan_around(roster: Roster, fixed: Sequence[PlanLine], chosen: Sequence[Tuple[int, int]]) -> Plan:
+def plan_around(roster: Roster, fixed: Sequence[PlanLine], chosen: Sequence[Tuple[int, int]]) -> NamedPlan:
     """A plan of the fixed pairs and of those chosen for the others, each person's in the order of groups."""
     costs, ranks = roster.costs_of(set(chosen)), order_of(roster)
     pairs = [Pair(pair.person, pair.object, pair.cost, True) for pair in fixed]
@@ -108,7 +108,7 @@ def plan_around(roster: Roster, fixed: Sequence[PlanLine], chosen: Sequence[Tupl
                if had[person] < _wanted(roster, roster.tasks_of(person), least_tasks.get(person, 0))]
     unused = [object_ for object_ in range(len(roster.objects)) if object_ not in roster.past
               and used[object_] < _wanted(roster, roster.places_of(object_), least_places.get(object_, 0))]
-    return Plan(pairs, sum(pair.cost for pair in pairs), without, unused, {})
+    return NamedPlan(pairs, sum(pair.cost for pair in pairs), without, unused, {})
 
 
 def _wanted(roster: Roster, most: int, least: int) -> int:

@@ -3,7 +3,7 @@ import time
 from typing import Callable, Dict, List, NamedTuple, Optional, Sequence, Tuple
 
 from ..rows.model import Certificate, Finding, Row
-from .answer import Answer, Plan, Wish
+from .answer import Answer, NamedPlan, Request
 from .by_counts import plan_around
 from .month import Month
 from .roster import Roster
@@ -26,7 +26,7 @@ class Task(NamedTuple):
     roster: Roster
     month: Month
     rules: Rules
-    wish: Wish
+    wish: Request
     seconds: float
     own: Sequence[OwnRow] = ()
     progress: Optional[Progress] = None
@@ -222,7 +222,7 @@ class _Stages:
                         certificate=finding.certificate)
         return Answer(plan, []), self._with_otherwise(proved)
 
-    def _plan(self, values: Sequence[int]) -> Plan:
+    def _plan(self, values: Sequence[int]) -> NamedPlan:
         fixed = {(pair.person, pair.object) for pair in self.task.wish.fixed}
         chosen = [pair for pair, value in zip(self.built.pairs, values) if value and pair not in fixed]
         return plan_around(self.task.roster, self.task.wish.fixed, sorted(chosen))
@@ -246,7 +246,7 @@ class _Stages:
         sign = -1 if self.task.wish.maximize else 1
         return sign * sum(pair.cost for pair in self.task.wish.fixed if pair.object in self.task.roster.past)
 
-    def _even(self, plan: Plan) -> List[Evenness]:
+    def _even(self, plan: NamedPlan) -> List[Evenness]:
         """How even a plan is."""
         found, month = [], self.task.month
         for rule in even_rules(self.task.rules.rules):

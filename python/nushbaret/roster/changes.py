@@ -2,7 +2,7 @@
 from collections import Counter
 from typing import Dict, Iterable, List, NamedTuple, Set, Tuple
 
-from .answer import Pair, Plan
+from .answer import NamedPlan, Pair
 from .groups import Paired
 from .roster import OldPlan, PlanLine, Roster
 
@@ -32,7 +32,7 @@ def pairs_of(pairs: Iterable[Paired]) -> Set[Numbered]:
     return {(pair.person, pair.object) for pair in pairs}
 
 
-def changes_of(roster: Roster, plan: Plan, kept: OldPlan) -> Changes:
+def changes_of(roster: Roster, plan: NamedPlan, kept: OldPlan) -> Changes:
     """What changed from an earlier plan, in the order of persons."""
     before, now = pairs_of(kept.known), pairs_of(plan.pairs)
     left = [pair for pair in sorted(kept.known) if (pair.person, pair.object) not in now]

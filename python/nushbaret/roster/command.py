@@ -13,7 +13,7 @@ from typing import TYPE_CHECKING, List, Optional, Sequence, Tuple
 
 from ..costs.problem import TooLarge
 from ..costs.reading import MOST_PLACES
-from .answer import Answer, Fair, Wish, answer_of
+from .answer import Answer, Fair, Request, answer_of
 from .files import (STANDARD_OUTPUT, Output, OutputFault, is_device, make_folder, print_content, refuse_existing,
     write_files)
 from .groups import read_counts, read_groups, refuse_two_of_a_group, with_rules
@@ -133,7 +133,7 @@ def _report(options: Options, roster: Roster) -> Report:
     ruling = _read_rules(options, roster)
     hand = _read_hand(options.compare, roster, fixed, ruling) if options.compare else None
     pairs = None if kept is None else {(pair.person, pair.object) for pair in kept.known}
-    wish = Wish(fixed, options.max, options.as_many_as_can, pairs, change_cost(options, roster), options.others, options.plans)
+    wish = Request(fixed, options.max, options.as_many_as_can, pairs, change_cost(options, roster), options.others, options.plans)
     fair: Optional[Fair] = None
     proved: Optional["Proved"] = None
     try:
@@ -180,7 +180,7 @@ def _read_past(options: Options, roster: Roster, kept: Optional[OldPlan]) -> Tup
     return roster, kept, past
 
 
-def _answered(roster: Roster, wish: Wish, is_fair: bool) -> Tuple[Answer, Optional[Fair]]:
+def _answered(roster: Roster, wish: Request, is_fair: bool) -> Tuple[Answer, Optional[Fair]]:
     """The answer, and what is to be said of a fair one. What few rosters need is imported here: loading takes a small one's time."""
     solve = answer_of
     if roster.ruled:

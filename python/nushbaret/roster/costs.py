@@ -21,7 +21,7 @@ class Refuses(Protocol):
     def refuse(self, text: str, line: Optional[int] = None, column: Optional[int] = None) -> NoReturn: ...
 
 
-class Costs:
+class CostColumn:
     """Costs as they are read, exactly, with as many places as they have until it is known how many are used."""
 
     def __init__(self, sheet: Refuses, decimals: Optional[int], comma: bool, rounds: Optional[int] = None) -> None:

@@ -3,14 +3,14 @@ from array import array
 from itertools import compress
 from typing import Callable, List, Optional, Tuple
 
-from .answer import Answer, Fair, Pair, Plan, Wish
+from .answer import Answer, Fair, NamedPlan, Pair, Request
 from .groups import missing_of
 from .roster import Roster
 
-Solve = Callable[[Roster, Wish], Answer]
+Solve = Callable[[Roster, Request], Answer]
 
 
-def fair_answer(roster: Roster, wish: Wish, solve: Solve) -> Tuple[Answer, Optional[Fair]]:
+def fair_answer(roster: Roster, wish: Request, solve: Solve) -> Tuple[Answer, Optional[Fair]]:
     """The plan of the least cost among those whose dearest pair, of those that aren't fixed, is as cheap as possible; and what is to be
     said of it. Without a plan, or with fixed pairs alone, there is nothing to be said.
 
@@ -34,7 +34,7 @@ def fair_answer(roster: Roster, wish: Wish, solve: Solve) -> Tuple[Answer, Optio
     return Answer(answer.plan, best.groups), Fair(_dearest(answer.plan, wish), best.plan, dearest)
 
 
-def _dearest(plan: Optional[Plan], wish: Wish) -> Optional[Pair]:
+def _dearest(plan: Optional[NamedPlan], wish: Request) -> Optional[Pair]:
     """The dearest pair of a plan that isn't fixed, the first of several; with the greatest cost in demand, the cheapest."""
     pairs = [] if plan is None else [pair for pair in plan.pairs if not pair.fixed]
     if not pairs:
@@ -42,13 +42,13 @@ def _dearest(plan: Optional[Plan], wish: Wish) -> Optional[Pair]:
     return (min if wish.maximize else max)(pairs, key=lambda pair: pair.cost)
 
 
-def _fullness(roster: Roster, plan: Plan) -> Tuple[int, int]:
+def _fullness(roster: Roster, plan: NamedPlan) -> Tuple[int, int]:
     """How many are missing, and of how many pairs a plan is where the smaller side takes all."""
     lack = sum(missing.least - missing.had for missing in missing_of(roster, plan.pairs))
     return lack, len(plan.pairs) if roster.least is None else 0
 
 
-def _values(roster: Roster, wish: Wish, enough: int) -> List[int]:
+def _values(roster: Roster, wish: Request, enough: int) -> List[int]:
     """The different costs, the best first, up to one that is enough."""
     costs = set(roster.costs)
     if wish.maximize:
@@ -56,7 +56,7 @@ def _values(roster: Roster, wish: Wish, enough: int) -> List[int]:
     return sorted(cost for cost in costs if cost <= enough)
 
 
-def _within(roster: Roster, wish: Wish, worst: int) -> Roster:
+def _within(roster: Roster, wish: Request, worst: int) -> Roster:
     """The roster without the pairs that are worse than a cost."""
     is_kept = [cost >= worst if wish.maximize else cost <= worst for cost in roster.costs]
     persons, objects, costs = (array(values.typecode, compress(values, is_kept))

@@ -44,7 +44,7 @@ def joined(names: Sequence[str]) -> str:
     return ("; " if any("," in name for name in names) else ", ").join(names)
 
 
-class Shown:
+class NamesShown:
     """The names that a sentence shows: persons and objects share eight, and each side may have four at least. Each is to be asked for once."""
 
     def __init__(self, persons: int, objects: int):

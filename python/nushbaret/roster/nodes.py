@@ -35,7 +35,7 @@ class Edges(Sequence[Pair]):
         return self._rows[edge], self._columns[edge]
 
 
-class Nodes(NamedTuple):
+class RosterNodes(NamedTuple):
     """Rows and columns with the pairs among them. `of_rows[row]` is a person, and `of_columns[column]` an object; `edges[k]` is the pair of
     these that edge k chooses. `by_rows` says that the edges stand row by row, and `is_full` that they are a whole matrix, in order."""
 
@@ -53,7 +53,7 @@ class Nodes(NamedTuple):
         return sorted((self.of_rows[row], self.of_columns[column]) for row, column in zip(rows, columns))
 
 
-def nodes_without(nodes: Nodes, fixed: Collection[Pair]) -> Nodes:
+def nodes_without(nodes: RosterNodes, fixed: Collection[Pair]) -> RosterNodes:
     """The nodes without those of fixed pairs, where each stands for the name of its number. A whole matrix stays one."""
     sides = []
     for side, numbers, count in ((0, nodes.rows, len(nodes.of_rows)), (1, nodes.columns, len(nodes.of_columns))):
@@ -64,10 +64,10 @@ def nodes_without(nodes: Nodes, fixed: Collection[Pair]) -> Nodes:
     kept = bytes(row in sides[0][2] and column in sides[1][2] for row, column in zip(nodes.rows, nodes.columns))
     own = [array("I", compress(numbers, kept)) for numbers, _, _ in sides]
     rows, columns = (array("I", map(places.__getitem__, numbers)) for numbers, (_, _, places) in zip(own, sides))
-    return Nodes(sides[0][1], sides[1][1], rows, columns, array("q", compress(nodes.costs, kept)), Edges(*own), nodes.by_rows, nodes.is_full)
+    return RosterNodes(sides[0][1], sides[1][1], rows, columns, array("q", compress(nodes.costs, kept)), Edges(*own), nodes.by_rows, nodes.is_full)
 
 
-def least_costs(nodes: Nodes, maximize: bool) -> Numbers:
+def least_costs(nodes: RosterNodes, maximize: bool) -> Numbers:
     """Costs of which the best plans have the least sum."""
     return array("q", map(int.__neg__, nodes.costs)) if maximize else nodes.costs
 
@@ -80,7 +80,7 @@ def changed(costs: Sequence[int], edges: Sequence[Pair], kept: Collection[Pair],
     return more
 
 
-def problem_of(nodes: Nodes, costs: Numbers) -> Problem:
+def problem_of(nodes: RosterNodes, costs: Numbers) -> Problem:
     """The problem of nodes, for these costs, which are to be least."""
     rows, columns = len(nodes.of_rows), len(nodes.of_columns)
     persons, objects = (None, None) if nodes.is_full else (_from_one(nodes.rows), _from_one(nodes.columns))
@@ -102,7 +102,7 @@ class Face(NamedTuple):
     columns: List[int]
 
 
-def face_of(nodes: Nodes, costs: Numbers, best: BestPlan, rents: List[int]) -> Face:
+def face_of(nodes: RosterNodes, costs: Numbers, best: BestPlan, rents: List[int]) -> Face:
     """All plans as good as a best one for these costs, which are to be least, and for the rents that prove it."""
     without, unused = (sorted(set(range(len(side))).difference(own)) for side, own in (
         (nodes.of_rows, best.rows), (nodes.of_columns, best.columns)))
@@ -120,7 +120,7 @@ def face_of(nodes: Nodes, costs: Numbers, best: BestPlan, rents: List[int]) -> F
     return Face(tight, rows, [column for column in range(len(nodes.of_columns)) if spare and rents[column] == 0])
 
 
-def _paid(nodes: Nodes, costs: Numbers, rents: List[int]) -> Iterator[Tuple[int, Sequence[int], List[int]]]:
+def _paid(nodes: RosterNodes, costs: Numbers, rents: List[int]) -> Iterator[Tuple[int, Sequence[int], List[int]]]:
     """The edges of each row that has any, and what they cost with the rents of their columns."""
     if not nodes.by_rows:
         own: Dict[int, List[int]] = {}
@@ -137,7 +137,7 @@ def _paid(nodes: Nodes, costs: Numbers, rents: List[int]) -> Iterator[Tuple[int,
             yield row, range(begin, end), list(map(add, costs[begin:end], own_rents))
 
 
-def fewest_changes(nodes: Nodes, face: Face, count: int, kept: Collection[Pair]) -> List[Pair]:
+def fewest_changes(nodes: RosterNodes, face: Face, count: int, kept: Collection[Pair]) -> List[Pair]:
     """The pairs of a plan of the face, each of which has so many, with the fewest pairs that aren't kept.
 
     All pairs of the face cost a change or nothing, and who may not stay out is worth more than all changes."""
@@ -167,7 +167,7 @@ class Swap(NamedTuple):
         return sorted({object_ for _, object_ in self.pairs})
 
 
-def swaps_of(nodes: Nodes, face: Face, chosen: List[Pair]) -> List[Swap]:
+def swaps_of(nodes: RosterNodes, face: Face, chosen: List[Pair]) -> List[Swap]:
     """The groups that could change places, in the order of their first persons; none where the chosen plan is the only best one."""
     pairs, first_object, part = _parts_of(nodes, face, chosen)
     swaps: Dict[int, List[Pair]] = {}
@@ -177,13 +177,13 @@ def swaps_of(nodes: Nodes, face: Face, chosen: List[Pair]) -> List[Swap]:
     return [Swap(group) for group in swaps.values()]
 
 
-def is_only_one(nodes: Nodes, face: Face, chosen: List[Pair]) -> bool:
+def is_only_one(nodes: RosterNodes, face: Face, chosen: List[Pair]) -> bool:
     """Whether the chosen plan is the only best one."""
     pairs, first_object, part = _parts_of(nodes, face, chosen)
     return not any(part[person] == part[first_object + object_] for person, object_ in pairs)
 
 
-def _parts_of(nodes: Nodes, face: Face, chosen: List[Pair]) -> Tuple[Set[Pair], int, List[int]]:
+def _parts_of(nodes: RosterNodes, face: Face, chosen: List[Pair]) -> Tuple[Set[Pair], int, List[int]]:
     """The pairs that a best plan may have or not, as far as they themselves say; the vertex of the first object, and for each vertex
     which others it depends on: two with the same number do."""
     first_object = max(nodes.of_rows, default=0) + 1

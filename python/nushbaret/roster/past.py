@@ -4,7 +4,7 @@ from collections import Counter
 from typing import Dict, List, NamedTuple, NoReturn, Optional, Sequence, Tuple
 
 from .answer import counted, listed
-from .costs import Costs
+from .costs import CostColumn
 from .dates import dates_of
 from .names import quoted
 from .roster import Groups, NamedPair, OldPlan, PlanLine, Roster, like, old_plan_of
@@ -104,7 +104,7 @@ def _with_counts(roster: Roster, most: Dict[int, int]) -> Roster:
 def _cost_in_file(path: str, roster: Roster, pair: NamedPair, rounds: Optional[int]) -> int:
     """What a pair costs in the plan's file, in the roster's units; 0 where no number stands there. A number that can't be read is
     refused."""
-    costs = Costs(_Refuser(path), roster.decimals if rounds is None else None, roster.comma and not is_json(path), rounds)
+    costs = CostColumn(_Refuser(path), roster.decimals if rounds is None else None, roster.comma and not is_json(path), rounds)
     try:
         costs.take(pair.cost, pair.line, 3)
     except RosterFault:

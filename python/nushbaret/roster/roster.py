@@ -13,7 +13,7 @@ from operator import add, le, mul
 from typing import Any, Dict, FrozenSet, List, NamedTuple, Optional, Sequence, Set, Tuple, cast
 
 from ..costs.limits import MOST_PERSONS, Numbers
-from .costs import Costs
+from .costs import CostColumn
 from .dates import spellings
 from .names import quoted
 from .sheets import MOST_BYTES, Reading, RosterFault, Sheet, is_json, unit_of
@@ -283,7 +283,7 @@ def read_roster(path: str, form: Optional[str], decimals: Optional[int], comma: 
         Where the file can't be read.
     """
     sheet = Sheet(path, comma, sheet_name, skipped, reading)
-    costs = Costs(sheet, decimals, comma, rounds)
+    costs = CostColumn(sheet, decimals, comma, rounds)
     is_matrix = form == MATRIX or form is None and not _may_be_lines(sheet)
     read = _read_matrix if is_matrix else _read_lines if form else _read_sure_lines
     titles, persons, objects, of_persons, of_objects = read(sheet, costs)
@@ -298,7 +298,7 @@ def _may_be_lines(sheet: Sheet) -> bool:
     return len(title) == 3 and title[0] != ""
 
 
-def _read_sure_lines(sheet: Sheet, costs: Costs) -> Read:
+def _read_sure_lines(sheet: Sheet, costs: CostColumn) -> Read:
     """Reads lines, unless they might be a matrix as well: that is refused before any other fault."""
     try:
         read = _read_lines(sheet, costs)
@@ -312,7 +312,7 @@ def _read_sure_lines(sheet: Sheet, costs: Costs) -> Read:
     return read
 
 
-def _read_lines(sheet: Sheet, costs: Costs) -> Read:
+def _read_lines(sheet: Sheet, costs: CostColumn) -> Read:
     line, title = sheet.title()
     if len(title) != 3:
         fourth = f" ({quoted(title[3])} is a fourth column)" if len(title) > 3 else ""
@@ -335,7 +335,7 @@ def _read_lines(sheet: Sheet, costs: Costs) -> Read:
 class Lines:
     """The lines of a roster, as they are read."""
 
-    def __init__(self, sheet: Sheet, costs: Costs) -> None:
+    def __init__(self, sheet: Sheet, costs: CostColumn) -> None:
         self._sheet, self._costs = sheet, costs
         self.persons, self.objects = Names(sheet, "persons"), Names(sheet, "objects")
         self.of_persons, self.of_objects = array("I"), array("I")
@@ -375,7 +375,7 @@ class Lines:
                 self._sheet.refuse(f"the pair {cells[0]}, {cells[1]} a second time, after line {before}", line)
 
 
-def _read_matrix(sheet: Sheet, costs: Costs) -> Read:
+def _read_matrix(sheet: Sheet, costs: CostColumn) -> Read:
     first, title = sheet.title()
     if looks_like_number(title[0]):
         sheet.refuse(f"the first line and the first column must have names, and {quoted(title[0])} is a number", first, 1)

@@ -2,12 +2,12 @@
 from collections import Counter
 from typing import Dict, List, NamedTuple, Optional, Sequence, Set, Tuple
 
-from ..counts.gadgets import Bounds
-from .answer import Wish, counted, plural
+from ..counts.nodes import Bounds
+from .answer import Request, counted, plural
 from .by_counts import bounds_around
 from .month import Month
 from .roster import Roster
-from .rule_even import Evenness, add_evenness
+from .rule_even import EvennessRows, add_evenness
 from .rule_file import Rules
 from .rule_rows import Making, add_rules
 from .sums import Rows, Said, Sum, Work
@@ -32,14 +32,14 @@ class Built(NamedTuple):
     pairs: List[Pair]
     missing: Dict[int, int]
     before_even: int
-    evenness: Evenness
+    evenness: EvennessRows
 
     @property
     def rows(self) -> Rows:
         return self.making.rows
 
 
-def built(roster: Roster, rules: Rules, month: Month, wish: Wish, own: Sequence[OwnRow] = (), may_miss: bool = False,
+def built(roster: Roster, rules: Rules, month: Month, wish: Request, own: Sequence[OwnRow] = (), may_miss: bool = False,
           spreads: Sequence[int] = (), is_measured: bool = False) -> Built:
     """The variables and rows of a roster with rules; with `may_miss` least counts may be missed. Counts of the first rules of evenness differ
     by `spreads`; with `is_measured` the model measures how little those of the next rule can differ."""
@@ -66,7 +66,7 @@ def built(roster: Roster, rules: Rules, month: Month, wish: Wish, own: Sequence[
     return Built(making, pairs, missing, len(making.rows.costs), add_evenness(making, spreads, is_measured))
 
 
-def _fixed(making: Making, wish: Wish) -> None:
+def _fixed(making: Making, wish: Request) -> None:
     for pair in wish.fixed:
         variable = making.work.variables.get((pair.person, pair.object))
         if variable is not None:
@@ -74,7 +74,7 @@ def _fixed(making: Making, wish: Wish) -> None:
             making.rows.add(Sum().add(variable), 1, None, Said("fixed", ": ".join(names)), pair.person)
 
 
-def _counts(making: Making, wish: Wish, may_miss: bool) -> Dict[int, int]:
+def _counts(making: Making, wish: Request, may_miss: bool) -> Dict[int, int]:
     """How many each person and each object takes."""
     roster, work = making.roster, making.work
     of_persons, of_objects = bounds_around(roster, wish.fixed)

@@ -1,7 +1,7 @@
 """Rows of a model that say rules of evenness: counts of some persons differ by so much at most."""
 from typing import Dict, List, NamedTuple, Optional, Sequence
 
-from ..counts.gadgets import Bounds
+from ..counts.nodes import Bounds
 from .month import Month
 from .rule_file import EVEN, Rule
 from .rule_rows import Making
@@ -16,7 +16,7 @@ class Even(NamedTuple):
     low: Dict[int, int]
 
 
-class Evenness(NamedTuple):
+class EvennessRows(NamedTuple):
     """What was added for rules of evenness, and the variables, with their factors, that say by how much more than one the counts of the
     rule that is measured differ."""
 
@@ -38,14 +38,14 @@ def _days(month: Month, rule: Rule) -> List[int]:
     return [day for day in month.days if not rule.of_weekends or month.is_weekend(day)]
 
 
-def add_evenness(making: Making, spreads: Sequence[int], is_measured: bool) -> Evenness:
+def add_evenness(making: Making, spreads: Sequence[int], is_measured: bool) -> EvennessRows:
     """Adds the rows of the first rules, whose counts differ by at most so much each; with `is_measured` also those of the next rule, which
     say how little its counts can differ."""
     rules, excess = even_rules(making.rules.rules), {}
     found = [_within(making, rule, spread) for rule, spread in zip(rules, spreads)]
     if is_measured and len(spreads) < len(rules):
         excess = _measured(making, rules[len(spreads)])
-    return Evenness(found, excess)
+    return EvennessRows(found, excess)
 
 
 def _sums(making: Making, rule: Rule) -> Dict[int, Sum]:
@@ -110,7 +110,7 @@ def _total(making: Making, rule: Rule, sums: Dict[int, Sum]) -> Bounds:
     return Bounds(min(least, most), most)
 
 
-def start_of(evenness: Evenness, prefix: Sequence[int]) -> Optional[List[int]]:
+def start_of(evenness: EvennessRows, prefix: Sequence[int]) -> Optional[List[int]]:
     """The values of all variables, where those before evenness are known; None where counts would be measured."""
     if evenness.excess:
         return None

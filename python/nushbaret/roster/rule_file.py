@@ -53,7 +53,7 @@ class Rules(NamedTuple):
     holidays: FrozenSet[int] = frozenset()
 
 
-class Line(NamedTuple):
+class RuleLine(NamedTuple):
     """A line of the file, its three cells, and where it stands."""
 
     rule: str
@@ -79,13 +79,13 @@ def read_rules(path: str, roster: Roster, month: Month) -> Rules:
             sheet.refuse(f"{len(cells)} cells, where a rule, a value and names are needed"
                          + (" (several names in one cell need quotes)" if sheet.separator == "," else ""), line)
         rule, value, names = (unicodedata.normalize("NFC", cell) for cell in (cells + ["", ""])[:3])
-        lines.append(Line(rule, value, names, line))
+        lines.append(RuleLine(rule, value, names, line))
     return rules_of(sheet.path, lines, roster, month)
 
 
-def rules_of(path: str, lines: Sequence[Line], roster: Roster, month: Month) -> Rules:
+def rules_of(path: str, lines: Sequence[RuleLine], roster: Roster, month: Month) -> Rules:
     """The rules of some lines."""
-    reader = _Reader(path, roster, month)
+    reader = _RuleReader(path, roster, month)
     for line in lines:
         reader.take(line)
     for rule, line in zip(reader.rules, reader.lines):
@@ -111,29 +111,29 @@ def _shape_of(text: str) -> Optional[Tuple[str, Match[str]]]:
     return None
 
 
-class _Reader:
+class _RuleReader:
     """Rules as they are read."""
 
     def __init__(self, path: str, roster: Roster, month: Month):
         self._path, self._roster, self._month = path, roster, month
         self.rules: List[Rule] = []
-        self.lines: List[Line] = []
+        self.lines: List[RuleLine] = []
         self.hours: Dict[str, Fraction] = {}
         self.holidays: List[int] = []
 
-    def take(self, line: Line) -> None:
+    def take(self, line: RuleLine) -> None:
         """Takes a line."""
         found = _shape_of(line.rule)
         if found is None:
             self._unknown(line)
         name, words = found
-        take: Callable[[Line, Match[str]], None] = getattr(self, "_" + name)
+        take: Callable[[RuleLine, Match[str]], None] = getattr(self, "_" + name)
         take(line, words)
 
-    def _refuse(self, line: Line, column: int, text: str) -> NoReturn:
+    def _refuse(self, line: RuleLine, column: int, text: str) -> NoReturn:
         raise RosterFault(self._path, text, line.line, column)
 
-    def _unknown(self, line: Line) -> NoReturn:
+    def _unknown(self, line: RuleLine) -> NoReturn:
         if not line.rule:
             self._refuse(line, 1, "no rule")
         shapes = [shape.replace("KIND", kind) for shape in SHAPES for kind in (self._month.kinds if "KIND" in shape else [""])]
@@ -141,7 +141,7 @@ class _Reader:
         named = [shape for shape in shapes if shape.casefold() in near]
         self._refuse(line, 1, f"{quoted(line.rule)} is no rule" + (f": did you mean {quoted(named[0])}?" if named else ""))
 
-    def _kinds(self, line: Line, column: int, text: str) -> Optional[FrozenSet[str]]:
+    def _kinds(self, line: RuleLine, column: int, text: str) -> Optional[FrozenSet[str]]:
         """The kinds that a text lists; None where it is all shifts."""
         known = {kind.casefold(): kind for kind in self._month.kinds}
         found = set()
@@ -157,7 +157,7 @@ class _Reader:
             found.add(kind)
         return frozenset(found)
 
-    def _persons(self, line: Line) -> Tuple[int, ...]:
+    def _persons(self, line: RuleLine) -> Tuple[int, ...]:
         """The persons that a line names; everybody where it names none."""
         numbers = self._roster.person_numbers
         if not line.names:
@@ -171,7 +171,7 @@ class _Reader:
                 self._refuse(line, 3, f"the roster has no person {quoted(name)}{hint}" if name else "an empty name")
         return tuple(dict.fromkeys(numbers[name] for name in names))
 
-    def _bounds(self, line: Line, is_whole: bool = True, is_least: bool = False) -> Tuple[Optional[Fraction], Optional[Fraction]]:
+    def _bounds(self, line: RuleLine, is_whole: bool = True, is_least: bool = False) -> Tuple[Optional[Fraction], Optional[Fraction]]:
         """At least and at most so many. One number is the most, or with `is_least` the least."""
         found = RANGE.fullmatch(line.value)
         if found is None or not (found["least"] or found["most"]):
@@ -187,54 +187,54 @@ class _Reader:
             self._refuse(line, 2, f"{quoted(line.value)}: the second number can't be less")
         return least, most
 
-    def _add(self, line: Line, rule: Rule) -> None:
+    def _add(self, line: RuleLine, rule: Rule) -> None:
         self.rules.append(rule)
         self.lines.append(line)
 
-    def _no_value(self, line: Line) -> None:
+    def _no_value(self, line: RuleLine) -> None:
         """Refuses a value, where the rule takes none but `yes`."""
         if line.value.casefold() not in ("", "yes"):
             self._refuse(line, 2, f"{quoted(line.value)}, where {quoted(line.rule)} has no value")
 
-    def _several(self, line: Line, count: int = 2) -> Tuple[int, ...]:
+    def _several(self, line: RuleLine, count: int = 2) -> Tuple[int, ...]:
         persons = self._persons(line)
         if not line.names or len(persons) < count:
             self._refuse(line, 3, f"{count} names are needed" if count > 1 else "a name is needed")
         return persons
 
-    def _rest(self, line: Line, words: Match[str]) -> None:
+    def _rest(self, line: RuleLine, words: Match[str]) -> None:
         first, arrow, second = line.value.partition(">")
         if not (arrow and first.strip() and second.strip()):
             self._refuse(line, 2, f"{quoted(line.value)}, where two kinds are needed, such as Late > Early")
         one, other = (self._kinds(line, 2, text) or frozenset(self._month.kinds) for text in (first, second))
         self._add(line, Rule(REST, f"rest: {line.value}", self._persons(line), one, other))
 
-    def _run(self, line: Line, words: Match[str]) -> None:
+    def _run(self, line: RuleLine, words: Match[str]) -> None:
         least, most = self._bounds(line)
         self._add(line, Rule(RUN, _sentence(line), self._persons(line), self._kinds(line, 1, words[1]), None, least, most))
 
-    def _no_single(self, line: Line, words: Match[str]) -> None:
+    def _no_single(self, line: RuleLine, words: Match[str]) -> None:
         self._add(line, Rule(RUN, _sentence(line), self._persons(line), self._kinds(line, 2, line.value), None, Fraction(2)))
 
-    def _per(self, line: Line, words: Match[str]) -> None:
+    def _per(self, line: RuleLine, words: Match[str]) -> None:
         least, most = self._bounds(line)
         of_weekends = words[1].casefold() == WEEKENDS
         kinds = None if of_weekends else self._kinds(line, 1, words[1])
         self._add(line, Rule(COUNT, _sentence(line), self._persons(line), kinds, None, least, most, words[2].casefold(), of_weekends))
 
-    def _per_hours(self, line: Line, words: Match[str]) -> None:
+    def _per_hours(self, line: RuleLine, words: Match[str]) -> None:
         least, most = self._bounds(line, False)
         self._add(line, Rule(HOURS, _sentence(line), self._persons(line), None, None, least, most, words[1].casefold()))
 
-    def _free(self, line: Line, words: Match[str]) -> None:
+    def _free(self, line: RuleLine, words: Match[str]) -> None:
         least, most = self._bounds(line, True, True)
         self._add(line, Rule(FREE, _sentence(line), self._persons(line), None, None, least, most))
 
-    def _whole(self, line: Line, words: Match[str]) -> None:
+    def _whole(self, line: RuleLine, words: Match[str]) -> None:
         self._no_value(line)
         self._add(line, Rule(WHOLE, "whole weekends", self._persons(line)))
 
-    def _staff(self, line: Line, words: Match[str]) -> None:
+    def _staff(self, line: RuleLine, words: Match[str]) -> None:
         text = re.sub("^each *", "", line.value, flags=re.IGNORECASE)
         kinds = self._kinds(line, 2, text) if text else None
         persons, count = self._several(line, 1), Fraction(words[2])
@@ -243,23 +243,23 @@ class _Reader:
         who = ", ".join(self._roster.persons[person] for person in persons)
         self._add(line, Rule(STAFF, f"at {side} {words[2]} of {who} on {line.value or 'each'}", persons, kinds, None, least, most))
 
-    def _apart(self, line: Line, words: Match[str]) -> None:
+    def _apart(self, line: RuleLine, words: Match[str]) -> None:
         self._with_others(line, APART)
 
-    def _together(self, line: Line, words: Match[str]) -> None:
+    def _together(self, line: RuleLine, words: Match[str]) -> None:
         self._with_others(line, TOGETHER)
 
-    def _with_others(self, line: Line, what: str) -> None:
+    def _with_others(self, line: RuleLine, what: str) -> None:
         self._no_value(line)
         persons = self._several(line)
         self._add(line, Rule(what, f"{what}: {', '.join(self._roster.persons[person] for person in persons)}", persons))
 
-    def _even(self, line: Line, words: Match[str]) -> None:
+    def _even(self, line: RuleLine, words: Match[str]) -> None:
         of_weekends = line.value.casefold() == WEEKENDS
         kinds = None if of_weekends else self._kinds(line, 2, line.value)
         self._add(line, Rule(EVEN, f"even: {line.value}", self._persons(line), kinds, of_weekends=of_weekends))
 
-    def _hours_of(self, line: Line, words: Match[str]) -> None:
+    def _hours_of(self, line: RuleLine, words: Match[str]) -> None:
         found = re.fullmatch(rf"(.+?)\s+({NUMBER})(?:\s*h)?", line.value)
         if found is None:
             self._refuse(line, 2, f"{quoted(line.value)}, where a kind and its hours are needed, such as Early 7.7")
@@ -270,7 +270,7 @@ class _Reader:
                 self._refuse(line, 2, f"the hours of {quoted(kind)} a second time")
             self.hours[kind] = Fraction(found[2].replace(",", "."))
 
-    def _holiday(self, line: Line, words: Match[str]) -> None:
+    def _holiday(self, line: RuleLine, words: Match[str]) -> None:
         if line.names:
             self._refuse(line, 3, "a holiday is for everybody")
         days = {spelling: day for day, name in self._month.names.items() for spelling in spellings(name)}
@@ -282,7 +282,7 @@ class _Reader:
             self._refuse(line, 2, f"{quoted(line.value)} is no day of the roster" + (", and no date" if self._month.are_dates else ""))
         self.holidays.append(day)
 
-    def need_hours(self, line: Line) -> None:
+    def need_hours(self, line: RuleLine) -> None:
         """Refuses a rule of hours where any shift has none."""
         shifts = [*self._month.shifts.values(), *(shift for own in self._month.worked.values() for shift in own)]
         for shift in shifts:
@@ -291,6 +291,6 @@ class _Reader:
                 self._refuse(line, 1, f"the hours {named} aren't known: a rule 'hours of', or columns from and to in the groups' file")
 
 
-def _sentence(line: Line) -> str:
+def _sentence(line: RuleLine) -> str:
     """The rule and its value as they are written."""
     return f"{' '.join(line.rule.split())}: {' '.join(line.value.split())}"

@@ -2,7 +2,7 @@
 from fractions import Fraction
 from typing import Callable, Dict, FrozenSet, Iterator, List, NamedTuple, Sequence, Set, Tuple
 
-from ..counts.gadgets import Bounds
+from ..counts.nodes import Bounds
 from .month import Month, Shift
 from .roster import Roster
 from .rule_file import APART, COUNT, EVEN, FREE, HOURS, REST, RUN, STAFF, TOGETHER, WEEKLY, WHOLE, Rule, Rules

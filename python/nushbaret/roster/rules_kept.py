@@ -14,7 +14,7 @@ from .sums import Kinds, is_of
 Had = Tuple[Shift, Optional[int]]
 
 
-class Plan(NamedTuple):
+class DailyPlan(NamedTuple):
     """A plan by persons and days, who is at which object, and where somebody may be planned."""
 
     roster: Roster
@@ -48,7 +48,7 @@ class Plan(NamedTuple):
         return f"{shift.kind} {self.month.name(shift.day)}".strip() if object_ is None else self.roster.objects[object_]
 
 
-def plan_of(roster: Roster, rules: Rules, month: Month, pairs: Sequence[Paired]) -> Plan:
+def plan_of(roster: Roster, rules: Rules, month: Month, pairs: Sequence[Paired]) -> DailyPlan:
     """A plan by days. Objects in no group have no day, and no rule is about them."""
     had: Dict[Tuple[int, int], List[Had]] = {spot: [(shift, None) for shift in shifts] for spot, shifts in month.worked.items()}
     who: Dict[int, Set[int]] = {}
@@ -61,10 +61,10 @@ def plan_of(roster: Roster, rules: Rules, month: Month, pairs: Sequence[Paired])
     for person, object_ in zip(roster.of_persons, roster.of_objects):
         if object_ in month.shifts:
             allowed.setdefault((person, month.shifts[object_].day), set()).add(month.shifts[object_].kind)
-    return Plan(roster, rules, month, had, who, allowed)
+    return DailyPlan(roster, rules, month, had, who, allowed)
 
 
-def broken_by(plan: Plan) -> List[Broken]:
+def broken_by(plan: DailyPlan) -> List[Broken]:
     """The rules that a plan breaks, in the order of the file. What the past alone breaks isn't there, since nobody can mend it."""
     found: Dict[Tuple[str, str], Broken] = {}
     for rule in plan.rules.rules:
@@ -74,7 +74,7 @@ def broken_by(plan: Plan) -> List[Broken]:
     return list(found.values())
 
 
-def _rest(plan: Plan, rule: Rule) -> Iterator[Broken]:
+def _rest(plan: DailyPlan, rule: Rule) -> Iterator[Broken]:
     month = plan.month
     for person in rule.persons:
         for day in range(month.known, month.last):
@@ -84,7 +84,7 @@ def _rest(plan: Plan, rule: Rule) -> Iterator[Broken]:
                 yield plan.broken(rule, [person], [first[0][1], second[0][1]], text)
 
 
-def _runs(plan: Plan, person: int, kinds: Kinds) -> Iterator[range]:
+def _runs(plan: DailyPlan, person: int, kinds: Kinds) -> Iterator[range]:
     """The days one after the other on which a person has shifts of some kinds, as long as they are."""
     days = [day for day in range(plan.month.known, plan.month.last + 1) if plan.on(person, day, kinds)]
     begin = 0
@@ -94,7 +94,7 @@ def _runs(plan: Plan, person: int, kinds: Kinds) -> Iterator[range]:
             begin = place
 
 
-def _run(plan: Plan, rule: Rule) -> Iterator[Broken]:
+def _run(plan: DailyPlan, rule: Rule) -> Iterator[Broken]:
     for person in rule.persons:
         for run in _runs(plan, person, rule.kinds):
             is_long = rule.most is not None and len(run) > rule.most and not plan.month.is_past(run[-1])
@@ -104,7 +104,7 @@ def _run(plan: Plan, rule: Rule) -> Iterator[Broken]:
                 yield plan.broken(rule, [person], [object_ for _, object_ in plan.all_on(person, run, rule.kinds)], text)
 
 
-def _is_cut(plan: Plan, rule: Rule, person: int, run: range) -> bool:
+def _is_cut(plan: DailyPlan, rule: Rule, person: int, run: range) -> bool:
     """Whether a run that is too short could be longer: days before the first, and after the last one, aren't known, and what ended in the
     past or can't go on is as it is."""
     month = plan.month
@@ -120,7 +120,7 @@ def _from_to(month: Month, days: Sequence[int]) -> str:
     return month.name(days[0]) + (f" to {month.name(days[-1])}" if len(days) > 1 else "")
 
 
-def _spans(plan: Plan, rule: Rule) -> Iterator[Tuple[str, List[int], bool]]:
+def _spans(plan: DailyPlan, rule: Rule) -> Iterator[Tuple[str, List[int], bool]]:
     """The weeks, or the month, with a name, its days, and whether all days are known."""
     month = plan.month
     if rule.per != WEEKLY:
@@ -134,7 +134,7 @@ def _spans(plan: Plan, rule: Rule) -> Iterator[Tuple[str, List[int], bool]]:
             yield f" in the week of {month.name(days[0])}", days, len(days) == WEEK
 
 
-def _bounded(plan: Plan, rule: Rule, of: Callable[[Sequence[Had]], Fraction], word: str) -> Iterator[Broken]:
+def _bounded(plan: DailyPlan, rule: Rule, of: Callable[[Sequence[Had]], Fraction], word: str) -> Iterator[Broken]:
     """Counts or hours outside of their bounds, in weeks or in the month."""
     month = plan.month
     for person in rule.persons:
@@ -154,16 +154,16 @@ def _decimal(number: Fraction) -> str:
     return str(number.numerator) if number.denominator == 1 else f"{float(number):.2f}".rstrip("0")
 
 
-def _count(plan: Plan, rule: Rule) -> Iterator[Broken]:
+def _count(plan: DailyPlan, rule: Rule) -> Iterator[Broken]:
     word = "/".join(sorted(rule.kinds)) if rule.kinds else "weekend shifts" if rule.of_weekends else "shifts"
     return _bounded(plan, rule, lambda own: Fraction(len(own)), word)
 
 
-def _hours(plan: Plan, rule: Rule) -> Iterator[Broken]:
+def _hours(plan: DailyPlan, rule: Rule) -> Iterator[Broken]:
     return _bounded(plan, rule, lambda own: sum((hours_of(plan.rules, shift) for shift, _ in own), Fraction(0)), "hours")
 
 
-def _free(plan: Plan, rule: Rule) -> Iterator[Broken]:
+def _free(plan: DailyPlan, rule: Rule) -> Iterator[Broken]:
     weekends = plan.month.weekends
     if all(plan.month.is_past(days[-1]) for days in weekends):
         return
@@ -175,7 +175,7 @@ def _free(plan: Plan, rule: Rule) -> Iterator[Broken]:
             yield plan.broken(rule, [person], objects, f"{plan.roster.persons[person]}: {free} free weekend{'' if free == 1 else 's'}")
 
 
-def _whole(plan: Plan, rule: Rule) -> Iterator[Broken]:
+def _whole(plan: DailyPlan, rule: Rule) -> Iterator[Broken]:
     month = plan.month
     held = {shift.day for shift in month.shifts.values()} | {day for _, day in month.worked}
     for person in rule.persons:
@@ -190,12 +190,12 @@ def _whole(plan: Plan, rule: Rule) -> Iterator[Broken]:
                     yield plan.broken(rule, [person], [there[0][1]], text)
 
 
-def _planned(plan: Plan, kinds: Kinds) -> Iterator[int]:
+def _planned(plan: DailyPlan, kinds: Kinds) -> Iterator[int]:
     """The objects of some kinds that aren't past."""
     return (object_ for object_, shift in plan.month.shifts.items() if is_of(shift, kinds) and not plan.month.is_past(shift.day))
 
 
-def _staff(plan: Plan, rule: Rule) -> Iterator[Broken]:
+def _staff(plan: DailyPlan, rule: Rule) -> Iterator[Broken]:
     for object_ in _planned(plan, rule.kinds):
         there = [person for person in rule.persons if person in plan.who.get(object_, ())]
         is_broken = rule.least is not None and len(there) < rule.least or rule.most is not None and len(there) > rule.most
@@ -204,14 +204,14 @@ def _staff(plan: Plan, rule: Rule) -> Iterator[Broken]:
             yield plan.broken(rule, there, [object_], f"{plan.roster.objects[object_]}: {names}")
 
 
-def _apart(plan: Plan, rule: Rule) -> Iterator[Broken]:
+def _apart(plan: DailyPlan, rule: Rule) -> Iterator[Broken]:
     for object_ in _planned(plan, None):
         there = [person for person in rule.persons if person in plan.who.get(object_, ())]
         if len(there) > 1:
             yield plan.broken(rule, there, [object_], f"{plan.roster.objects[object_]}: {joined([plan.roster.persons[one] for one in there])}")
 
 
-def _together(plan: Plan, rule: Rule) -> Iterator[Broken]:
+def _together(plan: DailyPlan, rule: Rule) -> Iterator[Broken]:
     for object_ in _planned(plan, None):
         there = [person for person in rule.persons if person in plan.who.get(object_, ())]
         if there and len(there) < len(rule.persons):
@@ -219,5 +219,5 @@ def _together(plan: Plan, rule: Rule) -> Iterator[Broken]:
             yield plan.broken(rule, there, [object_], text)
 
 
-READERS: Dict[str, Callable[[Plan, Rule], Iterator[Broken]]] = {
+READERS: Dict[str, Callable[[DailyPlan, Rule], Iterator[Broken]]] = {
     REST: _rest, RUN: _run, COUNT: _count, HOURS: _hours, FREE: _free, WHOLE: _whole, STAFF: _staff, APART: _apart, TOGETHER: _together}

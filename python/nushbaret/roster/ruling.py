@@ -5,7 +5,7 @@ import sys
 import threading
 from typing import Callable, Iterator, List, NamedTuple, Optional, Sequence, Tuple
 
-from .answer import Answer, Wish, counted, listed
+from .answer import Answer, Request, counted, listed
 from .by_rules import COSTS, Progress, Proved, Task, answer_by_rules
 from .groups import Broken, Paired
 from .month import Before, Month, month_of, undated
@@ -55,7 +55,7 @@ def broken_rules_of(ruling: Ruling, roster: Roster, pairs: Sequence[Paired]) -> 
     return broken_by(plan_of(roster, ruling.rules, ruling.month, pairs))
 
 
-def answered_by(ruling: Ruling, roster: Roster, wish: Wish, options: Options) -> Tuple[Answer, Proved]:
+def answered_by(ruling: Ruling, roster: Roster, wish: Request, options: Options) -> Tuple[Answer, Proved]:
     """The answer, with progress on a terminal.
 
     Raises `WordsFault` where SciPy isn't installed.

@@ -3,10 +3,10 @@ marks around it."""
 from collections import Counter
 from typing import Dict, Iterator, List, Sequence, Tuple
 
-from ..counts.gadgets import Bounds, Counted
 from ..counts.lack import Lack
+from ..counts.nodes import Bounds, Counted
 from .answer import counted
-from .names import MOST_NAMES, Shown, joined, marked, numbered, with_counts
+from .names import MOST_NAMES, NamesShown, joined, marked, numbered, with_counts
 from .roster import Roster
 
 # So many objects are listed even where they are all of their groups.
@@ -23,7 +23,7 @@ def _of_objects(roster: Roster, problem: Counted, lack: Lack) -> str:
     of_once = Counter(person for person, _ in lack.once)
     n_persons = len(lack.rows) + len(of_once)
     is_whole = _are_whole_groups(problem, lack.columns)
-    shown = Shown(n_persons, 0 if is_whole else len(lack.columns))
+    shown = NamesShown(n_persons, 0 if is_whole else len(lack.columns))
     places = f"{lack.wanted} place{'' if lack.wanted == 1 else 's'} that must be filled at {_objects(roster, problem, lack.columns, shown)}"
     fewer = f"or fill {_few(lack)} fewer" if lack.had else "or fill none there"
     if not n_persons:
@@ -36,7 +36,7 @@ def _of_objects(roster: Roster, problem: Counted, lack: Lack) -> str:
 def _of_persons(roster: Roster, problem: Counted, lack: Lack) -> str:
     """These persons can't have all objects that they must."""
     single = sorted({group - problem.n_groups for _, group in lack.once if group >= problem.n_groups})
-    shown = Shown(len(lack.rows), len(lack.columns) + len(single))
+    shown = NamesShown(len(lack.rows), len(lack.columns) + len(single))
     names = with_counts(numbered(roster.persons, lack.rows), [problem.row_bounds[person].least for person in lack.rows])
     several = len(lack.rows) > 1
     who = counted(len(lack.rows), roster.titles[0]) + shown.bracketed(0, names) if several else marked(roster.persons[lack.rows[0]])
@@ -64,7 +64,7 @@ def _are_whole_groups(problem: Counted, objects: List[int]) -> bool:
             and len(objects) == sum(group in groups for group in problem.group_of))
 
 
-def _objects(roster: Roster, problem: Counted, objects: List[int], shown: Shown) -> str:
+def _objects(roster: Roster, problem: Counted, objects: List[int], shown: NamesShown) -> str:
     """Objects with their least counts, and their groups where all are in one."""
     count = counted(len(objects), roster.titles[1])
     is_whole = _are_whole_groups(problem, objects)
@@ -87,7 +87,7 @@ def _first(names: List[str]) -> str:
     return joined(names[:MOST_NAMES]) + (f" and {more} more" if more > 0 else "")
 
 
-def _most(names: List[str], bounds: Sequence[Bounds], numbers: List[int], shown: Shown, side: int) -> Iterator[str]:
+def _most(names: List[str], bounds: Sequence[Bounds], numbers: List[int], shown: NamesShown, side: int) -> Iterator[str]:
     """What each takes at most, those of one count together."""
     by_count: Dict[int, List[int]] = {}
     for number in numbers:
@@ -97,7 +97,7 @@ def _most(names: List[str], bounds: Sequence[Bounds], numbers: List[int], shown:
         yield _those(numbered(names, own), count, shown, side)
 
 
-def _once(roster: Roster, problem: Counted, lack: Lack, of_once: Dict[int, int], shown: Shown) -> Iterator[str]:
+def _once(roster: Roster, problem: Counted, lack: Lack, of_once: Dict[int, int], shown: NamesShown) -> Iterator[str]:
     """Who takes at most one of a group, or once of an object, and so how many; those of one number together."""
     groups_of: Dict[int, List[int]] = {}
     for person, group in lack.once:
@@ -109,7 +109,7 @@ def _once(roster: Roster, problem: Counted, lack: Lack, of_once: Dict[int, int],
         yield _those(numbered(roster.persons, own), f"{rule}, so at most {count}{' each' if len(own) > 1 else ''}", shown, 0)
 
 
-def _those(names: List[str], what: str, shown: Shown, side: int) -> str:
+def _those(names: List[str], what: str, shown: NamesShown, side: int) -> str:
     """What is said of several names, or of one."""
     text = shown.listed(side, names)
     return f"{text or 'one'} {what}" if len(names) == 1 else f"{len(names)} {what}" + (f" ({text})" if text else "")

@@ -8,7 +8,7 @@ np: Any = importlib.import_module("numpy")
 sparse: Any = importlib.import_module("scipy.sparse")
 
 
-class Block(NamedTuple):
+class PersonBlock(NamedTuple):
     """A person's part of a model: the variables, the rows' numbers, and these rows over the block's own variables, from 0."""
 
     variables: List[int]
@@ -22,7 +22,7 @@ def limits_of(row: Row) -> Limits:
     return Limits(row.least, row.terms, row.most)
 
 
-def blocks_of(model: Model) -> Tuple[List[Block], List[int]]:
+def blocks_of(model: Model) -> Tuple[List[PersonBlock], List[int]]:
     """The persons' blocks, a variable of nobody being one of its own, and the numbers of the rows over several blocks or none."""
     block_of, variables = _blocks_of_variables(model)
     numbers: List[List[int]] = [[] for _ in variables]
@@ -48,10 +48,10 @@ def _blocks_of_variables(model: Model) -> Tuple[List[int], List[List[int]]]:
     return block_of, variables
 
 
-def _block(model: Model, variables: List[int], numbers: List[int]) -> Block:
+def _block(model: Model, variables: List[int], numbers: List[int]) -> PersonBlock:
     place = {variable: at for at, variable in enumerate(variables)}
     rows = [model.rows[number] for number in numbers]
-    return Block(variables, numbers, [Limits(row.least, moved(row.terms, place), row.most) for row in rows], place)
+    return PersonBlock(variables, numbers, [Limits(row.least, moved(row.terms, place), row.most) for row in rows], place)
 
 
 def moved(terms: Terms, to: Any) -> Terms:

@@ -4,7 +4,7 @@ import importlib
 import time
 from typing import Any, List, Optional
 
-from .blocks import Block, cost_of, cost_row, limits_of
+from .blocks import PersonBlock, cost_of, cost_row, limits_of
 from .chains import Closing, chain
 from .channel import Channel
 from .check import meets
@@ -115,7 +115,7 @@ class Prover:
         elif best is not None:
             self.by_persons(pricing, best)
 
-    def explain_block(self, block: Block) -> None:
+    def explain_block(self, block: PersonBlock) -> None:
         """Reports why one person has no month."""
         part = Part(block.rows, block.numbers, block.variables)
         try:

@@ -11,7 +11,7 @@ class WrongTree(ValueError):
     """The list of a tree isn't one, or it names a row or a variable that isn't there."""
 
 
-class _Node(NamedTuple):
+class _TreeNode(NamedTuple):
     is_leaf: bool
     pairs: List[Tuple[int, int]]
     most: int
@@ -45,7 +45,7 @@ def _within(row: Limits, value: int) -> bool:
     return (row.least is None or row.least <= value) and (row.most is None or value <= row.most)
 
 
-def _leaves(certificate: Certificate) -> Iterator[Tuple[_Node, List[Limits]]]:
+def _leaves(certificate: Certificate) -> Iterator[Tuple[_TreeNode, List[Limits]]]:
     """The leaves, each with the rows of the splits above it."""
     path: List[Limits] = []
     # Of each split above: its terms, the greatest sum of the half below, and whether that half is done.
@@ -72,7 +72,7 @@ def _leaves(certificate: Certificate) -> Iterator[Tuple[_Node, List[Limits]]]:
         raise WrongTree
 
 
-def _node(tree: Sequence[int], place: int) -> _Node:
+def _node(tree: Sequence[int], place: int) -> _TreeNode:
     """The node that begins at a place."""
     head = 2 if place < len(tree) and tree[place] == 0 else 3
     if place + head > len(tree) or tree[place] not in (0, 1) or not 0 <= tree[place + 1] <= len(tree):
@@ -81,10 +81,10 @@ def _node(tree: Sequence[int], place: int) -> _Node:
     if after > len(tree):
         raise WrongTree
     numbers = tree[place + head:after]
-    return _Node(head == 2, list(zip(numbers[::2], numbers[1::2])), tree[place + 2] if head == 3 else 0, after)
+    return _TreeNode(head == 2, list(zip(numbers[::2], numbers[1::2])), tree[place + 2] if head == 3 else 0, after)
 
 
-def _is_shown(leaf: _Node, rows: Sequence[Limits], path: Sequence[Limits]) -> bool:
+def _is_shown(leaf: _TreeNode, rows: Sequence[Limits], path: Sequence[Limits]) -> bool:
     """Whether no 0/1 plan reaches the weighed sum of a leaf's rows."""
     weights: Dict[int, int] = {}
     bound = 0

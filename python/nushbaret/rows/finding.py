@@ -74,7 +74,7 @@ class _Worker:
             thread.join()
 
 
-class _Search:
+class _PlanSearch:
     """What is known of a model so far, each part checked when it came."""
 
     def __init__(self, model: Model):
@@ -162,7 +162,7 @@ def find(model: Model, seconds: float, progress: Optional[Progress] = None, star
     deadline = time.monotonic() + seconds
     if any(importlib.util.find_spec(name) is None for name in ("numpy", "scipy")):
         raise ImportError(NEEDS_SCIPY)
-    search = _Search(model)
+    search = _PlanSearch(model)
     if model.variables == 0:
         _without_variables(search)
         return search.finding()
@@ -184,7 +184,7 @@ def find(model: Model, seconds: float, progress: Optional[Progress] = None, star
     return search.finding()
 
 
-def _without_variables(search: _Search) -> None:
+def _without_variables(search: _PlanSearch) -> None:
     """Decides a model of no variables: its one plan meets the rows, or some row can't hold."""
     if search.take_plan(()):
         search.take_bound(-1, (0, 1, len(search.rows), -1))
@@ -205,7 +205,7 @@ def _next_message(told: "queue.Queue[Dict[str, Any]]", deadline: float) -> Optio
                 return None
 
 
-def _follow(search: _Search, workers: List[_Worker], told: "queue.Queue[Dict[str, Any]]", deadline: float,
+def _follow(search: _PlanSearch, workers: List[_Worker], told: "queue.Queue[Dict[str, Any]]", deadline: float,
             progress: Optional[Progress]) -> None:
     """Takes what the workers report until the model is decided, all have ended, or the time is over."""
     running = len(workers)
@@ -221,7 +221,7 @@ def _follow(search: _Search, workers: List[_Worker], told: "queue.Queue[Dict[str
             return
 
 
-def _taken(search: _Search, workers: List[_Worker], message: Dict[str, Any]) -> Optional[str]:
+def _taken(search: _PlanSearch, workers: List[_Worker], message: Dict[str, Any]) -> Optional[str]:
     """Takes one message; the stage that it is about, or None."""
     if "plan" in message:
         if search.take_plan(message["plan"]):

@@ -8,7 +8,7 @@ import math
 import time
 from typing import Any, Callable, Dict, Iterator, List, NamedTuple, Optional, Sequence, Tuple
 
-from .blocks import Block, blocks_of, limits_of, matrix_of, side_of
+from .blocks import PersonBlock, blocks_of, limits_of, matrix_of, side_of
 from .diagrams import TOO_MUCH, Diagram, cheapest, cheapest_with, diagram_of
 from .model import Limits, Model
 
@@ -21,7 +21,7 @@ SCALE = 960
 _EXACT_PART = 0.2
 
 
-class Month(NamedTuple):
+class PricedMonth(NamedTuple):
     """A month of a block that meets the block's rows."""
 
     taken: Any
@@ -57,14 +57,14 @@ class Pricing:
         self.least, self.most = side_of(rows)
         self.diagrams = _diagrams(self.blocks, deadline)
         self.columns = [self.matrix[:, block.variables].tocsc() for block in self.blocks]
-        self.months: List[Dict[bytes, Month]] = [{} for _ in self.blocks]
+        self.months: List[Dict[bytes, PricedMonth]] = [{} for _ in self.blocks]
 
     def add(self, number: int, taken: Any) -> None:
         """Keeps a month of a block."""
         key = taken.tobytes()
         if key not in self.months[number]:
             variables = self.blocks[number].variables
-            self.months[number][key] = Month(taken, int(self.costs[variables] @ taken), self.columns[number] @ taken)
+            self.months[number][key] = PricedMonth(taken, int(self.costs[variables] @ taken), self.columns[number] @ taken)
 
     def add_plan(self, plan: Any) -> None:
         """Keeps a plan's months."""
@@ -133,7 +133,7 @@ class Pricing:
                 free.add(number, month.taken)
         return free
 
-    def empty(self) -> Optional[Block]:
+    def empty(self) -> Optional[PersonBlock]:
         """A block that has no month, or None."""
         return next((block for block, diagram in zip(self.blocks, self.diagrams) if diagram.widths[0] == 0), None)
 
@@ -197,7 +197,7 @@ def _master(uses: Any, costs: Any, counts: List[int], least: Any, most: Any) -> 
     return Master(float(found.fun), prices, float(found.x[columns:].sum()))
 
 
-def _diagrams(blocks: Sequence[Block], deadline: float) -> List[Diagram]:
+def _diagrams(blocks: Sequence[PersonBlock], deadline: float) -> List[Diagram]:
     """The blocks' diagrams. Where one is too wide, or all take too long, the others are without rows that weigh their variables, such as
     hours: then their least costs are bounds. Raises `TooWide` where these are too wide, too, or the deadline has passed."""
     now = time.monotonic()

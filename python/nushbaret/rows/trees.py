@@ -23,20 +23,20 @@ class Open(Exception):
     """A tree can't be finished: the time or the leaves are used up, or there is a plan."""
 
 
-class _Side(NamedTuple):
+class _Bound(NamedTuple):
     """A bound, and the number of the row that has it: -1 for a 0 or 1 that no row says."""
 
     bound: int
     row: int
 
 
-class _Node(NamedTuple):
+class _SearchNode(NamedTuple):
     """Bounds of the rows and of the variables at a node, and how many splits are above it."""
 
-    low: Tuple[Optional[_Side], ...]
-    high: Tuple[Optional[_Side], ...]
-    least: Tuple[_Side, ...]
-    most: Tuple[_Side, ...]
+    low: Tuple[Optional[_Bound], ...]
+    high: Tuple[Optional[_Bound], ...]
+    least: Tuple[_Bound, ...]
+    most: Tuple[_Bound, ...]
     depth: int
 
 
@@ -95,18 +95,18 @@ class Trees:
         self.costs, self.most = np.asarray(costs, dtype=np.int64), 0
         return self._solve(self._root())
 
-    def _root(self) -> _Node:
+    def _root(self) -> _SearchNode:
         rows = self.part.rows
         least, most = self._fixed()
-        return _Node(tuple(None if row.least is None else _Side(row.least, at) for at, row in enumerate(rows)),
-                     tuple(None if row.most is None else _Side(row.most, at) for at, row in enumerate(rows)), tuple(least), tuple(most), 0)
+        return _SearchNode(tuple(None if row.least is None else _Bound(row.least, at) for at, row in enumerate(rows)),
+                     tuple(None if row.most is None else _Bound(row.most, at) for at, row in enumerate(rows)), tuple(least), tuple(most), 0)
 
-    def _fixed(self) -> Tuple[List[_Side], List[_Side]]:
+    def _fixed(self) -> Tuple[List[_Bound], List[_Bound]]:
         """The least and the greatest values of the variables, and the rows that fix them."""
-        least, most = [_Side(0, -1)] * self.count, [_Side(1, -1)] * self.count
+        least, most = [_Bound(0, -1)] * self.count, [_Bound(1, -1)] * self.count
         for row in self.fixing:
             for variable, factor in self.part.rows[row].terms:
-                (most if factor > 0 else least)[variable] = _Side(int(factor < 0), row)
+                (most if factor > 0 else least)[variable] = _Bound(int(factor < 0), row)
         return least, most
 
     def _needed(self) -> List[int]:
@@ -114,7 +114,7 @@ class Trees:
         least, most = ([side.bound for side in sides] for sides in self._fixed())
         return [place for place, row in enumerate(self.part.rows) if not _is_met(row, least, most)]
 
-    def _grown(self, node: _Node, solved: Solved) -> Proof:
+    def _grown(self, node: _SearchNode, solved: Solved) -> Proof:
         leaf = self._leaf(node, solved)
         if leaf is not None:
             self.leaves += 1
@@ -126,9 +126,9 @@ class Trees:
         below, above = [self._grown(half, result) for half, result in halves]
         return Split(terms, most, below, above)
 
-    def _branch(self, node: _Node, solved: Solved) -> Tuple[Terms, int, List[Tuple[_Node, Solved]]]:
+    def _branch(self, node: _SearchNode, solved: Solved) -> Tuple[Terms, int, List[Tuple[_SearchNode, Solved]]]:
         """The candidate whose halves have the greatest values, the lesser of each first."""
-        best: Optional[Tuple[Tuple[float, float], Terms, int, List[Tuple[_Node, Solved]]]] = None
+        best: Optional[Tuple[Tuple[float, float], Terms, int, List[Tuple[_SearchNode, Solved]]]] = None
         cut = np.inf if self.most is None else self.most + 1.0
         for candidate in self._worth_trying(solved, cut):
             halves = [(half, self._solve(half)) for half in self._halves(node, candidate)]
@@ -179,23 +179,23 @@ class Trees:
             some.sort(key=lambda one: abs(one.above - 0.5))
         return both[0], both[1]
 
-    def _halves(self, node: _Node, candidate: _Candidate) -> Tuple[_Node, _Node]:
+    def _halves(self, node: _SearchNode, candidate: _Candidate) -> Tuple[_SearchNode, _SearchNode]:
         row, variable, most, _ = candidate
         side = len(self.part.rows) + int(self.most is not None) + node.depth
-        below, above = _Side(most, side), _Side(most + 1, side)
+        below, above = _Bound(most, side), _Bound(most + 1, side)
         if row is None:
             return (node._replace(most=_with(node.most, variable, below), depth=node.depth + 1),
                     node._replace(least=_with(node.least, variable, above), depth=node.depth + 1))
         return (node._replace(high=_with(node.high, row, below), depth=node.depth + 1),
                 node._replace(low=_with(node.low, row, above), depth=node.depth + 1))
 
-    def _sides(self, node: _Node) -> Any:
+    def _sides(self, node: _SearchNode) -> Any:
         """The greatest values of the rows, and of the rows with the signs changed."""
         sides = [(node.low[row], node.high[row], self.far[row]) for row in self.used]
         return np.array([far if side is None else side.bound for _, side, far in sides]
                         + [far if side is None else -side.bound for side, _, far in sides], dtype=float)
 
-    def _solve(self, node: _Node) -> Solved:
+    def _solve(self, node: _SearchNode) -> Solved:
         bounds = [(least.bound, most.bound) for least, most in zip(node.least, node.most)]
         if any(least > most for least, most in bounds):
             return Solved(np.inf, None, np.zeros(len(self.part.rows)))
@@ -216,7 +216,7 @@ class Trees:
         multipliers[self.used] = marginals[:rows] - marginals[rows:2 * rows]
         return multipliers
 
-    def _without_point(self, node: _Node, bounds: Sequence[Tuple[int, int]]) -> Solved:
+    def _without_point(self, node: _SearchNode, bounds: Sequence[Tuple[int, int]]) -> Solved:
         """Multipliers that show that the relaxation has no point: those of the least violation."""
         rows = len(self.used)
         slack = sparse.vstack([sparse.identity(rows)] * 2)
@@ -227,7 +227,7 @@ class Trees:
             raise Open
         return Solved(np.inf, None, self._multipliers(found))
 
-    def _leaf(self, node: _Node, solved: Solved) -> Optional[Leaf]:
+    def _leaf(self, node: _SearchNode, solved: Solved) -> Optional[Leaf]:
         """A leaf by the multipliers, where they show it in whole numbers."""
         is_costly = bool(np.isfinite(solved.value))
         if is_costly and (self.most is None or solved.value < self.most + 1e-6):
@@ -243,7 +243,7 @@ class Trees:
                 return leaf
         return None
 
-    def _shown(self, node: _Node, multipliers: Any, times: int) -> Optional[Leaf]:
+    def _shown(self, node: _SearchNode, multipliers: Any, times: int) -> Optional[Leaf]:
         """The leaf with these multipliers of rows, and `times` the costs against them, where no month reaches the weighed sum."""
         weights = (self.whole.T @ multipliers if self.part.rows else np.zeros(self.count, dtype=np.int64)) - times * self.costs
         used: Dict[int, int] = {}
@@ -269,7 +269,7 @@ class Trees:
         return Leaf(tuple(used.items())) if bound > 0 else None
 
 
-def _with(sides: Tuple[Any, ...], at: int, side: _Side) -> Tuple[Any, ...]:
+def _with(sides: Tuple[Any, ...], at: int, side: _Bound) -> Tuple[Any, ...]:
     return sides[:at] + (side,) + sides[at + 1:]
 
 

@@ -2,7 +2,7 @@
 import re
 from typing import Any, Dict, Iterator, List, NamedTuple, Optional, Sequence, Tuple
 
-from ..answer import Plan
+from ..answer import NamedPlan
 from ..blocks import Block, Cell, Day, Place, blocks_of
 from ..roster import Roster
 from .page import MOST_CELLS
@@ -24,7 +24,7 @@ class Column(NamedTuple):
     cells: List[Marked]
 
 
-def add_days(book: Any, looks: Looks, report: Report, plan: Plan) -> None:
+def add_days(book: Any, looks: Looks, report: Report, plan: NamedPlan) -> None:
     """Puts the plan by days in front of the other sheets, if the roster has groups."""
     blocks = blocks_of(report.roster, plan, report.kept)
     if not blocks:

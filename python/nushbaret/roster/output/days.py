@@ -3,7 +3,7 @@ from html import escape
 from math import ceil
 from typing import FrozenSet, Iterator, List, NamedTuple, Optional, Sequence, Tuple
 
-from ..answer import Plan
+from ..answer import NamedPlan
 from ..blocks import Block, Cell, Day, PersonRow, Place, blocks_of
 from ..roster import OldPlan, Roster
 from .html import classes, name, ours, scrolling
@@ -59,7 +59,7 @@ class Shown(NamedTuple):
     broken: FrozenSet[Tuple[int, int]] = frozenset()
 
 
-def by_days(roster: Roster, plan: Plan, kept: Optional[OldPlan] = None, plan_only: bool = False,
+def by_days(roster: Roster, plan: NamedPlan, kept: Optional[OldPlan] = None, plan_only: bool = False,
             broken: FrozenSet[Tuple[int, int]] = frozenset()) -> Iterator[str]:
     """Tables of a plan: for each person what it has on each day, and for each kind of object who is there. Many days stand in several
     tables. Pairs that break a rule are framed."""

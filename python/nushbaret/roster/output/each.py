@@ -4,7 +4,7 @@ import unicodedata
 from html import escape
 from typing import Dict, Iterator, List, NamedTuple, Optional, Sequence, Set, Tuple
 
-from ..answer import Plan, listed
+from ..answer import NamedPlan, listed
 from ..blocks import Block, blocks_of, group_of, labels_of
 from ..dates import Dates, dates_of
 from ..roster import OldPlan, Roster
@@ -33,7 +33,7 @@ STYLE = """
 """
 
 
-class Line(NamedTuple):
+class DayLine(NamedTuple):
     """A day of a person on its page: the day, what it has there or had in a kept plan, and when."""
 
     day: str
@@ -54,7 +54,7 @@ def paths_of(roster: Roster, folder: str) -> List[str]:
     return [os.path.join(folder, stem + end) for stem in file_names(roster.persons) for end in ends]
 
 
-def files_of(roster: Roster, plan: Plan, kept: Optional[OldPlan], folder: str) -> Iterator[Tuple[str, bytes]]:
+def files_of(roster: Roster, plan: NamedPlan, kept: Optional[OldPlan], folder: str) -> Iterator[Tuple[str, bytes]]:
     """The files of all persons, in the order of `paths_of`."""
     blocks, dates = blocks_of(roster, plan, kept), dates_of_groups(roster).all
     own: Dict[int, List[int]] = {}
@@ -73,7 +73,7 @@ def files_of(roster: Roster, plan: Plan, kept: Optional[OldPlan], folder: str) -
             yield path + CALENDAR, calendar(title, sorted(events, key=lambda event: (event.day, event.times or (0, 0))), min(dates))
 
 
-def lines_on_calendars(roster: Roster, plan: Plan, folder: str) -> List[str]:
+def lines_on_calendars(roster: Roster, plan: NamedPlan, folder: str) -> List[str]:
     """What is said of calendars that aren't written, or that leave something out."""
     dates, groups = dates_of_groups(roster), roster.groups
     if dates.all is None:
@@ -98,17 +98,17 @@ def _blocks(roster: Roster, blocks: Sequence[Block], person: int) -> Iterator[st
             yield from scrolling(_table(roster, block, own, block.persons[person].total, len(blocks) > 1))
 
 
-def _lines(roster: Roster, block: Block, person: int) -> Iterator[Line]:
+def _lines(roster: Roster, block: Block, person: int) -> Iterator[DayLine]:
     for day, cell in zip(block.days, block.persons[person].cells):
         kinds = tuple(kind for kind, holds in (("weekend", day.is_weekend), ("past", day.is_past)) if holds)
         for entry in cell.entries:
-            yield Line(day.name, day.weekday, escape(entry.label) + (" " + ours("new") if entry.is_new else ""), times_at(roster, entry.object),
+            yield DayLine(day.name, day.weekday, escape(entry.label) + (" " + ours("new") if entry.is_new else ""), times_at(roster, entry.object),
                        (*kinds, "changed") if entry.is_new else kinds)
         for label in cell.gone:
-            yield Line(day.name, day.weekday, f"<s>{escape(label)}</s>", None, (*kinds, "changed"))
+            yield DayLine(day.name, day.weekday, f"<s>{escape(label)}</s>", None, (*kinds, "changed"))
 
 
-def _table(roster: Roster, block: Block, lines: Sequence[Line], total: int, is_part: bool) -> Iterator[str]:
+def _table(roster: Roster, block: Block, lines: Sequence[DayLine], total: int, is_part: bool) -> Iterator[str]:
     names = list(dict.fromkeys(day.name for day in block.days if day.name))
     caption = " to ".join(map(name, dict.fromkeys((names[0], names[-1])))) if is_part and names else ""
     title = roster.groups.title if roster.groups else ""

@@ -3,7 +3,7 @@ import json
 from collections import Counter
 from typing import Callable, Dict, List, Sequence
 
-from ..answer import Pair, Plan, Short
+from ..answer import NamedPlan, Pair, ShortGroup
 from ..changes import by_person, changes_of
 from ..groups import missing_of
 from ..roster import FORMAT, OldPlan, Roster, decimal_text
@@ -16,7 +16,7 @@ def _names(names: List[str], numbers: List[int]) -> List[str]:
     return [names[number] for number in numbers]
 
 
-def _short(roster: Roster, short: Short, line: str) -> Content:
+def _short(roster: Roster, short: ShortGroup, line: str) -> Content:
     """A group that is short; where names count, how many are needed and possible."""
     counts: Content = {"needed": short.wanted, "possible": short.had} if roster.ruled else {}
     names = {"persons": _names(roster.persons, short.persons), "objects": _names(roster.objects, short.objects)}
@@ -49,7 +49,7 @@ def as_json(report: Report, lines: Sequence[str]) -> str:
     return json.dumps(content, ensure_ascii=False, indent=1) + "\n"
 
 
-def _plan(report: Report, plan: Plan) -> Content:
+def _plan(report: Report, plan: NamedPlan) -> Content:
     """The plan, who and what stays out, and what there is to say of it, as far as it was asked for."""
     roster, options = report.roster, report.options
 
@@ -78,7 +78,7 @@ def _plan(report: Report, plan: Plan) -> Content:
     return content
 
 
-def _outside(roster: Roster, plan: Plan) -> Content:
+def _outside(roster: Roster, plan: NamedPlan) -> Content:
     """Who and what has less than it may, or than it must."""
     had, used = Counter(pair.person for pair in plan.pairs), Counter(pair.object for pair in plan.pairs)
     content: Content = {}
@@ -92,7 +92,7 @@ def _outside(roster: Roster, plan: Plan) -> Content:
     return content
 
 
-def _changes(roster: Roster, plan: Plan, kept: OldPlan) -> Content:
+def _changes(roster: Roster, plan: NamedPlan, kept: OldPlan) -> Content:
     """What goes and what comes from an earlier plan, by person; and what can't be any more."""
     found = changes_of(roster, plan, kept)
     return {"plan": kept.path, "gone": kept.gone, "changes": [own._asdict() for own in by_person(roster, found)],
@@ -104,7 +104,7 @@ def _broken(hand: Hand) -> Content:
     return {"plan": hand.plan.path, "gone": hand.plan.gone, "broken": [broken._asdict() for broken in hand.broken]}
 
 
-def _comparison(report: Report, plan: Plan, hand: Hand, text: Callable[[int], str]) -> Content:
+def _comparison(report: Report, plan: NamedPlan, hand: Hand, text: Callable[[int], str]) -> Content:
     """How a plan from elsewhere compares; `worse` where it breaks no rules that the best plan keeps."""
     roster = report.roster
     content: Content = {**_broken(hand), "cost": text(sum(pair.cost for pair in hand.plan.known))}

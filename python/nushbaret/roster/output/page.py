@@ -4,7 +4,7 @@ from html import escape
 from itertools import product
 from typing import Dict, Iterator, List, NamedTuple, Optional, Sequence, Set, Tuple
 
-from ..answer import Answer, Pair, Plan, Short, counted, left_out
+from ..answer import Answer, NamedPlan, Pair, ShortGroup, counted, left_out
 from ..groups import order_of
 from ..names import MOST_NAMES, joined
 from ..roster import Roster
@@ -58,7 +58,7 @@ p.paper { display: block }
 """
 
 
-class Block(NamedTuple):
+class Outline(NamedTuple):
     """Rows and columns of a drawn matrix that are framed, from the first to the one after the last."""
 
     top: int
@@ -74,7 +74,7 @@ class Frame(NamedTuple):
     objects: List[int]
     short_persons: int
     short_objects: int
-    blocks: List[Block]
+    blocks: List[Outline]
 
 
 def frame_of(roster: Roster, answer: Answer) -> Frame:
@@ -95,11 +95,11 @@ def frame_of(roster: Roster, answer: Answer) -> Frame:
     for short in answer.groups if are_apart else ():
         below, after = row + len(short.persons), column + len(short.objects)
         if not short.objects:
-            blocks.append(Block(row, below, 0, columns))
+            blocks.append(Outline(row, below, 0, columns))
         elif not short.persons:
-            blocks.append(Block(0, rows, column, after))
+            blocks.append(Outline(0, rows, column, after))
         else:
-            blocks.append(Block(row, below, column, after))
+            blocks.append(Outline(row, below, column, after))
         row, column = below, after
     return Frame(persons + other_persons, objects + other_objects, len(persons), len(objects), blocks)
 
@@ -157,7 +157,7 @@ def _compared(roster: Roster, hand: Hand) -> Iterator[str]:
     pairs.update({(person, object_): 0 for person, object_, _ in hand.plan.forbidden})
     broken = {(roster.person_numbers[person], roster.object_numbers[object_]) for own in hand.broken for person in own.persons
               for object_ in own.objects if person in roster.person_numbers and object_ in roster.object_numbers}
-    plan = Plan([Pair(*pair, cost, False) for pair, cost in sorted(pairs.items())], 0, [], [], {})
+    plan = NamedPlan([Pair(*pair, cost, False) for pair, cost in sorted(pairs.items())], 0, [], [], {})
     yield f"<p>{words(f'{hand.plan.path}: what breaks a rule is framed')}</p>\n"
     yield from by_days(roster, plan, None, False, frozenset(broken.intersection(pairs)))
 
@@ -171,7 +171,7 @@ def _plan_alone(report: Report) -> Iterator[str]:
     yield from _folded(with_marks(report).roster, plan)
 
 
-def _plan(report: Report, plan: Plan) -> Iterator[str]:
+def _plan(report: Report, plan: NamedPlan) -> Iterator[str]:
     """The plan by days, or as a list where there are no groups or too many cells."""
     groups = report.roster.groups
     if groups is not None and len(report.roster.persons) * len(groups.names) <= MOST_CELLS:
@@ -275,7 +275,7 @@ def _cell(roster: Roster, cost: Optional[int], fixed: Optional[bool], span: Tupl
     return f'<td class="{" ".join(kinds)}">{roster.shown(cost)}</td>'
 
 
-def _list(roster: Roster, plan: Plan, plan_only: bool) -> Iterator[str]:
+def _list(roster: Roster, plan: NamedPlan, plan_only: bool) -> Iterator[str]:
     """The plan: a row for each person with all of its own, and then, if any object may have several, for each object."""
     width = 2 if plan_only else 3
     own: Dict[int, List[Tuple[str, str]]] = {}
@@ -305,13 +305,13 @@ def _notes(notes: List[Note]) -> Iterator[str]:
             yield "<ul>\n" + "".join(f"<li>{words(detail)}</li>\n" for detail in note.details) + "</ul>\n"
 
 
-def _folded(roster: Roster, plan: Plan) -> Iterator[str]:
+def _folded(roster: Roster, plan: NamedPlan) -> Iterator[str]:
     """Who gets less than it should, and what has places left, under their count; names have marks."""
     for out in left_out(roster, plan):
         yield from _fold(f"{out.how}: {counted(len(out.names), roster.titles[out.side])}", joined(out.names))
 
 
-def _all_names(roster: Roster, short: Short) -> Iterator[str]:
+def _all_names(roster: Roster, short: ShortGroup) -> Iterator[str]:
     """All names of a group that is short, where its sentence may leave any out; names have marks."""
     if len(short.persons) + len(short.objects) <= MOST_NAMES:
         return

@@ -1,7 +1,7 @@
 """What is said of an answer to a roster with rules: exactly what was proved."""
 from typing import Dict, List, Optional
 
-from ..answer import Plan
+from ..answer import NamedPlan
 from ..by_rules import BEST, Proved, Reason
 from ..names import MOST_NAMES, joined
 from ..roster import Roster, decimal_text
@@ -9,7 +9,7 @@ from ..roster import Roster, decimal_text
 Content = Dict[str, object]
 
 
-def first_lines(roster: Roster, plan: Optional[Plan], proved: Proved, maximize: bool) -> List[str]:
+def first_lines(roster: Roster, plan: Optional[NamedPlan], proved: Proved, maximize: bool) -> List[str]:
     """Why no plan keeps the rules, or what the plan costs and what is proved of it."""
     lines = reason_lines(proved) if proved.is_impossible else []
     if plan is not None:
@@ -42,7 +42,7 @@ def _missing_lines(proved: Proved) -> List[str]:
     return [f"{proved.missing} missing in all, proved: no plan that keeps the rules misses less than {proved.least_missing}"]
 
 
-def _cost_line(roster: Roster, plan: Plan, proved: Proved, maximize: bool) -> str:
+def _cost_line(roster: Roster, plan: NamedPlan, proved: Proved, maximize: bool) -> str:
     title, own = roster.titles[2], roster.shown(plan.cost)
     if proved.with_changes is not None:
         title, own = f"{title} with changes", f"{halves(roster, proved.with_changes)} ({title} {own})"

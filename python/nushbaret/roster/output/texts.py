@@ -3,7 +3,7 @@ import csv
 import io
 from typing import TYPE_CHECKING, Dict, Iterator, List, NamedTuple, Optional, Sequence, Tuple
 
-from ..answer import MOST_NAMES_SHOWN, PLURALS, Answer, Fair, Pair, Plan, counted, left_out, named, sentence
+from ..answer import MOST_NAMES_SHOWN, PLURALS, Answer, Fair, NamedPlan, Pair, counted, left_out, named, sentence
 from ..changes import Lost, OfPerson, by_person, changes_of
 from ..groups import Broken, Counts, order_of
 from ..names import joined, marked, quoted, with_names_marked
@@ -164,7 +164,7 @@ def printed(report: Report) -> List[str]:
     return lines
 
 
-def notes_of(report: Report, plan: Plan) -> List[Note]:
+def notes_of(report: Report, plan: NamedPlan) -> List[Note]:
     """Other plans, the rents, and how the plan compares with plans that were read."""
     roster, options = report.roster, report.options
     notes = [fairness(report, report.fair)] if report.fair else []
@@ -184,7 +184,7 @@ def _of_rules(report: Report, proved: "Proved") -> List[Note]:
     return [*map(Note, even_lines(report.roster, proved, report.options.max)), *fewer]
 
 
-def rows_of(roster: Roster, plan: Plan) -> List[str]:
+def rows_of(roster: Roster, plan: NamedPlan) -> List[str]:
     """Each person with all of its own, then, if any object may have several, each object with all of its own."""
     own: Dict[int, List[str]] = {}
     for pair in plan.pairs:
@@ -198,7 +198,7 @@ def _why_fixed(roster: Roster, pair: Pair) -> str:
     return "" if not pair.fixed else " (past)" if pair.object in roster.past else " (fixed)"
 
 
-def persons_at(roster: Roster, plan: Plan) -> List[Tuple[int, List[str]]]:
+def persons_at(roster: Roster, plan: NamedPlan) -> List[Tuple[int, List[str]]]:
     """Who is at each object that is in a pair, in the roster's order, or the groups'; nothing where no object may have several."""
     if all(roster.places_of(object_) <= 1 for object_ in range(len(roster.objects))):
         return []
@@ -231,7 +231,7 @@ def fairness(report: Report, fair: Fair) -> Note:
     return Note(f"{kind} pair: {pair_text(roster, fair.pair)}; {best}")
 
 
-def others(report: Report, plan: Plan) -> List[Note]:
+def others(report: Report, plan: NamedPlan) -> List[Note]:
     """That there are other best plans, and where it is asked for, who could change places, or the next best plan."""
     roster, options = report.roster, report.options
     if not options.others:
@@ -245,7 +245,7 @@ def others(report: Report, plan: Plan) -> List[Note]:
     return [_difference(report, plan, plan.following[0], "no other plan is as good: the next best is", " ")]
 
 
-def _difference(report: Report, plan: Plan, other: Plan, name: str, mark: str = ": ") -> Note:
+def _difference(report: Report, plan: NamedPlan, other: NamedPlan, name: str, mark: str = ": ") -> Note:
     """Another plan: its cost, and where it differs."""
     roster = report.roster
     more = abs(other.cost - plan.cost)
@@ -253,7 +253,7 @@ def _difference(report: Report, plan: Plan, other: Plan, name: str, mark: str = 
     return Note(f"{name}{mark}{cost}", _there(roster, plan, other.pairs))
 
 
-def _there(roster: Roster, plan: Plan, pairs: Sequence[Pair]) -> List[str]:
+def _there(roster: Roster, plan: NamedPlan, pairs: Sequence[Pair]) -> List[str]:
     """What each person has in another plan that it hasn't in the plan; that it has nothing there; and where names count, what it hasn't."""
     own, others = ({(pair.person, pair.object) for pair in those} for those in (plan.pairs, pairs))
     some = {person for person, _ in others}
@@ -269,7 +269,7 @@ def _there(roster: Roster, plan: Plan, pairs: Sequence[Pair]) -> List[str]:
     return [f"there {roster.persons[person]}: {text}" for person in sorted(lines) for text in lines[person]]
 
 
-def changes(roster: Roster, plan: Plan, kept: OldPlan) -> Note:
+def changes(roster: Roster, plan: NamedPlan, kept: OldPlan) -> Note:
     """How many pairs come and go from an earlier plan, and whose; and what can't be any more."""
     found = changes_of(roster, plan, kept)
     counts = [counted(len(found.comes), "pair") + _comes(found.comes)] if found.comes else []
@@ -308,19 +308,19 @@ def broken_rules(hand: Optional[Hand]) -> List[Note]:
     return [Note(f"{hand.plan.path}: breaks {count} rule{'' if count == 1 else 's'}", [broken.sentence for broken in hand.broken])]
 
 
-def worse_by(report: Report, plan: Plan, hand: OldPlan) -> int:
+def worse_by(report: Report, plan: NamedPlan, hand: OldPlan) -> int:
     """By how much a plan from elsewhere is worse than the best."""
     cost = sum(pair.cost for pair in hand.known)
     return plan.cost - cost if report.options.max else cost - plan.cost
 
 
-def only_there(plan: Plan, hand: OldPlan) -> List[PlanLine]:
+def only_there(plan: NamedPlan, hand: OldPlan) -> List[PlanLine]:
     """The pairs of a plan from elsewhere that the best doesn't have."""
     own = {(pair.person, pair.object) for pair in plan.pairs}
     return [pair for pair in sorted(hand.known) if (pair.person, pair.object) not in own]
 
 
-def compared(report: Report, plan: Plan, hand: Hand) -> Note:
+def compared(report: Report, plan: NamedPlan, hand: Hand) -> Note:
     """By how much a plan from elsewhere is worse than the best, or better as far as it breaks rules, and where the two differ."""
     roster, own = report.roster, hand.plan
     cost = sum(pair.cost for pair in own.known)
@@ -334,7 +334,7 @@ def compared(report: Report, plan: Plan, hand: Hand) -> Note:
         f"there {roster.persons[pair.person]}: {roster.objects[pair.object]}, {roster.shown(pair.cost)}" for pair in only_there(plan, own)])
 
 
-def as_csv(roster: Roster, plan: Plan, kept: Optional[OldPlan] = None) -> str:
+def as_csv(roster: Roster, plan: NamedPlan, kept: Optional[OldPlan] = None) -> str:
     """The pairs as a roster of lines, with the titles, the separator and the decimal mark of the roster that was read. With an earlier plan
     one more column says which pairs come, and which go or aren't possible now: these stand in lines without a cost."""
     text = io.StringIO()
@@ -347,12 +347,12 @@ def as_csv(roster: Roster, plan: Plan, kept: Optional[OldPlan] = None) -> str:
     return text.getvalue()
 
 
-def _lines_of(roster: Roster, plan: Plan) -> Iterator[Tuple[str, ...]]:
+def _lines_of(roster: Roster, plan: NamedPlan) -> Iterator[Tuple[str, ...]]:
     for pair in plan.pairs:
         yield roster.persons[pair.person], roster.objects[pair.object], roster.shown(pair.cost)
 
 
-def _lines_with_changes(roster: Roster, plan: Plan, kept: OldPlan) -> List[Tuple[str, ...]]:
+def _lines_with_changes(roster: Roster, plan: NamedPlan, kept: OldPlan) -> List[Tuple[str, ...]]:
     """The lines of a plan and of the pairs that go, person by person, and those of pairs that aren't possible now."""
     found = changes_of(roster, plan, kept)
     new = set(found.comes)

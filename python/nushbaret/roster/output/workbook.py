@@ -3,7 +3,7 @@ import io
 from decimal import Decimal
 from typing import Any, List
 
-from ..answer import Plan, left_out
+from ..answer import NamedPlan, left_out
 from ..files import OutputFault
 from ..roster import PLAN_SHEET, Roster, decimal_text
 from .day_sheets import add_days
@@ -26,7 +26,7 @@ def need_openpyxl(path: str) -> Any:
     return openpyxl
 
 
-def as_xlsx(report: Report, plan: Plan) -> bytes:
+def as_xlsx(report: Report, plan: NamedPlan) -> bytes:
     """The bytes of a workbook: the plan by days, if there are groups, and three more sheets."""
     openpyxl = need_openpyxl("workbook")
     book = openpyxl.Workbook()
@@ -42,7 +42,7 @@ def as_xlsx(report: Report, plan: Plan) -> bytes:
     return held.getvalue()
 
 
-def _write_pairs(sheet: Any, roster: Roster, plan: Plan) -> None:
+def _write_pairs(sheet: Any, roster: Roster, plan: NamedPlan) -> None:
     """A pair in each line, with its group where objects have groups; --fixed, --keep and --compare read them."""
     groups = roster.groups
     sheet.title = PLAN_SHEET
@@ -62,7 +62,7 @@ def _fit(sheet: Any) -> None:
         sheet.column_dimensions[letter(number)].width = min(longest, MOST_LETTERS) + 2
 
 
-def _write_out(sheet: Any, roster: Roster, plan: Plan) -> None:
+def _write_out(sheet: Any, roster: Roster, plan: NamedPlan) -> None:
     row = 1
     for out in left_out(roster, plan):
         for name in out.names:
@@ -70,7 +70,7 @@ def _write_out(sheet: Any, roster: Roster, plan: Plan) -> None:
             row += 1
 
 
-def _write_matrix(sheet: Any, report: Report, plan: Plan, styles: Any) -> None:
+def _write_matrix(sheet: Any, report: Report, plan: NamedPlan, styles: Any) -> None:
     """The matrix as the page has it: the plan's cells are marked, and forbidden ones are grey."""
     roster, frame = report.roster, frame_of(report.roster, report.answer)
     if len(frame.persons) * len(frame.objects) > MOST_CELLS:

@@ -1,9 +1,9 @@
 """Plans in which rows and columns count from so many to so many, by assignment.
 
 A row of at most k columns has k copies, and a column of at most k rows k places. The first ones, as many as the least count, must be
-matched; the others may stay out, and fillers are matched with those that do. A gadget lets a row take at most one of a group of columns:
+matched; the others may stay out, and fillers are matched with those that do. A transshipment (Orden 1956) lets a row take at most one of a group of columns:
 two nodes that must be matched, one that each copy of the row lists, and one that lists the places of the group at their costs. Both
-list each other, for a row that takes none. A pair counts once by a gadget for its column alone. Where a gadget lists fewer pairs than
+list each other, for a row that takes none. A pair counts once by a transshipment for its column alone. Where a transshipment lists fewer pairs than
 the copies would, it is made at once; any other one when a plan without it breaks the rule."""
 from array import array
 from collections import Counter
@@ -16,9 +16,9 @@ from ..lap.solving import BestPlan, best_plan
 
 Pair = Tuple[int, int]
 # A row and a group of which it takes at most one column.
-Unit = Tuple[int, int]
+RowGroup = Tuple[int, int]
 NO_PAIR = -1
-# All gadgets that spare pairs are made at once where the nodes are at most so many; else those that a plan is likely to need, up to
+# All transshipments that spare pairs are made at once where the nodes are at most so many; else those that a plan is likely to need, up to
 # fewer nodes.
 AT_ONCE = 8192
 LIKELY = 7168
@@ -44,8 +44,8 @@ class Counted(NamedTuple):
     columns: Sequence[int]
     costs: Sequence[int]
 
-    def units(self) -> Iterator[Unit]:
-        """The unit of each pair, in their order."""
+    def row_groups(self) -> Iterator[RowGroup]:
+        """The row group of each pair, in their order."""
         return zip(self.rows, map(self.group_of.__getitem__, self.columns))
 
 
@@ -57,12 +57,12 @@ class Served(NamedTuple):
 
 
 class Trimmed(NamedTuple):
-    """The copies of each row and the places of each column, which are no more than pairs allow; and the places of each unit of a group
+    """The copies of each row and the places of each column, which are no more than pairs allow; and the places of each row group of a group
     of several columns."""
 
     rows: List[Bounds]
     columns: List[Bounds]
-    places: Dict[Unit, int]
+    places: Dict[RowGroup, int]
 
 
 class TooManyNodes(TooLarge):
@@ -85,9 +85,9 @@ class TooManyNodes(TooLarge):
 def trimmed(counted: Counted) -> Trimmed:
     """The counts without what can't be used; TooManyNodes if the rest alone needs too many."""
     columns = _cut(counted.column_bounds, Counter(counted.columns))
-    of_rows, held = Counter(counted.rows), _places_of_units(counted, columns)
+    of_rows, held = Counter(counted.rows), _places_of_row_groups(counted, columns)
     if held:
-        of_rows.subtract(row for row, group in counted.units() if group < counted.n_groups)
+        of_rows.subtract(row for row, group in counted.row_groups() if group < counted.n_groups)
         of_rows.update(row for row, _ in held)
     rows = _cut(counted.row_bounds, of_rows)
     copies, places = (sum(bound.most for bound in bounds) for bounds in (rows, columns))
@@ -96,13 +96,13 @@ def trimmed(counted: Counted) -> Trimmed:
     return Trimmed(rows, columns, held)
 
 
-def _places_of_units(counted: Counted, columns: List[Bounds]) -> Dict[Unit, int]:
-    """How many places each unit has, of the groups that were given."""
-    held: Dict[Unit, int] = {}
+def _places_of_row_groups(counted: Counted, columns: List[Bounds]) -> Dict[RowGroup, int]:
+    """How many places each row group has, of the groups that were given."""
+    held: Dict[RowGroup, int] = {}
     if counted.n_groups:
-        for unit, column in zip(counted.units(), counted.columns):
-            if unit[1] < counted.n_groups:
-                held[unit] = held.get(unit, 0) + columns[column].most
+        for row_group, column in zip(counted.row_groups(), counted.columns):
+            if row_group[1] < counted.n_groups:
+                held[row_group] = held.get(row_group, 0) + columns[column].most
     return held
 
 
@@ -110,7 +110,7 @@ def _cut(bounds: List[Bounds], most: Dict[int, int]) -> List[Bounds]:
     return [Bounds(min(bound.least, most[number]), min(bound.most, most[number])) for number, bound in enumerate(bounds)]
 
 
-class _Side(NamedTuple):
+class _NodeSide(NamedTuple):
     """The nodes of one side: those of each row or column, and the owner of each; those that may stay out, and those that must be matched,
     of which so many are and the rest is missed."""
 
@@ -125,8 +125,8 @@ class _Side(NamedTuple):
         return len(self.must) - self.served
 
 
-def _side(bounds: List[Bounds], served: Optional[int]) -> _Side:
-    side = _Side([], [], [], [], sum(bound.least for bound in bounds) if served is None else served)
+def _side(bounds: List[Bounds], served: Optional[int]) -> _NodeSide:
+    side = _NodeSide([], [], [], [], sum(bound.least for bound in bounds) if served is None else served)
     for number, (least, most) in enumerate(bounds):
         begin = len(side.owners)
         side.nodes.append(range(begin, begin + most))
@@ -145,14 +145,14 @@ class _Shape(NamedTuple):
     own_rows: bool = True
     own_columns: bool = True
 
-    def pairs(self, rows: _Side, columns: _Side) -> int:
+    def pairs(self, rows: _NodeSide, columns: _NodeSide) -> int:
         """How many pairs fillers list."""
         of_rows = len(columns.free) * (1 if self.own_rows else self.row_fillers)
         of_columns = len(rows.free) * (1 if self.own_columns else self.column_fillers)
         return of_rows + of_columns + self.row_fillers * self.column_fillers
 
 
-def _shapes(rows: _Side, columns: _Side, square: bool) -> Iterator[_Shape]:
+def _shapes(rows: _NodeSide, columns: _NodeSide, square: bool) -> Iterator[_Shape]:
     """The ways to have fillers. What one side must match more than the other is made up for by fillers more, or by fewer of which none
     stands for one node. Where nothing must be matched on one side, it needs none of the other's: the library leaves out what is over."""
     of_rows, of_columns = len(columns.free) + columns.missed, len(rows.free) + rows.missed
@@ -192,9 +192,9 @@ class _Lists:
             self.places.append(NO_PAIR)
 
 
-class Nodes(NamedTuple):
-    """A problem of nodes. `of_rows` has the rows of copies, and then of gadgets; `of_columns` the columns of places. What comes after
-    these are gadgets and fillers."""
+class NodeProblem(NamedTuple):
+    """A problem of nodes. `of_rows` has the rows of copies, and then of transshipments; `of_columns` the columns of places. What comes after
+    these are transshipments and fillers."""
 
     of_rows: List[int]
     of_columns: List[int]
@@ -209,73 +209,73 @@ class Nodes(NamedTuple):
 
 
 class _Builder:
-    """Makes the nodes of a problem with gadgets for some units; with `square` as many on both sides."""
+    """Makes the nodes of a problem with transshipments for some row groups; with `square` as many on both sides."""
 
     def __init__(self, counted: Counted, served: Optional[Served], square: bool):
         self.counted, self.cut, self.square = counted, trimmed(counted), square
         self.rows = _side(self.cut.rows, served and served.of_rows)
         self.columns = _side(self.cut.columns, served and served.of_columns)
-        self.gadgets: Dict[Unit, int] = {}
+        self.transshipments: Dict[RowGroup, int] = {}
 
-    def shape(self, gadgets: int) -> _Shape:
-        """The fillers for so many gadgets: those that list the fewest pairs, if they fit."""
+    def shape(self, transshipments: int) -> _Shape:
+        """The fillers for so many transshipments: those that list the fewest pairs, if they fit."""
         def judged(shape: _Shape) -> Tuple[int, int]:
-            return max(MOST_PERSONS, *self.sizes(shape, gadgets)), shape.pairs(self.rows, self.columns)
+            return max(MOST_PERSONS, *self.sizes(shape, transshipments)), shape.pairs(self.rows, self.columns)
 
-        return min(_shapes(self.rows, self.columns, self.square or gadgets > 0), key=judged)
+        return min(_shapes(self.rows, self.columns, self.square or transshipments > 0), key=judged)
 
-    def sizes(self, shape: _Shape, gadgets: int) -> Tuple[int, int]:
-        """How many nodes each side has with so many gadgets."""
-        return len(self.rows.owners) + gadgets + shape.row_fillers, len(self.columns.owners) + gadgets + shape.column_fillers
+    def sizes(self, shape: _Shape, transshipments: int) -> Tuple[int, int]:
+        """How many nodes each side has with so many transshipments."""
+        return len(self.rows.owners) + transshipments + shape.row_fillers, len(self.columns.owners) + transshipments + shape.column_fillers
 
-    def most(self, gadgets: int) -> int:
-        """How many nodes the longer side has with so many gadgets."""
-        return max(self.sizes(self.shape(gadgets), gadgets))
+    def most(self, transshipments: int) -> int:
+        """How many nodes the longer side has with so many transshipments."""
+        return max(self.sizes(self.shape(transshipments), transshipments))
 
-    def places(self, unit: Unit) -> int:
+    def places(self, row_group: RowGroup) -> int:
         """How many nodes a row could take of a group, if nothing kept it from that."""
-        row, group = unit
-        return self.cut.places[unit] if group < self.counted.n_groups else self.cut.columns[group - self.counted.n_groups].most
+        row, group = row_group
+        return self.cut.places[row_group] if group < self.counted.n_groups else self.cut.columns[group - self.counted.n_groups].most
 
-    def spare(self) -> Iterator[Unit]:
-        """The units whose gadgets list fewer pairs than copies and places do."""
+    def spare(self) -> Iterator[RowGroup]:
+        """The row groups whose transshipments list fewer pairs than copies and places do."""
         seen = set()
-        for unit in self.counted.units():
-            copies = self.cut.rows[unit[0]].most
-            if copies > 1 and unit not in seen:
-                places = self.places(unit)
+        for row_group in self.counted.row_groups():
+            copies = self.cut.rows[row_group[0]].most
+            if copies > 1 and row_group not in seen:
+                places = self.places(row_group)
                 if copies * places > copies + places + 1:
-                    seen.add(unit)
-                    yield unit
+                    seen.add(row_group)
+                    yield row_group
 
-    def add(self, units: Iterable[Unit]) -> None:
-        """Makes gadgets; TooManyNodes if these are too many."""
-        for unit in units:
-            self.gadgets.setdefault(unit, len(self.gadgets))
-        nodes = self.most(len(self.gadgets))
+    def add(self, row_groups: Iterable[RowGroup]) -> None:
+        """Makes transshipments; TooManyNodes if these are too many."""
+        for row_group in row_groups:
+            self.transshipments.setdefault(row_group, len(self.transshipments))
+        nodes = self.most(len(self.transshipments))
         if nodes > MOST_PERSONS:
-            raise TooManyNodes(len(self.rows.owners), len(self.columns.owners), len(self.gadgets), nodes)
+            raise TooManyNodes(len(self.rows.owners), len(self.columns.owners), len(self.transshipments), nodes)
 
-    def nodes(self) -> Nodes:
-        """The nodes with the gadgets made so far."""
-        shape = self.shape(len(self.gadgets))
-        n_rows, n_columns = self.sizes(shape, len(self.gadgets))
+    def nodes(self) -> NodeProblem:
+        """The nodes with the transshipments made so far."""
+        shape = self.shape(len(self.transshipments))
+        n_rows, n_columns = self.sizes(shape, len(self.transshipments))
         copies, places = len(self.rows.owners), len(self.columns.owners)
         lists = _Lists()
         self._list_pairs(lists)
-        for (row, _), number in self.gadgets.items():
+        for (row, _), number in self.transshipments.items():
             entry = range(places + number, places + number + 1)
             lists.add(self.rows.nodes[row], entry)
             lists.add(range(copies + number, copies + number + 1), entry)
-        self._fill(lists, shape, range(copies + len(self.gadgets), n_rows), range(places + len(self.gadgets), n_columns))
-        return Nodes(self.rows.owners + [row for row, _ in self.gadgets], self.columns.owners, n_rows, n_columns, lists)
+        self._fill(lists, shape, range(copies + len(self.transshipments), n_rows), range(places + len(self.transshipments), n_columns))
+        return NodeProblem(self.rows.owners + [row for row, _ in self.transshipments], self.columns.owners, n_rows, n_columns, lists)
 
     def _list_pairs(self, lists: _Lists) -> None:
-        """Lists the copies of each row, or its gadget, with the places of columns."""
-        copies, rows, columns, gadgets = len(self.rows.owners), self.rows.nodes, self.columns.nodes, self.gadgets
-        for place, (unit, column) in enumerate(zip(self.counted.units(), self.counted.columns)):
-            number = gadgets.get(unit) if gadgets else None
-            own, ends = rows[unit[0]] if number is None else range(copies + number, copies + number + 1), columns[column]
+        """Lists the copies of each row, or its transshipment, with the places of columns."""
+        copies, rows, columns, transshipments = len(self.rows.owners), self.rows.nodes, self.columns.nodes, self.transshipments
+        for place, (row_group, column) in enumerate(zip(self.counted.row_groups(), self.counted.columns)):
+            number = transshipments.get(row_group) if transshipments else None
+            own, ends = rows[row_group[0]] if number is None else range(copies + number, copies + number + 1), columns[column]
             if len(own) == len(ends) == 1:
                 lists.rows.append(own[0])
                 lists.columns.append(ends[0])
@@ -292,19 +292,19 @@ class _Builder:
         lists.add(row_fillers[-self.columns.missed:] if self.columns.missed else (), self.columns.must)
 
 
-def _at_once(builder: _Builder, counted: Counted) -> List[Unit]:
-    """The units whose gadgets are made before a plan shows that they are needed. Where there are too many, those come first that a plan
+def _at_once(builder: _Builder, counted: Counted) -> List[RowGroup]:
+    """The row groups whose transshipments are made before a plan shows that they are needed. Where there are too many, those come first that a plan
     is likely to use: which cost less than their row and their column do on average."""
-    units = list(builder.spare())
-    if builder.most(len(units)) <= AT_ONCE:
-        return units
+    row_groups = list(builder.spare())
+    if builder.most(len(row_groups)) <= AT_ONCE:
+        return row_groups
     room = max(0, LIKELY - builder.most(1))
     of_rows, of_columns = _averages(counted.rows, counted.costs), _averages(counted.columns, counted.costs)
-    likely: Dict[Unit, int] = {}
-    for unit, column, cost in zip(counted.units(), counted.columns, counted.costs):
-        more = cost - of_rows[unit[0]] - of_columns[column]
-        likely[unit] = min(more, likely.get(unit, more))
-    return sorted(units, key=likely.__getitem__)[:room]
+    likely: Dict[RowGroup, int] = {}
+    for row_group, column, cost in zip(counted.row_groups(), counted.columns, counted.costs):
+        more = cost - of_rows[row_group[0]] - of_columns[column]
+        likely[row_group] = min(more, likely.get(row_group, more))
+    return sorted(row_groups, key=likely.__getitem__)[:room]
 
 
 def _averages(numbers: Sequence[int], costs: Sequence[int]) -> Dict[int, int]:
@@ -316,13 +316,13 @@ def _averages(numbers: Sequence[int], costs: Sequence[int]) -> Dict[int, int]:
     return {number: total // counts[number] for number, total in sums.items()}
 
 
-def _broken(counted: Counted, pairs: List[Pair]) -> List[Unit]:
+def _broken(counted: Counted, pairs: List[Pair]) -> List[RowGroup]:
     """Of which groups a row has more than one."""
     taken = Counter((row, counted.group_of[column]) for row, column in pairs)
-    return [unit for unit, count in taken.items() if count > 1]
+    return [row_group for row_group, count in taken.items() if count > 1]
 
 
-def _solved(nodes: Nodes, costs: List[int]) -> BestPlan:
+def _solved(nodes: NodeProblem, costs: List[int]) -> BestPlan:
     lists = nodes.lists
     found = best_plan(of_whole_numbers(nodes.n_rows, nodes.n_columns, lists.rows, lists.columns, costs))
     if found is None:
@@ -372,7 +372,7 @@ def sum_of(counted: Counted, pairs: Collection[Pair]) -> int:
     return sum(cost for row, column, cost in zip(counted.rows, counted.columns, counted.costs) if (row, column) in own)
 
 
-def _fewest_changes(counted: Counted, nodes: Nodes, best: BestPlan, kept: Collection[Pair]) -> List[Pair]:
+def _fewest_changes(counted: Counted, nodes: NodeProblem, best: BestPlan, kept: Collection[Pair]) -> List[Pair]:
     """The pairs of a plan with the fewest changes among those as good as a best plan: these have all nodes matched along pairs whose reduced
     cost is 0."""
     lists, duals = nodes.lists, duals_of_whole(best)
