@@ -21,7 +21,8 @@ except ImportError:
 
 # The command as it runs where processes don't end by signals; what it needs is loaded before.
 INTERRUPTED_ON_WINDOWS = """import sys
-from nushbaret import __main__, _command
+from nushbaret import __main__
+from nushbaret.roster import command
 sys.platform = "win32"
 sys.exit(__main__.main())"""
 _unlink = os.unlink

@@ -28,7 +28,7 @@ def asked(run):
         return room
 
     # Rooms made meanwhile are dropped afterwards.
-    with mock.patch.object(library, "call", noted), mock.patch.object(library, "room_for", noting_room), \
+    with mock.patch.object(library, "call", noted), mock.patch.object(library, "workspace_for", noting_room), \
             mock.patch.dict(library._workspaces, clear=True):
         run()
     return calls

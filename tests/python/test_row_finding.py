@@ -24,7 +24,7 @@ needs_scipy = unittest.skipUnless(models.scipy, "SciPy isn't there")
 LONG = """
 import random, sys
 sys.path[:0] = [{package!r}, {tests!r}]
-from nushbaret import _row_finding as finding
+from nushbaret.rows import finding
 import row_models
 popen = finding.subprocess.Popen
 def started(*arguments, **options):

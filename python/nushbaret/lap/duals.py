@@ -8,7 +8,7 @@ from typing import Dict, List, NamedTuple, Optional, Sequence
 
 from ..costs.numbers import Unit, in_unit, of_places, unit_of
 from ..costs.problem import Problem, costs_of_pairs
-from . import levels, proved, reduced
+from . import levels, proved, reduced, residues
 from .solving import BestPlan
 
 
@@ -28,7 +28,7 @@ def exact_prices(problem: Problem, served: Optional[int], objects: Sequence[int]
         return None
     n, m = level.asked.n, level.asked.m
     pairs = reduced.kept(level, 6 * n + 16)
-    ratios = levels.ratios_at(problem, level.asked, pairs.places.tolist())
+    ratios = residues.ratios_at(problem, level.asked, pairs.places.tolist())
     unit = _fine(unit_of(set((1, denominator) for _, denominator in ratios), problem.fractions), level.shift)
     costs = [level.sign * in_unit(ratio, unit) for ratio in ratios]
     prices = [0] + [_floored(-int(dual), unit, level.shift) for dual in level.of_objects[1:]]

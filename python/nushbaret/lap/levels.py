@@ -14,18 +14,14 @@ import contextlib
 import math
 from array import array
 from fractions import Fraction
-from typing import Any, Dict, List, Optional, Sequence, Tuple, Union
+from typing import Any, Optional, Tuple, Union
 
 from ..costs import problem as reading
-from ..costs.numbers import ONE, Ratio, Unit, bits_above, rounded
+from ..costs.numbers import ONE, Unit, bits_above, rounded
 from ..costs.problem import Problem
-from ..costs.reading import loaded_numpy
 from . import arrays, pricing, proved, residues, ties
 from .level import BITS, Level, Pairs, more
 from .reduced import is_only_plan, kept, level_of
-
-# From so many pairs on an array is worth making.
-FEW_PAIRS = 64
 
 
 def solved_by_levels(problem: Problem, served: Optional[int], start: Optional[proved.WarmStart]) -> Union[proved.Assignment, proved.HallSet]:
@@ -49,10 +45,7 @@ def _solved(problem: Problem, served: Optional[int], start: Optional[proved.Warm
     found = priced.level if priced else first_level(problem, served, start)
     if isinstance(found, proved.HallSet):
         return found
-    objects = None if tied is None else ties.after_level(tied, found)
-    if objects is None:
-        pairs = priced.pairs if priced else kept(found, found.asked.n + more(found.asked.n))
-        objects = found.objects if is_only_plan(found, pairs) else finer(problem, found, pairs)
+    objects = _from_level(problem, tied, found, priced.pairs if priced else None)
     return proved.Assignment(found.asked.n, found.asked.m, None, objects, None)
 
 
@@ -60,11 +53,15 @@ def after_first(problem: Problem, level: Level) -> Any:
     """The objects of a best plan of a matrix, or of listed pairs, from its first level."""
     tied = ties.of_problem(problem)
     objects = None if tied is None else ties.best(tied)
-    if objects is None and tied is not None:
-        objects = ties.after_level(tied, level)
+    return _from_level(problem, tied, level, None) if objects is None else objects
+
+
+def _from_level(problem: Problem, tied: Optional[ties.Matrix], level: Level, pairs: Optional[Pairs]) -> Any:
+    """The objects of a best plan, from the first level, and from the pairs that it leaves where these are known."""
+    objects = None if tied is None else ties.after_level(tied, level)
     if objects is not None:
         return objects
-    pairs = kept(level, level.asked.n + more(level.asked.n))
+    pairs = pairs or kept(level, level.asked.n + more(level.asked.n))
     return level.objects if is_only_plan(level, pairs) else finer(problem, level, pairs)
 
 
@@ -92,8 +89,6 @@ def first_level(problem: Problem, served: Optional[int], start: Optional[proved.
     if isinstance(answer, proved.HallSet):
         return answer
     return level_of(asked, answer, shift, -1 if problem.maximize else 1)
-
-
 
 
 # The first level's costs.
@@ -127,62 +122,6 @@ def _rounded_list(problem: Problem) -> Tuple[Any, int]:
     return array("q", [rounded(ratio, shift) for ratio in ratios]), shift
 
 
-# What is left after a level.
-
-
-def places_in(problem: Problem, asked: proved.Instance, places: Sequence[int]) -> List[int]:
-    """Where the costs of pairs stand that have some places in the lists of the library; -1 for pairs of dummies."""
-    if len(asked.persons):
-        return [place if place < len(problem.persons) else -1 for place in places] if problem.persons is not None else \
-            [_in_dense(problem, asked, place) for place in places]
-    return [_in_dense(problem, asked, place) for place in places]
-
-
-def _in_dense(problem: Problem, asked: proved.Instance, place: int) -> int:
-    """As `places_in`, for a problem that has all pairs."""
-    if len(asked.persons):
-        return place if place < problem.n_rows * problem.n_columns else -1
-    if not proved.is_turned(problem):
-        return place
-    column, row = divmod(place, asked.m)
-    return row * problem.n_columns + column
-
-
-def ratios_at(problem: Problem, asked: proved.Instance, places: Sequence[int]) -> List[Ratio]:
-    """The costs of pairs at some places in the lists of the library, exactly, in the problem's own unit."""
-    costs = reading.plain(problem.costs)
-    own = places_in(problem, asked, places)
-    if problem.numpy:
-        found = costs[problem.numpy.array(own, problem.numpy.intp)].tolist()
-        held = [cost if place >= 0 else 0 for cost, place in zip(found, own)]
-    else:
-        held = [costs[place] if place >= 0 else 0 for place in own]
-    if not problem.raw or problem.unit != ONE:
-        return [(int(value), 1) for value in held]
-    known: Dict[Tuple[type, Any], Ratio] = {}
-    keys = [(type(value), value) for value in held]
-    for key in keys:
-        if key not in known:
-            known[key] = problem.ratio(key[1])
-    return [known[key] for key in keys]
-
-
 def finer(problem: Problem, level: Level, pairs: Pairs) -> Any:
     """The objects of a best plan along pairs that a level left."""
-    numpy = loaded_numpy()
-    if problem.numpy and problem.raw:
-        found = residues.finer_of_doubles(problem, level, pairs)
-        if found is not None:
-            return found
-    elif problem.numpy:
-        left = residues.left_of_whole(problem, level, pairs)
-        return residues.finish(problem.numpy, level.asked.n, level.asked.m, pairs, left)
-    ratios = ratios_at(problem, level.asked, pairs.places.tolist())
-    persons, objects = pairs.persons.tolist(), pairs.objects.tolist()
-    left = residues.exact_left(level, ratios, persons, objects)
-    if left is None:
-        return level.objects
-    if numpy and len(left) >= FEW_PAIRS and max(max(left), -min(left)) < 2**61:
-        as_arrays = Pairs(numpy.array(persons, numpy.uint32), numpy.array(objects, numpy.uint32), None)
-        return residues.finish(numpy, level.asked.n, level.asked.m, as_arrays, numpy.array(left, numpy.int64))
-    return residues.finish_list(level.asked.n, level.asked.m, array("I", persons), array("I", objects), left)
+    return residues.finish(level, residues.residue_of(problem, level, pairs))
