@@ -111,8 +111,8 @@ def printed(seconds):
     return f"over {LIMIT}" if seconds is None else f"{seconds:.4f}"
 
 
-def ratio(seconds, beside):
-    return f"{seconds / beside:.2f}" if beside else ""
+def ratio(seconds, other):
+    return f"{seconds / other:.2f}" if other else ""
 
 
 def kind(name, n, runs=TIMES, words_of_door=()):

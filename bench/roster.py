@@ -3,7 +3,6 @@
 each the least of some runs in turns. `roster.py OLD [RUNS]`, where OLD is a checkout with a built library."""
 import os
 import random
-import resource
 import sys
 import tempfile
 

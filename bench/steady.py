@@ -59,7 +59,7 @@ def least(path, words, wanted):
 
 def measure(load):
     loops = [subprocess.Popen([sys.executable, "-c", "while True: pass"]) for _ in range(load)]
-    print(f"with {load} busy loops beside")
+    print(f"with {load} busy loops at the same time")
     try:
         for name, path, words, wanted in kinds():
             spread, alone, processor = least(path, words, wanted)

@@ -5,7 +5,7 @@ import ctypes
 import itertools
 import random
 import sys
-from ctypes import POINTER, c_int32, c_int64, c_size_t, c_uint32, c_uint64, c_uint8
+from ctypes import c_int32, c_int64, c_size_t, c_uint32, c_uint64, c_uint8
 
 MIN, MAX = -2**63, 2**63 - 1
 SHOWN, NOT_SHOWN, TOO_GREAT, TOO_DEEP, SHAPE, ROW, VARIABLE, LENGTH, START, ROW_VARIABLE, PLAN_NUMBER, BROKEN, COST = range(13)

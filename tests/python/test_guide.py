@@ -86,7 +86,7 @@ class Made(unittest.TestCase):
         self.assertNotRegex(self.text, r"\]\((?!#|https?:)")
         for named in re.findall(r"examples/[\w*.]+", self.text):
             self.assertTrue(list(TOP.glob(named)), named)
-        for page in ("no such line", self.page + self.page):
+        for page in ("no line of it", self.page + self.page):
             with self.assertRaisesRegex(SystemExit, "how the command is found in a checkout"):
                 self.guide.guide_text(page)
 

@@ -1,5 +1,7 @@
 """Sheets of workbooks by name, merged cells, formulas, dates, and the encodings of text, in each file that is read."""
 import datetime
+import errno
+import os
 import pathlib
 import re
 import unittest
@@ -70,7 +72,7 @@ class Named(Books):
         self.refused(2, "--sheet and w.xlsx#Roster both name a sheet", "w.xlsx#Roster", "--sheet", "Roster")
         self.refused(3, "w.xlsx#Tasks, line 2, column 1: the roster has no object 'Ada'\n", "w.xlsx#Roster", "--lines", "--places", "w.xlsx#Tasks")
         self.refused(2, "w.xlsx is named twice, or is read too", "w.xlsx#Roster", "--lines", "--output", "w.xlsx", "--force")
-        self.refused(4, "none.xlsx: No such file or directory", "none.xlsx#May")
+        self.refused(4, f"none.xlsx: {os.strerror(errno.ENOENT)}", "none.xlsx#May")
         self.book("many.xlsx", {f"s{number}": [["a", "b", "c"]] for number in range(11)})
         self.refused(3, "'s6', 's7' and 3 others\n", "many.xlsx#May")
 
